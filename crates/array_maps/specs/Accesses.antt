@@ -1,0 +1,85 @@
+-- What a program does to the elements of its maps. The maps are one list of words: the elements of map 0, then
+-- those of map 1, and so on.
+use Rattle.std.specs.Prelude.{◌≡◌, ℕ, ◌<◌, ◌==◌, if◌then◌else◌, List, [], ◌∷◌, length, slice_index, slice_set}
+use Rattle.bpf_insn.specs.declared.insn.Width.TheVariants.{W64}
+use Rattle.bpf_insn.specs.declared.insn.AluOp.{AluOp}
+use Rattle.bpf_insn_words.specs.Words.{alu}
+use Rattle.array_maps.specs.declared.access.Op.{Op}
+use Rattle.array_maps.specs.declared.access.Op.TheVariants.{Add, Or, And, Xor}
+use Rattle.array_maps.specs.declared.access.Rmw.{Rmw}
+use Rattle.array_maps.specs.declared.access.Rmw.TheVariants.{Op as Applies, Xchg, CmpXchg}
+
+-- what one access did at its element: the word that it saw there, the word that it left, or both; or an operator
+-- and an operand, where it saw nothing
+pub data Action : Type 0 where
+  Read : (saw : ℕ) → Action
+  Write : (left : ℕ) → Action
+  ReadWrite : (saw left : ℕ) → Action
+  Reduce : (op : Op) (operand : ℕ) → Action
+
+-- an access is an element and what was done there
+pub record Access : Type 0 where
+  pub element : ℕ
+  pub action : Action
+
+-- the operators, a line each
+abbrev pub operators : List Op
+operators = Add ∷ Or ∷ And ∷ Xor ∷ []
+
+-- a word with an operand applied to it (RFC 9669, section 5.3)
+unfoldable pub combined : Op → ℕ → ℕ → ℕ
+combined Add word operand = alu W64 AluOp.Add word operand
+combined Or word operand = alu W64 AluOp.Or word operand
+combined And word operand = alu W64 AluOp.And word operand
+combined Xor word operand = alu W64 AluOp.Xor word operand
+
+-- what a change that tells the old word leaves (RFC 9669, section 5.3)
+abbrev pub exchanged : Rmw → (word value compare : ℕ) → ℕ
+exchanged (Applies op) word value compare = combined op word value
+exchanged Xchg word value compare = value
+exchanged CmpXchg word value compare = if word == compare then value else word
+
+-- what an action leaves, where a word stood
+abbrev pub left_by : Action → ℕ → ℕ
+left_by (Read saw) word = word
+left_by (Write left) word = left
+left_by (ReadWrite saw left) word = left
+left_by (Reduce op operand) word = combined op word operand
+
+-- the action saw this word, if it saw one
+abbrev pub Saw : Action → ℕ → Type 0
+Saw (Read saw) word = saw ≡ word
+Saw (Write left) word = Unit {0}
+Saw (ReadWrite saw left) word = saw ≡ word
+Saw (Reduce op operand) word = Unit {0}
+
+-- what a list of actions at one element leaves there
+abbrev pub left_by_all : List Action → ℕ → ℕ
+left_by_all [] word = word
+left_by_all (action ∷ actions) word = left_by_all actions (left_by action word)
+
+-- each action at one element saw what was there
+abbrev pub SawEach : List Action → ℕ → Type 0
+SawEach [] word = Unit {0}
+SawEach (action ∷ actions) word = Saw action word × SawEach actions (left_by action word)
+
+-- the actions at one element, in order
+abbrev pub actions_at : ℕ → List Access → List Action
+actions_at element [] = []
+actions_at element (access ∷ accesses) =
+    if access.element == element then access.action ∷ actions_at element accesses else actions_at element accesses
+
+-- the words after an access
+abbrev pub words_after : Access → List ℕ → List ℕ
+words_after access words = slice_set words access.element (left_by access.action (slice_index words access.element))
+
+-- the words after a list of accesses
+abbrev pub words_after_all : List Access → List ℕ → List ℕ
+words_after_all [] words = words
+words_after_all (access ∷ accesses) words = words_after_all accesses (words_after access words)
+
+-- a list of accesses acts on each element by itself, and makes no element and loses none
+pub record EachElement : Type 0 where
+  pub element : (accesses : List Access) (words : List ℕ) (e : ℕ) → e < length words →
+      slice_index (words_after_all accesses words) e ≡ left_by_all (actions_at e accesses) (slice_index words e)
+  pub count : (accesses : List Access) (words : List ℕ) → length (words_after_all accesses words) ≡ length words

@@ -1,0 +1,12 @@
+pub mod Program
+pub mod State
+pub mod Memory
+pub mod Values
+pub mod Step
+pub mod Run
+pub mod Iteration
+pub mod LoopInOrder
+pub mod ProgramInOrder
+pub mod Lines
+pub mod ProgramRows
+pub mod LoopRows
