@@ -1,0 +1,65 @@
+-- The least number that passes a test, and what a filter of a range keeps.
+use Rattle.std.proofs.Common.{◌≡◌, ℕ, zero, suc, ◌+◌, ◌<◌, ◌≤◌, Bool, true, false, ◌⊎◌, inl, inr, List, [], ◌∷◌, Option, Some, None, refl, sym, subst, arith, eqb}
+use Rattle.std.specs.Prelude.{if◌then◌else◌, cond}
+use Rattle.std.specs.List.{filter, range_with_len}
+use Rattle.std.proofs.lemmas.Bool.Decides.{eqb_tells}
+use Rattle.loop_core_law.specs.LeastBreak.{or_else, least_below, count_to}
+
+-- below which nothing passes
+abbrev pub NoneBelow : (ℕ → Bool) → ℕ → Type 0
+NoneBelow test n = (j : ℕ) → j < n → test j ≡ false
+
+-- one number more that fails
+below_more : (test : ℕ → Bool) (n : ℕ) → NoneBelow test n → test n ≡ false → NoneBelow test (suc n)
+below_more test n below here j h = go (eqb_tells j n)
+  where
+    go : ((eqb j n ≡ true) × (j ≡ n)) ⊎ ((eqb j n ≡ false) × (j ≡ n → ⊥)) → test j ≡ false
+    go (inl same) = subst (λ (i : ℕ). test i ≡ false) (sym same.1) here
+    go (inr other) = below j (let apart = other.1 in omega arith)
+
+-- what the least number is
+pub record IsLeast (test : ℕ → Bool) (n index : ℕ) : Type 0 where
+  pub within : index < n
+  pub passes : test index ≡ true
+  pub below : NoneBelow test index
+
+abbrev pub LeastIs : (ℕ → Bool) → ℕ → Option ℕ → Type 0
+LeastIs test n None = NoneBelow test n
+LeastIs test n (Some index) = IsLeast test n index
+
+one_more : (test : ℕ → Bool) (n : ℕ) (o : Option ℕ) (b : Bool) → test n ≡ b → LeastIs test n o → LeastIs test (suc n) (or_else o (if b then Some n else None))
+one_more test n None false here below = below_more test n below here
+one_more test n None true here below = record { within = omega arith; passes = here; below = below }
+one_more test n (Some index) b here least = record { within = (let h = least.within in omega arith); passes = least.passes; below = least.below }
+
+pub least_is : (test : ℕ → Bool) (n : ℕ) → LeastIs test n (least_below test n)
+least_is test zero = λ j h. absurd (omega arith)
+least_is test (suc n) = one_more test n (least_below test n) (test n) refl (least_is test n)
+
+-- how a count of iterations ends: with all of them, none of which breaks, or with the first that does
+pub record CountsTo (test : ℕ → Bool) (n count : ℕ) : Type 0 where
+  pub within : count ≤ n
+  pub ending : ((count ≡ n) × NoneBelow test n) ⊎ ((last : ℕ) × (count ≡ last + 1) × (test last ≡ true) × NoneBelow test last)
+
+counts_by : (test : ℕ → Bool) (n : ℕ) (o : Option ℕ) → LeastIs test n o → CountsTo test n (count_to n o)
+counts_by test n None below = record { within = omega arith; ending = inl (refl, below) }
+counts_by test n (Some index) least = record { within = (let h = least.within in omega arith); ending = inr (index, refl, least.passes, least.below) }
+
+pub counts_to : (test : ℕ → Bool) (n : ℕ) → CountsTo test n (count_to n (least_below test n))
+counts_to test n = counts_by test n (least_below test n) (least_is test n)
+
+-- where a filter of a range keeps nothing, no number of it passes
+kept_none : (b : Bool) (x : ℕ) (xs : List ℕ) → cond b (x ∷ xs) xs ≡ [] → (b ≡ false) × (xs ≡ [])
+kept_none true x xs h = absurd (cc)
+kept_none false x xs h = (refl, h)
+
+pub filter_none : (test : ℕ → Bool) (from count : ℕ) → filter test (range_with_len from count) ≡ [] → (e : ℕ) → from ≤ e → e < from + count → test e ≡ false
+filter_none test from zero h e low high = absurd (omega arith)
+filter_none test from (suc count) h e low high =
+    let parts = kept_none (test from) from (filter test (range_with_len (from + 1) count)) h in
+    go parts.0 (filter_none test (from + 1) count parts.1 e) (eqb_tells e from)
+  where
+    go : test from ≡ false → (from + 1 ≤ e → e < from + 1 + count → test e ≡ false) →
+        ((eqb e from ≡ true) × (e ≡ from)) ⊎ ((eqb e from ≡ false) × (e ≡ from → ⊥)) → test e ≡ false
+    go here later (inl same) = subst (λ (i : ℕ). test i ≡ false) (sym same.1) here
+    go here later (inr other) = later (let apart = other.1 in omega arith) (omega arith)

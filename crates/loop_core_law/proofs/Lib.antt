@@ -1,0 +1,5 @@
+pub mod OneElement
+pub mod Turns
+pub mod RunAgain
+pub mod Least
+pub mod LoopAgain

@@ -1,0 +1,150 @@
+-- The loop in order does again what the counted iterations did on the start words.
+use Rattle.std.proofs.Common.{◌≡◌, ℕ, zero, suc, ◌+◌, ◌≤◌, Bool, true, false, ◌&&◌, ◌⊎◌, inl, inr, List, [], ◌++◌, map, length, refl, sym, ◌∙◌, ap, subst, arith, add-zero}
+use Rattle.std.specs.Prelude.{if◌then◌else◌, ◌==◌, is_none}
+use Rattle.std.specs.List.{AllByRecursion, range_with_len}
+use Rattle.std.proofs.lemmas.List.{append-nil}
+use Rattle.array_maps.specs.Accesses.{Access, words_after_all}
+use Rattle.array_maps.proofs.ElementLaws.{length-words_after_all}
+use Rattle.bpf_step_model.specs.Program.{Program}
+use Rattle.bpf_step_model.specs.State.{LoopCall}
+use Rattle.bpf_step_model.specs.Run.{Ending, Ended, Stuck, Unfinished}
+use Rattle.bpf_step_model.specs.Iteration.{Iterated, iteration}
+use Rattle.bpf_step_model.specs.LoopInOrder.{Looped, behind, loop_from}
+use Rattle.loop_core_law.specs.Marks.{joined, only_operator}
+use Rattle.loop_core_law.specs.Conflict.{clash, harm, conflicts, at_element, conflicting}
+use Rattle.loop_core_law.specs.LeastBreak.{is_break, counted, IsEnded, accesses_of, CountedEnd, counted_runs}
+use Rattle.loop_core_law.specs.Law.{IsInOrder, IsUnharmed}
+use Rattle.loop_core_law.proofs.OneElement.{harm-clash}
+use Rattle.loop_core_law.proofs.Turns.{Saws, InTurn, words_after_all-append, in_turn_at_start, all_committed}
+use Rattle.loop_core_law.proofs.RunAgain.{iteration_local}
+use Rattle.loop_core_law.proofs.Least.{NoneBelow, CountsTo, counts_to, filter_none}
+
+-- the loop's end
+abbrev pub loop_end : ℕ → List ℕ → Ending Looped
+loop_end answer words = Ended (record { answer = answer; words = words })
+
+module _ (program : Program) (bound : ℕ) (call : LoopCall) (start : List ℕ) where
+  -- an iteration on the start words
+  abbrev pub speculated : ℕ → Ending Iterated
+  speculated index = iteration program bound call index start
+
+  abbrev pub breaks : ℕ → Bool
+  breaks index = is_break (speculated index)
+
+  abbrev pub runs_from : ℕ → ℕ → List (List Access)
+  runs_from index count = map accesses_of (map speculated (range_with_len index count))
+
+  -- how the iterations from an index on end: with all that are left, none of which breaks, or with the first that does
+  abbrev pub EndsWith : (count left index : ℕ) → Type 0
+  EndsWith count left index = ((count ≡ left) × NoneBelow breaks (index + count))
+      ⊎ ((last : ℕ) × (index + count ≡ last + 1) × (index ≤ last) × (breaks last ≡ true) × NoneBelow breaks last)
+
+  -- one iteration of the loop in order, where it sees the same
+  step_again : (left index : ℕ) (now : List ℕ) (it : Iterated) → speculated index ≡ Ended it → length now ≡ length start → Saws it.accesses now →
+      loop_from program bound call (suc left) index now
+      ≡ (if it.ret == 1 then loop_end (index + 1) (words_after_all it.accesses now) else loop_from program bound call left (index + 1) (words_after_all it.accesses now))
+  step_again left index now it same long saws =
+      ap (behind (loop_from program bound call left (index + 1)) index) ((iteration_local program bound call index).again start now it same long saws)
+
+  -- the first iteration breaks: it is the last
+  last_one : (count : ℕ) (left index : ℕ) (now : List ℕ) (it : Iterated) → speculated index ≡ Ended it → (it.ret == 1) ≡ true →
+      EndsWith (suc count) (suc left) index →
+      loop_end (index + 1) (words_after_all it.accesses now) ≡ loop_end (index + suc count) (words_after_all (it.accesses ++ joined (runs_from (index + 1) count)) now)
+  last_one zero left index now it same one ends = ap (λ accesses. loop_end (index + 1) (words_after_all accesses now)) (sym (append-nil it.accesses))
+  last_one (suc count) left index now it same one ends = absurd (go ends)
+    where
+      breaking : breaks index ≡ true
+      breaking = ap is_break same ∙ one
+
+      go : EndsWith (suc (suc count)) (suc left) index → ⊥
+      go (inl all) = let never : breaks index ≡ false = all.1 index (omega arith) in cc
+      go (inr first) = let never : breaks index ≡ false = first.4 index (let h = first.1 in omega arith) in cc
+
+  -- it doesn't: the others follow
+  ends_next : (count left index : ℕ) → breaks index ≡ false → EndsWith (suc count) (suc left) index → EndsWith count left (index + 1)
+  ends_next count left index going (inl all) = inl ((let h = all.0 in omega arith), λ j h. all.1 j (omega arith))
+  ends_next count left index going (inr first) = inr (first.0, (let h = first.1 in omega arith), behind_it, first.3, first.4)
+    where
+      apart : index ≡ first.0 → ⊥
+      apart e = let back : breaks first.0 ≡ false = subst (λ (i : ℕ). breaks i ≡ false) e going in let yes' = first.3 in absurd (cc)
+
+      behind_it : index + 1 ≤ first.0
+      behind_it = let h = first.2 in let a = apart in omega arith
+
+  -- what is claimed of the loop from an index on
+  abbrev pub GoesAgain : (count left index : ℕ) → List ℕ → Type 0
+  GoesAgain count left index now =
+      loop_from program bound call left index now ≡ loop_end (index + count) (words_after_all (joined (runs_from index count)) now)
+
+  turn_again : (count left index : ℕ) (now : List ℕ) (e : Ending Iterated) → speculated index ≡ e → IsEnded e → length now ≡ length start →
+      Saws (accesses_of e) now → InTurn (runs_from (index + 1) count) (words_after_all (accesses_of e) now) → EndsWith (suc count) (suc left) index →
+      ((words : List ℕ) → InTurn (runs_from (index + 1) count) words → length words ≡ length start → EndsWith count left (index + 1) →
+      GoesAgain count left (index + 1) words) →
+      loop_from program bound call (suc left) index now ≡ loop_end (index + suc count) (words_after_all (accesses_of e ++ joined (runs_from (index + 1) count)) now)
+  turn_again count left index now Stuck same ended long saws turns ends later = absurd ended
+  turn_again count left index now Unfinished same ended long saws turns ends later = absurd ended
+  turn_again count left index now (Ended it) same ended long saws turns ends later =
+      step_again left index now it same long saws ∙ go (it.ret == 1) refl
+    where
+      go : (one : Bool) → (it.ret == 1) ≡ one →
+          (if one then loop_end (index + 1) (words_after_all it.accesses now) else loop_from program bound call left (index + 1) (words_after_all it.accesses now))
+          ≡ loop_end (index + suc count) (words_after_all (it.accesses ++ joined (runs_from (index + 1) count)) now)
+      go true one = last_one count left index now it same one ends
+      go false one =
+          let answer : index + 1 + count ≡ index + suc count = omega arith in
+          later (words_after_all it.accesses now) turns (length-words_after_all it.accesses now ∙ long) (ends_next count left index (ap is_break same ∙ one) ends)
+          ∙ ap (λ n. loop_end n (words_after_all (joined (runs_from (index + 1) count)) (words_after_all it.accesses now))) answer
+          ∙ ap (loop_end (index + suc count)) (sym (words_after_all-append it.accesses (joined (runs_from (index + 1) count)) now))
+
+  pub loop_again : (count left index : ℕ) (now : List ℕ) → count ≤ left → AllByRecursion IsEnded (map speculated (range_with_len index count)) →
+      InTurn (runs_from index count) now → length now ≡ length start → EndsWith count left index → GoesAgain count left index now
+  loop_again zero zero index now within ended turns long ends = ap (λ answer. loop_end answer now) (sym (add-zero index))
+  loop_again zero (suc left) index now within ended turns long ends = absurd (go ends)
+    where
+      go : EndsWith zero (suc left) index → ⊥
+      go (inl all) = let h = all.0 in omega arith
+      go (inr first) = let h = first.1 in let k = first.2 in omega arith
+  loop_again (suc count) zero index now within ended turns long ends = absurd (omega arith)
+  loop_again (suc count) (suc left) index now within ended turns long ends =
+      turn_again count left index now (speculated index) refl ended.0 long turns.0 turns.1 ends
+      (λ words turns' long' ends'. loop_again count left (index + 1) words (omega arith) ended.1 turns' long' ends')
+
+  -- each iteration saw the start words
+  saws_start : (index count : ℕ) → AllByRecursion IsEnded (map speculated (range_with_len index count)) → AllByRecursion (λ accesses. Saws accesses start) (runs_from index count)
+  saws_start index zero ended = tt
+  saws_start index (suc count) ended = (go (speculated index) refl ended.0, saws_start (index + 1) count ended.1)
+    where
+      go : (e : Ending Iterated) → speculated index ≡ e → IsEnded e → Saws (accesses_of e) start
+      go Stuck same h = absurd h
+      go Unfinished same h = absurd h
+      go (Ended it) same h = (iteration_local program bound call index).saw start it same
+
+  ends_at_zero : (n count : ℕ) → CountsTo breaks n count → EndsWith count n 0
+  ends_at_zero n count counts = go counts.ending
+    where
+      go : ((count ≡ n) × NoneBelow breaks n) ⊎ ((last : ℕ) × (count ≡ last + 1) × (breaks last ≡ true) × NoneBelow breaks last) → EndsWith count n 0
+      go (inl all) = inl (all.0, λ j h. all.1 j (let same = all.0 in omega arith))
+      go (inr first) = inr (first.0, (let h = first.1 in omega arith), omega arith, first.2, first.3)
+
+-- no writer stands before a reader: the loop in order is what was speculated
+pub unharmed_in_order : (program : Program) (bound : ℕ) (call : LoopCall) (words : List ℕ) → CountedEnd program bound call words →
+    IsUnharmed (counted_runs program bound call words) (length words) → IsInOrder program bound call words
+unharmed_in_order program bound call words ended unharmed =
+    let runs : List (List Access) = counted_runs program bound call words in
+    let count : ℕ = counted program bound call words in
+    let counts = counts_to (breaks program bound call words) call.n in
+    let turns : InTurn runs words = in_turn_at_start runs words (saws_start program bound call words 0 count ended) unharmed in
+    let answer : 0 + count ≡ count = omega arith in
+    loop_again program bound call words count call.n 0 words counts.within ended turns refl (ends_at_zero program bound call words call.n count counts)
+    ∙ ap (λ n. loop_end n (words_after_all (joined runs) words)) answer
+    ∙ ap (loop_end count) (all_committed runs words unharmed)
+
+and_false : (b c d : Bool) → (c ≡ false → d ≡ false) → (b && c) ≡ false → (b && d) ≡ false
+and_false true c d f h = f h
+and_false false c d f h = refl
+
+-- what passes is unharmed
+pub passes_unharmed : (runs : List (List Access)) (elements : ℕ) → conflicting runs elements ≡ [] → IsUnharmed runs elements
+passes_unharmed runs elements none e inside =
+    and_false (is_none (only_operator (joined (at_element e runs)))) (clash (at_element e runs)) (harm (at_element e runs)) (harm-clash (at_element e runs))
+    (filter_none (λ e. conflicts (at_element e runs)) 0 elements none e (omega arith) (omega arith))

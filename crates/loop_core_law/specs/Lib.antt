@@ -1,0 +1,6 @@
+pub mod Marks
+pub mod Conflict
+pub mod LeastBreak
+pub mod Committed
+pub mod Report
+pub mod Law
