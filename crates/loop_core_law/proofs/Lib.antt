@@ -3,3 +3,5 @@ pub mod Turns
 pub mod RunAgain
 pub mod Least
 pub mod LoopAgain
+pub mod MarkLaws
+pub mod ClashPairs

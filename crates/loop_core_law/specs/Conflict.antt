@@ -1,5 +1,5 @@
 -- Which elements conflict. An iteration is the list of its actions at the element; iterations stand by rising index.
-use Rattle.std.specs.Prelude.{◌≢◌, ℕ, ◌<◌, Bool, false, ◌&&◌, ◌||◌, IsTrue, ◌↔◌, List, [], ◌∷◌, map, length, slice_index_or, is_none}
+use Rattle.std.specs.Prelude.{◌≡◌, ◌≢◌, ℕ, ◌<◌, Bool, true, false, ◌&&◌, ◌||◌, ◌↔◌, List, [], ◌∷◌, map, length, slice_index_or, is_none}
 use Rattle.std.specs.List.{list_any, filter, range_with_len}
 use Rattle.array_maps.specs.Accesses.{Action, Access, actions_at}
 use Rattle.loop_core_law.specs.Marks.{writes, exposed, joined, only_operator}
@@ -27,7 +27,14 @@ abbrev pub conflicting : List (List Access) → ℕ → List ℕ
 conflicting runs elements = filter (λ e. conflicts (at_element e runs)) (range_with_len 0 elements)
 
 -- a clash is a pair of different indices, a writer's and a reader's
+pub record Clashing (iterations : List (List Action)) : Type 0 where
+  pub writer : ℕ
+  pub reader : ℕ
+  pub writer_within : writer < length iterations
+  pub reader_within : reader < length iterations
+  pub apart : writer ≢ reader
+  pub writing : writes (slice_index_or iterations writer []) ≡ true
+  pub reading : exposed (slice_index_or iterations reader []) ≡ true
+
 abbrev pub ClashIsPair : Type 0
-ClashIsPair = (iterations : List (List Action)) →
-    IsTrue (clash iterations) ↔ ((i : ℕ) × (j : ℕ) × (i < length iterations) × (j < length iterations) × (i ≢ j)
-    × IsTrue (writes (slice_index_or iterations i [])) × IsTrue (exposed (slice_index_or iterations j [])))
+ClashIsPair = (iterations : List (List Action)) → (clash iterations ≡ true) ↔ Clashing iterations

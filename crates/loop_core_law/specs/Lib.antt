@@ -4,3 +4,5 @@ pub mod LeastBreak
 pub mod Committed
 pub mod Report
 pub mod Law
+pub mod PlaneMarks
+pub mod VerdictRows
