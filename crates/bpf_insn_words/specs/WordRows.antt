@@ -73,6 +73,8 @@ pub record CompareRows : Type 0 where
   pub no_common_bits : holds W64 Set 12 3 ≡ false
   pub not_equal : holds W32 Ne (2 ^ 32) 0 ≡ false
   pub less : holds W64 Lt 4 5 ≡ true
+  pub not_less : holds W64 Lt 5 5 ≡ false
+  pub not_greater : holds W64 Gt 5 5 ≡ false
   pub less_or_equal : holds W64 Le 5 4 ≡ false
   pub greater_or_equal : holds W64 Ge 5 5 ≡ true
   pub at_least : holds W64 Sge 0 (2 ^ 64 - 1) ≡ true

@@ -10,3 +10,5 @@ pub mod ProgramInOrder
 pub mod Lines
 pub mod ProgramRows
 pub mod LoopRows
+pub mod Steps
+pub mod Bounds

@@ -2,8 +2,10 @@
 //! laws alone: nothing runs here.
 #![tactic(auto)]
 
+ghost use Rattle.bpf_step_model.specs.Bounds.{GreaterBoundAgrees};
 ghost use Rattle.bpf_step_model.specs.LoopRows.{LoopRows};
 ghost use Rattle.bpf_step_model.specs.ProgramRows.{ProgramRows};
+ghost use Rattle.bpf_step_model.specs.Steps.{RunIsListOfStates};
 
 /// The definitions give what programs without loops return: arithmetic at its corners, lookups, and
 /// reads of what is unwritten, which are stuck.
@@ -15,4 +17,16 @@ pub fn worked_programs()
 /// operators, a break, a break that never comes, refused calls, ctx, and two loops in turn.
 pub fn worked_loops()
     ensures { LoopRows }
+{}
+
+/// The law of runs: a run that ends within its bound is a list of states from its entry, each the
+/// step of the one before, and its length is the number of its instructions; and each such list of
+/// states is a run.
+pub fn law_of_runs()
+    ensures { RunIsListOfStates }
+{}
+
+/// The law of bounds: with a greater bound what ended ends the same way, and what was stuck is stuck.
+pub fn law_of_bounds()
+    ensures { GreaterBoundAgrees }
 {}

@@ -1,9 +1,8 @@
 -- A clash is a pair of different indices.
-use Rattle.std.proofs.Common.{◌≡◌, ◌≢◌, ℕ, zero, suc, ◌+◌, ◌<◌, Bool, true, false, ◌&&◌, ◌||◌, ◌⊎◌, inl, inr, List, [], ◌∷◌, length, refl, sym, ◌∙◌, ap, subst, arith}
+use Rattle.std.proofs.Common.{◌≡◌, ◌≢◌, ℕ, zero, suc, ◌<◌, Bool, true, false, ◌&&◌, ◌||◌, ◌⊎◌, inl, inr, List, [], ◌∷◌, length, refl, arith}
 use Rattle.std.specs.Prelude.{slice_index_or}
 use Rattle.std.specs.List.{list_any}
 use Rattle.std.proofs.lemmas.Bool.{or_cases}
-use Rattle.std.proofs.lemmas.Bool.Decides.{nat_tests}
 use Rattle.array_maps.specs.Accesses.{Action}
 use Rattle.loop_core_law.specs.Marks.{writes, exposed}
 use Rattle.loop_core_law.specs.Conflict.{clash, Clashing, ClashIsPair}
@@ -46,20 +45,45 @@ pair_of (it ∷ its) h = first (pair_of its) (or_cases (writes it && list_any ex
     reader_behind : (writes it && list_any exposed its) ≡ true → Clashing (it ∷ its)
     reader_behind h =
         let at = any_at exposed its (and_true_right (writes it) _ h) in
-        record { writer = 0; reader = suc at.index; writer_within = omega arith; reader_within = (let k = at.within in omega arith);
-          apart = omega arith; writing = and_true_left (writes it) _ h; reading = at.passes }
+        record {
+          writer = 0;
+          reader = suc at.index;
+          writer_within = omega arith;
+          reader_within = (let k = at.within in omega arith);
+          apart = omega arith;
+          writing = and_true_left (writes it) _ h;
+          reading = at.passes;
+        }
+
     writer_behind : (exposed it && list_any writes its) ≡ true → Clashing (it ∷ its)
     writer_behind h =
         let at = any_at writes its (and_true_right (exposed it) _ h) in
-        record { writer = suc at.index; reader = 0; writer_within = (let k = at.within in omega arith); reader_within = omega arith;
-          apart = omega arith; writing = at.passes; reading = and_true_left (exposed it) _ h }
+        record {
+          writer = suc at.index;
+          reader = 0;
+          writer_within = (let k = at.within in omega arith);
+          reader_within = omega arith;
+          apart = omega arith;
+          writing = at.passes;
+          reading = and_true_left (exposed it) _ h;
+        }
+
     both_behind : Clashing its → Clashing (it ∷ its)
     both_behind c =
-        record { writer = suc c.writer; reader = suc c.reader; writer_within = (let k = c.writer_within in omega arith); reader_within = (let k = c.reader_within in omega arith);
-          apart = (let k = c.apart in omega arith); writing = c.writing; reading = c.reading }
+        record {
+          writer = suc c.writer;
+          reader = suc c.reader;
+          writer_within = (let k = c.writer_within in omega arith);
+          reader_within = (let k = c.reader_within in omega arith);
+          apart = (let k = c.apart in omega arith);
+          writing = c.writing;
+          reading = c.reading;
+        }
+
     second : (clash its ≡ true → Clashing its) → ((exposed it && list_any writes its) ≡ true) ⊎ (clash its ≡ true) → Clashing (it ∷ its)
     second later (inl h) = writer_behind h
     second later (inr h) = both_behind (later h)
+
     first : (clash its ≡ true → Clashing its) → ((writes it && list_any exposed its) ≡ true) ⊎ (((exposed it && list_any writes its) || clash its) ≡ true) → Clashing (it ∷ its)
     first later (inl h) = reader_behind h
     first later (inr h) = second later (or_cases (exposed it && list_any writes its) _ h)
@@ -73,10 +97,10 @@ clash_from (it ∷ its) zero (suc reader) inside inside' apart w r =
     or_left (writes it && list_any exposed its) _ (both_true (writes it) (list_any exposed its) w (any_from exposed its reader (omega arith) r))
 clash_from (it ∷ its) (suc writer) zero inside inside' apart w r =
     or_right (writes it && list_any exposed its) _
-        (or_left (exposed it && list_any writes its) (clash its) (both_true (exposed it) (list_any writes its) r (any_from writes its writer (omega arith) w)))
+    (or_left (exposed it && list_any writes its) (clash its) (both_true (exposed it) (list_any writes its) r (any_from writes its writer (omega arith) w)))
 clash_from (it ∷ its) (suc writer) (suc reader) inside inside' apart w r =
     or_right (writes it && list_any exposed its) _
-        (or_right (exposed it && list_any writes its) (clash its) (clash_from its writer reader (omega arith) (omega arith) (omega arith) w r))
+    (or_right (exposed it && list_any writes its) (clash its) (clash_from its writer reader (omega arith) (omega arith) (omega arith) w r))
 
 pub clash_is_pair : ClashIsPair
 clash_is_pair its = (pair_of its, λ c. clash_from its c.writer c.reader c.writer_within c.reader_within c.apart c.writing c.reading)

@@ -1,15 +1,15 @@
 -- What the marks of a set of iterations tell.
-use Rattle.std.proofs.Common.{◌≡◌, ◌≢◌, ℕ, zero, suc, ◌+◌, ◌<◌, Bool, true, false, not, ◌&&◌, ◌||◌, ◌⊎◌, inl, inr, List, [], ◌∷◌, ◌++◌, length, Option, Some, None, refl, sym, ◌∙◌, ap, subst, arith}
-use Rattle.std.specs.Prelude.{if◌then◌else◌, ◌==◌, is_some, is_none, IsTrue, ◌↔◌, slice_index_or}
+use Rattle.std.proofs.Common.{◌≡◌, Bool, true, false, not, ◌&&◌, ◌||◌, List, [], ◌∷◌, ◌++◌, Option, Some, None, refl, sym, ◌∙◌, ap, arith}
+use Rattle.std.specs.Prelude.{if◌then◌else◌, ◌==◌, is_some, is_none}
 use Rattle.std.specs.List.{list_any, list_all, count_by}
 use Rattle.std.proofs.lemmas.Bool.Decides.{nat_tests}
 use Rattle.std.proofs.Math.Bool.{or_assoc}
 use Rattle.array_maps.specs.declared.access.Op.{Op}
 use Rattle.array_maps.specs.declared.access.Op.TheVariants.{Add, Or, And, Xor}
 use Rattle.array_maps.specs.Accesses.{Action, Read, Write, ReadWrite, Reduce, operators}
-use Rattle.loop_core_law.specs.Marks.{writes, exposed, is_same, reduces_by, joined, only_operator}
+use Rattle.loop_core_law.specs.Marks.{writes, exposed, reduces_by, joined, only_operator}
 use Rattle.loop_core_law.specs.Conflict.{clash, conflicts}
-use Rattle.loop_core_law.specs.PlaneMarks.{is_plain, two_write, Marked, marks_of, marked_reduction, marked_conflict, JoinsMarks, MarksTell}
+use Rattle.loop_core_law.specs.PlaneMarks.{is_plain, two_write, marks_of, marked_reduction, marked_conflict, JoinsMarks, MarksTell}
 
 -- a test over a list's two parts, and over a joined list
 pub any-append : {A : Type 0} (p : A → Bool) (xs ys : List A) → list_any p (xs ++ ys) ≡ (list_any p xs || list_any p ys)
@@ -213,13 +213,13 @@ two_write-append (x ∷ xs) ys =
 
 pub marks_joined : (xs ys : List (List Action)) → JoinsMarks xs ys
 marks_joined xs ys = record {
-    w = any-append writes xs ys;
-    m = two_write-append xs ys;
-    r = any-append (λ actions. exposed actions && not (writes actions)) xs ys;
-    np = any-append (λ actions. exposed actions && writes actions) xs ys;
-    nx = any-append (λ actions. list_any is_plain actions) xs ys;
-    by = λ op. any-append (λ actions. list_any (reduces_by op) actions) xs ys;
-  }
+  w = any-append writes xs ys;
+  m = two_write-append xs ys;
+  r = any-append (λ actions. exposed actions && not (writes actions)) xs ys;
+  np = any-append (λ actions. exposed actions && writes actions) xs ys;
+  nx = any-append (λ actions. list_any is_plain actions) xs ys;
+  by = λ op. any-append (λ actions. list_any (reduces_by op) actions) xs ys;
+}
 
 pub marks_tell : MarksTell
 marks_tell = record { reduction = reduction_marked; conflict = conflict_marked; join = marks_joined }

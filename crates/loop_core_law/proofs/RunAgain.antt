@@ -10,6 +10,7 @@ use Rattle.bpf_step_model.specs.State.{Machine, LoopCall, callback_entry}
 use Rattle.bpf_step_model.specs.Step.{Request, Load, Store, Update, Fetch, Move, NoStep, Next, Asks, Loops, Refuses, Exits, step}
 use Rattle.bpf_step_model.specs.Run.{Ending, Ended, Stuck, Unfinished, Turn, Exit, Loop, Refused, Stretch, action_of, told, one_more, one_more_with, ended_by, after_access, after_move, run}
 use Rattle.bpf_step_model.specs.Iteration.{Iterated, exited, to_exit, iteration}
+use Rattle.bpf_step_model.proofs.Endings.{more_with, one_more_from, one_more_with_from, ended_same}
 use Rattle.loop_core_law.proofs.Turns.{Saws}
 
 -- the first access saw the word of its element
@@ -77,27 +78,6 @@ pub record IsLocal (go_on : Machine → List ℕ → Ending Stretch) : Type 0 wh
   pub left : (m : Machine) (words : List ℕ) (s : Stretch) → go_on m words ≡ Ended s → s.words ≡ words_after_all s.accesses words
   pub again : (m : Machine) (words others : List ℕ) (s : Stretch) → go_on m words ≡ Ended s → length others ≡ length words → Saws s.accesses others →
       go_on m others ≡ Ended (over others s)
-
--- what a run with one instruction more in front came from
-abbrev pub more : Stretch → Stretch
-more s = record { turn = s.turn; steps = suc s.steps; accesses = s.accesses; words = s.words }
-
-abbrev pub more_with : Access → Stretch → Stretch
-more_with access s = record { turn = s.turn; steps = suc s.steps; accesses = access ∷ s.accesses; words = s.words }
-
-one_more_from : (e : Ending Stretch) (s : Stretch) → one_more e ≡ Ended s → (before : Stretch) × (e ≡ Ended before) × (s ≡ more before)
-one_more_from (Ended before) s h = (before, refl, cc)
-one_more_from Stuck s h = absurd (cc)
-one_more_from Unfinished s h = absurd (cc)
-
-one_more_with_from : (access : Access) (e : Ending Stretch) (s : Stretch) → one_more_with access e ≡ Ended s →
-    (before : Stretch) × (e ≡ Ended before) × (s ≡ more_with access before)
-one_more_with_from access (Ended before) s h = (before, refl, cc)
-one_more_with_from access Stuck s h = absurd (cc)
-one_more_with_from access Unfinished s h = absurd (cc)
-
-ended_same : (s t : Stretch) → Ended s ≡ Ended t → s ≡ t
-ended_same s t h = cc
 
 -- the stretch of a run that ends with this instruction
 abbrev pub at_once : Turn → List ℕ → Stretch

@@ -1,5 +1,5 @@
 -- What has to be kept of a set of iterations at one element, so that its conflict is known: some marks, each a bit.
-use Rattle.std.specs.Prelude.{◌≡◌, ℕ, Bool, true, false, not, ◌&&◌, ◌||◌, ◌==◌, List, [], ◌∷◌, ◌++◌, is_some}
+use Rattle.std.specs.Prelude.{◌≡◌, Bool, true, false, not, ◌&&◌, ◌||◌, ◌==◌, List, [], ◌∷◌, ◌++◌, is_some}
 use Rattle.std.specs.List.{list_any, count_by}
 use Rattle.array_maps.specs.declared.access.Op.{Op}
 use Rattle.array_maps.specs.Accesses.{Action, Read, Write, ReadWrite, Reduce, operators}
@@ -30,13 +30,13 @@ pub record Marked : Type 0 where
 
 abbrev pub marks_of : List (List Action) → Marked
 marks_of iterations = record {
-    w = list_any writes iterations;
-    m = two_write iterations;
-    r = list_any (λ actions. exposed actions && not (writes actions)) iterations;
-    np = list_any (λ actions. exposed actions && writes actions) iterations;
-    nx = list_any (λ actions. list_any is_plain actions) iterations;
-    by = λ op. list_any (λ actions. list_any (reduces_by op) actions) iterations;
-  }
+  w = list_any writes iterations;
+  m = two_write iterations;
+  r = list_any (λ actions. exposed actions && not (writes actions)) iterations;
+  np = list_any (λ actions. exposed actions && writes actions) iterations;
+  nx = list_any (λ actions. list_any is_plain actions) iterations;
+  by = λ op. list_any (λ actions. list_any (reduces_by op) actions) iterations;
+}
 
 -- by its marks an element is reduction-only where it has no plain access and reduces by exactly one operator
 abbrev pub marked_reduction : Marked → Bool

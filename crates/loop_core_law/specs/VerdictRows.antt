@@ -1,13 +1,12 @@
 -- Worked verdicts: what is reported of loops that may run in parallel. Each is worked out by hand.
-use Rattle.std.specs.Prelude.{◌≡◌, ℕ, ℤ, pos, negsuc, List, [], ◌∷◌, ◌++◌, replicate}
+use Rattle.std.specs.Prelude.{◌≡◌, ℕ, pos, negsuc, List, [], ◌∷◌, ◌++◌, replicate}
 use Rattle.bpf_insn.specs.declared.insn.Insn.{Insn}
 use Rattle.bpf_step_model.specs.Run.{Ended}
 use Rattle.bpf_step_model.specs.Lines.{end, loop_with}
 use Rattle.bpf_step_model.specs.LoopRows.{looping, add_index, increment, shift_right, shift_left, last_writer, mixed_operators, break_at_five, break_that_never_comes, and_operands, add_fetched, two_loops}
 use Rattle.loop_core_law.specs.declared.verdict.Verdict.{Verdict}
 use Rattle.loop_core_law.specs.declared.verdict.Verdict.TheVariants.{Parallel, Conflict, Refused}
-use Rattle.loop_core_law.specs.declared.verdict.LoopReport.{LoopReport}
-use Rattle.loop_core_law.specs.Report.{Reported, report}
+use Rattle.loop_core_law.specs.Report.{report}
 
 -- the loop of n iterations is reported with this answer and verdict, and turns the words before into those after
 abbrev pub Reports : List ℕ → ℕ → List Insn → (before : List ℕ) (answer : ℕ) → Verdict → (after : List ℕ) → Type 0
@@ -35,9 +34,9 @@ pub record ConflictRows : Type 0 where
 -- a refused call, and two calls that pass
 pub record CallRows : Type 0 where
   pub refused : report (record { sizes = 1 ∷ []; insns = loop_with 8388609 0 end }) 20 0 (0 ∷ [])
-    ≡ Ended (record { ret = 18446744073709551609; loops = record { slot = 5; answer = negsuc 6; verdict = Refused } ∷ []; words = 0 ∷ [] })
+      ≡ Ended (record { ret = 18446744073709551609; loops = record { slot = 5; answer = negsuc 6; verdict = Refused } ∷ []; words = 0 ∷ [] })
   pub two : report two_loops 20 0 (0 ∷ 0 ∷ [])
-    ≡ Ended (record {
+      ≡ Ended (record {
         ret = 3;
         loops = record { slot = 6; answer = pos 3; verdict = Parallel } ∷ record { slot = 12; answer = pos 3; verdict = Parallel } ∷ [];
         words = 0 ∷ 6 ∷ [];

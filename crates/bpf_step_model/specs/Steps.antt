@@ -1,0 +1,51 @@
+-- A run as a list of states, each the step of the one before.
+use Rattle.std.specs.Prelude.{◌≡◌, ℕ, zero, suc, ◌≤◌, ◌↔◌, List, [], ◌∷◌, ◌++◌, slice_get, Some}
+use Rattle.array_maps.specs.Accesses.{Access, words_after}
+use Rattle.bpf_step_model.specs.Program.{Program}
+use Rattle.bpf_step_model.specs.State.{Machine}
+use Rattle.bpf_step_model.specs.Step.{Request, Move, NoStep, Next, Asks, Loops, Refuses, Exits, step}
+use Rattle.bpf_step_model.specs.Run.{Ended, Turn, Exit, Loop, Refused, Stretch, action_of, told, run}
+
+-- the access that a request is, where a word stands
+abbrev pub access_of : ℕ → Request → ℕ → Access
+access_of element request word = record { element = element; action = action_of request word }
+
+-- an instruction goes on to another machine and to other words, with at most one access
+abbrev pub GoesOn : Move → List ℕ → List Access → Machine → List ℕ → Type 0
+GoesOn (Next m) words accesses next after = (accesses ≡ []) × (next ≡ m) × (after ≡ words)
+GoesOn (Asks element request m) words accesses next after =
+    (word : ℕ) × (slice_get words element ≡ Some word) × (accesses ≡ access_of element request word ∷ []) × (next ≡ told request word m)
+    × (after ≡ words_after (access_of element request word) words)
+GoesOn NoStep words accesses next after = ⊥
+GoesOn (Loops call m) words accesses next after = ⊥
+GoesOn (Refuses answer m) words accesses next after = ⊥
+GoesOn (Exits ret) words accesses next after = ⊥
+
+-- an instruction at this slot ends the run
+abbrev pub EndsBy : ℕ → Move → Turn → Type 0
+EndsBy slot (Exits ret) turn = turn ≡ Exit ret
+EndsBy slot (Loops call next) turn = turn ≡ Loop call next
+EndsBy slot (Refuses answer next) turn = turn ≡ Refused slot answer next
+EndsBy slot NoStep turn = ⊥
+EndsBy slot (Next next) turn = ⊥
+EndsBy slot (Asks element request next) turn = ⊥
+
+-- so many steps lead from a state to another, with these accesses in order
+abbrev pub Steps : Program → ℕ → Machine → List ℕ → List Access → Machine → List ℕ → Type 0
+Steps program zero m words accesses last after = (accesses ≡ []) × (last ≡ m) × (after ≡ words)
+Steps program (suc count) m words accesses last after =
+    (next : Machine) × (between : List ℕ) × (first : List Access) × (rest : List Access) × GoesOn (step program m) words first next between
+    × Steps program count next between rest last after × (accesses ≡ first ++ rest)
+
+-- the states of a stretch: steps to a last state, whose instruction ends it; the length counts that instruction too
+pub record IsListOfStates (program : Program) (m : Machine) (words : List ℕ) (s : Stretch) : Type 0 where
+  pub before : ℕ
+  pub last : Machine
+  pub length : s.steps ≡ suc before
+  pub steps : Steps program before m words s.accesses last s.words
+  pub ends : EndsBy last.slot (step program last) s.turn
+
+-- a run within its bound is such a list of states, and each such list is a run
+abbrev pub RunIsListOfStates : Type 0
+RunIsListOfStates = (program : Program) (bound : ℕ) (m : Machine) (words : List ℕ) (s : Stretch) →
+    (run program bound m words ≡ Ended s) ↔ ((s.steps ≤ bound) × IsListOfStates program m words s)
