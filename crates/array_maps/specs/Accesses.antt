@@ -22,7 +22,7 @@ pub record Access : Type 0 where
   pub element : ℕ
   pub action : Action
 
--- the operators, a line each
+-- all operators of reduces
 abbrev pub operators : List Op
 operators = Add ∷ Or ∷ And ∷ Xor ∷ []
 

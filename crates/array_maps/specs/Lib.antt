@@ -1,1 +1,3 @@
 pub mod Accesses
+pub mod MapList
+pub mod Store

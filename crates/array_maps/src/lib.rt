@@ -1,7 +1,11 @@
-//! Array maps and what a program does with them. So far these are definitions and one law:
+//! Array maps, and the trait through which a program sees them, whatever stands behind it.
 //! `specs/Accesses.antt` says what an access is, and what a list of accesses leaves of each element.
 #![tactic(auto)]
 
 mod access;
+pub mod maps;
+pub mod store;
 
 pub use access::{Op, Rmw, each_element};
+pub use maps::{Maps, MapsError};
+pub use store::Store;

@@ -87,7 +87,7 @@ pub enum Operand {
     Reg(Reg),
 }
 
-/// What a call names (RFC 9669, section 4.3.1).
+/// What a call names (RFC 9669, sections 4.3.1 and 4.3.2).
 #[derive(Clone, Copy, Debug, PartialEq, Eq)]
 pub enum Callee {
     /// A helper by its number.
@@ -235,7 +235,7 @@ pub enum Insn {
     },
 }
 
-/// How many slots of 8 bytes the instruction takes, 1 or 2 (RFC 9669, section 3).
+/// How many slots of 8 bytes the instruction takes, 1 or 2 (RFC 9669, section 3.2).
 pub fn slots(insn: &Insn) -> u32
     ensures { result ≡ slots_of insn.now }
 {

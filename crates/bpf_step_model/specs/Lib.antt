@@ -10,5 +10,6 @@ pub mod ProgramInOrder
 pub mod Lines
 pub mod ProgramRows
 pub mod LoopRows
+pub mod StepRows
 pub mod Steps
 pub mod Bounds

@@ -18,7 +18,7 @@ use Rattle.bpf_step_model.specs.Run.{Ended}
 use Rattle.bpf_step_model.specs.ProgramInOrder.{LoopMade, program_in_order}
 use Rattle.bpf_step_model.specs.Lines.{mov, alu_imm, alu_reg, map_value, end, element_address, loop_with, loop_of}
 
--- jump lines with an immediate
+-- jne64 r, n, +distance
 abbrev pub skip_unless : ℕ → ℕ → ℕ → Insn
 skip_unless r n distance = Jump W64 Ne r (Imm (pos n)) (pos distance)
 
@@ -58,7 +58,7 @@ break_that_never_comes =
     map_value 3 0 0 ∷ Load Dw 4 3 (pos 0) ∷ mov 0 0 ∷ skip_unless 1 0 2 ∷ StoreImm Dw 3 (pos 0) (pos 1) ∷ Exit
     ∷ skip_unless 1 3 2 ∷ skip_unless 4 0 1 ∷ mov 0 1 ∷ Exit ∷ []
 
--- each iteration ands its index or 12
+-- each iteration ands the element with (its index or 12)
 abbrev pub and_operands : List Insn
 and_operands = map_value 3 0 0 ∷ alu_imm Or 1 12 ∷ Atomic W64 (Simple AndOp) 3 1 (pos 0) ∷ end
 
@@ -94,7 +94,7 @@ Refuses n flags answer ret =
 pub record OneLoopRows : Type 0 where
   pub none : Loops (1 ∷ []) 0 add_index (5 ∷ []) 0 (5 ∷ [])
   pub sum_wraps : Loops (1 ∷ []) 8 add_index (18446744073709551615 ∷ []) 8 (27 ∷ [])
-  pub each_once : Loops (6 ∷ []) 6 increment (replicate 6 0) 6 (replicate 6 1)
+  pub each_once : Loops (65 ∷ []) 65 increment (replicate 65 0) 65 (replicate 65 1)
   pub carried_right : Loops (5 ∷ []) 4 shift_right (9 ∷ 0 ∷ 0 ∷ 0 ∷ 0 ∷ []) 4 (9 ∷ 9 ∷ 9 ∷ 9 ∷ 9 ∷ [])
   pub carried_left : Loops (5 ∷ []) 4 shift_left (1 ∷ 2 ∷ 3 ∷ 4 ∷ 5 ∷ []) 4 (2 ∷ 3 ∷ 4 ∷ 5 ∷ 5 ∷ [])
   pub last_wins : Loops (1 ∷ []) 5 last_writer (3 ∷ []) 5 (4 ∷ [])

@@ -5,6 +5,7 @@
 ghost use Rattle.bpf_step_model.specs.Bounds.{GreaterBoundAgrees};
 ghost use Rattle.bpf_step_model.specs.LoopRows.{LoopRows};
 ghost use Rattle.bpf_step_model.specs.ProgramRows.{ProgramRows};
+ghost use Rattle.bpf_step_model.specs.StepRows.{StepRows};
 ghost use Rattle.bpf_step_model.specs.Steps.{RunIsListOfStates};
 
 /// The definitions give what programs without loops return: arithmetic at its corners, lookups, and
@@ -17,6 +18,12 @@ pub fn worked_programs()
 /// operators, a break, a break that never comes, refused calls, ctx, and two loops in turn.
 pub fn worked_loops()
     ensures { LoopRows }
+{}
+
+/// The definitions give what steps do at their edges, and where there is none: atomic operations,
+/// accesses, addresses, jumps, calls and callbacks.
+pub fn worked_steps()
+    ensures { StepRows }
 {}
 
 /// The law of runs: a run that ends within its bound is a list of states from its entry, each the

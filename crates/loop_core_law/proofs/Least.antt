@@ -1,9 +1,10 @@
 -- The least number that passes a test, and what a filter of a range keeps.
 use Rattle.std.proofs.Common.{◌≡◌, ℕ, zero, suc, ◌+◌, ◌<◌, ◌≤◌, Bool, true, false, ◌⊎◌, inl, inr, List, [], ◌∷◌, Option, Some, None, refl, sym, subst, arith, eqb}
 use Rattle.std.specs.Prelude.{if◌then◌else◌, cond}
+use Rattle.std.specs.Option.{option_or}
 use Rattle.std.specs.List.{filter, range_with_len}
 use Rattle.std.proofs.lemmas.Bool.Decides.{eqb_tells}
-use Rattle.loop_core_law.specs.LeastBreak.{or_else, least_below, count_to}
+use Rattle.loop_core_law.specs.LeastBreak.{least_below, count_to}
 
 -- below which nothing passes
 abbrev pub NoneBelow : (ℕ → Bool) → ℕ → Type 0
@@ -27,7 +28,7 @@ abbrev pub LeastIs : (ℕ → Bool) → ℕ → Option ℕ → Type 0
 LeastIs test n None = NoneBelow test n
 LeastIs test n (Some index) = IsLeast test n index
 
-one_more : (test : ℕ → Bool) (n : ℕ) (o : Option ℕ) (b : Bool) → test n ≡ b → LeastIs test n o → LeastIs test (suc n) (or_else o (if b then Some n else None))
+one_more : (test : ℕ → Bool) (n : ℕ) (o : Option ℕ) (b : Bool) → test n ≡ b → LeastIs test n o → LeastIs test (suc n) (option_or o (if b then Some n else None))
 one_more test n None false here below = below_more test n below here
 one_more test n None true here below = record { within = omega arith; passes = here; below = below }
 one_more test n (Some index) b here least = record { within = (let h = least.within in omega arith); passes = least.passes; below = least.below }

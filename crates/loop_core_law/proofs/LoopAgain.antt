@@ -1,5 +1,5 @@
 -- The loop in order does again what the counted iterations did on the start words.
-use Rattle.std.proofs.Common.{◌≡◌, ℕ, zero, suc, ◌+◌, ◌≤◌, Bool, true, false, ◌&&◌, ◌⊎◌, inl, inr, List, [], ◌++◌, map, length, refl, sym, ◌∙◌, ap, subst, arith, add-zero}
+use Rattle.std.proofs.Common.{◌≡◌, ℕ, zero, suc, ◌+◌, ◌≤◌, Bool, true, false, ◌&&◌, ◌⊎◌, inl, inr, List, [], ◌∷◌, ◌++◌, map, length, refl, sym, ◌∙◌, ap, subst, arith, add-zero}
 use Rattle.std.specs.Prelude.{if◌then◌else◌, ◌==◌, is_none}
 use Rattle.std.specs.List.{AllByRecursion, range_with_len}
 use Rattle.std.proofs.lemmas.List.{append-nil}
@@ -12,12 +12,58 @@ use Rattle.bpf_step_model.specs.Iteration.{Iterated, iteration}
 use Rattle.bpf_step_model.specs.LoopInOrder.{Looped, behind, loop_from}
 use Rattle.loop_core_law.specs.Marks.{joined, only_operator}
 use Rattle.loop_core_law.specs.Conflict.{clash, harm, conflicts, at_element, conflicting}
-use Rattle.loop_core_law.specs.LeastBreak.{is_break, counted, IsEnded, accesses_of, CountedEnd, counted_runs}
+use Rattle.loop_core_law.specs.LeastBreak.{is_break, counted, counted_iterations, one_ended_more, all_ended, accesses_of_all, counted_runs}
 use Rattle.loop_core_law.specs.Law.{IsInOrder, IsUnharmed}
 use Rattle.loop_core_law.proofs.OneElement.{harm-clash}
 use Rattle.loop_core_law.proofs.Turns.{Saws, InTurn, words_after_all-append, in_turn_at_start, all_committed}
 use Rattle.loop_core_law.proofs.RunAgain.{iteration_local}
 use Rattle.loop_core_law.proofs.Least.{NoneBelow, CountsTo, counts_to, filter_none}
+
+-- an iteration ended
+abbrev pub IsEnded : Ending Iterated → Type 0
+IsEnded Stuck = ⊥
+IsEnded Unfinished = ⊥
+IsEnded (Ended it) = Unit {0}
+
+-- its accesses, where it ended
+abbrev pub accesses_of : Ending Iterated → List Access
+accesses_of Stuck = []
+accesses_of Unfinished = []
+accesses_of (Ended it) = it.accesses
+
+-- what a list that ended is made of
+pub record AreEnded (endings : List (Ending Iterated)) (runs : List (List Access)) : Type 0 where
+  pub each : AllByRecursion IsEnded endings
+  pub made : map accesses_of endings ≡ runs
+
+one_more_from : (it : Iterated) (rest : Ending (List Iterated)) (its : List Iterated) → one_ended_more it rest ≡ Ended its →
+    (others : List Iterated) × (rest ≡ Ended others) × (its ≡ it ∷ others)
+one_more_from it Stuck its h = absurd (cc)
+one_more_from it Unfinished its h = absurd (cc)
+one_more_from it (Ended others) its h = (others, refl, cc)
+
+are_ended : (endings : List (Ending Iterated)) (its : List Iterated) → all_ended endings ≡ Ended its → AreEnded endings (map (λ (it : Iterated). it.accesses) its)
+are_ended [] its h = record { each = tt; made = (let none : [] ≡ its = cc in ap (map (λ (it : Iterated). it.accesses)) none) }
+are_ended (Stuck ∷ endings) its h = absurd (cc)
+are_ended (Unfinished ∷ endings) its h = absurd (cc)
+are_ended (Ended it ∷ endings) its h =
+    let parts = one_more_from it (all_ended endings) its h in
+    let rest = are_ended endings parts.0 parts.1 in
+    record {
+      each = (tt, rest.each);
+      made = ap (λ runs. it.accesses ∷ runs) rest.made ∙ ap (map (λ (i : Iterated). i.accesses)) (sym parts.2);
+    }
+
+accesses_from : (ending : Ending (List Iterated)) (runs : List (List Access)) → accesses_of_all ending ≡ Ended runs →
+    (its : List Iterated) × (ending ≡ Ended its) × (map (λ (it : Iterated). it.accesses) its ≡ runs)
+accesses_from Stuck runs h = absurd (cc)
+accesses_from Unfinished runs h = absurd (cc)
+accesses_from (Ended its) runs h = (its, refl, cc)
+
+runs_ended : (endings : List (Ending Iterated)) (runs : List (List Access)) → accesses_of_all (all_ended endings) ≡ Ended runs → AreEnded endings runs
+runs_ended endings runs h =
+    let parts = accesses_from (all_ended endings) runs h in
+    subst (AreEnded endings) parts.2 (are_ended endings parts.0 parts.1)
 
 -- the loop's end
 abbrev pub loop_end : ℕ → List ℕ → Ending Looped
@@ -126,11 +172,13 @@ module _ (program : Program) (bound : ℕ) (call : LoopCall) (start : List ℕ) 
       go (inl all) = inl (all.0, λ j h. all.1 j (let same = all.0 in omega arith))
       go (inr first) = inr (first.0, (let h = first.1 in omega arith), omega arith, first.2, first.3)
 
--- no writer stands before a reader: the loop in order is what was speculated
-pub unharmed_in_order : (program : Program) (bound : ℕ) (call : LoopCall) (words : List ℕ) → CountedEnd program bound call words →
-    IsUnharmed (counted_runs program bound call words) (length words) → IsInOrder program bound call words
-unharmed_in_order program bound call words ended unharmed =
-    let runs : List (List Access) = counted_runs program bound call words in
+-- where all counted iterations ended and no writer stands before a reader, the loop in order is what was speculated
+all_in_order : (program : Program) (bound : ℕ) (call : LoopCall) (words : List ℕ) →
+    AllByRecursion IsEnded (counted_iterations program bound call words) →
+    IsUnharmed (map accesses_of (counted_iterations program bound call words)) (length words) →
+    IsInOrder program bound call words (map accesses_of (counted_iterations program bound call words))
+all_in_order program bound call words ended unharmed =
+    let runs : List (List Access) = map accesses_of (counted_iterations program bound call words) in
     let count : ℕ = counted program bound call words in
     let counts = counts_to (breaks program bound call words) call.n in
     let turns : InTurn runs words = in_turn_at_start runs words (saws_start program bound call words 0 count ended) unharmed in
@@ -138,6 +186,14 @@ unharmed_in_order program bound call words ended unharmed =
     loop_again program bound call words count call.n 0 words counts.within ended turns refl (ends_at_zero program bound call words call.n count counts)
     ∙ ap (λ n. loop_end n (words_after_all (joined runs) words)) answer
     ∙ ap (loop_end count) (all_committed runs words unharmed)
+
+-- the same of the accesses of the counted iterations
+pub unharmed_in_order : (program : Program) (bound : ℕ) (call : LoopCall) (words : List ℕ) (runs : List (List Access)) →
+    counted_runs program bound call words ≡ Ended runs → IsUnharmed runs (length words) → IsInOrder program bound call words runs
+unharmed_in_order program bound call words runs same unharmed =
+    let are = runs_ended (counted_iterations program bound call words) runs same in
+    subst (IsInOrder program bound call words) are.made
+    (all_in_order program bound call words are.each (subst (λ (rs : List (List Access)). IsUnharmed rs (length words)) (sym are.made) unharmed))
 
 and_false : (b c d : Bool) → (c ≡ false → d ≡ false) → (b && c) ≡ false → (b && d) ≡ false
 and_false true c d f h = f h

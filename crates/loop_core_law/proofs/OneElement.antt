@@ -2,13 +2,14 @@
 -- word.
 use Rattle.std.proofs.Common.{◌≡◌, ℕ, Bool, true, false, ◌&&◌, ◌||◌, ◌⊎◌, inl, inr, List, [], ◌∷◌, ◌++◌, Option, Some, None, refl, sym, ◌∙◌, ap, subst}
 use Rattle.std.specs.Prelude.{if◌then◌else◌, is_none}
+use Rattle.std.specs.Option.{option_or}
 use Rattle.std.specs.List.{list_any, list_all, fold}
 use Rattle.array_maps.specs.declared.access.Op.{Op}
 use Rattle.array_maps.specs.declared.access.Op.TheVariants.{Add, Or, And, Xor}
 use Rattle.array_maps.specs.Accesses.{Action, Read, Write, ReadWrite, Reduce, combined, left_by, left_by_all, SawEach}
 use Rattle.loop_core_law.specs.Marks.{writes, exposed, is_same, reduces_by, joined, only_operator, operands}
 use Rattle.loop_core_law.specs.Conflict.{clash, harm}
-use Rattle.loop_core_law.specs.Committed.{or_before, last_that, left_by_last, committed_by, committed}
+use Rattle.loop_core_law.specs.Committed.{last_that, left_by_last, committed_by, committed}
 
 -- both sides of a test that is false, or true
 pub or_false_left : (a b : Bool) → (a || b) ≡ false → a ≡ false
@@ -139,10 +140,10 @@ first_left start word first rest false w calm = unwritten_left first word w
 first_left start word first rest true w (inl same) = ap (left_by_all first) same
 first_left start word first rest true w (inr none) = sealed_left first word start (or_false_left (exposed first) _ none) w
 
-picked-or_before : (later earlier : Option (List Action)) (start word left : ℕ) → left ≡ picked earlier start word →
-    picked later start left ≡ picked (or_before later earlier) start word
-picked-or_before None earlier start word left h = h
-picked-or_before (Some actions) earlier start word left h = refl
+picked-option_or : (later earlier : Option (List Action)) (start word left : ℕ) → left ≡ picked earlier start word →
+    picked later start left ≡ picked (option_or later earlier) start word
+picked-option_or None earlier start word left h = h
+picked-option_or (Some actions) earlier start word left h = refl
 
 pub last_left : (start word : ℕ) (iterations : List (List Action)) → harm iterations ≡ false → Calm start word iterations →
     left_by_all (joined iterations) word ≡ picked (last_that writes iterations) start word
@@ -151,7 +152,7 @@ last_left start word (first ∷ rest) unharmed calm =
     left_by_all-append first (joined rest) word
     ∙ last_left start (left_by_all first word) rest (or_false_right (writes first && list_any exposed rest) _ unharmed)
     (calm_next start word first rest (writes first) refl (or_false_left (writes first && list_any exposed rest) _ unharmed) calm)
-    ∙ picked-or_before (last_that writes rest) (if writes first then Some first else None) start word (left_by_all first word)
+    ∙ picked-option_or (last_that writes rest) (if writes first then Some first else None) start word (left_by_all first word)
     (first_left start word first rest (writes first) refl calm)
 
 picked_at_start : (o : Option (List Action)) (start : ℕ) → picked o start start ≡ left_by_last o start

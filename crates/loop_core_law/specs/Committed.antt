@@ -1,20 +1,16 @@
 -- What a loop that passes leaves.
 use Rattle.std.specs.Prelude.{ℕ, Bool, if◌then◌else◌, List, [], ◌∷◌, map, length, slice_index, Option, Some, None}
 use Rattle.std.specs.List.{fold, range_with_len}
+use Rattle.std.specs.Option.{option_or}
 use Rattle.array_maps.specs.declared.access.Op.{Op}
 use Rattle.array_maps.specs.Accesses.{Action, Access, combined, left_by_all}
 use Rattle.loop_core_law.specs.Marks.{writes, joined, only_operator, operands}
 use Rattle.loop_core_law.specs.Conflict.{at_element}
 
--- the first choice, and else the second
-abbrev pub or_before : Option (List Action) → Option (List Action) → Option (List Action)
-or_before (Some later) earlier = Some later
-or_before None earlier = earlier
-
 -- the last iteration that passes a test
 abbrev pub last_that : (List Action → Bool) → List (List Action) → Option (List Action)
 last_that test [] = None
-last_that test (first ∷ rest) = or_before (last_that test rest) (if test first then Some first else None)
+last_that test (first ∷ rest) = option_or (last_that test rest) (if test first then Some first else None)
 
 -- what the iteration that writes last left of the start word; where none writes, the start word
 abbrev pub left_by_last : Option (List Action) → ℕ → ℕ
@@ -27,6 +23,7 @@ abbrev pub committed_by : Option Op → List (List Action) → ℕ → ℕ
 committed_by (Some op) iterations word = fold (combined op) word (operands (joined iterations))
 committed_by None iterations word = left_by_last (last_that writes iterations) word
 
+-- what a pass leaves at an element
 abbrev pub committed : List (List Action) → ℕ → ℕ
 committed iterations word = committed_by (only_operator (joined iterations)) iterations word
 

@@ -36,5 +36,6 @@ pub record Clashing (iterations : List (List Action)) : Type 0 where
   pub writing : writes (slice_index_or iterations writer []) ≡ true
   pub reading : exposed (slice_index_or iterations reader []) ≡ true
 
+-- each clash is such a pair, and each such pair is a clash
 abbrev pub ClashIsPair : Type 0
 ClashIsPair = (iterations : List (List Action)) → (clash iterations ≡ true) ↔ Clashing iterations

@@ -29,6 +29,7 @@ abbrev pub exposed : List Action → Bool
 exposed [] = false
 exposed (action ∷ actions) = not (is_plain_write action)
 
+-- one and the same operator
 abbrev pub is_same : Op → Op → Bool
 is_same Add Add = true
 is_same Or Or = true
@@ -63,5 +64,6 @@ operand_of (Write left) = None
 operand_of (ReadWrite saw left) = None
 operand_of (Reduce op operand) = Some operand
 
+-- the operands of reduces, in order
 abbrev pub operands : List Action → List ℕ
 operands actions = filter_map operand_of actions

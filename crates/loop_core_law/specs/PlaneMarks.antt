@@ -28,6 +28,7 @@ pub record Marked : Type 0 where
   pub nx : Bool
   pub by : Op → Bool
 
+-- the marks of iterations
 abbrev pub marks_of : List (List Action) → Marked
 marks_of iterations = record {
   w = list_any writes iterations;

@@ -18,7 +18,7 @@ Reports sizes n callback before answer told after =
 pub record ParallelRows : Type 0 where
   pub none : Reports (1 ∷ []) 0 add_index (5 ∷ []) 0 Parallel (5 ∷ [])
   pub one_operator : Reports (1 ∷ []) 8 add_index (18446744073709551615 ∷ []) 8 Parallel (27 ∷ [])
-  pub each_its_own : Reports (6 ∷ []) 6 increment (replicate 6 0) 6 Parallel (replicate 6 1)
+  pub each_its_own : Reports (65 ∷ []) 65 increment (replicate 65 0) 65 Parallel (replicate 65 1)
   pub written_first : Reports (1 ∷ []) 5 last_writer (3 ∷ []) 5 Parallel (4 ∷ [])
   pub least_break : Reports (16 ∷ []) 16 break_at_five (replicate 16 0) 6 Parallel (replicate 6 1 ++ replicate 10 0)
   pub ands : Reports (1 ∷ []) 3 and_operands (15 ∷ []) 3 Parallel (12 ∷ [])

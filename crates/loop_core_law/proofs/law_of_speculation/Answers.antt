@@ -1,4 +1,3 @@
-use Rattle.loop_core_law.specs.LeastBreak.{counted_runs}
 use Rattle.std.proofs.Common.{length}
 use Rattle.loop_core_law.proofs.LoopAgain.{unharmed_in_order, passes_unharmed}
 use Rattle.loop_core_law.proofs.law_of_speculation.Goals as goal
@@ -6,6 +5,6 @@ use Rattle.loop_core_law.proofs.law_of_speculation.Goals as goal
 pub returns : goal.returns
 returns c = record {
   unharmed = unharmed_in_order;
-  passes = λ program bound call words ended none.
-      unharmed_in_order program bound call words ended (passes_unharmed (counted_runs program bound call words) (length words) none);
+  passes = λ program bound call words runs same none.
+      unharmed_in_order program bound call words runs same (passes_unharmed runs (length words) none);
 }

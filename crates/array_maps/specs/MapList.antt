@@ -1,0 +1,23 @@
+-- A map list: the words of array maps of given sizes.
+use Rattle.std.specs.Prelude.{ℕ, ◌≤◌, List, length, take, replicate}
+use Rattle.std.specs.List.{All, sum}
+
+-- the sizes of maps, and their words: those of map 0, then those of map 1, and so on
+pub record MapList : Type 0 where
+  pub sizes : List ℕ
+  pub words : List ℕ
+
+-- sizes within the limits: 1 to 16 maps, each of at least 1 element, and at most 65,536 elements over all
+pub record AreSizes (sizes : List ℕ) : Type 0 where
+  pub some : 1 ≤ length sizes
+  pub few : length sizes ≤ 16
+  pub filled : All (λ size. 1 ≤ size) sizes
+  pub small : sum sizes ≤ 65536
+
+-- where the words of a map begin
+abbrev pub base_of : List ℕ → ℕ → ℕ
+base_of sizes map = sum (take map sizes)
+
+-- new maps of these sizes, all zero
+abbrev pub zero_maps : List ℕ → MapList
+zero_maps sizes = record { sizes = sizes; words = replicate (sum sizes) 0 }

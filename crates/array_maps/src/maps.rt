@@ -1,0 +1,161 @@
+//! The array maps of a program.
+
+ghost use Rattle.std.specs.Prelude.{◌≡◌, ◌≢◌, ℕ, ◌+◌, ◌<◌, ◌≤◌, ◌↔◌, length, slice_index, slice_set, IfOk, OnOk, IfSome, IfNone, IsErrOf};
+ghost use Rattle.std.specs.List.{sum};
+ghost use Rattle.array_maps.specs.MapList.{MapList, AreSizes, base_of, zero_maps};
+
+use std::alloc::{AllocError, Global};
+use std::marker::Model;
+use thiserror::Error;
+
+/// Why maps can't be made.
+#[derive(Debug, Drop, PartialEq, Error)]
+pub enum MapsError {
+    /// M1: the sizes break the limits: 1 to 16 maps, each of at least 1 element, and at most 65,536
+    /// elements over all.
+    #[error("M1")]
+    Limits,
+    /// There was no memory.
+    #[error("memory")]
+    Memory,
+}
+
+impl From<AllocError> for MapsError {
+    ghost use Rattle.array_maps.specs.declared.maps.MapsError.TheVariants.{Memory};
+
+    ghost from_gives = { λ _ e. e ≡ Memory };
+
+    fn from(_e: AllocError) -> MapsError {
+        MapsError::Memory
+    }
+}
+
+/// At most so many maps.
+pub const MAX_MAPS: usize = 16;
+
+/// At most so many elements over all maps.
+pub const MAX_ELEMENTS: u32 = 65_536;
+
+/// Array maps of 8-byte values. Elements are numbered on over all maps, map 0 first.
+#[derive(Debug, Drop)]
+pub struct Maps {
+    sizes: Vec<u32>,
+    words: Vec<u64>,
+}
+
+impl Model for Maps {
+    ghost Value = { MapList };
+
+    ghost view = { λ m. record { sizes = m.sizes.items; words = m.words.items } };
+
+    ghost invariant = { λ m. AreSizes m.sizes.items × (length m.words.items ≡ sum m.sizes.items) };
+}
+
+/// How many elements maps of these sizes have, where they are within the limits.
+fn elements_of(sizes: &[u32]) -> Option<u32>
+    ensures some { IfSome result (λ n. AreSizes sizes.now × (n ≡ sum sizes.now)) }
+    ensures none { IfNone result (¬ AreSizes sizes.now) }
+{
+    if sizes.is_empty() || sizes.len() > MAX_MAPS {
+        return None;
+    }
+    let mut total: u32 = 0;
+    for size in sizes {
+        if *size == 0 || *size > MAX_ELEMENTS - total {
+            return None;
+        }
+        total += *size;
+    }
+    Some(total)
+}
+
+impl Maps {
+    /// Maps of these sizes, all zero. M1 where the sizes break the limits.
+    pub fn new(alloc: Global, sizes: &[u32]) -> Result<Maps, MapsError>
+        ensures ok { IfOk result (λ maps. AreSizes sizes.now × (maps ≡ zero_maps sizes.now)) }
+        ensures limits { IsErrOf result MapsError.Limits → ¬ AreSizes sizes.now }
+    {
+        let Some(elements) = elements_of(sizes) else {
+            return Err(MapsError::Limits);
+        };
+        Ok(Maps {
+            sizes: sizes.to_vec(alloc)?,
+            words: vec![in alloc; 0u64; elements as usize]?,
+        })
+    }
+
+    /// The sizes, map 0 first.
+    pub fn sizes(&self) -> &[u32]
+        ensures sizes { result.now ≡ self.now.sizes }
+        ensures limits { AreSizes self.now.sizes }
+    {
+        self.sizes.as_slice()
+    }
+
+    /// The value at an index of a map. The map is below the number of maps, and the index below its size.
+    pub fn get(&self, map: usize, index: u32) -> u64
+        requires map { map < length self.now.sizes }
+        requires index { index < slice_index self.now.sizes map }
+        ensures { result ≡ slice_index self.now.words (base_of self.now.sizes map + index) }
+    {
+        self.words[self.base(map) + index as usize]
+    }
+
+    /// Sets the value at an index of a map, and no other. The map is below the number of maps, and the
+    /// index below its size.
+    pub fn set(&mut self, map: usize, index: u32, value: u64)
+        requires map { map < length self.old.sizes }
+        requires index { index < slice_index self.old.sizes map }
+        ensures { self.new ≡ record { sizes = self.old.sizes; words = slice_set self.old.words (base_of self.old.sizes map + index) value } }
+    {
+        let at = self.base(map) + index as usize;
+        self.words[at] = value;
+    }
+
+    /// A copy.
+    pub fn try_copy(&self, alloc: Global) -> Result<Maps, AllocError>
+        ensures { IfOk result (λ copy. copy ≡ self.now) }
+    {
+        Ok(Maps {
+            sizes: self.sizes.as_slice().to_vec(alloc)?,
+            words: self.words.as_slice().to_vec(alloc)?,
+        })
+    }
+
+    /// The word of an element.
+    pub(crate) fn word(&self, e: u32) -> u64
+        requires { e < length self.now.words }
+        ensures { result ≡ slice_index self.now.words e }
+    {
+        self.words[e as usize]
+    }
+
+    /// Sets the word of an element, and no other.
+    pub(crate) fn set_word(&mut self, e: u32, value: u64)
+        requires { e < length self.old.words }
+        ensures { self.new ≡ record { sizes = self.old.sizes; words = slice_set self.old.words e value } }
+    {
+        self.words[e as usize] = value;
+    }
+
+    /// Where the words of a map begin.
+    fn base(&self, map: usize) -> usize
+        requires { map < length self.now.sizes }
+        ensures base { result ≡ base_of self.now.sizes map }
+        ensures within { result + slice_index self.now.sizes map ≤ length self.now.words }
+    {
+        sum_of(&self.sizes[..map])
+    }
+}
+
+/// The sum of sizes that are small enough.
+fn sum_of(sizes: &[u32]) -> usize
+    requires { sum sizes.now ≤ 65536 }
+    ensures { result ≡ sum sizes.now }
+{
+    let mut total: usize = 0;
+    for size in sizes {
+        total += *size as usize;
+    }
+    total
+}

@@ -1,0 +1,111 @@
+//! What a program sees of its maps, whatever keeps them.
+
+ghost use Rattle.std.specs.Prelude.{◌≡◌, ◌≢◌, ℕ, ◌+◌, ◌<◌, ◌≤◌, ◌^◌, List, length, slice_index};
+ghost use Rattle.array_maps.specs.Accesses.{Access, Action, Read, Write, ReadWrite, Reduce, combined, exchanged, words_after};
+
+use crate::access::{Op, Rmw};
+use crate::maps::Maps;
+
+/// Maps as a program sees them: a list of words, of which each call accesses one. Elements are numbered
+/// on over all maps, map 0 first. A store serves a number of accesses, and each call uses up at most one.
+pub trait Store {
+    /// The words that are seen.
+    ghost words: { Self → List ℕ };
+
+    /// How many accesses it still serves.
+    ghost serves: { Self → ℕ };
+
+    /// What an access does to the store, with whatever else it keeps.
+    ghost effect: { Self → Access → Self → Type 0 };
+
+    /// The word of an element.
+    fn load(&mut self, e: u32) -> u64
+        requires within { e < length (words self.old) }
+        requires served { 0 < serves self.old }
+        ensures answer { result ≡ slice_index (words self.old) e }
+        ensures done { effect self.old (record { element = e; action = Read result }) self.new };
+
+    /// Stores a word at an element.
+    fn store(&mut self, e: u32, value: u64)
+        requires within { e < length (words self.old) }
+        requires served { 0 < serves self.old }
+        ensures done { effect self.old (record { element = e; action = Write value }) self.new };
+
+    /// Applies an operator to the word of an element.
+    fn update(&mut self, e: u32, op: Op, operand: u64)
+        requires within { e < length (words self.old) }
+        requires served { 0 < serves self.old }
+        ensures done { effect self.old (record { element = e; action = Reduce op operand }) self.new };
+
+    /// Changes the word of an element, and tells what it was. Compare-and-exchange alone looks at
+    /// `compare`.
+    fn fetch(&mut self, e: u32, rmw: Rmw, value: u64, compare: u64) -> u64
+        requires within { e < length (words self.old) }
+        requires served { 0 < serves self.old }
+        ensures answer { result ≡ slice_index (words self.old) e }
+        ensures done { effect self.old (record { element = e; action = ReadWrite result (exchanged rmw result value compare) }) self.new };
+
+    /// The words that are seen after an access.
+    ghost shows: { (old new : Self) (access : Access) → effect old access new → words new ≡ words_after access (words old) };
+
+    /// An access uses up at most one.
+    ghost uses_one: { (old new : Self) (access : Access) → effect old access new → serves old ≤ serves new + 1 };
+}
+
+/// Maps always serve 4,096 accesses, and keep nothing beside their words.
+impl Store for Maps {
+    ghost use Rattle.std.proofs.Common.{ap, arith};
+    ghost use Rattle.array_maps.specs.MapList.{MapList};
+
+    ghost words = { λ maps. maps.words };
+
+    ghost serves = { λ _. 4096 };
+
+    ghost effect = { λ old access new. new ≡ record { sizes = old.sizes; words = words_after access old.words } };
+
+    fn load(&mut self, e: u32) -> u64 {
+        self.word(e)
+    }
+
+    fn store(&mut self, e: u32, value: u64) {
+        self.set_word(e, value);
+    }
+
+    fn update(&mut self, e: u32, op: Op, operand: u64) {
+        let word = self.word(e);
+        self.set_word(e, applied(op, word, operand));
+    }
+
+    fn fetch(&mut self, e: u32, rmw: Rmw, value: u64, compare: u64) -> u64 {
+        let word = self.word(e);
+        self.set_word(e, exchanged_with(rmw, word, value, compare));
+        word
+    }
+
+    ghost shows = { λ old new access done. ap (λ (maps : MapList). maps.words) done };
+
+    ghost uses_one = { λ old new access done. Prim.omega arith };
+}
+
+/// A word with an operand applied.
+fn applied(op: Op, word: u64, operand: u64) -> u64
+    ensures { result ≡ combined op word operand }
+{
+    match op {
+        Op::Add => word.wrapping_add(operand),
+        Op::Or => word | operand,
+        Op::And => word & operand,
+        Op::Xor => word ^ operand,
+    }
+}
+
+/// What a change that tells the old word leaves.
+fn exchanged_with(rmw: Rmw, word: u64, value: u64, compare: u64) -> u64
+    ensures { result ≡ exchanged rmw word value compare }
+{
+    match rmw {
+        Rmw::Op(op) => applied(op, word, value),
+        Rmw::Xchg => value,
+        Rmw::CmpXchg => { if word == compare { value } else { word } }
+    }
+}
