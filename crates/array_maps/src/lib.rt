@@ -5,6 +5,8 @@
 mod access;
 pub mod maps;
 pub mod store;
+#[cfg(test)]
+mod tests;
 
 pub use access::{Op, Rmw, each_element};
 pub use maps::{Maps, MapsError};

@@ -1,0 +1,92 @@
+//! Maps at their limits, and through their trait.
+
+ghost use Rattle.std.specs.Prelude.{◌≡◌, ℕ, ◌<◌, ◌≤◌, length, map};
+ghost use Rattle.std.specs.List.{All};
+ghost use Rattle.array_maps.specs.Accesses.{words_after_all};
+ghost use Rattle.array_maps.specs.Store.{Effects, added};
+
+use crate::{Maps, MapsError, Op, Rmw, Store};
+use std::alloc::Global;
+use std::test::Fail;
+
+/// What came of making maps.
+#[derive(Clone, Copy, Debug, PartialEq, Eq)]
+enum Made {
+    Fine,
+    Limits,
+    Memory,
+}
+
+fn outcome_of(alloc: Global, sizes: &[u32]) -> Made {
+    match Maps::new(alloc, sizes) {
+        Ok(_) => Made::Fine,
+        Err(MapsError::Limits) => Made::Limits,
+        Err(MapsError::Memory) => Made::Memory,
+    }
+}
+
+#[test]
+fn sizes_have_limits(rt: HostRuntime) {
+    let alloc = rt.alloc();
+    assert_eq!(rt; outcome_of(alloc, &[]), Made::Limits);
+    assert_eq!(rt; outcome_of(alloc, &[0]), Made::Limits);
+    assert_eq!(rt; outcome_of(alloc, &[1, 0]), Made::Limits);
+    assert_eq!(rt; outcome_of(alloc, &[1; 17]), Made::Limits);
+    assert_eq!(rt; outcome_of(alloc, &[65_537]), Made::Limits);
+    assert_eq!(rt; outcome_of(alloc, &[65_536, 1]), Made::Limits);
+    assert_eq!(rt;
+        outcome_of(alloc, &[4_294_967_295, 4_294_967_295]),
+        Made::Limits
+    );
+    assert_eq!(rt; outcome_of(alloc, &[65_536]), Made::Fine);
+    assert_eq!(rt; outcome_of(alloc, &[65_535, 1]), Made::Fine);
+    assert_eq!(rt; outcome_of(alloc, &[1; 16]), Made::Fine);
+}
+
+#[test]
+fn values_stand_map_by_map(rt: HostRuntime) -> Result<(), Fail> {
+    let mut maps = Maps::new(rt.alloc(), &[1, 2])?;
+    maps.set(1, 1, 7);
+    let copy = maps.try_copy(rt.alloc())?;
+    maps.set(0, 0, 9);
+    assert_eq!(rt; (maps.get(0, 0), maps.get(1, 0), maps.get(1, 1)), (9, 0, 7));
+    assert_eq!(rt; (copy.get(0, 0), copy.get(1, 0), copy.get(1, 1)), (0, 0, 7));
+    Ok(())
+}
+
+#[test]
+fn a_store_answers_old_words(rt: HostRuntime) -> Result<(), Fail> {
+    let mut maps = Maps::new(rt.alloc(), &[1, 2])?;
+    maps.store(2, 6);
+    maps.update(2, Op::Xor, 3);
+    assert_eq!(rt; maps.fetch(2, Rmw::CmpXchg, 9, 5), 5);
+    assert_eq!(rt; maps.fetch(2, Rmw::CmpXchg, 1, 5), 9);
+    assert_eq!(rt; maps.fetch(2, Rmw::Op(Op::Add), 2, 0), 9);
+    assert_eq!(rt; maps.fetch(2, Rmw::Xchg, 4, 0), 11);
+    assert_eq!(rt; (maps.load(2), maps.get(1, 1)), (4, 4));
+    Ok(())
+}
+
+/// Adds an operand to each of some elements. The contracts of one call carry a whole run: the store
+/// afterwards is the store before, changed by the accesses in order.
+fn add_to_each<S: Store>(store: &mut S, elements: &[u32], operand: u64)
+    requires within { All (λ e. e < length (S.words store.old)) elements.now }
+    requires served { length elements.now ≤ S.serves store.old }
+    ensures done { Effects S.effect store.old (map (added operand) elements.now) store.new }
+    ensures words { S.words store.new ≡ words_after_all (map (added operand) elements.now) (S.words store.old) }
+{
+    for e in elements {
+        store.update(*e, Op::Add, operand);
+    }
+}
+
+#[test]
+fn a_run_goes_through_the_trait(rt: HostRuntime) -> Result<(), Fail> {
+    let mut maps = Maps::new(rt.alloc(), &[2, 1])?;
+    add_to_each(&mut maps, &[2, 0, 2], 18_446_744_073_709_551_615);
+    assert_eq!(rt;
+        (maps.get(0, 0), maps.get(0, 1), maps.get(1, 0)),
+        (18_446_744_073_709_551_615, 0, 18_446_744_073_709_551_614)
+    );
+    Ok(())
+}
