@@ -1,6 +1,7 @@
 //! The instructions of a BPF program as a type, in the terms of RFC 9669.
 #![tactic(auto)]
 
+mod form;
 pub mod insn;
 pub mod reg;
 pub mod unit;
