@@ -1,2 +1,5 @@
 pub mod Opcode
+pub mod Outcome
+pub mod SlotBytes
 pub mod Slots
+pub mod Spelling

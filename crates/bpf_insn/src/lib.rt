@@ -1,11 +1,16 @@
 //! The instructions of a BPF program as a type, in the terms of RFC 9669.
 #![tactic(auto)]
 
+mod codec_error;
+mod encoding;
 mod form;
 pub mod insn;
 pub mod reg;
+mod slot;
 pub mod unit;
 
+pub use codec_error::{CodecError, Fault};
+pub use encoding::encode;
 pub use insn::{
     AluOp, AtomicOp, ByteOrder, Callee, Compare, EndianBits, ImmKind, Insn, MovsxBits, Operand,
     SimpleOp, Size, Width, slots,
