@@ -1,2 +1,3 @@
-pub mod Lengths
 pub mod Encoded
+pub mod Forms
+pub mod Lengths

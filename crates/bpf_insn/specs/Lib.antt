@@ -1,5 +1,6 @@
 pub mod Opcode
 pub mod Outcome
+pub mod Reading
 pub mod SlotBytes
 pub mod Slots
 pub mod Spelling

@@ -110,7 +110,8 @@ fn src_of_kind(kind: ImmKind) -> u8
     }
 }
 
-fn has_next_imm(kind: ImmKind) -> bool
+/// Whether a two-slot load of this kind has a second number.
+pub fn has_next_imm(kind: ImmKind) -> bool
     ensures { result ≡ has_next kind }
 {
     matches!(

@@ -2,6 +2,7 @@
 #![tactic(auto)]
 
 mod codec_error;
+mod decoding;
 mod encoding;
 mod form;
 pub mod insn;

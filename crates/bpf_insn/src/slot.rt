@@ -1,6 +1,6 @@
 //! A slot of 8 bytes as its fields (RFC 9669, section 3).
 
-ghost use Rattle.std.specs.Prelude.{◌≡◌, ◌<◌, ◌++◌, length, OnOk};
+ghost use Rattle.std.specs.Prelude.{◌≡◌, ◌<◌, ◌≤◌, ◌++◌, length, OnOk};
 ghost use Rattle.bpf_insn.specs.SlotBytes.{slot, slot_bytes, slot_at};
 
 use crate::form::{Form, opcode_of};
@@ -30,9 +30,9 @@ impl Slot {
         }
     }
 
-    /// The slot that 8 bytes are.
+    /// The slot that the first 8 bytes are.
     pub fn from_bytes(bytes: &[u8]) -> Slot
-        requires { length bytes.now ≡ 8 }
+        requires { 8 ≤ length bytes.now }
         ensures { result ≡ slot_at bytes.now }
     {
         Slot {
