@@ -1,3 +1,5 @@
 pub mod Encoded
 pub mod Forms
 pub mod Lengths
+pub mod SlotReads
+pub mod Spelled

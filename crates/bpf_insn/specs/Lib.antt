@@ -4,3 +4,4 @@ pub mod Reading
 pub mod SlotBytes
 pub mod Slots
 pub mod Spelling
+pub mod Values
