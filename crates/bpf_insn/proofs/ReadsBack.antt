@@ -128,7 +128,7 @@ call_at-src Helper imm = refl
 call_at-src Local imm = refl
 call_at-src Btf imm = refl
 
-callee_src-le : (k : Callee) → callee_src k ≤ 10
+pub callee_src-le : (k : Callee) → callee_src k ≤ 10
 callee_src-le Helper = omega arith
 callee_src-le Local = omega arith
 callee_src-le Btf = omega arith
@@ -154,7 +154,7 @@ kind_at-src kind.Code = refl
 kind_at-src kind.Map = refl
 kind_at-src kind.MapValue = refl
 
-kind_src-le : (k : ImmKind) → kind_src k ≤ 10
+pub kind_src-le : (k : ImmKind) → kind_src k ≤ 10
 kind_src-le kind.Number = omega arith
 kind_src-le kind.MapFd = omega arith
 kind_src-le kind.MapFdValue = omega arith
