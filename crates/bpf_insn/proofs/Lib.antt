@@ -3,6 +3,7 @@ pub mod Encoded
 pub mod Forms
 pub mod HasBytes
 pub mod Lengths
+pub mod Programs
 pub mod ReadsBack
 pub mod SlotReads
 pub mod Spelled
