@@ -1,4 +1,5 @@
 pub mod Bytes
+pub mod Decoded
 pub mod Encoded
 pub mod Forms
 pub mod HasBytes

@@ -34,7 +34,7 @@ fault_ok_is x y e = cc
 some_is : {A : Type 0} (x y : A) → Some x ≡ Some y → x ≡ y
 some_is x y e = cc
 
-of_ok : {A : Type 0} (P : A → Type 0) (r : Result A Fault) (x : A) → r ≡ Ok x → IfOk r P → P x
+pub of_ok : {A : Type 0} (P : A → Type 0) (r : Result A Fault) (x : A) → r ≡ Ok x → IfOk r P → P x
 of_ok P (Ok y) x e h = subst P (fault_ok_is y x e) h
 of_ok P (Err fault) x e h = absurd cc
 
@@ -46,11 +46,11 @@ before_ok n (Err fault) later p e = absurd cc
 before_ok n (Ok i) (Err x) p e = absurd cc
 before_ok n (Ok i) (Ok is) p e = (i, is, refl, refl, sym (ok_is (i ∷ is) p e))
 
-next_holds : (ss : List Slot) → AreSlots ss → NextHolds (first ss)
+pub next_holds : (ss : List Slot) → AreSlots ss → NextHolds (first ss)
 next_holds [] h = tt
 next_holds (s ∷ ss) h = h.0.holds
 
-first_is : (ss : List Slot) (t : Slot) → first ss ≡ Some t → (rest : List Slot) × (ss ≡ t ∷ rest)
+pub first_is : (ss : List Slot) (t : Slot) → first ss ≡ Some t → (rest : List Slot) × (ss ≡ t ∷ rest)
 first_is [] t e = absurd cc
 first_is (s ∷ ss) t e = (ss, ap (λ (x : Slot). x ∷ ss) (some_is s t e))
 
@@ -61,13 +61,13 @@ spelled_then n m i is ss bytes here at later =
     let moved : spelling_from (n + slots_of i) is ≡ Ok bytes = rw (← at) later in
     ap (λ (r : Result (List Slot) Fault). joined (bytes_at n r) (spelling_from (n + slots_of i) is)) here ∙ ap (joined (Ok (slots_bytes ss))) moved
 
-taken_len : (i : Insn) (ss : List Slot) → spelling i ≡ Ok ss → length (slots_bytes ss) ≡ 8 * slots_of i
+pub taken_len : (i : Insn) (ss : List Slot) → spelling i ≡ Ok ss → length (slots_bytes ss) ≡ 8 * slots_of i
 taken_len i ss e = spelled_len 0 i (slots_bytes ss) (ap (bytes_at 0) e)
 
 abbrev Found : ℕ → List Slot → List Insn → Type 0
 Found n ss p = (spelling_from n p ≡ Ok (slots_bytes ss)) × AreInsns p
 
-more_is : (r : Result Insn Fault) (i : Insn) (k : ℕ) → r ≡ Ok i → slots_of i - 1 ≡ k → more_of r ≡ k
+pub more_is : (r : Result Insn Fault) (i : Insn) (k : ℕ) → r ≡ Ok i → slots_of i - 1 ≡ k → more_of r ≡ k
 more_is r i k e h = ap more_of e ∙ h
 
 found_in : (k : ℕ) (ss : List Slot) (n : ℕ) (p : List Insn) → length ss ≤ k → AreSlots ss → insns_in 0 ss 0 n ≡ Ok p → Found n ss p
