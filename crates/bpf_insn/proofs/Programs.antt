@@ -10,7 +10,7 @@ use Rattle.bpf_insn.specs.declared.codec_error.CodecError.{CodecError}
 use Rattle.bpf_insn.specs.declared.codec_error.CodecError.TheVariants.{Refused}
 use Rattle.bpf_insn.specs.Slots.{slots_of}
 use Rattle.bpf_insn.specs.SlotBytes.{slots_bytes}
-use Rattle.bpf_insn.specs.Spelling.{spelling, bytes_at, joined, spelling_from, program_spelling}
+use Rattle.bpf_insn.specs.Spelling.{spelling, bytes_at, insn_spelling, joined, spelling_from, program_spelling}
 use Rattle.bpf_insn.specs.Values.{InsnFits, AreInsns}
 use Rattle.bpf_insn.specs.Reading.{insn_at, first, more_of, before, ended, insns_in, slots_in, reading}
 use Rattle.bpf_insn.proofs.Lengths.{spelled_len}
@@ -80,21 +80,21 @@ found_in (suc k) (s ∷ ss) n p le h e =
     let reads : Reads s (first ss) cut.0 = of_ok (Reads s (first ss)) r cut.0 cut.2 (slot_reads s (first ss) h.0.opcode h.0.holds (next_holds ss h.1)) in
     let whole : Found n (s ∷ ss) (cut.0 ∷ cut.1) = elim reads.taken [
       | inl one ↦
-        let len = taken_len cut.0 (s ∷ []) one in
-        let more : more_of r ≡ 0 = more_is r cut.0 0 cut.2 (omega (arith, len)) in
-        let later : insns_in 0 ss 0 (n + 1) ≡ Ok cut.1 = ap (λ (x : ℕ). insns_in 0 ss x (n + 1)) (sym more) ∙ cut.3 in
-        let rest = found_in k ss (n + 1) cut.1 (omega (arith, le)) h.1 later in
-        (spelled_then n (n + 1) cut.0 cut.1 (s ∷ []) (slots_bytes ss) one (omega (arith, len)) rest.0, (reads.fits, rest.1))
+          let len = taken_len cut.0 (s ∷ []) one in
+          let more : more_of r ≡ 0 = more_is r cut.0 0 cut.2 (omega (arith, len)) in
+          let later : insns_in 0 ss 0 (n + 1) ≡ Ok cut.1 = ap (λ (x : ℕ). insns_in 0 ss x (n + 1)) (sym more) ∙ cut.3 in
+          let rest = found_in k ss (n + 1) cut.1 (omega (arith, le)) h.1 later in
+          (spelled_then n (n + 1) cut.0 cut.1 (s ∷ []) (slots_bytes ss) one (omega (arith, len)) rest.0, (reads.fits, rest.1))
       | inr two ↦
-        let tail = first_is ss two.0 two.1 in
-        let len = taken_len cut.0 (s ∷ two.0 ∷ []) two.2 in
-        let more : more_of r ≡ 1 = more_is r cut.0 1 cut.2 (omega (arith, len)) in
-        let later : insns_in 0 tail.0 0 (n + 1 + 1) ≡ Ok cut.1 = ap (λ (x : List Slot). insns_in 0 x 1 (n + 1)) (sym tail.1) ∙ ap (λ (x : ℕ). insns_in 0 ss x (n + 1)) (sym more) ∙ cut.3 in
-        let slots : AreSlots (two.0 ∷ tail.0) = subst AreSlots tail.1 h.1 in
-        let shorter : length ss ≡ suc (length tail.0) = ap length tail.1 in
-        let rest = found_in k tail.0 (n + 1 + 1) cut.1 (omega (arith, le, shorter)) slots.1 later in
-        let spelled = spelled_then n (n + 1 + 1) cut.0 cut.1 (s ∷ two.0 ∷ []) (slots_bytes tail.0) two.2 (omega (arith, len)) rest.0 in
-        (spelled ∙ ap (λ (x : List Slot). done (slots_bytes (s ∷ x))) (sym tail.1), (reads.fits, rest.1))
+          let tail = first_is ss two.0 two.1 in
+          let len = taken_len cut.0 (s ∷ two.0 ∷ []) two.2 in
+          let more : more_of r ≡ 1 = more_is r cut.0 1 cut.2 (omega (arith, len)) in
+          let later : insns_in 0 tail.0 0 (n + 1 + 1) ≡ Ok cut.1 = ap (λ (x : List Slot). insns_in 0 x 1 (n + 1)) (sym tail.1) ∙ ap (λ (x : ℕ). insns_in 0 ss x (n + 1)) (sym more) ∙ cut.3 in
+          let slots : AreSlots (two.0 ∷ tail.0) = subst AreSlots tail.1 h.1 in
+          let shorter : length ss ≡ suc (length tail.0) = ap length tail.1 in
+          let rest = found_in k tail.0 (n + 1 + 1) cut.1 (omega (arith, le, shorter)) slots.1 later in
+          let spelled = spelled_then n (n + 1 + 1) cut.0 cut.1 (s ∷ two.0 ∷ []) (slots_bytes tail.0) two.2 (omega (arith, len)) rest.0 in
+          (spelled ∙ ap (λ (x : List Slot). done (slots_bytes (s ∷ x))) (sym tail.1), (reads.fits, rest.1))
     ] in
     subst (λ (x : List Insn). Found n (s ∷ ss) x) (sym cut.4) whole
 
@@ -198,7 +198,12 @@ front_again n i a x h e =
     let has : HaveBytes here.0 = of_ok HaveBytes (spelling i) here.0 here.1 (spelling_has i h) in
     ap (λ (b : List ℕ). front (slots_in (b ++ x))) here.2 ∙ ap front (slots_in-slots_bytes here.0 x has) ∙ front_is i here.0 (slots_in x) back
 
--- no instruction's bytes begin another's
-pub one_front : (n : ℕ) (i j : Insn) (a b x y : List ℕ) → InsnFits i → InsnFits j → bytes_at n (spelling i) ≡ Ok a → bytes_at n (spelling j) ≡ Ok b → a ++ x ≡ b ++ y → i ≡ j
+one_front : (n : ℕ) (i j : Insn) (a b x y : List ℕ) → InsnFits i → InsnFits j → bytes_at n (spelling i) ≡ Ok a → bytes_at n (spelling j) ≡ Ok b → a ++ x ≡ b ++ y → i ≡ j
 one_front n i j a b x y f g e h same =
     fault_ok_is i j (sym (front_again n i a x f e) ∙ ap (λ (z : List ℕ). front (slots_in z)) same ∙ front_again n j b y g h)
+
+-- no instruction's bytes begin another's
+pub no_front : (i j : Insn) (a b x y : List ℕ) → InsnFits i → InsnFits j → insn_spelling i ≡ Ok a → insn_spelling j ≡ Ok b → a ++ x ≡ b ++ y → (i ≡ j) × (a ≡ b)
+no_front i j a b x y f g e h same =
+    let insn = one_front 0 i j a b x y f g e h same in
+    (insn, ok_is a b (sym e ∙ ap insn_spelling insn ∙ h))

@@ -129,14 +129,14 @@ load_imm_reads s (Some k) (Some t) p n h =
     let next_is_read = cond (is_second t) (Ok (insn.LoadImm k s.dst s.imm t.imm)) (Err I7) in
     if_ok (Reads s (Some t)) (not (has_next k || is t.imm 0)) (Err I4) next_is_read (λ _. tt)
     (λ a. if_ok (Reads s (Some t)) (is_second t) (Ok (insn.LoadImm k s.dst s.imm t.imm)) (Err I7)
-      (λ b.
-        let here : slot form.LoadImm s.dst (kind_src k) (pos 0) s.imm ≡ s = slot_is form.LoadImm s s.dst (kind_src k) (pos 0) s.imm p.opcode_is refl h (sym (is_true s.offset 0 p.no_offset)) refl in
-        let spelled : both k s.dst s.imm t.imm ≡ Ok (s ∷ t ∷ []) = pair_is (slot form.LoadImm s.dst (kind_src k) (pos 0) s.imm) s (second t.imm) t here (second_is t b) in
-        record {
-          taken = inr (t, refl, two_is k (has_next k) s.dst s.imm t.imm (not_false (has_next k || is t.imm 0) a) ∙ spelled);
-          fits = (p.dst, p.holds.imm, n.imm);
-        })
-      (λ _. tt))
+    (λ b.
+    let here : slot form.LoadImm s.dst (kind_src k) (pos 0) s.imm ≡ s = slot_is form.LoadImm s s.dst (kind_src k) (pos 0) s.imm p.opcode_is refl h (sym (is_true s.offset 0 p.no_offset)) refl in
+    let spelled : both k s.dst s.imm t.imm ≡ Ok (s ∷ t ∷ []) = pair_is (slot form.LoadImm s.dst (kind_src k) (pos 0) s.imm) s (second t.imm) t here (second_is t b) in
+    record {
+      taken = inr (t, refl, two_is k (has_next k) s.dst s.imm t.imm (not_false (has_next k || is t.imm 0) a) ∙ spelled);
+      fits = (p.dst, p.holds.imm, n.imm);
+    })
+    (λ _. tt))
 
 -- ---- every form
 
@@ -220,23 +220,23 @@ tested_reads (Some f) s next e h a n =
     let read = insn_of f s.dst s.src s.offset s.imm next in
     if_ok (Reads s next) (ltb 10 s.dst || ltb 10 s.src) (Err I3) (cond (unused_are_zero f s) read (Err I4)) (λ _. tt)
     (λ r. if_ok (Reads s next) (unused_are_zero f s) read (Err I4)
-      (λ u.
-        let regs = or_false (ltb 10 s.dst) (ltb 10 s.src) r in
-        let a3 = and_true (((uses_dst f || eqb s.dst 0) && (uses_src f || eqb s.src 0)) && (uses_offset f || is s.offset 0)) (uses_imm f || is s.imm 0) u in
-        let a2 = and_true ((uses_dst f || eqb s.dst 0) && (uses_src f || eqb s.src 0)) (uses_offset f || is s.offset 0) a3.0 in
-        let a1 = and_true (uses_dst f || eqb s.dst 0) (uses_src f || eqb s.src 0) a2.0 in
-        form_reads f s next (record {
-          says = ap form_at h ∙ e;
-          opcode_is = h;
-          dst = ltb-false 10 s.dst regs.0;
-          src = ltb-false 10 s.src regs.1;
-          no_dst = a1.0;
-          no_src = a1.1;
-          no_offset = a2.1;
-          no_imm = a3.1;
-          holds = a;
-        }) n)
-      (λ _. tt))
+    (λ u.
+    let regs = or_false (ltb 10 s.dst) (ltb 10 s.src) r in
+    let a3 = and_true (((uses_dst f || eqb s.dst 0) && (uses_src f || eqb s.src 0)) && (uses_offset f || is s.offset 0)) (uses_imm f || is s.imm 0) u in
+    let a2 = and_true ((uses_dst f || eqb s.dst 0) && (uses_src f || eqb s.src 0)) (uses_offset f || is s.offset 0) a3.0 in
+    let a1 = and_true (uses_dst f || eqb s.dst 0) (uses_src f || eqb s.src 0) a2.0 in
+    form_reads f s next (record {
+      says = ap form_at h ∙ e;
+      opcode_is = h;
+      dst = ltb-false 10 s.dst regs.0;
+      src = ltb-false 10 s.src regs.1;
+      no_dst = a1.0;
+      no_src = a1.1;
+      no_offset = a2.1;
+      no_imm = a3.1;
+      holds = a;
+    }) n)
+    (λ _. tt))
 
 -- an instruction that is read is spelled by its slots
 pub slot_reads : (s : Slot) (next : Option Slot) → s.opcode < 256 → Holds s → NextHolds next → IfOk (insn_at s next) (Reads s next)

@@ -1,5 +1,5 @@
 -- What slots say: an instruction, or the least number that applies to the first slot with a fault.
-use Rattle.std.specs.Prelude.{ℕ, zero, suc, ◌+◌, ◌-◌, ◌%◌, ℤ, pos, negsuc, Bool, true, false, ◌||◌, ◌&&◌, not, List, [], ◌∷◌, length, drop, Option, Some, None, Result, Ok, Err, ◌==◌, nat_lt, if◌then◌else◌}
+use Rattle.std.specs.Prelude.{◌≡◌, ◌*◌, ℕ, zero, suc, ◌+◌, ◌-◌, ◌%◌, ℤ, pos, negsuc, Bool, true, false, ◌||◌, ◌&&◌, not, List, [], ◌∷◌, length, drop, Option, Some, None, Result, Ok, Err, ◌==◌, nat_lt, if◌then◌else◌}
 use Rattle.bpf_insn.specs.declared.insn.Width.{Width}
 use Rattle.bpf_insn.specs.declared.insn.Width.TheVariants.{W32, W64}
 use Rattle.bpf_insn.specs.declared.insn.ByteOrder.{ByteOrder}
@@ -25,7 +25,7 @@ use Rattle.bpf_insn.specs.declared.slot.Slot.{Slot}
 use Rattle.bpf_insn.specs.declared.codec_error.Fault.{Fault}
 use Rattle.bpf_insn.specs.declared.codec_error.Fault.TheVariants.{I1, I2, I3, I4, I5, I6, I7}
 use Rattle.bpf_insn.specs.declared.codec_error.CodecError.{CodecError}
-use Rattle.bpf_insn.specs.declared.codec_error.CodecError.TheVariants.{Refused}
+use Rattle.bpf_insn.specs.declared.codec_error.CodecError.TheVariants.{Refused, Memory}
 use Rattle.bpf_insn.specs.Opcode.{form_at}
 use Rattle.bpf_insn.specs.Slots.{slots_of}
 use Rattle.bpf_insn.specs.SlotBytes.{slot_at}
@@ -230,6 +230,11 @@ front_slot bytes = if nat_lt (length bytes) 8 then None else Some (slot_at bytes
 -- the instruction at the front of bytes
 unfoldable pub first_insn : List ℕ → Result Insn Fault
 first_insn bytes = if nat_lt (length bytes) 8 then Err I1 else insn_at (slot_at bytes) (front_slot (drop 8 bytes))
+
+-- the refusal of the instruction at the front of bytes, at this slot
+abbrev pub FailsFirst : List ℕ → ℕ → CodecError → Type 0
+FailsFirst bytes slot Memory = ⊥
+FailsFirst bytes slot (Refused fault n) = (first_insn bytes ≡ Err fault) × (n ≡ slot)
 
 -- the complete slots of bytes
 unfoldable pub slots_in : List ℕ → List Slot

@@ -159,6 +159,10 @@ abbrev pub bytes_at : ℕ → Result (List Slot) Fault → Result (List ℕ) Cod
 bytes_at n (Ok slots) = Ok (slots_bytes slots)
 bytes_at n (Err fault) = Err (Refused fault n)
 
+-- the bytes of an instruction alone
+abbrev pub insn_spelling : Insn → Result (List ℕ) CodecError
+insn_spelling i = bytes_at 0 (spelling i)
+
 -- one after the other, or the first refusal
 abbrev pub joined : Result (List ℕ) CodecError → Result (List ℕ) CodecError → Result (List ℕ) CodecError
 joined (Err e) later = Err e

@@ -1,9 +1,12 @@
 //! Bytes to instructions.
 
-ghost use Rattle.std.specs.Prelude.{◌≡◌, ◌≤◌, ◌<◌, ◌*◌, length, IfOk};
+ghost use Rattle.std.specs.Prelude.{◌≡◌, ◌≤◌, ◌<◌, ◌*◌, List, length, drop, ◌++◌, ◌∷◌, [], IfOk, IfErr, OnOk, MatchResult};
 ghost use Rattle.bpf_insn.specs.Slots.{slots_of};
-ghost use Rattle.bpf_insn.specs.Reading.{uses_dst, uses_src, has_signed, has_offset, uses_offset, uses_imm, unused_are_zero, signed_at, op_at, alu_insn, mov_at, alu_reg, endian_at, call_at, atomic_at, atomic_insn, kind_at, is_second, load_imm_at, insn_of, insn_at, front_slot, first_insn, reading};
+ghost use Rattle.bpf_insn.specs.Reading.{uses_dst, uses_src, has_signed, has_offset, uses_offset, uses_imm, unused_are_zero, signed_at, op_at, alu_insn, mov_at, alu_reg, endian_at, call_at, atomic_at, atomic_insn, kind_at, is_second, load_imm_at, insn_of, insn_at, front_slot, first_insn, FailsFirst, reading};
 ghost use Rattle.bpf_insn.specs.Outcome.{Gives};
+ghost use Rattle.bpf_insn.specs.Values.{AreInsns};
+ghost use Rattle.bpf_insn.specs.Spelling.{program_spelling};
+ghost use Rattle.bpf_insn.specs.declared.insn.Insn.{Insn};
 
 use crate::codec_error::{CodecError, Fault};
 use crate::encoding::has_next_imm;
@@ -369,11 +372,71 @@ fn front(bytes: &[u8]) -> Option<Slot>
 
 /// The instruction at the front of bytes, or its least fault.
 #[tactic(auto, unfolding(crate::specs::Reading::first_insn))]
-fn next_insn(bytes: &[u8]) -> Result<Insn, Fault>
+fn first(bytes: &[u8]) -> Result<Insn, Fault>
     ensures { result ≡ first_insn bytes.now }
 {
     if bytes.len() < 8 {
         return Err(Fault::I1);
     }
     insn_of_slot(Slot::from_bytes(bytes), front(&bytes[8..]))
+}
+
+/// The instruction at the front of bytes, within them, or its least fault.
+fn first_within(bytes: &[u8]) -> Result<Insn, Fault>
+    ensures value { result ≡ first_insn bytes.now }
+    ensures within { IfOk result (λ insn. 8 * slots_of insn ≤ length bytes.now) }
+{
+    first(bytes)
+}
+
+/// The instruction at the front of bytes, and how many bytes it takes; slot is where it stands.
+fn next(bytes: &[u8], slot: usize) -> Result<(Insn, usize), CodecError>
+    ensures value { MatchResult result (λ x. (first_insn bytes.now ≡ Ok x.0) × (x.1 ≡ 8 * slots_of x.0)) (FailsFirst bytes.now slot) }
+    ensures within { IfOk result (λ x. x.1 ≤ length bytes.now) }
+{
+    match first_within(bytes) {
+        Err(fault) => Err(CodecError::Refused { fault, slot }),
+        Ok(insn) => {
+            let len = 8 * slots(&insn) as usize;
+            Ok((insn, len))
+        }
+    }
+}
+
+fn add(insns: &mut Vec<Insn>, insn: Insn) -> Result<(), CodecError>
+    ensures ok { OnOk result (insns.new.items ≡ insns.old.items ++ insn ∷ []) }
+    ensures err { IfErr result (λ e. e ≡ CodecError.Memory) }
+{
+    Ok(insns.extend_from_slice(&[insn])?)
+}
+
+fn all(alloc: Global, bytes: &[u8]) -> Result<Vec<Insn>, CodecError>
+    ensures { Gives (λ v. v.items) result (reading bytes.now) }
+{
+    let mut insns = Vec::new(alloc);
+    let mut rest = bytes;
+    while !rest.is_empty() {
+        let slot = (bytes.len() - rest.len()) / 8;
+        let (insn, len) = match next(rest, slot) {
+            Err(error) => return Err(error),
+            Ok(found) => found,
+        };
+        add(&mut insns, insn)?;
+        rest = &rest[len..];
+    }
+    Ok(insns)
+}
+
+/// The program that the bytes spell, 8 bytes a slot, all of the bytes. Where they spell none it
+/// refuses by the first slot with a fault, and there by the least number. Memory may run out in
+/// place of either answer.
+pub fn decode(alloc: Global, bytes: &[u8]) -> Result<Vec<Insn>, CodecError>
+    // What is read is spelled so.
+    ensures found { IfOk result (λ v. AreInsns v.items × (program_spelling v.items ≡ Ok bytes.now)) }
+    // What is spelled so is read, unless memory runs out.
+    ensures only { (insns : List Insn) → AreInsns insns → program_spelling insns ≡ Ok bytes.now → Gives (λ v. v.items) result (Ok insns) }
+    // Which refusal it is.
+    ensures exact { Gives (λ v. v.items) result (reading bytes.now) }
+{
+    all(alloc, bytes)
 }

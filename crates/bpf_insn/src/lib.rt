@@ -6,11 +6,13 @@ mod decoding;
 mod encoding;
 mod form;
 pub mod insn;
+pub mod laws;
 pub mod reg;
 mod slot;
 pub mod unit;
 
 pub use codec_error::{CodecError, Fault};
+pub use decoding::decode;
 pub use encoding::encode;
 pub use insn::{
     AluOp, AtomicOp, ByteOrder, Callee, Compare, EndianBits, ImmKind, Insn, MovsxBits, Operand,
