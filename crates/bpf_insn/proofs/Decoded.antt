@@ -235,10 +235,6 @@ begins bytes fits =
     no_front (Ok is) = refl
     no_front (Err e) = refl
 
-pub if_within : (bytes : List ℕ) (r : Result Insn Fault) → IsBytes bytes → r ≡ first_insn bytes → IfOk r (λ i. 8 * slots_of i ≤ length bytes)
-if_within bytes (Ok i) fits e = first_insn-len bytes i fits (sym e)
-if_within bytes (Err f) fits e = tt
-
 -- what a program's reading gives is spelled so
 pub if_found : (bytes : List ℕ) (r : Result (Vec Insn) CodecError) → IsBytes bytes → Gives (λ v. v.items) r (reading bytes) → IfOk r (λ v. AreInsns v.items × (program_spelling v.items ≡ Ok bytes))
 if_found bytes (Ok v) fits given = reading_found bytes v.items fits given

@@ -2,7 +2,7 @@
 
 ghost use Rattle.std.specs.Prelude.{◌≡◌, ◌≤◌, ◌<◌, ◌*◌, List, length, drop, ◌++◌, ◌∷◌, [], IfOk, IfErr, OnOk, MatchResult};
 ghost use Rattle.bpf_insn.specs.Slots.{slots_of};
-ghost use Rattle.bpf_insn.specs.Reading.{uses_dst, uses_src, has_signed, has_offset, uses_offset, uses_imm, unused_are_zero, signed_at, op_at, alu_insn, mov_at, alu_reg, endian_at, call_at, atomic_at, atomic_insn, kind_at, is_second, load_imm_at, insn_of, insn_at, front_slot, first_insn, FailsFirst, reading};
+ghost use Rattle.bpf_insn.specs.Reading.{signed_at, op_at, alu_insn, mov_at, alu_reg, endian_at, call_at, atomic_at, atomic_insn, kind_at, is_second, load_imm_at, insn_of, insn_at, front_slot, first_insn, FailsFirst, reading};
 ghost use Rattle.bpf_insn.specs.Outcome.{Gives};
 ghost use Rattle.bpf_insn.specs.Values.{AreInsns};
 ghost use Rattle.bpf_insn.specs.Spelling.{program_spelling};
@@ -10,6 +10,7 @@ ghost use Rattle.bpf_insn.specs.declared.insn.Insn.{Insn};
 
 use crate::codec_error::{CodecError, Fault};
 use crate::encoding::has_next_imm;
+use crate::fields::only_its_fields;
 use crate::form::{AluCode, Form, form_of};
 use crate::insn::{
     AluOp, AtomicOp, ByteOrder, Callee, EndianBits, ImmKind, Insn, MovsxBits, Operand, SimpleOp,
@@ -18,72 +19,6 @@ use crate::insn::{
 use crate::reg::Reg;
 use crate::slot::Slot;
 use std::alloc::Global;
-
-fn has_dst(form: Form) -> bool
-    ensures { result ≡ uses_dst form }
-{
-    !matches!(form, Form::Ja | Form::Ja32 | Form::Call | Form::Exit)
-}
-
-fn has_src(form: Form) -> bool
-    ensures { result ≡ uses_src form }
-{
-    matches!(
-        form,
-        Form::AluReg(..)
-            | Form::JumpReg(..)
-            | Form::Call
-            | Form::Load(_)
-            | Form::LoadSx(_)
-            | Form::Store(_)
-            | Form::Atomic(_)
-            | Form::LoadImm
-    )
-}
-
-fn has_offset_field(form: Form) -> bool
-    ensures { result ≡ uses_offset form }
-{
-    match form {
-        Form::AluImm(_, code) => matches!(code, AluCode::Div | AluCode::Mod),
-        Form::AluReg(_, code) => matches!(code, AluCode::Div | AluCode::Mod | AluCode::Mov),
-        Form::Ja
-        | Form::JumpImm(..)
-        | Form::JumpReg(..)
-        | Form::Load(_)
-        | Form::LoadSx(_)
-        | Form::StoreImm(_)
-        | Form::Store(_)
-        | Form::Atomic(_) => true,
-        _ => false,
-    }
-}
-
-fn has_imm(form: Form) -> bool
-    ensures { result ≡ uses_imm form }
-{
-    matches!(
-        form,
-        Form::AluImm(..)
-            | Form::Endian(_)
-            | Form::Ja32
-            | Form::JumpImm(..)
-            | Form::Call
-            | Form::StoreImm(_)
-            | Form::Atomic(_)
-            | Form::LoadImm
-    )
-}
-
-/// Whether each field that the form doesn't use is zero.
-fn only_its_fields(form: Form, slot: Slot) -> bool
-    ensures { result ≡ unused_are_zero form slot }
-{
-    (has_dst(form) || slot.dst == 0)
-        && (has_src(form) || slot.src == 0)
-        && (has_offset_field(form) || slot.offset == 0)
-        && (has_imm(form) || slot.imm == 0)
-}
 
 fn signed_op(offset: i16, plain: AluOp, signed: AluOp) -> Result<AluOp, Fault>
     ensures { result ≡ signed_at offset plain signed }
@@ -381,20 +316,12 @@ fn first(bytes: &[u8]) -> Result<Insn, Fault>
     insn_of_slot(Slot::from_bytes(bytes), front(&bytes[8..]))
 }
 
-/// The instruction at the front of bytes, within them, or its least fault.
-fn first_within(bytes: &[u8]) -> Result<Insn, Fault>
-    ensures value { result ≡ first_insn bytes.now }
-    ensures within { IfOk result (λ insn. 8 * slots_of insn ≤ length bytes.now) }
-{
-    first(bytes)
-}
-
 /// The instruction at the front of bytes, and how many bytes it takes; slot is where it stands.
 fn next(bytes: &[u8], slot: usize) -> Result<(Insn, usize), CodecError>
     ensures value { MatchResult result (λ x. (first_insn bytes.now ≡ Ok x.0) × (x.1 ≡ 8 * slots_of x.0)) (FailsFirst bytes.now slot) }
     ensures within { IfOk result (λ x. x.1 ≤ length bytes.now) }
 {
-    match first_within(bytes) {
+    match first(bytes) {
         Err(fault) => Err(CodecError::Refused { fault, slot }),
         Ok(insn) => {
             let len = 8 * slots(&insn) as usize;

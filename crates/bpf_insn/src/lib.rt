@@ -4,6 +4,7 @@
 mod codec_error;
 mod decoding;
 mod encoding;
+mod fields;
 mod form;
 pub mod insn;
 pub mod laws;
