@@ -21,3 +21,6 @@ pub use insn::{
 };
 pub use reg::Reg;
 pub use unit::Unit;
+
+#[cfg(test)]
+mod tests;
