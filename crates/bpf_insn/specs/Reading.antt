@@ -1,0 +1,274 @@
+-- What slots say: an instruction, or the least number that applies to the first slot with a fault.
+use Rattle.std.specs.Prelude.{◌≡◌, ◌*◌, ℕ, zero, suc, ◌+◌, ◌-◌, ◌%◌, ℤ, pos, negsuc, Bool, true, false, ◌||◌, ◌&&◌, not, List, [], ◌∷◌, length, drop, Option, Some, None, Result, Ok, Err, ◌==◌, nat_lt, if◌then◌else◌}
+use Rattle.bpf_insn.specs.declared.insn.Width.{Width}
+use Rattle.bpf_insn.specs.declared.insn.Width.TheVariants.{W32, W64}
+use Rattle.bpf_insn.specs.declared.insn.ByteOrder.{ByteOrder}
+use Rattle.bpf_insn.specs.declared.insn.EndianBits.TheVariants as endian
+use Rattle.bpf_insn.specs.declared.insn.MovsxBits.TheVariants as movsx
+use Rattle.bpf_insn.specs.declared.insn.AluOp.{AluOp}
+use Rattle.bpf_insn.specs.declared.insn.AluOp.TheVariants as op
+use Rattle.bpf_insn.specs.declared.insn.Operand.{Operand}
+use Rattle.bpf_insn.specs.declared.insn.Operand.TheVariants.{Imm, Reg}
+use Rattle.bpf_insn.specs.declared.insn.Callee.TheVariants.{Helper, Local, Btf}
+use Rattle.bpf_insn.specs.declared.insn.SimpleOp.TheVariants as simple
+use Rattle.bpf_insn.specs.declared.insn.AtomicOp.{AtomicOp}
+use Rattle.bpf_insn.specs.declared.insn.AtomicOp.TheVariants.{Simple, Fetch, Xchg, Cmpxchg}
+use Rattle.bpf_insn.specs.declared.insn.ImmKind.{ImmKind}
+use Rattle.bpf_insn.specs.declared.insn.ImmKind.TheVariants as kind
+use Rattle.bpf_insn.specs.declared.insn.Insn.{Insn}
+use Rattle.bpf_insn.specs.declared.insn.Insn.TheVariants as insn
+use Rattle.bpf_insn.specs.declared.form.AluCode.{AluCode}
+use Rattle.bpf_insn.specs.declared.form.AluCode.TheVariants as alu
+use Rattle.bpf_insn.specs.declared.form.Form.{Form}
+use Rattle.bpf_insn.specs.declared.form.Form.TheVariants as form
+use Rattle.bpf_insn.specs.declared.slot.Slot.{Slot}
+use Rattle.bpf_insn.specs.declared.codec_error.Fault.{Fault}
+use Rattle.bpf_insn.specs.declared.codec_error.Fault.TheVariants.{I1, I2, I3, I4, I5, I6, I7}
+use Rattle.bpf_insn.specs.declared.codec_error.CodecError.{CodecError}
+use Rattle.bpf_insn.specs.declared.codec_error.CodecError.TheVariants.{Refused, Memory}
+use Rattle.bpf_insn.specs.Opcode.{form_at}
+use Rattle.bpf_insn.specs.Slots.{slots_of}
+use Rattle.bpf_insn.specs.SlotBytes.{slot_at}
+use Rattle.bpf_insn.specs.Spelling.{has_next}
+
+-- whether a signed field is this number
+abbrev pub is : ℤ → ℕ → Bool
+is (pos m) n = m == n
+is (negsuc m) n = false
+
+-- the forms that use the destination field
+abbrev pub uses_dst : Form → Bool
+uses_dst form.Ja = false
+uses_dst form.Ja32 = false
+uses_dst form.Call = false
+uses_dst form.Exit = false
+uses_dst _ = true
+
+-- the forms that use the source field
+abbrev pub uses_src : Form → Bool
+uses_src (form.AluReg w c) = true
+uses_src (form.JumpReg w c) = true
+uses_src form.Call = true
+uses_src (form.Load s) = true
+uses_src (form.LoadSx s) = true
+uses_src (form.Store s) = true
+uses_src (form.Atomic w) = true
+uses_src form.LoadImm = true
+uses_src _ = false
+
+-- the codes whose offset says signed (RFC 9669, section 4.1)
+abbrev pub has_signed : AluCode → Bool
+has_signed alu.Div = true
+has_signed alu.Mod = true
+has_signed _ = false
+
+-- the codes whose offset says something where both operands are registers (RFC 9669, section 4.1)
+abbrev pub has_offset : AluCode → Bool
+has_offset alu.Mov = true
+has_offset c = has_signed c
+
+-- the forms that use the offset field
+abbrev pub uses_offset : Form → Bool
+uses_offset (form.AluImm w c) = has_signed c
+uses_offset (form.AluReg w c) = has_offset c
+uses_offset form.Ja = true
+uses_offset (form.JumpImm w c) = true
+uses_offset (form.JumpReg w c) = true
+uses_offset (form.Load s) = true
+uses_offset (form.LoadSx s) = true
+uses_offset (form.StoreImm s) = true
+uses_offset (form.Store s) = true
+uses_offset (form.Atomic w) = true
+uses_offset _ = false
+
+-- the forms that use the immediate
+abbrev pub uses_imm : Form → Bool
+uses_imm (form.AluImm w c) = true
+uses_imm (form.Endian o) = true
+uses_imm form.Ja32 = true
+uses_imm (form.JumpImm w c) = true
+uses_imm form.Call = true
+uses_imm (form.StoreImm s) = true
+uses_imm (form.Atomic w) = true
+uses_imm form.LoadImm = true
+uses_imm _ = false
+
+-- each field that the form doesn't use is zero
+abbrev pub unused_are_zero : Form → Slot → Bool
+unused_are_zero f s =
+    (uses_dst f || s.dst == 0) && (uses_src f || s.src == 0) && (uses_offset f || is s.offset 0) && (uses_imm f || is s.imm 0)
+
+-- plain at offset 0, signed at offset 1
+abbrev pub signed_at : ℤ → AluOp → AluOp → Result AluOp Fault
+signed_at offset plain signed = if is offset 0 then Ok plain else if is offset 1 then Ok signed else Err I6
+
+-- the operation of a code and an offset (RFC 9669, section 4.1)
+abbrev pub op_at : AluCode → ℤ → Result AluOp Fault
+op_at alu.Add offset = Ok op.Add
+op_at alu.Sub offset = Ok op.Sub
+op_at alu.Mul offset = Ok op.Mul
+op_at alu.Div offset = signed_at offset op.Div op.Sdiv
+op_at alu.Or offset = Ok op.Or
+op_at alu.And offset = Ok op.And
+op_at alu.Lsh offset = Ok op.Lsh
+op_at alu.Rsh offset = Ok op.Rsh
+op_at alu.Mod offset = signed_at offset op.Mod op.Smod
+op_at alu.Xor offset = Ok op.Xor
+op_at alu.Mov offset = Ok op.Mov
+op_at alu.Arsh offset = Ok op.Arsh
+
+-- the instruction of an operation
+abbrev pub alu_insn : Width → ℕ → Operand → Result AluOp Fault → Result Insn Fault
+alu_insn w dst operand (Ok o) = Ok (insn.Alu w o dst operand)
+alu_insn w dst operand (Err fault) = Err fault
+
+-- a sign-extending move of 32 bits is of width 64 alone (RFC 9669, section 4.1)
+abbrev pub movsx_32 : Width → ℕ → ℕ → Result Insn Fault
+movsx_32 W32 dst src = Err I6
+movsx_32 W64 dst src = Ok (insn.Movsx W64 movsx.B32 dst src)
+
+-- a move of a register by its offset (RFC 9669, section 4.1)
+abbrev pub mov_at : Width → ℕ → ℕ → ℤ → Result Insn Fault
+mov_at w dst src offset =
+    if is offset 0 then Ok (insn.Alu w op.Mov dst (Reg src))
+    else if is offset 8 then Ok (insn.Movsx w movsx.B8 dst src)
+    else if is offset 16 then Ok (insn.Movsx w movsx.B16 dst src)
+    else if is offset 32 then movsx_32 w dst src
+    else Err I6
+
+-- arithmetic on two registers
+abbrev pub alu_reg : Width → AluCode → ℕ → ℕ → ℤ → Result Insn Fault
+alu_reg w alu.Mov dst src offset = mov_at w dst src offset
+alu_reg w c dst src offset = alu_insn w dst (Reg src) (op_at c offset)
+
+-- a byte order by its immediate (RFC 9669, section 4.2)
+abbrev pub endian_at : ByteOrder → ℕ → ℤ → Result Insn Fault
+endian_at o dst imm =
+    if is imm 16 then Ok (insn.Endian o endian.B16 dst)
+    else if is imm 32 then Ok (insn.Endian o endian.B32 dst)
+    else if is imm 64 then Ok (insn.Endian o endian.B64 dst)
+    else Err I5
+
+-- a call by its source (RFC 9669, section 4.3.1)
+abbrev pub call_at : ℕ → ℤ → Result Insn Fault
+call_at src imm =
+    if src == 0 then Ok (insn.Call Helper imm)
+    else if src == 1 then Ok (insn.Call Local imm)
+    else if src == 2 then Ok (insn.Call Btf imm)
+    else Err I4
+
+-- an operation on memory by its immediate (RFC 9669, section 5.3)
+abbrev pub atomic_at : ℤ → Result AtomicOp Fault
+atomic_at imm =
+    if is imm 0 then Ok (Simple simple.Add) else if is imm 64 then Ok (Simple simple.Or)
+    else if is imm 80 then Ok (Simple simple.And) else if is imm 160 then Ok (Simple simple.Xor)
+    else if is imm 1 then Ok (Fetch simple.Add) else if is imm 65 then Ok (Fetch simple.Or)
+    else if is imm 81 then Ok (Fetch simple.And) else if is imm 161 then Ok (Fetch simple.Xor)
+    else if is imm 225 then Ok Xchg else if is imm 241 then Ok Cmpxchg
+    else Err I5
+
+-- the instruction of an operation on memory
+abbrev pub atomic_insn : Width → ℕ → ℕ → ℤ → Result AtomicOp Fault → Result Insn Fault
+atomic_insn w dst src offset (Ok o) = Ok (insn.Atomic w o dst src offset)
+atomic_insn w dst src offset (Err fault) = Err fault
+
+-- the kind of a two-slot load by its source (RFC 9669, section 5.4)
+abbrev pub kind_at : ℕ → Option ImmKind
+kind_at src =
+    if src == 0 then Some kind.Number else if src == 1 then Some kind.MapFd else if src == 2 then Some kind.MapFdValue
+    else if src == 3 then Some kind.Variable else if src == 4 then Some kind.Code else if src == 5 then Some kind.Map
+    else if src == 6 then Some kind.MapValue else None
+
+-- a second slot is zero but for its immediate (RFC 9669, section 3.2)
+abbrev pub is_second : Slot → Bool
+is_second t = t.opcode == 0 && t.dst == 0 && t.src == 0 && is t.offset 0
+
+-- a two-slot load by its kind and the next slot
+abbrev pub load_imm_at : Option ImmKind → ℕ → ℤ → Option Slot → Result Insn Fault
+load_imm_at None dst imm next = Err I4
+load_imm_at (Some kind) dst imm None = Err I7
+load_imm_at (Some kind) dst imm (Some t) =
+    if not (has_next kind || is t.imm 0) then Err I4
+    else if is_second t then Ok (insn.LoadImm kind dst imm t.imm)
+    else Err I7
+
+-- the instruction of a form with these fields; next is the slot behind it
+abbrev pub insn_of : Form → ℕ → ℕ → ℤ → ℤ → Option Slot → Result Insn Fault
+insn_of (form.AluImm w c) dst src offset imm next = alu_insn w dst (Imm imm) (op_at c offset)
+insn_of (form.AluReg w c) dst src offset imm next = alu_reg w c dst src offset
+insn_of (form.Neg w) dst src offset imm next = Ok (insn.Neg w dst)
+insn_of (form.Endian o) dst src offset imm next = endian_at o dst imm
+insn_of form.Ja dst src offset imm next = Ok (insn.Ja offset)
+insn_of form.Ja32 dst src offset imm next = Ok (insn.Ja32 imm)
+insn_of (form.JumpImm w c) dst src offset imm next = Ok (insn.Jump w c dst (Imm imm) offset)
+insn_of (form.JumpReg w c) dst src offset imm next = Ok (insn.Jump w c dst (Reg src) offset)
+insn_of form.Call dst src offset imm next = call_at src imm
+insn_of form.Exit dst src offset imm next = Ok insn.Exit
+insn_of (form.Load s) dst src offset imm next = Ok (insn.Load s dst src offset)
+insn_of (form.LoadSx s) dst src offset imm next = Ok (insn.LoadSx s dst src offset)
+insn_of (form.StoreImm s) dst src offset imm next = Ok (insn.StoreImm s dst offset imm)
+insn_of (form.Store s) dst src offset imm next = Ok (insn.Store s dst src offset)
+insn_of (form.Atomic w) dst src offset imm next = atomic_insn w dst src offset (atomic_at imm)
+insn_of form.LoadImm dst src offset imm next = load_imm_at (kind_at src) dst imm next
+
+-- the tests of a slot in the order of their numbers
+abbrev pub tested : Option Form → Slot → Option Slot → Result Insn Fault
+tested None s next = Err I2
+tested (Some f) s next =
+    if nat_lt 10 s.dst || nat_lt 10 s.src then Err I3
+    else if unused_are_zero f s then insn_of f s.dst s.src s.offset s.imm next
+    else Err I4
+
+-- the instruction that begins at a slot, or its least fault; next is the slot behind it
+unfoldable pub insn_at : Slot → Option Slot → Result Insn Fault
+insn_at s next = tested (form_at s.opcode) s next
+
+-- the slot at the front, if it is complete
+abbrev pub front_slot : List ℕ → Option Slot
+front_slot bytes = if nat_lt (length bytes) 8 then None else Some (slot_at bytes)
+
+-- the instruction at the front of bytes
+unfoldable pub first_insn : List ℕ → Result Insn Fault
+first_insn bytes = if nat_lt (length bytes) 8 then Err I1 else insn_at (slot_at bytes) (front_slot (drop 8 bytes))
+
+-- the refusal of the instruction at the front of bytes, at this slot
+abbrev pub FailsFirst : List ℕ → ℕ → CodecError → Type 0
+FailsFirst bytes slot Memory = ⊥
+FailsFirst bytes slot (Refused fault n) = (first_insn bytes ≡ Err fault) × (n ≡ slot)
+
+-- the complete slots of bytes
+unfoldable pub slots_in : List ℕ → List Slot
+slots_in (a ∷ b ∷ c ∷ d ∷ e ∷ f ∷ g ∷ h ∷ rest) = slot_at (a ∷ b ∷ c ∷ d ∷ e ∷ f ∷ g ∷ h ∷ []) ∷ slots_in rest
+slots_in _ = []
+
+-- the first of some slots
+abbrev pub first : List Slot → Option Slot
+first [] = None
+first (s ∷ ss) = Some s
+
+-- how many slots behind its own an instruction takes
+abbrev pub more_of : Result Insn Fault → ℕ
+more_of (Ok i) = slots_of i - 1
+more_of (Err fault) = 0
+
+-- an instruction before others, or the refusal at slot n
+abbrev pub before : ℕ → Result Insn Fault → Result (List Insn) CodecError → Result (List Insn) CodecError
+before n (Err fault) later = Err (Refused fault n)
+before n (Ok i) (Ok is) = Ok (i ∷ is)
+before n (Ok i) (Err e) = Err e
+
+-- the end of a program at slot n, where some bytes are left
+abbrev pub ended : ℕ → ℕ → Result (List Insn) CodecError
+ended zero n = Ok []
+ended (suc left) n = Err (Refused I1 n)
+
+-- the instructions in slots from slot n on, of which the first may be taken by the instruction before, with some bytes left behind
+unfoldable pub insns_in : ℕ → List Slot → ℕ → ℕ → Result (List Insn) CodecError
+insns_in left [] taken n = ended left n
+insns_in left (s ∷ ss) (suc taken) n = insns_in left ss taken (n + 1)
+insns_in left (s ∷ ss) zero n =
+    before n (insn_at s (first ss)) (insns_in left ss (more_of (insn_at s (first ss))) (n + 1))
+
+-- the program in bytes, or its first fault
+unfoldable pub reading : List ℕ → Result (List Insn) CodecError
+reading bytes = insns_in (length bytes % 8) (slots_in bytes) 0 0

@@ -1,0 +1,369 @@
+//! Bytes to instructions.
+
+ghost use Rattle.std.specs.Prelude.{◌≡◌, ◌≤◌, ◌<◌, ◌*◌, List, length, drop, ◌++◌, ◌∷◌, [], IfOk, IfErr, OnOk, MatchResult};
+ghost use Rattle.bpf_insn.specs.Slots.{slots_of};
+ghost use Rattle.bpf_insn.specs.Reading.{signed_at, op_at, alu_insn, mov_at, alu_reg, endian_at, call_at, atomic_at, atomic_insn, kind_at, is_second, load_imm_at, insn_of, insn_at, front_slot, first_insn, FailsFirst, reading};
+ghost use Rattle.bpf_insn.specs.Outcome.{Gives};
+ghost use Rattle.bpf_insn.specs.Values.{AreInsns};
+ghost use Rattle.bpf_insn.specs.Spelling.{program_spelling};
+ghost use Rattle.bpf_insn.specs.declared.insn.Insn.{Insn};
+
+use crate::codec_error::{CodecError, Fault};
+use crate::encoding::has_next_imm;
+use crate::fields::only_its_fields;
+use crate::form::{AluCode, Form, form_of};
+use crate::insn::{
+    AluOp, AtomicOp, ByteOrder, Callee, EndianBits, ImmKind, Insn, MovsxBits, Operand, SimpleOp,
+    Width, slots,
+};
+use crate::reg::Reg;
+use crate::slot::Slot;
+use std::alloc::Global;
+
+fn signed_op(offset: i16, plain: AluOp, signed: AluOp) -> Result<AluOp, Fault>
+    ensures { result ≡ signed_at offset plain signed }
+{
+    match offset {
+        0 => Ok(plain),
+        1 => Ok(signed),
+        _ => Err(Fault::I6),
+    }
+}
+
+fn op_of(code: AluCode, offset: i16) -> Result<AluOp, Fault>
+    ensures { result ≡ op_at code offset }
+{
+    match code {
+        AluCode::Add => Ok(AluOp::Add),
+        AluCode::Sub => Ok(AluOp::Sub),
+        AluCode::Mul => Ok(AluOp::Mul),
+        AluCode::Div => signed_op(offset, AluOp::Div, AluOp::Sdiv),
+        AluCode::Or => Ok(AluOp::Or),
+        AluCode::And => Ok(AluOp::And),
+        AluCode::Lsh => Ok(AluOp::Lsh),
+        AluCode::Rsh => Ok(AluOp::Rsh),
+        AluCode::Mod => signed_op(offset, AluOp::Mod, AluOp::Smod),
+        AluCode::Xor => Ok(AluOp::Xor),
+        AluCode::Mov => Ok(AluOp::Mov),
+        AluCode::Arsh => Ok(AluOp::Arsh),
+    }
+}
+
+fn alu(width: Width, code: AluCode, dst: Reg, operand: Operand, offset: i16) -> Result<Insn, Fault>
+    ensures { result ≡ alu_insn width dst operand (op_at code offset) }
+{
+    let op = op_of(code, offset)?;
+    Ok(Insn::Alu {
+        width,
+        op,
+        dst,
+        operand,
+    })
+}
+
+fn mov(width: Width, dst: Reg, src: Reg, offset: i16) -> Result<Insn, Fault>
+    ensures { result ≡ mov_at width dst src offset }
+{
+    let bits = match (offset, width) {
+        (0, _) => {
+            return Ok(Insn::Alu {
+                width,
+                op: AluOp::Mov,
+                dst,
+                operand: Operand::Reg(src),
+            });
+        }
+        (8, _) => MovsxBits::B8,
+        (16, _) => MovsxBits::B16,
+        (32, Width::W64) => MovsxBits::B32,
+        _ => return Err(Fault::I6),
+    };
+    Ok(Insn::Movsx {
+        width,
+        bits,
+        dst,
+        src,
+    })
+}
+
+fn alu_register(width: Width, code: AluCode, dst: Reg, src: Reg, offset: i16) -> Result<Insn, Fault>
+    ensures { result ≡ alu_reg width code dst src offset }
+{
+    match code {
+        AluCode::Mov => mov(width, dst, src, offset),
+        _ => alu(width, code, dst, Operand::Reg(src), offset),
+    }
+}
+
+fn endian(order: ByteOrder, dst: Reg, imm: i32) -> Result<Insn, Fault>
+    ensures { result ≡ endian_at order dst imm }
+{
+    match imm {
+        16 => Ok(Insn::Endian {
+            order,
+            bits: EndianBits::B16,
+            dst,
+        }),
+        32 => Ok(Insn::Endian {
+            order,
+            bits: EndianBits::B32,
+            dst,
+        }),
+        64 => Ok(Insn::Endian {
+            order,
+            bits: EndianBits::B64,
+            dst,
+        }),
+        _ => Err(Fault::I5),
+    }
+}
+
+fn call(src: u8, imm: i32) -> Result<Insn, Fault>
+    ensures { result ≡ call_at src imm }
+{
+    match src {
+        0 => Ok(Insn::Call {
+            callee: Callee::Helper,
+            imm,
+        }),
+        1 => Ok(Insn::Call {
+            callee: Callee::Local,
+            imm,
+        }),
+        2 => Ok(Insn::Call {
+            callee: Callee::Btf,
+            imm,
+        }),
+        _ => Err(Fault::I4),
+    }
+}
+
+fn atomic_op(imm: i32) -> Result<AtomicOp, Fault>
+    ensures { result ≡ atomic_at imm }
+{
+    match imm {
+        0x00 => Ok(AtomicOp::Simple(SimpleOp::Add)),
+        0x40 => Ok(AtomicOp::Simple(SimpleOp::Or)),
+        0x50 => Ok(AtomicOp::Simple(SimpleOp::And)),
+        0xa0 => Ok(AtomicOp::Simple(SimpleOp::Xor)),
+        0x01 => Ok(AtomicOp::Fetch(SimpleOp::Add)),
+        0x41 => Ok(AtomicOp::Fetch(SimpleOp::Or)),
+        0x51 => Ok(AtomicOp::Fetch(SimpleOp::And)),
+        0xa1 => Ok(AtomicOp::Fetch(SimpleOp::Xor)),
+        0xe1 => Ok(AtomicOp::Xchg),
+        0xf1 => Ok(AtomicOp::Cmpxchg),
+        _ => Err(Fault::I5),
+    }
+}
+
+fn atomic(width: Width, dst: Reg, src: Reg, offset: i16, imm: i32) -> Result<Insn, Fault>
+    ensures { result ≡ atomic_insn width dst src offset (atomic_at imm) }
+{
+    let op = atomic_op(imm)?;
+    Ok(Insn::Atomic {
+        width,
+        op,
+        dst,
+        src,
+        offset,
+    })
+}
+
+fn kind_of(src: u8) -> Option<ImmKind>
+    ensures { result ≡ kind_at src }
+{
+    match src {
+        0 => Some(ImmKind::Number),
+        1 => Some(ImmKind::MapFd),
+        2 => Some(ImmKind::MapFdValue),
+        3 => Some(ImmKind::Variable),
+        4 => Some(ImmKind::Code),
+        5 => Some(ImmKind::Map),
+        6 => Some(ImmKind::MapValue),
+        _ => None,
+    }
+}
+
+fn is_second_slot(slot: Slot) -> bool
+    ensures { result ≡ is_second slot }
+{
+    slot.opcode == 0 && slot.dst == 0 && slot.src == 0 && slot.offset == 0
+}
+
+fn load_imm(src: u8, dst: Reg, imm: i32, next: Option<Slot>) -> Result<Insn, Fault>
+    ensures { result ≡ load_imm_at (kind_at src) dst imm next }
+{
+    let Some(kind) = kind_of(src) else {
+        return Err(Fault::I4);
+    };
+    let Some(second) = next else {
+        return Err(Fault::I7);
+    };
+    if !has_next_imm(kind) && second.imm != 0 {
+        return Err(Fault::I4);
+    }
+    if !is_second_slot(second) {
+        return Err(Fault::I7);
+    }
+    Ok(Insn::LoadImm {
+        kind,
+        dst,
+        imm,
+        next_imm: second.imm,
+    })
+}
+
+fn insn_of_form(
+    form: Form,
+    dst: Reg,
+    src: Reg,
+    slot: Slot,
+    next: Option<Slot>,
+) -> Result<Insn, Fault>
+    ensures { result ≡ insn_of form dst src slot.offset slot.imm next }
+{
+    let Slot { offset, imm, .. } = slot;
+    match form {
+        Form::AluImm(width, code) => alu(width, code, dst, Operand::Imm(imm), offset),
+        Form::AluReg(width, code) => alu_register(width, code, dst, src, offset),
+        Form::Neg(width) => Ok(Insn::Neg { width, dst }),
+        Form::Endian(order) => endian(order, dst, imm),
+        Form::Ja => Ok(Insn::Ja { offset }),
+        Form::Ja32 => Ok(Insn::Ja32 { imm }),
+        Form::JumpImm(width, compare) => {
+            Ok(Insn::Jump {
+                width,
+                compare,
+                dst,
+                operand: Operand::Imm(imm),
+                offset,
+            })
+        }
+        Form::JumpReg(width, compare) => {
+            Ok(Insn::Jump {
+                width,
+                compare,
+                dst,
+                operand: Operand::Reg(src),
+                offset,
+            })
+        }
+        Form::Call => call(src.number(), imm),
+        Form::Exit => Ok(Insn::Exit),
+        Form::Load(size) => Ok(Insn::Load {
+            size,
+            dst,
+            src,
+            offset,
+        }),
+        Form::LoadSx(size) => Ok(Insn::LoadSx {
+            size,
+            dst,
+            src,
+            offset,
+        }),
+        Form::StoreImm(size) => Ok(Insn::StoreImm {
+            size,
+            dst,
+            offset,
+            imm,
+        }),
+        Form::Store(size) => Ok(Insn::Store {
+            size,
+            dst,
+            src,
+            offset,
+        }),
+        Form::Atomic(width) => atomic(width, dst, src, offset, imm),
+        Form::LoadImm => load_imm(src.number(), dst, imm, next),
+    }
+}
+
+/// The instruction that begins at a slot, or its least fault; next is the slot behind it.
+#[tactic(auto, unfolding(crate::specs::Reading::insn_at))]
+fn insn_of_slot(slot: Slot, next: Option<Slot>) -> Result<Insn, Fault>
+    ensures { result ≡ insn_at slot next }
+{
+    let Some(form) = form_of(slot.opcode) else {
+        return Err(Fault::I2);
+    };
+    let (Some(dst), Some(src)) = (Reg::new(slot.dst), Reg::new(slot.src)) else {
+        return Err(Fault::I3);
+    };
+    if !only_its_fields(form, slot) {
+        return Err(Fault::I4);
+    }
+    insn_of_form(form, dst, src, slot, next)
+}
+
+fn front(bytes: &[u8]) -> Option<Slot>
+    ensures { result ≡ front_slot bytes.now }
+{
+    if bytes.len() < 8 {
+        return None;
+    }
+    Some(Slot::from_bytes(bytes))
+}
+
+/// The instruction at the front of bytes, or its least fault.
+#[tactic(auto, unfolding(crate::specs::Reading::first_insn))]
+fn first(bytes: &[u8]) -> Result<Insn, Fault>
+    ensures { result ≡ first_insn bytes.now }
+{
+    if bytes.len() < 8 {
+        return Err(Fault::I1);
+    }
+    insn_of_slot(Slot::from_bytes(bytes), front(&bytes[8..]))
+}
+
+/// The instruction at the front of bytes, and how many bytes it takes; slot is where it stands.
+fn next(bytes: &[u8], slot: usize) -> Result<(Insn, usize), CodecError>
+    ensures value { MatchResult result (λ x. (first_insn bytes.now ≡ Ok x.0) × (x.1 ≡ 8 * slots_of x.0)) (FailsFirst bytes.now slot) }
+    ensures within { IfOk result (λ x. x.1 ≤ length bytes.now) }
+{
+    match first(bytes) {
+        Err(fault) => Err(CodecError::Refused { fault, slot }),
+        Ok(insn) => {
+            let len = 8 * slots(&insn) as usize;
+            Ok((insn, len))
+        }
+    }
+}
+
+fn add(insns: &mut Vec<Insn>, insn: Insn) -> Result<(), CodecError>
+    ensures ok { OnOk result (insns.new.items ≡ insns.old.items ++ insn ∷ []) }
+    ensures err { IfErr result (λ e. e ≡ CodecError.Memory) }
+{
+    Ok(insns.extend_from_slice(&[insn])?)
+}
+
+fn all(alloc: Global, bytes: &[u8]) -> Result<Vec<Insn>, CodecError>
+    ensures { Gives (λ v. v.items) result (reading bytes.now) }
+{
+    let mut insns = Vec::new(alloc);
+    let mut rest = bytes;
+    while !rest.is_empty() {
+        let slot = (bytes.len() - rest.len()) / 8;
+        let (insn, len) = match next(rest, slot) {
+            Err(error) => return Err(error),
+            Ok(found) => found,
+        };
+        add(&mut insns, insn)?;
+        rest = &rest[len..];
+    }
+    Ok(insns)
+}
+
+/// The program that the bytes spell, 8 bytes a slot, all of the bytes. Where they spell none it
+/// refuses by the first slot with a fault, and there by the least number. Memory may run out in
+/// place of either answer.
+pub fn decode(alloc: Global, bytes: &[u8]) -> Result<Vec<Insn>, CodecError>
+    // What is read is spelled so.
+    ensures found { IfOk result (λ v. AreInsns v.items × (program_spelling v.items ≡ Ok bytes.now)) }
+    // What is spelled so is read, unless memory runs out.
+    ensures only { (insns : List Insn) → AreInsns insns → program_spelling insns ≡ Ok bytes.now → Gives (λ v. v.items) result (Ok insns) }
+    // Which refusal it is.
+    ensures exact { Gives (λ v. v.items) result (reading bytes.now) }
+{
+    all(alloc, bytes)
+}
