@@ -1,0 +1,4 @@
+pub mod Sums
+pub mod History
+pub mod Seats
+pub mod Rule

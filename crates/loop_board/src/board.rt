@@ -1,0 +1,82 @@
+//! The board itself: claims, looks, posts, and the tally at the end.
+
+ghost use Rattle.std.specs.Prelude.{◌≡◌, ◌<◌, ◌≤◌, ◌↔◌, [], replicate, vec_len, All, IsTrue, IsNone, IfSome, IfNone, IfOk, IfErr, OnOk};
+ghost use Rattle.loop_board.specs.History.{Legal, least_post};
+ghost use Rattle.loop_board.specs.Seats.{IsWithinLimits, new_seat, after_draw, after_none, after_look, after_post, histories};
+
+use crate::error::BoardError;
+use crate::rule::{BoardTable, Claim, Look, Post};
+use crate::seat::BoardSeat;
+use crate::view::Extent;
+use std::alloc::Global;
+use std::marker::Model;
+
+/// How many blocks the seats of a board drew, and the least index that they posted, 4,294,967,295 where there is none.
+#[derive(Clone, Copy, Debug, PartialEq, Eq)]
+pub struct Tally {
+    pub claimed: u32,
+    pub least: u32,
+}
+
+/// Blocks for workers to claim, and the least break of a loop. Contracts see which board it is and its two numbers.
+#[derive(Drop)]
+pub struct Board {
+    table: BoardTable,
+    extent: Extent,
+}
+
+impl Model for Board {
+    ghost use Rattle.loop_board.specs.Seats.{BoardId};
+    ghost use Rattle.loop_board.specs.Rule.{IsBoards};
+
+    ghost Value = { BoardId };
+
+    ghost view = { λ b. record { table = b.table.shared.table_id; blocks = b.extent.blocks; workers = b.extent.workers } };
+
+    ghost invariant = { λ b. IsBoards b.table.shared.table_id b.table.shared.key b.extent };
+}
+
+impl Board {
+    /// Draws the next block for the worker of this seat, a number below the board's blocks, or `None` where none is
+    /// left. After a `None` the seat answers `None` without a step. The seat is one of this board.
+    pub fn claim(&self, seat: &mut BoardSeat) -> Option<u32>
+        requires { seat.old.board ≡ self.now }
+        ensures below { IfSome result (λ k. k < self.now.blocks) }
+        ensures above { IfSome result (λ k. All (λ d. d < k) seat.old.history.draws) }
+        ensures drawn { IfSome result (λ k. seat.new ≡ after_draw seat.old k) }
+        ensures none { IfNone result (seat.new ≡ after_none seat.old) }
+        ensures stays_none { IsTrue seat.old.history.found_none → IsNone result }
+    {
+        if seat.drained {
+            return None;
+        }
+        let found = self.table.shared.fetch_add::<Claim>(&mut seat.seat, 0, 1);
+        if found < u64::from(self.extent.blocks) {
+            Some(found as u32)
+        } else {
+            seat.drained = true;
+            None
+        }
+    }
+
+    /// The least index posted so far, 4,294,967,295 where no post was made. The seat is one of this board.
+    pub fn look(&self, seat: &mut BoardSeat) -> u32
+        requires { seat.old.board ≡ self.now }
+        ensures posts { All (λ p. result ≤ p) seat.old.history.posts }
+        ensures looks { All (λ p. result ≤ p) seat.old.history.looks }
+        ensures seen { seat.new ≡ after_look seat.old result }
+    {
+        self.table.shared.load::<Look>(&mut seat.seat, 1) as u32
+    }
+
+    /// Posts the index of an iteration that broke, at most 8,388,607. The seat is one of this board.
+    pub fn post(&self, seat: &mut BoardSeat, index: u32)
+        requires board { seat.old.board ≡ self.now }
+        requires index { index ≤ 8_388_607 }
+        ensures { seat.new ≡ after_post seat.old index }
+    {
+        self.table
+            .shared
+            .fetch_min::<Post>(&mut seat.seat, 1, u64::from(index));
+    }
+}
