@@ -35,7 +35,7 @@ room_of e next least views h =
     omega arith
 
 -- where one view changes, and the new one fits, all fit
-fits_set : (e : Extent) (views : List V) (id : ℕ) (w : V) → ((k : ℕ) (v : V) → get_elem? views k ≡ some v → Fits e v) → Fits e w → (k : ℕ) (v : V) → get_elem? (set views id w) k ≡ some v → Fits e v
+pub fits_set : (e : Extent) (views : List V) (id : ℕ) (w : V) → ((k : ℕ) (v : V) → get_elem? views k ≡ some v → Fits e v) → Fits e w → (k : ℕ) (v : V) → get_elem? (set views id w) k ≡ some v → Fits e v
 fits_set e views id w fits new k v at =
     ⊎_elim (λ (x : (k ≡ id) × (w ≡ v)). subst (Fits e) x.1 new) (λ (x : (k ≢ id) × (get_elem? views k ≡ some v)). fits k v x.1) (at_set views id k w v at)
 
@@ -51,7 +51,7 @@ at_words e slots id me i f R go s kept _ at _ =
     subst P (sym kept.words) (r.0, keeps, tt, record { next = r.1; least = r.2; words = r.3; views = r.4 }, (r.5, refl))
 
 -- the posts are the same, however they are counted
-least_as : (least : ℕ) (f g : ℕ → ℕ) → ((x : ℕ) → g x ≡ f x) → IsLeast least f → IsLeast least g
+pub least_as : (least : ℕ) (f g : ℕ → ℕ) → ((x : ℕ) → g x ≡ f x) → IsLeast least f → IsLeast least g
 least_as least f g same h = record {
   most = h.most;
   below = λ x at. h.below x (subst (λ (n : ℕ). 0 < n) (same x) at);

@@ -9,7 +9,7 @@ use Rattle.loop_board.specs.declared.view.Extent.{Extent}
 use Rattle.loop_board.specs.declared.view.SeatView.{SeatView}
 use Rattle.loop_board.specs.Sums.{total, times, once_below}
 use Rattle.loop_board.specs.History.{no_post}
-use Rattle.loop_board.specs.Seats.{SeatRecord, IsWithinLimits}
+use Rattle.loop_board.specs.Seats.{BoardId, SeatRecord, IsWithinLimits}
 
 -- the view of a seat that has so many parts of the right to know the whole, and has done nothing yet
 abbrev pub opening_view : Extent → ℕ → SeatView
@@ -107,9 +107,13 @@ less_a_part v = record { extent = v.extent; parts = v.parts - 1; nones = v.nones
 abbrev pub together : SeatView → SeatView → SeatView
 together v w = record { extent = v.extent; parts = v.parts + w.parts; nones = v.nones + w.nones; draws = v.draws ++ w.draws; posts = v.posts ++ w.posts; looks = v.looks ++ w.looks }
 
+-- what contracts see of a board of this table and extent
+abbrev pub board_id_of : TableId → Extent → BoardId
+board_id_of t e = record { table = t; blocks = e.blocks; workers = e.workers }
+
 -- what contracts see of a seat of this table, whose view this is
 abbrev pub seat_record : TableId → SeatView → Bool → SeatRecord
-seat_record t v drained = record { board = record { table = t; blocks = v.extent.blocks; workers = v.extent.workers }; history = record { draws = v.draws; found_none = drained; posts = v.posts; looks = v.looks } }
+seat_record t v drained = record { board = board_id_of t v.extent; history = record { draws = v.draws; found_none = drained; posts = v.posts; looks = v.looks } }
 
 -- the seat of a worker has one part, and found none once at most
 pub record IsWorkers (v : SeatView) (drained : Bool) : Type 0 where

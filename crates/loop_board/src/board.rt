@@ -4,12 +4,20 @@ ghost use Rattle.std.specs.Prelude.{◌≡◌, ◌<◌, ◌≤◌, ◌↔◌, []
 ghost use Rattle.loop_board.specs.History.{Legal, least_post};
 ghost use Rattle.loop_board.specs.Seats.{IsWithinLimits, new_seat, after_draw, after_none, after_look, after_post, histories};
 
+use crate::dealing::deal;
 use crate::error::BoardError;
 use crate::rule::{BoardTable, Claim, Look, Post};
 use crate::seat::BoardSeat;
 use crate::view::Extent;
 use std::alloc::Global;
 use std::marker::Model;
+
+const MOST_BLOCKS: u32 = 64;
+
+const MOST_WORKERS: u32 = 16;
+
+// What the least break is where no index was posted.
+const NO_POST: u32 = u32::MAX;
 
 /// How many blocks the seats of a board drew, and the least index that they posted, 4,294,967,295 where there is none.
 #[derive(Clone, Copy, Debug, PartialEq, Eq)]
@@ -27,16 +35,49 @@ pub struct Board {
 
 impl Model for Board {
     ghost use Rattle.loop_board.specs.Seats.{BoardId};
-    ghost use Rattle.loop_board.specs.Rule.{IsBoards};
+    ghost use Rattle.loop_board.specs.Rule.{board_id_of, IsBoards};
 
     ghost Value = { BoardId };
 
-    ghost view = { λ b. record { table = b.table.shared.table_id; blocks = b.extent.blocks; workers = b.extent.workers } };
+    ghost view = { λ b. board_id_of b.table.shared.table_id b.extent };
 
     ghost invariant = { λ b. IsBoards b.table.shared.table_id b.table.shared.key b.extent };
 }
 
+// Whether there are 1 to 64 blocks and 1 to 16 workers.
+fn is_within_limits(blocks: u32, workers: u32) -> bool
+    ensures { IsTrue result ↔ IsWithinLimits blocks workers }
+{
+    (1..=MOST_BLOCKS).contains(&blocks) && (1..=MOST_WORKERS).contains(&workers)
+}
+
 impl Board {
+    /// A board for 1 to 64 blocks, and one seat for each of 1 to 16 workers: B1 beyond these limits, or no memory.
+    pub fn new(
+        alloc: Global,
+        blocks: u32,
+        workers: u32,
+    ) -> Result<(Board, Vec<BoardSeat>), BoardError>
+        ensures board { IfOk result (λ r. (r.0.blocks ≡ blocks) × (r.0.workers ≡ workers)) }
+        ensures seats { IfOk result (λ r. r.1.items ≡ replicate workers (new_seat r.0)) }
+        ensures within { OnOk result (IsWithinLimits blocks workers) }
+        ensures limits { (result ≡ Err BoardError.Limits) ↔ (¬ IsWithinLimits blocks workers) }
+    {
+        if !is_within_limits(blocks, workers) {
+            return Err(BoardError::Limits);
+        }
+        let extent = Extent { blocks, workers };
+        let Ok(mut seats) = Vec::with_capacity(alloc, workers as usize) else {
+            return Err(BoardError::Memory);
+        };
+        let Ok((table, first)) = BoardTable::of_words(alloc, &[0, u64::from(NO_POST)], &extent)
+        else {
+            return Err(BoardError::Memory);
+        };
+        deal(&table.shared, first, workers, &mut seats);
+        Ok((Board { table, extent }, seats))
+    }
+
     /// Draws the next block for the worker of this seat, a number below the board's blocks, or `None` where none is
     /// left. After a `None` the seat answers `None` without a step. The seat is one of this board.
     pub fn claim(&self, seat: &mut BoardSeat) -> Option<u32>

@@ -6,6 +6,7 @@
 #![tactic(auto)]
 
 mod board;
+mod dealing;
 mod error;
 mod rule;
 mod seat;
