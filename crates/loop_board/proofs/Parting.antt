@@ -1,15 +1,15 @@
 -- A seat is cut in two, or two are made one: the sums over all views stay as they are, and so does the rule.
-use Rattle.std.proofs.Common.{◌≡◌, ◌≢◌, ◌⊎◌, ℕ, zero, suc, ◌+◌, ◌<◌, List, [], ◌∷◌, ◌++◌, set, inl, inr, ⊎_elim, refl, sym, ap, ◌∙◌, subst, arith}
-use mathlib.Core.Option.{some, some-injective, some-ne-none}
+use Rattle.std.proofs.Common.{◌≡◌, ◌≢◌, ◌⊎◌, ℕ, ◌+◌, ◌<◌, List, [], ◌∷◌, ◌++◌, set, inl, inr, ⊎_elim, refl, sym, ◌∙◌, subst, arith}
+use mathlib.Core.Option.{some}
 use lib.ListN.{get_elem?}
-use Rattle.atomic_table.specs.Table.{opening, Splits, Joins}
+use Rattle.atomic_table.specs.Table.{Splits, Joins}
 use Rattle.atomic_table.proofs.Lists.{at_set, at_snoc}
 use Rattle.loop_board.specs.declared.view.Extent.{Extent}
 use Rattle.loop_board.specs.declared.view.SeatView.{SeatView}
-use Rattle.loop_board.specs.Sums.{total, times, once_below}
+use Rattle.loop_board.specs.Sums.{total, times}
 use Rattle.loop_board.specs.History.{no_post}
 use Rattle.loop_board.specs.Rule.{spent_view, opening_view, Fits, Agrees, Kept, parts_of, nones_of, drawn_in, posted_in, seen_in, less_a_part, together}
-use Rattle.loop_board.proofs.Sums.{total-set, total-push, times-append, once_below-zero}
+use Rattle.loop_board.proofs.Sums.{total-set, total-push, times-append}
 use Rattle.loop_board.proofs.Moves.{of_board, fits_set, least_as}
 
 abbrev V : Type 0
@@ -94,25 +94,3 @@ takes_in e id v other w some_v some_w s kept at apart there =
       words = kept.words;
       views = regrouped e kept.next kept.least s.views others same (fits_set e (set s.views id both) other spent_view (fits_set e s.views id both kept.views.fits first) (inl refl)) kept.views;
     }
-
--- a new board keeps the rule
-pub begins : (e : Extent) → 0 < e.workers → Kept e (opening (0 ∷ no_post ∷ []) [] (opening_view e e.workers))
-begins e some_worker =
-    let v = opening_view e e.workers in record {
-      next = 0;
-      least = no_post;
-      words = refl;
-      views = record {
-        fits = only;
-        parts = omega arith;
-        draws = λ x. sym (ap (once_below x) (omega arith) ∙ once_below-zero x);
-        room = omega arith;
-        drained = λ none_yet. absurd (omega arith);
-        posts = record { most = omega arith; below = λ x there. absurd (omega arith); reached = inl refl };
-        looks = λ x there. absurd (omega arith);
-      };
-    }
-  where
-    only : (k : ℕ) (u : V) → get_elem? (opening_view e e.workers ∷ []) k ≡ some u → Fits e u
-    only zero u at = subst (Fits e) (some-injective (opening_view e e.workers) u at) (inr (refl, some_worker, omega arith))
-    only (suc k) u at = absurd (some-ne-none u (sym at))

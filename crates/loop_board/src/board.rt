@@ -6,6 +6,7 @@ ghost use Rattle.loop_board.specs.Seats.{IsWithinLimits, new_seat, after_draw, a
 
 use crate::dealing::deal;
 use crate::error::BoardError;
+use crate::gathering::{close, join};
 use crate::rule::{BoardTable, Claim, Look, Post};
 use crate::seat::BoardSeat;
 use crate::view::Extent;
@@ -119,5 +120,22 @@ impl Board {
         self.table
             .shared
             .fetch_min::<Post>(&mut seat.seat, 1, u64::from(index));
+    }
+    /// Ends the board: how many blocks its seats drew, and the least index that they posted. B2 where there are fewer
+    /// seats than workers; the board and the seats are dropped then. The seats are of this board.
+    pub fn gather(self, seats: Vec<BoardSeat>) -> Result<Tally, BoardError>
+        requires { All (λ s. s.board ≡ self) seats.items }
+        ensures legal { IfOk result (λ t. Legal self.blocks t.claimed (histories seats.items)) }
+        ensures least { IfOk result (λ t. t.least ≡ least_post (histories seats.items)) }
+        ensures all_seats { OnOk result (vec_len seats ≡ self.workers) }
+        ensures few_seats { IfErr result (λ e. (e ≡ BoardError.Seats) × (vec_len seats < self.workers)) }
+    {
+        let Board { table, extent } = self;
+        if seats.len() < extent.workers as usize {
+            return Err(BoardError::Seats);
+        }
+        let whole = join(&table.shared, seats);
+        let (claimed, least) = close(table, extent.blocks, whole);
+        Ok(Tally { claimed, least })
     }
 }

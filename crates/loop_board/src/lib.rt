@@ -8,6 +8,7 @@
 mod board;
 mod dealing;
 mod error;
+mod gathering;
 mod rule;
 mod seat;
 mod view;
