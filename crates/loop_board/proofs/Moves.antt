@@ -9,8 +9,8 @@ use Rattle.atomic_table.proofs.Lists.{at_set}
 use Rattle.loop_board.specs.declared.view.Extent.{Extent}
 use Rattle.loop_board.specs.declared.view.SeatView.{SeatView}
 use Rattle.loop_board.specs.Sums.{times, once_below}
-use Rattle.loop_board.specs.History.{no_post}
-use Rattle.loop_board.specs.Rule.{spent_view, Fits, IsLeast, Agrees, Kept, Claims, Looks, Turns, posted_in, seen_in, with_draw, with_none, with_look, with_post, IsWorkers}
+use Rattle.loop_board.specs.History.{no_post, IsLeast}
+use Rattle.loop_board.specs.Rule.{spent_view, Fits, Agrees, Kept, Claims, Looks, Turns, posted_in, seen_in, with_draw, with_none, with_look, with_post, IsWorkers}
 use Rattle.loop_board.proofs.Sums.{total-set, le_total, total_le, times-push, All-times, once_below-next, below_from_once}
 
 abbrev V : Type 0

@@ -1,5 +1,7 @@
 -- Lemmas on sums over lists, and on how often a number stands in one.
-use Rattle.std.proofs.Common.{◌≡◌, ◌⊎◌, ℕ, zero, suc, ◌+◌, ◌<◌, ◌≤◌, ◌==◌, if◌then◌else◌, List, [], ◌∷◌, ◌++◌, set, All, refl, sym, ap, arith}
+use Rattle.std.proofs.Common.{◌≡◌, ◌⊎◌, ℕ, zero, suc, ◌+◌, ◌*◌, ◌<◌, ◌≤◌, ◌==◌, if◌then◌else◌, List, [], ◌∷◌, ◌++◌, map, length, replicate, set, slice_index_or, All, ⊎_elim, refl, sym, ap, subst, arith}
+use Rattle.std.specs.List.{Contains, flat_map}
+use Rattle.std.proofs.lemmas.Bool.{cases_lt}
 use Rattle.std.proofs.lemmas.Bool.Decides.{nat_tests}
 use mathlib.Core.Option.{some, some-injective, some-ne-none}
 use lib.ListN.{get_elem?}
@@ -66,3 +68,84 @@ once_below-zero x = grind (arith, nat_tests)
 -- what is below n is counted once, and what is counted is below n
 pub below_from_once : (x n : ℕ) → 0 < once_below x n → x < n
 below_from_once x n h = grind (arith, nat_tests)
+
+-- a number below n counts once
+pub once_below-below : (x n : ℕ) → x < n → once_below x n ≡ 1
+once_below-below x n h = grind (arith, nat_tests)
+
+module _ {A : Type 0} where
+  -- two functions that agree on each element have one sum
+  pub total-same : (f g : A → ℕ) (xs : List A) → ((k : ℕ) (d : A) → k < length xs → f (slice_index_or xs k d) ≡ g (slice_index_or xs k d)) → total f xs ≡ total g xs
+  total-same f g [] same = refl
+  total-same f g (x ∷ xs) same = let here = same 0 x (omega arith) in let r = total-same f g xs (λ k d below. same (suc k) d (omega arith)) in omega arith
+
+  -- the sum of two functions is the sum of their sums
+  pub total-sum : (f g : A → ℕ) (xs : List A) → total (λ x. f x + g x) xs ≡ total f xs + total g xs
+  total-sum f g [] = refl
+  total-sum f g (x ∷ xs) = let r = total-sum f g xs in omega arith
+
+  -- ones add up to the length
+  pub total-one : (xs : List A) → total (λ _. 1) xs ≡ length xs
+  total-one [] = refl
+  total-one (x ∷ xs) = let r = total-one xs in omega arith
+
+  -- where each element counts 0, so do all
+  pub total-zero : (f : A → ℕ) (xs : List A) → ((k : ℕ) (d : A) → k < length xs → f (slice_index_or xs k d) ≡ 0) → total f xs ≡ 0
+  total-zero f [] none = refl
+  total-zero f (x ∷ xs) none = let here = none 0 x (omega arith) in let r = total-zero f xs (λ k d below. none (suc k) d (omega arith)) in omega arith
+
+  -- n copies of x count n times as much
+  pub total-replicate : (f : A → ℕ) (n : ℕ) (x : A) → total f (replicate n x) ≡ n * f x
+  total-replicate f zero x = omega arith
+  total-replicate f (suc n) x = let r = total-replicate f n x in omega arith
+
+  -- where the sum isn't 0, some element isn't
+  pub some_in_total : (f : A → ℕ) (xs : List A) → 0 < total f xs → (k : ℕ) × (k < length xs) × ((d : A) → 0 < f (slice_index_or xs k d))
+  some_in_total f [] more = absurd (omega arith)
+  some_in_total f (x ∷ xs) more =
+      ⊎_elim (λ (none_here : f x < 1). let r = some_in_total f xs (omega arith) in let below = r.1 in (suc r.0, (omega arith), r.2)) (λ (here : 1 ≤ f x). (0, (omega arith), (λ d. omega arith))) (cases_lt (f x) 1)
+
+  -- one element is at most the sum
+  pub one_in_total : (f : A → ℕ) (xs : List A) (k : ℕ) (d : A) → k < length xs → f (slice_index_or xs k d) ≤ total f xs
+  one_in_total f [] k d below = absurd (omega arith)
+  one_in_total f (x ∷ xs) zero d below = omega arith
+  one_in_total f (x ∷ xs) (suc k) d below = let r = one_in_total f xs k d (omega arith) in omega arith
+
+  -- two elements at two places are at most the sum
+  pub two_in_total : (f : A → ℕ) (xs : List A) (j k : ℕ) (d : A) → j < k → k < length xs → f (slice_index_or xs j d) + f (slice_index_or xs k d) ≤ total f xs
+  two_in_total f [] j k d before below = absurd (omega arith)
+  two_in_total f (x ∷ xs) j zero d before below = absurd (omega arith)
+  two_in_total f (x ∷ xs) zero (suc k) d before below = let r = one_in_total f xs k d (omega arith) in omega arith
+  two_in_total f (x ∷ xs) (suc j) (suc k) d before below = let r = two_in_total f xs j k d (omega arith) (omega arith) in omega arith
+
+  -- how often x stands in the joined lists
+  pub times-flat_map : (x : ℕ) (g : A → List ℕ) (xs : List A) → times x (flat_map g xs) ≡ total (λ y. times x (g y)) xs
+  times-flat_map x g [] = refl
+  times-flat_map x g (y ∷ ys) = let r = times-flat_map x g ys in let a = times-append x (g y) (flat_map g ys) in omega arith
+
+module _ {A B : Type 0} where
+  -- the sum over mapped elements
+  pub total-map : (f : B → ℕ) (g : A → B) (xs : List A) → total f (map g xs) ≡ total (λ x. f (g x)) xs
+  total-map f g [] = refl
+  total-map f g (x ∷ xs) = let r = total-map f g xs in omega arith
+
+  -- two lists that agree place by place have one sum
+  pub total-zip : (f : A → ℕ) (g : B → ℕ) (xs : List A) (ys : List B) → length xs ≡ length ys → ((k : ℕ) (c : A) (d : B) → k < length xs → f (slice_index_or xs k c) ≡ g (slice_index_or ys k d)) → total f xs ≡ total g ys
+  total-zip f g [] [] long same = refl
+  total-zip f g [] (y ∷ ys) long same = absurd (omega arith)
+  total-zip f g (x ∷ xs) [] long same = absurd (omega arith)
+  total-zip f g (x ∷ xs) (y ∷ ys) long same = let here = same 0 x y (omega arith) in let r = total-zip f g xs ys (omega arith) (λ k c d below. same (suc k) c d (omega arith)) in omega arith
+
+-- what the list contains stands in it
+pub times_from_Contains : (xs : List ℕ) (x : ℕ) → Contains xs x → 0 < times x xs
+times_from_Contains xs x there = at xs there.0 there.1 there.2
+  where
+    at : (ys : List ℕ) (k : ℕ) → k < length ys → slice_index_or ys k x ≡ x → 0 < times x ys
+    at [] k below is = absurd (omega arith)
+    at (y ∷ ys) zero below is = subst (λ (z : ℕ). 0 < times x (z ∷ ys)) (sym is) (times_first x ys)
+    at (y ∷ ys) (suc k) below is = let r = at ys k (omega arith) is in omega arith
+
+-- what stands in the list is contained in it
+pub Contains_from_times : (xs : List ℕ) (x : ℕ) → 0 < times x xs → Contains xs x
+Contains_from_times [] x there = absurd (omega arith)
+Contains_from_times (y ∷ ys) x there = ⊎_elim (λ (is : x ≡ y). (0, (omega arith), sym is)) (λ (more : 0 < times x ys). let r = Contains_from_times ys x more in let below = r.1 in (suc r.0, (omega arith), r.2)) (times_more x y ys there)

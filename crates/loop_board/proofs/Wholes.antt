@@ -1,5 +1,5 @@
 -- All seats become one, which then knows the sums over all of them, and what the two words have to do with these.
-use Rattle.std.proofs.Common.{Some, append_assoc, ◌≡◌, ◌⊎◌, ℕ, zero, suc, ◌+◌, ◌<◌, ◌≤◌, min, Bool, true, false, IsTrue, List, [], ◌∷◌, ◌++◌, All, inl, inr, ⊎_elim, refl, sym, ap, ◌∙◌, subst, arith}
+use Rattle.std.proofs.Common.{Some, append_assoc, ◌≡◌, ◌⊎◌, ℕ, zero, suc, ◌+◌, ◌<◌, ◌≤◌, min, Bool, true, false, IsTrue, List, [], ◌∷◌, ◌++◌, All, ⊎_elim, refl, sym, ap, ◌∙◌, subst, arith}
 use mathlib.Core.Option.{some, some-injective, some-ne-none}
 use lib.ListN.{get_elem?}
 use Rattle.atomic_table.specs.Seated.{TableId}
@@ -7,13 +7,13 @@ use Rattle.atomic_table.specs.Table.{Me, Final, Seen}
 use Rattle.loop_board.specs.declared.view.Extent.{Extent}
 use Rattle.loop_board.specs.declared.view.SeatView.{SeatView}
 use Rattle.loop_board.specs.Sums.{total, times}
-use Rattle.loop_board.specs.History.{History, Legal, no_post, least_in, least_post, times_posted, some_found_none}
+use Rattle.loop_board.specs.History.{Legal, no_post, least_post, times_posted, some_found_none}
 use Rattle.loop_board.specs.Seats.{BoardId, SeatRecord, histories}
-use Rattle.loop_board.specs.Rule.{spent_view, Fits, IsLeast, Agrees, Kept, IsWorkers, parts_of, posted_in, together, board_id_of, seat_record}
+use Rattle.loop_board.specs.Rule.{spent_view, Fits, Agrees, Kept, IsWorkers, parts_of, posted_in, together, board_id_of, seat_record}
 use Rattle.loop_board.specs.Whole.{IsWhole, IsTally}
-use Rattle.loop_board.proofs.Sums.{le_total, times-append, times_first, times_more}
-use Rattle.std.proofs.lemmas.Bool.{cases_lt}
+use Rattle.loop_board.proofs.Sums.{le_total, times-append}
 use Rattle.std.proofs.lemmas.List.Elements.{All-pop}
+use Rattle.loop_board.proofs.Histories.{least_post_is, one_least}
 use Rattle.loop_board.proofs.Moves.{least_as}
 
 abbrev V : Type 0
@@ -147,62 +147,6 @@ closes e id v words slots every final next least first second =
     let a : kept.next ≡ next = some-injective kept.next next (subst (λ (ws : List ℕ). get_elem? ws 0 ≡ some next) is first) in
     let b : kept.least ≡ least = some-injective kept.least least (subst (λ (ws : List ℕ). get_elem? ws 1 ≡ some least) is second) in
     subst (λ (m : ℕ). IsTally e v (min m e.blocks) least) a (subst (IsTally e v (min kept.next e.blocks)) b (tally e kept.next kept.least s.views id v kept.views final.1.1 every))
-
--- the least index that was posted is at most each
-least_in_below : (x : ℕ) (ps : List ℕ) → 0 < times x ps → least_in ps ≤ x
-least_in_below x [] there = absurd (omega arith)
-least_in_below x (p ∷ ps) there = ⊎_elim (λ (is : x ≡ p). omega arith) (λ (more : 0 < times x ps). let r = least_in_below x ps more in omega arith) (times_more x p ps there)
-
--- it is one of them, or there is none
-least_in_reached : (ps : List ℕ) → (least_in ps ≡ no_post) ⊎ (0 < times (least_in ps) ps)
-least_in_reached [] = inl refl
-least_in_reached (p ∷ ps) = go (least_in_reached ps) (cases_lt p (least_in ps))
-  where
-    go : (least_in ps ≡ no_post) ⊎ (0 < times (least_in ps) ps) → (p < least_in ps) ⊎ (least_in ps ≤ p) → (least_in (p ∷ ps) ≡ no_post) ⊎ (0 < times (least_in (p ∷ ps)) (p ∷ ps))
-    go rest (inl lower) = inr (let is : p ≡ least_in (p ∷ ps) = omega arith in subst (λ (n : ℕ). 0 < times n (p ∷ ps)) is (times_first p ps))
-    go rest (inr upper) =
-        let is : least_in ps ≡ least_in (p ∷ ps) = omega arith in
-        ⊎_elim (λ (none_yet : least_in ps ≡ no_post). inl (sym is ∙ none_yet))
-        (λ (there : 0 < times (least_in ps) ps). inr (subst (λ (n : ℕ). 0 < times n (p ∷ ps)) is (omega arith))) rest
-
--- it is at most 4,294,967,295
-least_in_most : (ps : List ℕ) → least_in ps ≤ no_post
-least_in_most [] = omega arith
-least_in_most (p ∷ ps) = let r = least_in_most ps in omega arith
-
--- the least post of a list of seats is the least index that they posted
-pub least_post_is : (hs : List History) → IsLeast (least_post hs) (λ x. times_posted x hs)
-least_post_is hs = record { most = most hs; below = below hs; reached = reached hs }
-  where
-    most : (hs : List History) → least_post hs ≤ no_post
-    most [] = omega arith
-    most (h ∷ hs) = let r = most hs in omega arith
-
-    below : (hs : List History) (x : ℕ) → 0 < times_posted x hs → least_post hs ≤ x
-    below [] x there = absurd (omega arith)
-    below (h ∷ hs) x there =
-        ⊎_elim (λ (none_here : times x h.posts < 1). let r = below hs x (omega arith) in omega arith) (λ (here : 1 ≤ times x h.posts). let r = least_in_below x h.posts (omega arith) in omega arith) (cases_lt (times x h.posts) 1)
-
-    reached : (hs : List History) → (least_post hs ≡ no_post) ⊎ (0 < times_posted (least_post hs) hs)
-    reached [] = inl refl
-    reached (h ∷ hs) = go (reached hs) (cases_lt (least_in h.posts) (least_post hs))
-      where
-        go : (least_post hs ≡ no_post) ⊎ (0 < times_posted (least_post hs) hs) → (least_in h.posts < least_post hs) ⊎ (least_post hs ≤ least_in h.posts) → (least_post (h ∷ hs) ≡ no_post) ⊎ (0 < times_posted (least_post (h ∷ hs)) (h ∷ hs))
-        go rest (inl lower) =
-            let is : least_in h.posts ≡ least_post (h ∷ hs) = omega arith in
-            ⊎_elim (λ (none_yet : least_in h.posts ≡ no_post). inl (sym is ∙ none_yet))
-            (λ (there : 0 < times (least_in h.posts) h.posts). inr (subst (λ (n : ℕ). 0 < times_posted n (h ∷ hs)) is (omega arith))) (least_in_reached h.posts)
-        go rest (inr upper) =
-            let is : least_post hs ≡ least_post (h ∷ hs) = omega arith in
-            ⊎_elim (λ (none_yet : least_post hs ≡ no_post). inl (sym is ∙ none_yet))
-            (λ (there : 0 < times_posted (least_post hs) hs). inr (subst (λ (n : ℕ). 0 < times_posted n (h ∷ hs)) is (omega arith))) rest
-
--- there is one least index
-one_least : (m n : ℕ) (f : ℕ → ℕ) → IsLeast m f → IsLeast n f → m ≡ n
-one_least m n f a b = ⊎_elim (λ (lower : m < n). absurd (not_lower m n a b lower)) (λ (le : n ≤ m). ⊎_elim (λ (lower : n < m). absurd (not_lower n m b a lower)) (λ (ge : m ≤ n). omega arith) (cases_lt n m)) (cases_lt m n)
-  where
-    not_lower : (m n : ℕ) → IsLeast m f → IsLeast n f → m < n → ⊥
-    not_lower m n a b lower = ⊎_elim (λ (none_yet : m ≡ no_post). let most = b.most in absurd (omega arith)) (λ (there : 0 < f m). let r = b.below m there in absurd (omega arith)) a.reached
 
 -- the tally of a whole view is that of the seats
 pub legal : (e : Extent) (v : V) (claimed least : ℕ) (seats : List SeatRecord) → IsWhole v seats → IsTally e v claimed least → Legal e.blocks claimed (histories seats)

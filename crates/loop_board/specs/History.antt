@@ -50,3 +50,9 @@ pub record Legal (blocks claimed : ℕ) (hs : List History) : Type 0 where
   pub each_once : (x : ℕ) → times_drawn x hs ≡ once_below x claimed
   pub all_blocks : IsTrue (some_found_none hs) → claimed ≡ blocks
   pub looks : (x : ℕ) → 0 < times_seen x hs → (x ≡ no_post) ⊎ (0 < times_posted x hs)
+
+-- the least index that was posted, 4,294,967,295 where none was; `posted` says how often each index was posted
+pub record IsLeast (least : ℕ) (posted : ℕ → ℕ) : Type 0 where
+  pub most : least ≤ no_post
+  pub below : (x : ℕ) → 0 < posted x → least ≤ x
+  pub reached : (least ≡ no_post) ⊎ (0 < posted least)

@@ -8,7 +8,7 @@ use Rattle.atomic_table.specs.Table.{State, Me}
 use Rattle.loop_board.specs.declared.view.Extent.{Extent}
 use Rattle.loop_board.specs.declared.view.SeatView.{SeatView}
 use Rattle.loop_board.specs.Sums.{total, times, once_below}
-use Rattle.loop_board.specs.History.{no_post}
+use Rattle.loop_board.specs.History.{no_post, IsLeast}
 use Rattle.loop_board.specs.Seats.{BoardId, SeatRecord, IsWithinLimits}
 
 -- the view of a seat that has so many parts of the right to know the whole, and has done nothing yet
@@ -43,12 +43,6 @@ seen_in x views = total (λ (v : SeatView). times x v.looks) views
 abbrev pub Fits : Extent → SeatView → Type 0
 Fits e v = (v ≡ spent_view) ⊎ ((v.extent ≡ e) × (0 < v.parts) × (v.nones ≤ v.parts))
 
--- `least` is the least index that was posted, where `posted` says how often each was, or 4,294,967,295
-pub record IsLeast (least : ℕ) (posted : ℕ → ℕ) : Type 0 where
-  pub most : least ≤ no_post
-  pub below : (x : ℕ) → 0 < posted x → least ≤ x
-  pub reached : (least ≡ no_post) ⊎ (0 < posted least)
-
 -- the words and the views hang together
 pub record Agrees (e : Extent) (next least : ℕ) (views : List SeatView) : Type 0 where
   pub fits : (k : ℕ) (v : SeatView) → get_elem? views k ≡ some v → Fits e v
@@ -68,19 +62,19 @@ pub record Kept (e : Extent) (s : State (Unit {0}) SeatView) : Type 0 where
 
 -- the view with one more block drawn
 abbrev pub with_draw : SeatView → ℕ → SeatView
-with_draw v block = record { extent = v.extent; parts = v.parts; nones = v.nones; draws = v.draws ++ block ∷ []; posts = v.posts; looks = v.looks }
+with_draw v block = record v { draws = v.draws ++ block ∷ [] }
 
 -- the view of a seat that found none once more
 abbrev pub with_none : SeatView → SeatView
-with_none v = record { extent = v.extent; parts = v.parts; nones = v.nones + 1; draws = v.draws; posts = v.posts; looks = v.looks }
+with_none v = record v { nones = v.nones + 1 }
 
 -- the view with one more answer of a look
 abbrev pub with_look : SeatView → ℕ → SeatView
-with_look v answer = record { extent = v.extent; parts = v.parts; nones = v.nones; draws = v.draws; posts = v.posts; looks = v.looks ++ answer ∷ [] }
+with_look v answer = record v { looks = v.looks ++ answer ∷ [] }
 
 -- the view with one more index posted
 abbrev pub with_post : SeatView → ℕ → SeatView
-with_post v index = record { extent = v.extent; parts = v.parts; nones = v.nones; draws = v.draws; posts = v.posts ++ index ∷ []; looks = v.looks }
+with_post v index = record v { posts = v.posts ++ index ∷ [] }
 
 -- a claim draws the number found, which is above all that the seat drew; past the last block it finds none
 pub record Claims (v : SeatView) (found : ℕ) (w : SeatView) : Type 0 where
@@ -101,7 +95,7 @@ Turns R me found me' = R me.0 found me'.0 × (me'.1 ≡ me.1)
 
 -- one part is given away by a seat
 abbrev pub less_a_part : SeatView → SeatView
-less_a_part v = record { extent = v.extent; parts = v.parts - 1; nones = v.nones; draws = v.draws; posts = v.posts; looks = v.looks }
+less_a_part v = record v { parts = v.parts - 1 }
 
 -- what two seats know, as one
 abbrev pub together : SeatView → SeatView → SeatView

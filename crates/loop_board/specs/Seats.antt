@@ -27,19 +27,19 @@ new_seat b = record { board = b; history = nothing_done }
 
 -- the seat after it drew the block
 abbrev pub after_draw : SeatRecord → ℕ → SeatRecord
-after_draw s block = record { board = s.board; history = record { draws = s.history.draws ++ block ∷ []; found_none = s.history.found_none; posts = s.history.posts; looks = s.history.looks } }
+after_draw s block = record s { history = record s.history { draws = s.history.draws ++ block ∷ [] } }
 
 -- the seat after it found that no block was left
 abbrev pub after_none : SeatRecord → SeatRecord
-after_none s = record { board = s.board; history = record { draws = s.history.draws; found_none = true; posts = s.history.posts; looks = s.history.looks } }
+after_none s = record s { history = record s.history { found_none = true } }
 
 -- the seat after a look with this answer
 abbrev pub after_look : SeatRecord → ℕ → SeatRecord
-after_look s answer = record { board = s.board; history = record { draws = s.history.draws; found_none = s.history.found_none; posts = s.history.posts; looks = s.history.looks ++ answer ∷ [] } }
+after_look s answer = record s { history = record s.history { looks = s.history.looks ++ answer ∷ [] } }
 
 -- the seat after it posted the index
 abbrev pub after_post : SeatRecord → ℕ → SeatRecord
-after_post s index = record { board = s.board; history = record { draws = s.history.draws; found_none = s.history.found_none; posts = s.history.posts ++ index ∷ []; looks = s.history.looks } }
+after_post s index = record s { history = record s.history { posts = s.history.posts ++ index ∷ [] } }
 
 -- what the seats did
 abbrev pub histories : List SeatRecord → List History

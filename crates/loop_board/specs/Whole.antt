@@ -3,9 +3,8 @@ use Rattle.std.specs.Prelude.{◌≡◌, ℕ, ◌<◌, ◌≤◌, ◌⊎◌, Lis
 use Rattle.loop_board.specs.declared.view.Extent.{Extent}
 use Rattle.loop_board.specs.declared.view.SeatView.{SeatView}
 use Rattle.loop_board.specs.Sums.{times, once_below}
-use Rattle.loop_board.specs.History.{no_post, times_drawn, times_posted, times_seen, some_found_none}
+use Rattle.loop_board.specs.History.{no_post, IsLeast, times_drawn, times_posted, times_seen, some_found_none}
 use Rattle.loop_board.specs.Seats.{SeatRecord, histories}
-use Rattle.loop_board.specs.Rule.{IsLeast}
 
 -- the view has what all of these seats did, and a part for each
 pub record IsWhole (v : SeatView) (seats : List SeatRecord) : Type 0 where

@@ -121,8 +121,10 @@ impl Board {
             .shared
             .fetch_min::<Post>(&mut seat.seat, 1, u64::from(index));
     }
+
     /// Ends the board: how many blocks its seats drew, and the least index that they posted. B2 where there are fewer
-    /// seats than workers; the board and the seats are dropped then. The seats are of this board.
+    /// seats than workers; the board and the seats are dropped then. It takes no memory.
+    /// The seats are of this board.
     pub fn gather(self, seats: Vec<BoardSeat>) -> Result<Tally, BoardError>
         requires { All (λ s. s.board ≡ self) seats.items }
         ensures legal { IfOk result (λ t. Legal self.blocks t.claimed (histories seats.items)) }

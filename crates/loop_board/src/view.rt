@@ -1,4 +1,4 @@
-//! What a seat knows at the table. Proofs alone see it: no value of a view is made.
+//! How large a board is, and what a seat knows at its table.
 
 use std::collections::LinkedList;
 
@@ -10,6 +10,7 @@ pub struct Extent {
 }
 
 /// A seat's parts of the right to know the whole, how often it found none, and what it drew, posted and saw.
+/// Contracts alone see it: no value of it is made.
 pub struct SeatView {
     pub extent: Extent,
     pub parts: u64,
