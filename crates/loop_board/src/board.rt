@@ -20,14 +20,17 @@ const MOST_WORKERS: u32 = 16;
 // What the least break is where no index was posted.
 const NO_POST: u32 = u32::MAX;
 
-/// How many blocks the seats of a board drew, and the least index that they posted, 4,294,967,295 where there is none.
+/// What the seats of a board did, once all of them came back.
 #[derive(Clone, Copy, Debug, PartialEq, Eq)]
 pub struct Tally {
+    /// How many blocks were drawn, 0 to 64: the numbers below it, each once. It is all blocks where a seat found none.
     pub claimed: u32,
+    /// The least index posted, 0 to 8,388,607, or 4,294,967,295 where none was.
     pub least: u32,
 }
 
-/// Blocks for workers to claim, and the least break of a loop. Contracts see which board it is and its two numbers.
+/// The blocks of a loop for its workers to claim, and the loop's least break.
+/// Contracts see which board it is, and how many blocks and workers it has.
 #[derive(Drop)]
 pub struct Board {
     table: BoardTable,
@@ -53,7 +56,8 @@ fn is_within_limits(blocks: u32, workers: u32) -> bool
 }
 
 impl Board {
-    /// A board for 1 to 64 blocks, and one seat for each of 1 to 16 workers: B1 beyond these limits, or no memory.
+    /// A board of 1 to 64 blocks, and one seat for each of 1 to 16 workers.
+    /// B1 (`Limits`) where a limit is broken; `Memory` where a growth was refused.
     pub fn new(
         alloc: Global,
         blocks: u32,
@@ -79,8 +83,9 @@ impl Board {
         Ok((Board { table, extent }, seats))
     }
 
-    /// Draws the next block for the worker of this seat, a number below the board's blocks, or `None` where none is
-    /// left. After a `None` the seat answers `None` without a step. The seat is one of this board.
+    /// Draws the next block for the worker of this seat, a number from 0 on below the board's blocks, or `None` where
+    /// none is left. It is one `fetch_add`; after a `None` the same seat answers `None` without a step.
+    /// The seat is one of this board.
     pub fn claim(&self, seat: &mut BoardSeat) -> Option<u32>
         requires { seat.old.board ≡ self.now }
         ensures below { IfSome result (λ k. k < self.now.blocks) }
@@ -101,7 +106,8 @@ impl Board {
         }
     }
 
-    /// The least index posted so far, 4,294,967,295 where no post was made. The seat is one of this board.
+    /// The least index posted so far, 0 to 8,388,607, or 4,294,967,295 where no post was made. It is one load, and
+    /// never above what this seat saw or posted before. The seat is one of this board.
     pub fn look(&self, seat: &mut BoardSeat) -> u32
         requires { seat.old.board ≡ self.now }
         ensures posts { All (λ p. result ≤ p) seat.old.history.posts }
@@ -111,7 +117,8 @@ impl Board {
         self.table.shared.load::<Look>(&mut seat.seat, 1) as u32
     }
 
-    /// Posts the index of an iteration that broke, at most 8,388,607. The seat is one of this board.
+    /// Posts the index of an iteration that broke, at most 8,388,607. It is one `fetch_min`.
+    /// The seat is one of this board.
     pub fn post(&self, seat: &mut BoardSeat, index: u32)
         requires board { seat.old.board ≡ self.now }
         requires index { index ≤ 8_388_607 }
@@ -122,9 +129,8 @@ impl Board {
             .fetch_min::<Post>(&mut seat.seat, 1, u64::from(index));
     }
 
-    /// Ends the board: how many blocks its seats drew, and the least index that they posted. B2 where there are fewer
-    /// seats than workers; the board and the seats are dropped then. It takes no memory.
-    /// The seats are of this board.
+    /// Ends the board, and tells what all its seats did. B2 (`Seats`) where there are fewer seats than workers; the
+    /// board and the seats are dropped then. It takes no memory. The seats are of this board.
     pub fn gather(self, seats: Vec<BoardSeat>) -> Result<Tally, BoardError>
         requires { All (λ s. s.board ≡ self) seats.items }
         ensures legal { IfOk result (λ t. Legal self.blocks t.claimed (histories seats.items)) }

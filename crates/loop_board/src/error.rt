@@ -11,7 +11,7 @@ pub enum BoardError {
     /// B2: fewer seats came back than the board has workers.
     #[error("B2: fewer seats than workers")]
     Seats,
-    /// There was no memory.
+    /// A growth was refused: there was no memory.
     #[error("no memory for a board")]
     Memory,
 }

@@ -8,6 +8,7 @@ use std::marker::Model;
 #[derive(Drop)]
 pub struct BoardSeat {
     pub(crate) seat: TableSeat,
+    // It found none, and makes no further step to claim.
     pub(crate) drained: bool,
 }
 

@@ -152,7 +152,7 @@ fn four_threads_share_64_blocks(rt: HostRuntime) -> Result<(), Fail> {
     Ok(())
 }
 
-// Claims until none is left, and looks and posts once.
+// Looks, claims until none is left, and posts the index.
 fn work(board: &Board, seat: &mut BoardSeat, index: u32)
     requires board { seat.old.board ≡ board.now }
     requires index { index ≤ 8_388_607 }
@@ -162,7 +162,7 @@ fn work(board: &Board, seat: &mut BoardSeat, index: u32)
     drain_and_post(board, seat, index);
 }
 
-// One claim, one look and one post, or only the first of them.
+// A claim, a look and a post, or no more than the first one or two of them.
 fn work_until(board: &Board, seat: &mut BoardSeat, index: u32, stops: StopsAfter)
     requires board { seat.old.board ≡ board.now }
     requires index { index ≤ 8_388_607 }
