@@ -9,7 +9,7 @@ use Rattle.atomic_table.proofs.Lists.{at_set}
 use Rattle.loop_board.specs.declared.view.Extent.{Extent}
 use Rattle.loop_board.specs.declared.view.SeatView.{SeatView}
 use Rattle.loop_board.specs.Sums.{times, once_below}
-use Rattle.loop_board.specs.History.{no_post, IsLeast}
+use Rattle.loop_board.specs.History.{no_post, most_index, IsIndexOrNone, IsLeast}
 use Rattle.loop_board.specs.Rule.{spent_view, Fits, Agrees, Kept, Claims, Looks, Turns, posted_in, seen_in, with_draw, with_none, with_look, with_post, IsWorkers}
 use Rattle.loop_board.proofs.Sums.{total-set, le_total, total_le, times-push, All-times, once_below-next, below_from_once}
 
@@ -33,6 +33,10 @@ room_of e next least views h =
     let all = h.parts in
     let room = h.room in
     omega arith
+
+-- the least post is an index, or 4,294,967,295
+pub least_index : (e : Extent) (next least : ℕ) (views : List V) → Agrees e next least views → IsIndexOrNone least
+least_index e next least views h = ⊎_elim (λ (none_yet : least ≡ no_post). inr none_yet) (λ (there : 0 < posted_in least views). inl (h.indices least there)) h.posts.reached
 
 -- where one view changes, and the new one fits, all fit
 pub fits_set : (e : Extent) (views : List V) (id : ℕ) (w : V) → ((k : ℕ) (v : V) → get_elem? views k ≡ some v → Fits e v) → Fits e w → (k : ℕ) (v : V) → get_elem? (set views id w) k ≡ some v → Fits e v
@@ -112,6 +116,7 @@ module _ (e : Extent) (next least : ℕ) (views : List V) (id : ℕ) (v : V) (h 
         room = (let r = h.room in omega arith);
         drained = λ some_none. absurd (let r = h.drained (omega arith) in omega arith);
         posts = least_as least (λ x. posted_in x views) (λ x. posted_in x (set views id w)) posted h.posts;
+        indices = λ x there. h.indices x (subst (λ (n : ℕ). 0 < n) (posted x) there);
         looks = λ x there. subst (λ (n : ℕ). (x ≡ no_post) ⊎ (0 < n)) (sym (posted x)) (h.looks x (subst (λ (n : ℕ). 0 < n) (seen x) there));
       }
 
@@ -134,6 +139,7 @@ module _ (e : Extent) (next least : ℕ) (views : List V) (id : ℕ) (v : V) (h 
         room = (let r = h.room in omega arith);
         drained = λ some_none. omega arith;
         posts = least_as least (λ x. posted_in x views) (λ x. posted_in x (set views id w)) posted h.posts;
+        indices = λ x there. h.indices x (subst (λ (n : ℕ). 0 < n) (posted x) there);
         looks = λ x there. subst (λ (n : ℕ). (x ≡ no_post) ⊎ (0 < n)) (sym (posted x)) (h.looks x (subst (λ (n : ℕ). 0 < n) (seen x) there));
       }
 
@@ -179,6 +185,7 @@ module _ (e : Extent) (next least : ℕ) (views : List V) (id : ℕ) (v : V) (h 
         room = (let r = h.room in omega arith);
         drained = λ some_none. h.drained (omega arith);
         posts = least_as least (λ x. posted_in x views) (λ x. posted_in x (set views id w)) posted h.posts;
+        indices = λ x there. h.indices x (subst (λ (n : ℕ). 0 < n) (posted x) there);
         looks = λ x there. subst (λ (n : ℕ). (x ≡ no_post) ⊎ (0 < n)) (sym (posted x)) (looked x (total-set (λ (u : V). times x u.looks) views id v w at) there (cases_eq x least));
       }
     where
@@ -198,7 +205,7 @@ module _ (e : Extent) (next least : ℕ) (views : List V) (id : ℕ) (v : V) (h 
       (h.looks x (let part = le_total (λ (u : V). times x u.looks) views id v at in omega arith)))
 
   -- the seat posts an index
-  posts : (index : ℕ) → index ≤ no_post → 0 < v.parts → Agrees e next (min least index) (set views id (with_post v index))
+  posts : (index : ℕ) → index ≤ most_index → 0 < v.parts → Agrees e next (min least index) (set views id (with_post v index))
   posts index small part =
       let w : V = with_post v index in
       let parts = total-set (λ (u : V). u.parts) views id v w at in
@@ -210,11 +217,16 @@ module _ (e : Extent) (next least : ℕ) (views : List V) (id : ℕ) (v : V) (h 
         draws = λ x. (let t = total-set (λ (u : V). times x u.draws) views id v w at in let was = h.draws x in omega arith);
         room = (let r = h.room in omega arith);
         drained = λ some_none. h.drained (omega arith);
-        posts = least_with least index (λ x. posted_in x views) (λ x. posted_in x (set views id w)) small posted h.posts;
+        posts = least_with least index (λ x. posted_in x views) (λ x. posted_in x (set views id w)) (omega arith) posted h.posts;
+        indices = λ x there. noted x (posted x) there (cases_eq x index);
         looks = λ x there.
             ⊎_elim (λ (none_yet : x ≡ no_post). inl none_yet) (λ (was : 0 < posted_in x views). inr (let p = posted x in omega arith))
             (h.looks x (let t = total-set (λ (u : V). times x u.looks) views id v w at in omega arith));
       }
+    where
+      noted : (x : ℕ) → posted_in x (set views id (with_post v index)) ≡ posted_in x views + (if x == index then 1 else 0) → 0 < posted_in x (set views id (with_post v index)) → (x ≡ index) ⊎ (x ≢ index) → x ≤ most_index
+      noted x more there (inl is) = omega arith
+      noted x more there (inr apart) = h.indices x (let other = not_that x index apart in omega arith)
 
 -- a look
 pub sees : (e : Extent) (slots id : ℕ) (me : Me (Unit {0}) V) → me.0.parts ≡ 1 → Allows (Kept e) slots id me 1 (λ n. n) (Turns Looks me)
@@ -228,11 +240,11 @@ sees e slots id me one = at_words e slots id me 1 (λ n. n) Looks go
       least,
       refl,
       looks e next least views id me.0 h at (omega arith),
-      record { most = h.posts.most; posts = over_posts e next least views id me.0 h at; looks = over_looks e next least views id me.0 h at; seen = refl },
+      record { most = h.posts.most; index = least_index e next least views h; posts = over_posts e next least views id me.0 h at; looks = over_looks e next least views id me.0 h at; seen = refl },
     )
 
 -- a post
-pub notes : (e : Extent) (slots id : ℕ) (me : Me (Unit {0}) V) (index : ℕ) → index ≤ no_post → me.0.parts ≡ 1 → Allows (Kept e) slots id me 1 (λ n. min n index) (Turns (λ v _ w. w ≡ with_post v index) me)
+pub notes : (e : Extent) (slots id : ℕ) (me : Me (Unit {0}) V) (index : ℕ) → index ≤ most_index → me.0.parts ≡ 1 → Allows (Kept e) slots id me 1 (λ n. min n index) (Turns (λ v _ w. w ≡ with_post v index) me)
 notes e slots id me index small one = at_words e slots id me 1 (λ n. min n index) (λ v _ w. w ≡ with_post v index) go
   where
     go : (next least : ℕ) (views : List V) → Agrees e next least views → get_elem? views id ≡ some me.0

@@ -31,6 +31,7 @@ regrouped e next least views others same fits h = record {
   room = (let r = h.room in let n = same.nones in omega arith);
   drained = λ some_none. h.drained (let n = same.nones in omega arith);
   posts = least_as least (λ x. posted_in x views) (λ x. posted_in x others) same.posts h.posts;
+  indices = λ x there. h.indices x (subst (λ (n : ℕ). 0 < n) (same.posts x) there);
   looks = λ x there. subst (λ (n : ℕ). (x ≡ no_post) ⊎ (0 < n)) (sym (same.posts x)) (h.looks x (subst (λ (n : ℕ). 0 < n) (same.looks x) there));
 }
 

@@ -14,7 +14,7 @@ use Rattle.loop_board.specs.Whole.{IsWhole, IsTally}
 use Rattle.loop_board.proofs.Sums.{le_total, times-append}
 use Rattle.std.proofs.lemmas.List.Elements.{All-pop}
 use Rattle.loop_board.proofs.Histories.{least_post_is, one_least}
-use Rattle.loop_board.proofs.Moves.{least_as}
+use Rattle.loop_board.proofs.Moves.{least_as, least_index}
 
 abbrev V : Type 0
 V = SeatView
@@ -133,6 +133,7 @@ module _ (e : Extent) (next least : ℕ) (views : List V) (id : ℕ) (v : V) (h 
         parts = (let p = all_of (λ (u : V). u.parts) refl in let all = h.parts in omega arith);
         drained = λ some_none. (let d = h.drained (omega arith) in omega arith);
         draws = λ x. sym (all_of (λ (u : V). times x u.draws) refl) ∙ h.draws x;
+        index = least_index e next least views h;
         posts = least_as least (λ x. posted_in x views) (λ x. times x v.posts) posted h.posts;
         looks = λ x there. subst (λ (n : ℕ). (x ≡ no_post) ⊎ (0 < n)) (sym (posted x)) (h.looks x (let seen = all_of (λ (u : V). times x u.looks) refl in omega arith));
       }

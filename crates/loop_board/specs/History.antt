@@ -14,6 +14,14 @@ pub record History : Type 0 where
 abbrev pub no_post : ℕ
 no_post = 4294967295
 
+-- the greatest index that may be posted
+abbrev pub most_index : ℕ
+most_index = 8388607
+
+-- an index that may be posted, or 4,294,967,295
+abbrev pub IsIndexOrNone : ℕ → Type 0
+IsIndexOrNone n = (n ≤ most_index) ⊎ (n ≡ no_post)
+
 -- a seat that has done nothing yet
 abbrev pub nothing_done : History
 nothing_done = record { draws = []; found_none = false; posts = []; looks = [] }

@@ -8,7 +8,7 @@ use Rattle.atomic_table.specs.Table.{State, Me}
 use Rattle.loop_board.specs.declared.view.Extent.{Extent}
 use Rattle.loop_board.specs.declared.view.SeatView.{SeatView}
 use Rattle.loop_board.specs.Sums.{total, times, once_below}
-use Rattle.loop_board.specs.History.{no_post, IsLeast}
+use Rattle.loop_board.specs.History.{no_post, most_index, IsIndexOrNone, IsLeast}
 use Rattle.loop_board.specs.Seats.{BoardId, SeatRecord, IsWithinLimits}
 
 -- the view of a seat that has so many parts of the right to know the whole, and has done nothing yet
@@ -51,6 +51,7 @@ pub record Agrees (e : Extent) (next least : ℕ) (views : List SeatView) : Type
   pub room : next ≤ e.blocks + nones_of views
   pub drained : 0 < nones_of views → e.blocks ≤ next
   pub posts : IsLeast least (λ x. posted_in x views)
+  pub indices : (x : ℕ) → 0 < posted_in x views → x ≤ most_index
   pub looks : (x : ℕ) → 0 < seen_in x views → (x ≡ no_post) ⊎ (0 < posted_in x views)
 
 -- the rule of a board of this extent
@@ -82,9 +83,10 @@ pub record Claims (v : SeatView) (found : ℕ) (w : SeatView) : Type 0 where
   pub draws : found < v.extent.blocks → w ≡ with_draw v found
   pub drains : v.extent.blocks ≤ found → w ≡ with_none v
 
--- a look sees the number found, which is above nothing that the seat posted or saw
+-- a look sees the number found, an index or 4,294,967,295, which is above nothing that the seat posted or saw
 pub record Looks (v : SeatView) (found : ℕ) (w : SeatView) : Type 0 where
   pub most : found ≤ no_post
+  pub index : IsIndexOrNone found
   pub posts : All (λ x. found ≤ x) v.posts
   pub looks : All (λ x. found ≤ x) v.looks
   pub seen : w ≡ with_look v found

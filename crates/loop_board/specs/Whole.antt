@@ -3,7 +3,7 @@ use Rattle.std.specs.Prelude.{◌≡◌, ℕ, ◌<◌, ◌≤◌, ◌⊎◌, Lis
 use Rattle.loop_board.specs.declared.view.Extent.{Extent}
 use Rattle.loop_board.specs.declared.view.SeatView.{SeatView}
 use Rattle.loop_board.specs.Sums.{times, once_below}
-use Rattle.loop_board.specs.History.{no_post, IsLeast, times_drawn, times_posted, times_seen, some_found_none}
+use Rattle.loop_board.specs.History.{no_post, IsIndexOrNone, IsLeast, times_drawn, times_posted, times_seen, some_found_none}
 use Rattle.loop_board.specs.Seats.{SeatRecord, histories}
 
 -- the view has what all of these seats did, and a part for each
@@ -20,5 +20,6 @@ pub record IsTally (e : Extent) (v : SeatView) (claimed least : ℕ) : Type 0 wh
   pub parts : v.parts ≡ e.workers
   pub drained : 0 < v.nones → claimed ≡ e.blocks
   pub draws : (x : ℕ) → times x v.draws ≡ once_below x claimed
+  pub index : IsIndexOrNone least
   pub posts : IsLeast least (λ x. times x v.posts)
   pub looks : (x : ℕ) → 0 < times x v.looks → (x ≡ no_post) ⊎ (0 < times x v.posts)

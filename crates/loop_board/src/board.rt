@@ -1,7 +1,7 @@
 //! The board itself: claims, looks, posts, and the tally at the end.
 
 ghost use Rattle.std.specs.Prelude.{◌≡◌, ◌<◌, ◌≤◌, ◌↔◌, [], replicate, vec_len, All, IsTrue, IsNone, IfSome, IfNone, IfOk, IfErr, OnOk};
-ghost use Rattle.loop_board.specs.History.{Legal, least_post};
+ghost use Rattle.loop_board.specs.History.{IsIndexOrNone, Legal, least_post};
 ghost use Rattle.loop_board.specs.Seats.{IsWithinLimits, new_seat, after_draw, after_none, after_look, after_post, histories};
 
 use crate::dealing::deal;
@@ -112,6 +112,7 @@ impl Board {
         requires { seat.old.board ≡ self.now }
         ensures posts { All (λ p. result ≤ p) seat.old.history.posts }
         ensures looks { All (λ p. result ≤ p) seat.old.history.looks }
+        ensures index { IsIndexOrNone result }
         ensures seen { seat.new ≡ after_look seat.old result }
     {
         self.table.shared.load::<Look>(&mut seat.seat, 1) as u32
@@ -135,6 +136,7 @@ impl Board {
         requires { All (λ s. s.board ≡ self) seats.items }
         ensures legal { IfOk result (λ t. Legal self.blocks t.claimed (histories seats.items)) }
         ensures least { IfOk result (λ t. t.least ≡ least_post (histories seats.items)) }
+        ensures index { IfOk result (λ t. IsIndexOrNone t.least) }
         ensures all_seats { OnOk result (vec_len seats ≡ self.workers) }
         ensures few_seats { IfErr result (λ e. (e ≡ BoardError.Seats) × (vec_len seats < self.workers)) }
     {
