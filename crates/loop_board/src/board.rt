@@ -125,9 +125,8 @@ impl Board {
         requires index { index ≤ 8_388_607 }
         ensures { seat.new ≡ after_post seat.old index }
     {
-        self.table
-            .shared
-            .fetch_min::<Post>(&mut seat.seat, 1, u64::from(index));
+        let words = &self.table.shared;
+        words.fetch_min::<Post>(&mut seat.seat, 1, u64::from(index));
     }
 
     /// Ends the board, and tells what all its seats did. B2 (`Seats`) where there are fewer seats than workers; the
