@@ -1,0 +1,5 @@
+pub mod Sums
+pub mod History
+pub mod Seats
+pub mod Rule
+pub mod Whole

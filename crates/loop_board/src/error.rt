@@ -1,0 +1,17 @@
+//! Why a board was refused.
+
+use thiserror::Error;
+
+/// Why `Board::new` or `Board::gather` refused.
+#[derive(Clone, Copy, Debug, PartialEq, Eq, Error)]
+pub enum BoardError {
+    /// B1: the blocks aren't 1 to 64, or the workers aren't 1 to 16.
+    #[error("B1: a board has 1 to 64 blocks and 1 to 16 workers")]
+    Limits,
+    /// B2: fewer seats came back than the board has workers.
+    #[error("B2: fewer seats than workers")]
+    Seats,
+    /// A growth was refused: there was no memory.
+    #[error("no memory for a board")]
+    Memory,
+}

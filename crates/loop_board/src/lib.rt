@@ -1,0 +1,21 @@
+//! The board of one loop: which worker runs which block, and the least index at which an iteration broke.
+//!
+//! The workers share two words of one `atomic_table`. A claim is one `fetch_add` on the next block, a look one load
+//! of the least break, and a post one `fetch_min` on it: no lock, no loop that tries again, and nobody waits.
+//! Each worker has a seat, whose history (draws, posts, answers of looks) contracts see; it takes no memory.
+#![tactic(auto)]
+
+mod board;
+mod dealing;
+mod error;
+mod gathering;
+mod rule;
+mod seat;
+mod view;
+
+pub use board::{Board, Tally};
+pub use error::BoardError;
+pub use seat::BoardSeat;
+
+#[cfg(test)]
+mod tests;
