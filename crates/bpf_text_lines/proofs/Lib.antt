@@ -1,0 +1,3 @@
+pub mod LineLaws
+pub mod WordLaws
+pub mod NumberLaws
