@@ -1,5 +1,5 @@
 -- Reading maps one after the other, as a loop does.
-use Rattle.std.proofs.Common.{◌≡◌, ℕ, ◌+◌, List, [], ◌∷◌, ◌++◌, length, Result, Ok, Err, refl, sym, ap, ◌∙◌, subst, ◌<◌, arith}
+use Rattle.std.proofs.Common.{◌≡◌, ℕ, ◌+◌, List, [], ◌∷◌, ◌++◌, length, Result, Ok, Err, refl, ap, subst, ◌<◌, arith}
 use Rattle.bpf_text_lines.specs.Words.{words_of}
 use Rattle.bpf_text.specs.declared.error.Fault.TheVariants as faults
 use Rattle.bpf_text.specs.declared.error.TextError.{TextError}

@@ -1,5 +1,5 @@
 -- Lines of numbers.
-use Rattle.std.specs.Prelude.{ℕ, Bool, if◌then◌else◌, List, [], ◌∷◌, Result, Ok, Err}
+use Rattle.std.specs.Prelude.{ℕ, if◌then◌else◌, List, [], ◌∷◌, Result, Ok, Err}
 use Rattle.std.specs.List.{list_all}
 use Rattle.bpf_text_lines.specs.declared.numbers.NumberError.{NumberError}
 use Rattle.bpf_text_lines.specs.declared.numbers.NumberError.TheVariants as numbers

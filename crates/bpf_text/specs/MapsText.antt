@@ -76,9 +76,13 @@ some_maps (Ok (values ∷ maps)) = Ok (values ∷ maps)
 abbrev pub maps_text : List ℕ → Result (List (List ℕ)) TextError
 maps_text text = if nat_lt 1048576 (length text) then Err (errors.Refused faults.TooLong 0) else some_maps (maps_behind [] (contents_of text))
 
--- a map's line: its number, and each value behind a space
+-- a value behind a space
+abbrev pub value_spelling : ℕ → List ℕ
+value_spelling value = codes " " ++ decimal value
+
+-- a map's line: its number and its values
 abbrev pub map_spelling : ℕ → List ℕ → List ℕ
-map_spelling number values = codes "map " ++ decimal number ++ codes ":" ++ flat_map (λ value. codes " " ++ decimal value) values ++ 10 ∷ []
+map_spelling number values = codes "map " ++ decimal number ++ codes ":" ++ flat_map value_spelling values ++ codes "\n"
 
 -- the lines of maps, the first of which has this number
 abbrev pub spelling_from : ℕ → List (List ℕ) → List ℕ

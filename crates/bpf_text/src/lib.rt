@@ -7,10 +7,12 @@ mod fields;
 mod head;
 mod hex_form;
 mod maps;
+mod maps_print;
 
 pub use error::{Fault, TextError};
 pub use hex_form::{HexUnit, read_hex};
 pub use maps::parse_maps;
+pub use maps_print::print_maps;
 
 #[cfg(test)]
 mod tests;

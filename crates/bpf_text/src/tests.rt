@@ -134,3 +134,12 @@ fn refusals_are_shown(rt: HostRuntime) -> Result<(), Fail> {
     assert_eq!(rt; Fault::Limits.to_string(alloc)?.as_str(), "A7");
     Ok(())
 }
+
+#[test]
+fn maps_are_printed(rt: HostRuntime) -> Result<(), Fail> {
+    let alloc = rt.alloc();
+    let text = "map 0: 5 0\nmap 1: 18446744073709551615\n";
+    let maps = parse_maps(alloc, text)?;
+    assert_eq!(rt; print_maps(alloc, &maps)?.as_str(), text);
+    Ok(())
+}

@@ -1,7 +1,6 @@
-use Rattle.std.proofs.Common.{◌≡◌, ◌+◌, ◌++◌, ◌≤◌, length, sym, ap, ◌∙◌, vec_len, arith}
+use Rattle.std.proofs.Common.{◌≡◌, ◌+◌, ◌++◌, length, sym, ap, ◌∙◌, arith}
 use Rattle.std.proofs.lemmas.Result.{err_from_is_err_and}
 use Rattle.bpf_text_lines.specs.Lines.{contents_from, lines_of}
-use Rattle.bpf_text.specs.Refusals.{Fails}
 use Rattle.bpf_text.specs.HexText.{bytes_behind}
 use Rattle.bpf_text.proofs.HexLaws.{bytes_behind-line, bytes_behind-fails, bytes_behind-end}
 use Rattle.bpf_text.proofs.hex_form.read_lines.Goals as goal

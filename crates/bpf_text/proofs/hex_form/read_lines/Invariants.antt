@@ -1,4 +1,4 @@
-use Rattle.std.proofs.Common.{◌≡◌, ◌≤◌, ◌<◌, ◌+◌, ◌^◌, [], length, vec_len}
+use Rattle.std.proofs.Common.{◌≡◌, ◌≤◌, ◌+◌, [], length, vec_len}
 use Rattle.bpf_text_lines.specs.Lines.{contents_from, lines_of}
 use Rattle.bpf_text.specs.HexText.{bytes_behind}
 use Rattle.bpf_text.proofs.hex_form.read_lines.Given as goal

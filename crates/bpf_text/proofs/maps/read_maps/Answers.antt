@@ -1,8 +1,8 @@
 use Rattle.std.proofs.Common.{◌≡◌, ◌+◌, ◌++◌, ◌∷◌, [], length, sym, ap, ◌∙◌, arith}
 use Rattle.std.proofs.lemmas.Result.{err_from_is_err_and}
 use Rattle.std.proofs.lemmas.List.{map_push, length-map}
-use Rattle.bpf_text_lines.specs.Lines.{contents_from, contents_of, lines_of}
-use Rattle.bpf_text.specs.MapsText.{lists, count_of, maps_behind}
+use Rattle.bpf_text_lines.specs.Lines.{contents_from, lines_of}
+use Rattle.bpf_text.specs.MapsText.{lists, maps_behind}
 use Rattle.bpf_text.proofs.MapLaws.{count_of-push, maps_behind-line, maps_behind-fails, maps_behind-end}
 use Rattle.bpf_text.proofs.maps.read_maps.Goals as goal
 
