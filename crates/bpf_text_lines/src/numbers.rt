@@ -1,7 +1,8 @@
 //! Decimal numbers, each of which has one spelling.
 
-ghost use Rattle.std.specs.Prelude.{◌≡◌, ◌&&◌, ◌||◌, ◌==◌, nat_lt, nat_le, if◌then◌else◌, IsTrue, Some, None, length, slice_index};
+ghost use Rattle.std.specs.Prelude.{◌≡◌, ◌≤◌, ℕ, IfOk, ◌&&◌, ◌||◌, ◌==◌, nat_lt, nat_le, if◌then◌else◌, IsTrue, Some, None, length, slice_index};
 ghost use Rattle.std.specs.Char.{is_ascii_digit};
+ghost use Rattle.std.specs.Fmt.{decimal};
 ghost use Rattle.std.specs.List.{list_all};
 ghost use Rattle.bpf_text_lines.specs.Numbers.{is_numeral, is_negative, is_number, value_of, number_in};
 
@@ -72,8 +73,8 @@ fn value_up_to(digits: &[u8], limit: u64) -> Option<u64>
     Some(value)
 }
 
-/// The number of a field whose numbers are 0 to the limit, or why the word is none.
-pub fn read_number(word: &[u8], limit: u64) -> Result<u64, NumberError>
+/// The number of a field, by the cases of its definition.
+fn number_in(word: &[u8], limit: u64) -> Result<u64, NumberError>
     ensures { result ≡ number_in limit word.now }
 {
     if is_numeral(word) {
@@ -83,4 +84,15 @@ pub fn read_number(word: &[u8], limit: u64) -> Result<u64, NumberError>
         return Err(NumberError::Field);
     }
     Err(NumberError::Form)
+}
+
+/// The number of a field whose numbers are 0 to the limit, or why the word is none.
+pub fn read_number(word: &[u8], limit: u64) -> Result<u64, NumberError>
+    ensures cases { result ≡ number_in limit word.now }
+
+    // A number is read from its decimal digits, and from nothing else.
+    ensures spelling { IfOk result (λ n. (word.now ≡ decimal n) × (n ≤ limit)) }
+    ensures only { (n : ℕ) → n ≤ limit → word.now ≡ decimal n → result ≡ Ok n }
+{
+    number_in(word, limit)
 }

@@ -1,4 +1,4 @@
-use Rattle.std.proofs.Common.{◌≡◌, ◌+◌, ◌*◌, ◌-◌, ◌<◌, suc, sym, ap, ◌∙◌, arith, drop, get_or, drop-cons}
+use Rattle.std.proofs.Common.{◌+◌, ◌*◌, ◌-◌, ◌<◌, suc, sym, ap, ◌∙◌, arith, drop, get_or, drop-cons}
 use Rattle.bpf_text_lines.specs.Numbers.{value_of, value_after}
 use Rattle.bpf_text_lines.proofs.NumberLaws.{too_large}
 use Rattle.bpf_text_lines.proofs.numbers.value_up_to.Goals as goal
