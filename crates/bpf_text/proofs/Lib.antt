@@ -1,0 +1,5 @@
+pub mod FieldLaws
+pub mod HeadLaws
+pub mod MapLaws
+pub mod HexLaws
+pub mod PrintLaws

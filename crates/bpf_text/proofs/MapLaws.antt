@@ -1,0 +1,53 @@
+-- Reading maps one after the other, as a loop does.
+use Rattle.std.proofs.Common.{◌≡◌, ℕ, ◌+◌, List, [], ◌∷◌, ◌++◌, length, Result, Ok, Err, refl, ap, subst, ◌<◌, arith}
+use Rattle.bpf_text_lines.specs.Words.{words_of}
+use Rattle.bpf_text.specs.declared.error.Fault.TheVariants as faults
+use Rattle.bpf_text.specs.declared.error.TextError.{TextError}
+use Rattle.bpf_text.specs.declared.error.TextError.TheVariants as errors
+use Rattle.bpf_text.specs.Refusals.{at_line, ◌>>=◌, Fails}
+use Rattle.bpf_text.specs.MapsText.{some_maps, values_of, count_of, maps_behind}
+
+-- one more map, with its values
+pub count_of-push : (maps : List (List ℕ)) (values : List ℕ) → count_of (maps ++ values ∷ []) ≡ count_of maps + length values
+count_of-push [] values = omega arith
+count_of-push (first ∷ maps) values = let h = count_of-push maps values in omega (arith, h)
+
+-- a refusal stays one, whatever follows it
+pub bind_fails : {A B : Type 0} (e : TextError) (r : Result A TextError) (f : A → Result B TextError) → Fails e r → Fails e (r >>= f)
+bind_fails errors.Memory r f fails = tt
+bind_fails (errors.Refused fault line) (Ok x) f fails = absurd cc
+bind_fails (errors.Refused fault line) (Err other) f fails = cc
+
+pub maps_behind-line : (before : List (List ℕ)) (number held : ℕ) (line : ℕ × List ℕ) (lines : List (ℕ × List ℕ)) (values : List ℕ) → number ≡ length before → held ≡ count_of before →
+    at_line line.0 (values_of number held (words_of line.1)) ≡ Ok values →
+    maps_behind before (line ∷ lines) ≡ maps_behind (before ++ values ∷ []) lines
+unfolding maps_behind
+maps_behind-line before number held line lines values count sum read =
+    let here : at_line line.0 (values_of (length before) (count_of before) (words_of line.1)) ≡ Ok values = rw (← count, ← sum) read in
+    ap (λ (r : Result (List ℕ) TextError). r >>= λ v. maps_behind (before ++ v ∷ []) lines) here
+
+pub maps_behind-fails : (e : TextError) (before : List (List ℕ)) (number held : ℕ) (line : ℕ × List ℕ) (lines : List (ℕ × List ℕ)) → number ≡ length before → held ≡ count_of before →
+    Fails e (at_line line.0 (values_of number held (words_of line.1))) → Fails e (maps_behind before (line ∷ lines))
+unfolding maps_behind
+maps_behind-fails e before number held line lines count sum fails =
+    bind_fails e (at_line line.0 (values_of (length before) (count_of before) (words_of line.1))) (λ v. maps_behind (before ++ v ∷ []) lines)
+    (subst (λ n. Fails e (at_line line.0 (values_of n (count_of before) (words_of line.1)))) count
+    (subst (λ h. Fails e (at_line line.0 (values_of number h (words_of line.1)))) sum fails))
+
+pub maps_behind-end : (before : List (List ℕ)) → maps_behind before [] ≡ Ok before
+unfolding maps_behind
+maps_behind-end before = refl
+
+-- ---- a text has to have a map
+
+pub some_maps-none : (r : Result (List (List ℕ)) TextError) (maps : List (List ℕ)) → r ≡ Ok maps → length maps ≡ 0 → some_maps r ≡ Err (errors.Refused faults.Limits 0)
+some_maps-none r [] read none = ap some_maps read
+some_maps-none r (values ∷ maps) read none = absurd (omega arith)
+
+pub some_maps-some : (r : Result (List (List ℕ)) TextError) (maps : List (List ℕ)) → r ≡ Ok maps → 0 < length maps → some_maps r ≡ Ok maps
+some_maps-some r [] read some = absurd (omega arith)
+some_maps-some r (values ∷ maps) read some = ap some_maps read
+
+pub some_maps-fails : (e : TextError) (r : Result (List (List ℕ)) TextError) → Fails e r → Fails e (some_maps r)
+some_maps-fails errors.Memory r fails = tt
+some_maps-fails (errors.Refused fault line) r fails = ap some_maps fails

@@ -1,0 +1,94 @@
+-- The values of maps as a text: for each map a line `map K: v v`, with K from 0 rising.
+use Rattle.std.specs.Prelude.{ℕ, ◌+◌, ◌-◌, ◌^◌, ◌==◌, Vec, ◌&&◌, nat_lt, nat_le, Bool, false, if◌then◌else◌, List, [], ◌∷◌, ◌++◌, length, take, slice_index, map, codes, Result, Ok, Err}
+use Rattle.std.specs.declared.alloc.Global.{Global}
+use Rattle.std.specs.Fmt.{decimal}
+use Rattle.std.specs.List.{flat_map}
+use Rattle.std.specs.Str.{bytes_eq}
+use Rattle.bpf_text_lines.specs.declared.numbers.NumberError.{NumberError}
+use Rattle.bpf_text_lines.specs.Lines.{contents_of}
+use Rattle.bpf_text_lines.specs.Numbers.{is_number, number_in}
+use Rattle.bpf_text_lines.specs.Words.{words_of}
+use Rattle.bpf_text.specs.declared.error.Fault.{Fault}
+use Rattle.bpf_text.specs.declared.error.Fault.TheVariants as faults
+use Rattle.bpf_text.specs.declared.error.TextError.{TextError}
+use Rattle.bpf_text.specs.declared.error.TextError.TheVariants as errors
+use Rattle.bpf_text.specs.Refusals.{at_line, ◌>>=◌}
+use Rattle.bpf_text.specs.Fields.{fields_of}
+
+-- maps without where they lie in memory
+abbrev pub lists : List (Vec ℕ Global) → List (List ℕ)
+lists maps = map (λ (values : Vec ℕ Global). values.items) maps
+
+-- a label without its last byte
+abbrev pub label_number : List ℕ → List ℕ
+label_number label = take (length label - 1) label
+
+-- a number and a colon
+abbrev pub is_label : List ℕ → Bool
+is_label label = (slice_index label (length label - 1) == 58) && is_number (label_number label)
+
+-- whether a line of a maps text may begin with these words
+abbrev pub is_map_head : List ℕ → List ℕ → Bool
+is_map_head word label = bytes_eq word (codes "map") && is_label label
+
+-- whether a label's number is this map's
+abbrev pub is_turn : ℕ → Result ℕ NumberError → Bool
+is_turn number (Ok n) = n == number
+is_turn number (Err error) = false
+
+-- whether values may be those of this map, behind `held` values of the maps before it
+abbrev pub fits_as_map : (number held : ℕ) → List ℕ → List ℕ → Bool
+fits_as_map number held label values =
+    is_turn number (number_in (2 ^ 64 - 1) (label_number label))
+    && (nat_lt number 16 && (nat_le 1 (length values) && nat_le (held + length values) 65536))
+
+-- numbers as the values of this map
+abbrev pub as_values : (number held : ℕ) → List ℕ → Result (List ℕ) Fault → Result (List ℕ) Fault
+as_values number held label (Err fault) = Err fault
+as_values number held label (Ok values) = if fits_as_map number held label values then Ok values else Err faults.Limits
+
+-- the values that the words of a line give, where the line has to be this map's
+abbrev pub values_of : (number held : ℕ) → List (List ℕ) → Result (List ℕ) Fault
+values_of number held [] = Err faults.Form
+values_of number held (word ∷ []) = Err faults.Form
+values_of number held (word ∷ label ∷ words) =
+    if is_map_head word label then as_values number held label (fields_of (2 ^ 64 - 1) words) else Err faults.Form
+
+-- how many values maps have together
+abbrev pub count_of : List (List ℕ) → ℕ
+count_of [] = 0
+count_of (values ∷ maps) = length values + count_of maps
+
+-- the maps of earlier lines, and those of these lines behind them
+unfoldable pub maps_behind : List (List ℕ) → List (ℕ × List ℕ) → Result (List (List ℕ)) TextError
+maps_behind before [] = Ok before
+maps_behind before (line ∷ lines) = do
+  values ← at_line line.0 (values_of (length before) (count_of before) (words_of line.1))
+  maps_behind (before ++ values ∷ []) lines
+
+-- maps, of which there has to be one
+abbrev pub some_maps : Result (List (List ℕ)) TextError → Result (List (List ℕ)) TextError
+some_maps (Err e) = Err e
+some_maps (Ok []) = Err (errors.Refused faults.Limits 0)
+some_maps (Ok (values ∷ maps)) = Ok (values ∷ maps)
+
+-- what a maps text means
+abbrev pub maps_text : List ℕ → Result (List (List ℕ)) TextError
+maps_text text = if nat_lt 1048576 (length text) then Err (errors.Refused faults.TooLong 0) else some_maps (maps_behind [] (contents_of text))
+
+-- a value behind a space
+abbrev pub value_spelling : ℕ → List ℕ
+value_spelling value = codes " " ++ decimal value
+
+-- a map's line: its number and its values
+abbrev pub map_spelling : ℕ → List ℕ → List ℕ
+map_spelling number values = codes "map " ++ decimal number ++ codes ":" ++ flat_map value_spelling values ++ codes "\n"
+
+-- the lines of maps, the first of which has this number
+abbrev pub spelling_from : ℕ → List (List ℕ) → List ℕ
+spelling_from number [] = []
+spelling_from number (values ∷ maps) = map_spelling number values ++ spelling_from (number + 1) maps
+
+-- the one spelling of maps
+abbrev pub maps_spelling : List (List ℕ) → List ℕ
+maps_spelling maps = spelling_from 0 maps

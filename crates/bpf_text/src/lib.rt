@@ -1,0 +1,18 @@
+//! The texts that programs and maps are read from and printed to. A text that is no text of its form
+//! is refused with the least line over all its faults, and there the least of them.
+#![tactic(auto)]
+
+mod error;
+mod fields;
+mod head;
+mod hex_form;
+mod maps;
+mod maps_print;
+
+pub use error::{Fault, TextError};
+pub use hex_form::{HexUnit, read_hex};
+pub use maps::parse_maps;
+pub use maps_print::print_maps;
+
+#[cfg(test)]
+mod tests;

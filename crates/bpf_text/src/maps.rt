@@ -1,0 +1,155 @@
+//! The values of maps as a text.
+
+ghost use Rattle.std.specs.Prelude.{◌≡◌, ◌≤◌, ◌<◌, ◌+◌, ◌-◌, ◌^◌, length, IsTrue, IfOk, vec_len, [], ◌∷◌, slice_index, ◌==◌};
+ghost use Rattle.bpf_text_lines.specs.Lines.{contents_of, contents_from, lines_of};
+ghost use Rattle.bpf_text_lines.specs.Numbers.{number_in};
+ghost use Rattle.bpf_text_lines.specs.Words.{words_of};
+ghost use Rattle.bpf_text.specs.Refusals.{at_line, Gives};
+ghost use Rattle.bpf_text.specs.MapsText.{lists, label_number, is_label, is_map_head, is_turn, fits_as_map, values_of, maps_behind, maps_text};
+
+use crate::error::{Fault, TextError};
+use crate::fields::read_fields;
+use bpf_text_lines::{is_number, next_line, next_word, read_number};
+use std::alloc::Global;
+
+/// The most bytes of a text.
+const MAX_TEXT: usize = 1_048_576;
+
+/// The most maps that there may be.
+const MAX_MAPS: usize = 16;
+
+/// The most values that all maps may have together.
+const MAX_VALUES: usize = 65_536;
+
+/// Whether the word is a number and a colon.
+fn is_label(label: &[u8]) -> bool
+    ensures { result ≡ is_label label.now }
+{
+    if label.is_empty() {
+        return false;
+    }
+    let end = label.len() - 1;
+    if label[end] != b':' {
+        return false;
+    }
+    is_number(&label[..end])
+}
+
+/// Whether the line of a map may begin with these words.
+fn is_map_head(word: &[u8], label: &[u8]) -> bool
+    ensures { result ≡ is_map_head word.now label.now }
+{
+    word == b"map".as_slice() && is_label(label)
+}
+
+/// Whether the label's number is that of this map.
+fn is_turn(label: &[u8], number: usize) -> bool
+    requires { 0 < length label.now }
+    ensures { result ≡ is_turn number (number_in (2 ^ 64 - 1) (label_number label.now)) }
+{
+    match read_number(&label[..label.len() - 1], u64::MAX) {
+        Ok(n) => n == number as u64,
+        Err(_) => false,
+    }
+}
+
+/// Whether values may be those of this map, behind this many values of the maps before it.
+fn fits_as_map(label: &[u8], number: usize, held: usize, values: &[u64]) -> bool
+    requires label { 0 < length label.now }
+    requires held { held ≤ 65536 }
+    ensures test { result ≡ fits_as_map number held label.now values.now }
+    ensures room { IsTrue result → held + length values.now ≤ 65536 }
+{
+    if !is_turn(label, number) {
+        return false;
+    }
+    number < MAX_MAPS && !values.is_empty() && values.len() <= MAX_VALUES - held
+}
+
+/// The values of the map of this number, behind this many values of the maps before it, or the
+/// fault of its line.
+fn read_values(
+    alloc: Global,
+    content: &[u8],
+    line: u32,
+    number: usize,
+    held: usize,
+) -> Result<Vec<u64>, TextError>
+    requires { held ≤ 65536 }
+    ensures meaning { Gives (λ v. v.items) result (at_line line (values_of number held (words_of content.now))) }
+    ensures room { IfOk result (λ v. held + vec_len v ≤ 65536) }
+{
+    let Some((word, rest)) = next_word(content) else {
+        return Err(TextError::Refused {
+            fault: Fault::Form,
+            line,
+        });
+    };
+    let Some((label, rest)) = next_word(rest) else {
+        return Err(TextError::Refused {
+            fault: Fault::Form,
+            line,
+        });
+    };
+    if !is_map_head(word, label) {
+        return Err(TextError::Refused {
+            fault: Fault::Form,
+            line,
+        });
+    }
+    let values = read_fields(alloc, rest, u64::MAX, line)?;
+    if !fits_as_map(label, number, held, &values) {
+        return Err(TextError::Refused {
+            fault: Fault::Limits,
+            line,
+        });
+    }
+    Ok(values)
+}
+
+/// The maps of a text that isn't too long.
+fn read_maps(alloc: Global, text: &[u8]) -> Result<Vec<Vec<u64>>, TextError>
+    requires { length text.now ≤ 1048576 }
+    ensures { Gives (λ maps. lists maps.items) result (maps_behind [] (contents_of text.now)) }
+{
+    let mut maps = Vec::new(alloc);
+    let mut held = 0;
+    let mut rest = text;
+    let mut number = 1;
+    while let Some(line) = next_line(rest, number) {
+        let values = read_values(alloc, line.content, line.number, maps.len(), held)?;
+        held += values.len();
+        maps.push(values)?;
+        rest = line.rest;
+        number = line.number + 1;
+    }
+    Ok(maps)
+}
+
+/// The values of maps, map 0 first, of a maps text: at most 1,048,576 bytes, lines `map K: v v` with
+/// K from 0 rising and at least one value below 2^64, of 1 to 16 maps with together at most 65,536
+/// values. `;` begins a comment, and empty lines are skipped.
+///
+/// The refusal is the least line over all faults of the text, and there the least fault: `TooLong` at
+/// line 0, `Limits` at line 0 where there is no map, `Form`, `Field` for a value outside 0 to
+/// 2^64 - 1, `Limits` for a K out of turn, no value, or too many maps or values. `Memory` may come in
+/// place of any answer.
+pub fn parse_maps(alloc: Global, text: &str) -> Result<Vec<Vec<u64>>, TextError>
+    ensures { Gives (λ maps. lists maps.items) result (maps_text text.now) }
+{
+    let bytes = text.as_bytes();
+    if bytes.len() > MAX_TEXT {
+        return Err(TextError::Refused {
+            fault: Fault::TooLong,
+            line: 0,
+        });
+    }
+    let maps = read_maps(alloc, bytes)?;
+    if maps.is_empty() {
+        return Err(TextError::Refused {
+            fault: Fault::Limits,
+            line: 0,
+        });
+    }
+    Ok(maps)
+}

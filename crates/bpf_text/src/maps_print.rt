@@ -1,0 +1,55 @@
+//! Maps printed as a text.
+
+ghost use Rattle.std.specs.Prelude.{◌≡◌, ◌++◌, OnOk, IfOk};
+ghost use Rattle.std.specs.List.{flat_map};
+ghost use Rattle.std.specs.String.{string_bytes};
+ghost use Rattle.bpf_text.specs.MapsText.{lists, value_spelling, map_spelling, maps_spelling};
+
+use std::alloc::{AllocError, Global};
+
+/// Adds a space and a value to a text.
+fn print_value(alloc: Global, out: &mut String, value: u64) -> Result<(), AllocError>
+    ensures { OnOk result (string_bytes out.new ≡ string_bytes out.old ++ value_spelling value) }
+{
+    out.push_str(" ")?;
+    out.push_str(&value.to_string(alloc)?)?;
+    Ok(())
+}
+
+/// Adds values to a text, each behind a space.
+fn print_values(alloc: Global, out: &mut String, values: &[u64]) -> Result<(), AllocError>
+    ensures { OnOk result (string_bytes out.new ≡ string_bytes out.old ++ flat_map value_spelling values.now) }
+{
+    for value in values {
+        print_value(alloc, out, *value)?;
+    }
+    Ok(())
+}
+
+/// Adds the line of a map to a text.
+fn print_map(
+    alloc: Global,
+    out: &mut String,
+    number: usize,
+    values: &[u64],
+) -> Result<(), AllocError>
+    ensures { OnOk result (string_bytes out.new ≡ string_bytes out.old ++ map_spelling number values.now) }
+{
+    out.push_str("map ")?;
+    out.push_str(&number.to_string(alloc)?)?;
+    out.push_str(":")?;
+    print_values(alloc, out, values)?;
+    out.push_str("\n")?;
+    Ok(())
+}
+
+/// The one spelling of maps as a maps text: a line for each, map 0 first.
+pub fn print_maps(alloc: Global, maps: &[Vec<u64>]) -> Result<String, AllocError>
+    ensures { IfOk result (λ text. string_bytes text ≡ maps_spelling (lists maps.now)) }
+{
+    let mut out = String::new(alloc);
+    for (number, values) in maps.iter().enumerate() {
+        print_map(alloc, &mut out, number, values)?;
+    }
+    Ok(out)
+}

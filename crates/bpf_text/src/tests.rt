@@ -1,0 +1,145 @@
+use super::*;
+use std::alloc::{AllocError, Global};
+use std::test::Fail;
+
+/// How the maps text is refused.
+fn maps_refusal(alloc: Global, text: &str) -> Option<TextError> {
+    parse_maps(alloc, text).err()
+}
+
+/// How the hex form is refused.
+fn hex_refusal(alloc: Global, text: &str) -> Option<TextError> {
+    read_hex(alloc, text).err()
+}
+
+fn at(fault: Fault, line: u32) -> Option<TextError> {
+    Some(TextError::Refused { fault, line })
+}
+
+/// A text of lines, each this one.
+fn repeated(alloc: Global, line: &str, count: usize) -> Result<String, AllocError> {
+    let mut text = String::new(alloc);
+    for _ in 0..count {
+        text.push_str(line)?;
+    }
+    Ok(text)
+}
+
+#[test]
+fn maps_are_read(rt: HostRuntime) -> Result<(), Fail> {
+    let alloc = rt.alloc();
+    let maps = parse_maps(
+        alloc,
+        "; two\n\n map 0: 5\t0 ; a\nmap 1: 18446744073709551615",
+    )?;
+    assert_eq!(rt; maps.len(), 2);
+    assert_eq!(rt; maps[0].as_slice(), [5, 0].as_slice());
+    assert_eq!(rt; maps[1].as_slice(), [u64::MAX].as_slice());
+    Ok(())
+}
+
+#[test]
+fn maps_are_refused(rt: HostRuntime) -> Result<(), Fail> {
+    let alloc = rt.alloc();
+    assert_eq!(rt; maps_refusal(alloc, "; nothing\n"), at(Fault::Limits, 0));
+    assert_eq!(rt; maps_refusal(alloc, "garbage\n"), at(Fault::Form, 1));
+    assert_eq!(rt;
+        maps_refusal(alloc, "map 0: 6\r\nmap 1: 0\r\n"),
+        at(Fault::Form, 1)
+    );
+    assert_eq!(rt; maps_refusal(alloc, "map 0: 6 ;\r\n"), None);
+    assert_eq!(rt; maps_refusal(alloc, "map 0 : 5"), at(Fault::Form, 1));
+    assert_eq!(rt; maps_refusal(alloc, "map 0:5"), at(Fault::Form, 1));
+    assert_eq!(rt; maps_refusal(alloc, "map -0: 5"), at(Fault::Form, 1));
+    assert_eq!(rt; maps_refusal(alloc, "map 00: 5"), at(Fault::Form, 1));
+    assert_eq!(rt; maps_refusal(alloc, "map 0: 07"), at(Fault::Form, 1));
+    assert_eq!(rt;
+        maps_refusal(alloc, "map 0: 18446744073709551616 x"),
+        at(Fault::Form, 1)
+    );
+    assert_eq!(rt;
+        maps_refusal(alloc, "map 1: 18446744073709551616"),
+        at(Fault::Field, 1)
+    );
+    assert_eq!(rt; maps_refusal(alloc, "map 0: -1"), at(Fault::Field, 1));
+    assert_eq!(rt; maps_refusal(alloc, "map 0:"), at(Fault::Limits, 1));
+    assert_eq!(rt; maps_refusal(alloc, "map 1: 1"), at(Fault::Limits, 1));
+    assert_eq!(rt;
+        maps_refusal(alloc, "map 99999999999999999999: 1"),
+        at(Fault::Limits, 1)
+    );
+    assert_eq!(rt;
+        maps_refusal(alloc, "\nmap 0: 1\nmap 2: 1\nx"),
+        at(Fault::Limits, 3)
+    );
+    let long = repeated(alloc, "map 0: 1\n", 120_000)?;
+    assert_eq!(rt; maps_refusal(alloc, &long), at(Fault::TooLong, 0));
+    let mut wide = String::from_str(alloc, "map 0:")?;
+    wide.push_str(&repeated(alloc, " 1", 65_536)?)?;
+    assert_eq!(rt; maps_refusal(alloc, &wide), None);
+    wide.push_str("\nmap 1: 1")?;
+    assert_eq!(rt; maps_refusal(alloc, &wide), at(Fault::Limits, 2));
+    Ok(())
+}
+
+#[test]
+fn hex_is_read(rt: HostRuntime) -> Result<(), Fail> {
+    let alloc = rt.alloc();
+    let unit = read_hex(alloc, "maps 1 65535\nB700000007000000 ; r0\n\n95\n")?;
+    assert_eq!(rt; unit.sizes.as_slice(), [1, 65535].as_slice());
+    let bytes = [0xb7, 0, 0, 0, 7, 0, 0, 0, 0x95];
+    assert_eq!(rt; unit.bytes.as_slice(), bytes.as_slice());
+    Ok(())
+}
+
+#[test]
+fn hex_is_refused(rt: HostRuntime) -> Result<(), Fail> {
+    let alloc = rt.alloc();
+    assert_eq!(rt; hex_refusal(alloc, ""), at(Fault::Form, 0));
+    assert_eq!(rt; hex_refusal(alloc, "\n95\nmaps 1"), at(Fault::Form, 2));
+    assert_eq!(rt; hex_refusal(alloc, "maps 1\r\n95\r\n"), at(Fault::Form, 1));
+    assert_eq!(rt; hex_refusal(alloc, "maps 1\n9\n"), at(Fault::Form, 2));
+    assert_eq!(rt; hex_refusal(alloc, "maps 1\n9g"), at(Fault::Form, 2));
+    assert_eq!(rt; hex_refusal(alloc, "maps 1\n95 00"), at(Fault::Form, 2));
+    assert_eq!(rt;
+        hex_refusal(alloc, "maps 0 4294967296"),
+        at(Fault::Field, 1)
+    );
+    assert_eq!(rt; hex_refusal(alloc, "maps 4294967295"), at(Fault::Limits, 1));
+    assert_eq!(rt; hex_refusal(alloc, "maps"), at(Fault::Limits, 1));
+    assert_eq!(rt; hex_refusal(alloc, "maps 0"), at(Fault::Limits, 1));
+    assert_eq!(rt; hex_refusal(alloc, "maps 1 65536"), at(Fault::Limits, 1));
+    assert_eq!(rt;
+        hex_refusal(alloc, "maps 1 1 1 1 1 1 1 1 1 1 1 1 1 1 1 1 1"),
+        at(Fault::Limits, 1)
+    );
+    let mut text = String::from_str(alloc, "maps 1\n")?;
+    text.push_str(&repeated(alloc, "9500000000000000\n", 4096)?)?;
+    assert_eq!(rt; read_hex(alloc, &text)?.bytes.len(), 32768);
+    text.push_str("\n00")?;
+    assert_eq!(rt; hex_refusal(alloc, &text), at(Fault::TooLong, 4099));
+    let long = repeated(alloc, "maps 1\n", 150_000)?;
+    assert_eq!(rt; hex_refusal(alloc, &long), at(Fault::TooLong, 0));
+    Ok(())
+}
+
+#[test]
+fn refusals_are_shown(rt: HostRuntime) -> Result<(), Fail> {
+    let alloc = rt.alloc();
+    let error = TextError::Refused {
+        fault: Fault::Field,
+        line: 3,
+    };
+    assert_eq!(rt; error.to_string(alloc)?.as_str(), "A2 at line 3");
+    assert_eq!(rt; Fault::Limits.to_string(alloc)?.as_str(), "A7");
+    Ok(())
+}
+
+#[test]
+fn maps_are_printed(rt: HostRuntime) -> Result<(), Fail> {
+    let alloc = rt.alloc();
+    let text = "map 0: 5 0\nmap 1: 18446744073709551615\n";
+    let maps = parse_maps(alloc, text)?;
+    assert_eq!(rt; print_maps(alloc, &maps)?.as_str(), text);
+    Ok(())
+}

@@ -1,0 +1,4 @@
+pub mod LineLaws
+pub mod WordLaws
+pub mod NumberLaws
+pub mod SpellingLaws

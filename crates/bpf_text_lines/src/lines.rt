@@ -1,0 +1,127 @@
+//! Lines: where they end, where their comments begin, and the blanks round them.
+
+ghost use Rattle.std.specs.Prelude.{◌≡◌, ◌+◌, ◌<◌, ◌≤◌, ◌^◌, ◌==◌, [], ◌∷◌, length, position, not, ◌||◌, IfSome, IfNone};
+ghost use Rattle.bpf_text_lines.specs.Lines.{lines_of, before_comment, is_blank, trim_start, trim_end, trim, content_of, contents_from};
+
+use crate::words::is_blank;
+
+/// A line that isn't empty, and the text behind it.
+#[derive(Clone, Copy, Debug, PartialEq, Eq)]
+pub struct Line<'a> {
+    /// The line's number. A text's first line is line 1.
+    pub number: u32,
+    /// What the line says, without its comment and without the blanks round it.
+    pub content: &'a [u8],
+    /// The text behind the line.
+    pub rest: &'a [u8],
+}
+
+/// Where the first newline stands.
+fn newline_at(text: &[u8]) -> Option<usize>
+    ensures { result ≡ position (λ b. b == 10) text.now }
+{
+    text.iter().position(|b| *b == b'\n')
+}
+
+/// The first line of a text that isn't empty, without its newline, and the text behind that newline.
+pub fn split_line(text: &[u8]) -> (&[u8], &[u8])
+    requires { 0 < length text.now }
+    ensures lines { lines_of text.now ≡ result.0.now ∷ lines_of result.1.now }
+    ensures shorter { length result.1.now < length text.now }
+{
+    match newline_at(text) {
+        Some(end) => (&text[..end], &text[end + 1..]),
+        None => (text, &[]),
+    }
+}
+
+/// Where the first semicolon stands.
+fn comment_at(line: &[u8]) -> Option<usize>
+    ensures { result ≡ position (λ b. b == 59) line.now }
+{
+    line.iter().position(|b| *b == b';')
+}
+
+/// A line up to its comment, which begins at the first semicolon.
+pub fn before_comment(line: &[u8]) -> &[u8]
+    ensures { result.now ≡ before_comment line.now }
+{
+    match comment_at(line) {
+        Some(end) => &line[..end],
+        None => line,
+    }
+}
+
+/// Where the first byte stands that is no blank.
+fn text_at(bytes: &[u8]) -> Option<usize>
+    ensures { result ≡ position (λ b. not (is_blank b)) bytes.now }
+{
+    bytes.iter().position(|b| !is_blank(*b))
+}
+
+/// Without the blanks at the front.
+pub fn trim_start(bytes: &[u8]) -> &[u8]
+    ensures trimmed { result.now ≡ trim_start bytes.now }
+    ensures len { length result.now ≤ length bytes.now }
+{
+    match text_at(bytes) {
+        Some(start) => &bytes[start..],
+        None => &[],
+    }
+}
+
+/// Without the blanks at the end.
+pub fn trim_end(bytes: &[u8]) -> &[u8]
+    ensures { result.now ≡ trim_end bytes.now }
+{
+    let mut end = bytes.len();
+    while end > 0 {
+        if !is_blank(bytes[end - 1]) {
+            return &bytes[..end];
+        }
+        end -= 1;
+    }
+    &[]
+}
+
+/// Without the blanks at both ends.
+pub fn trim(bytes: &[u8]) -> &[u8]
+    ensures { result.now ≡ trim bytes.now }
+{
+    trim_end(trim_start(bytes))
+}
+
+/// What a line says: without its comment and without the blanks round it.
+pub fn content(line: &[u8]) -> &[u8]
+    ensures { result.now ≡ content_of line.now }
+{
+    trim(before_comment(line))
+}
+
+/// The first line that isn't empty, of a text whose first line has this number, or None where all
+/// lines are empty.
+pub fn next_line<'a>(text: &'a [u8], number: u32) -> Option<Line<'a>>
+    requires { number + length text.now < 2 ^ 32 }
+    ensures none { IfNone result (contents_from number (lines_of text.now) ≡ []) }
+    ensures some { IfSome result (λ l. contents_from number (lines_of text.now)
+        ≡ (l.number, l.content.now) ∷ contents_from (l.number + 1) (lines_of l.rest.now)) }
+    ensures ahead { IfSome result (λ l. number ≤ l.number) }
+    ensures shorter { IfSome result (λ l. l.number + length l.rest.now < number + length text.now) }
+{
+    let mut rest = text;
+    let mut number = number;
+    while !rest.is_empty() {
+        let (line, behind) = split_line(rest);
+        let content = content(line);
+        if !content.is_empty() {
+            return Some(Line {
+                number,
+                content,
+                rest: behind,
+            });
+        }
+        rest = behind;
+        number += 1;
+    }
+    None
+}

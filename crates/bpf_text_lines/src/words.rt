@@ -1,0 +1,37 @@
+//! Words, which blanks part.
+
+ghost use Rattle.std.specs.Prelude.{◌≡◌, ◌<◌, [], ◌∷◌, length, position, ◌||◌, ◌==◌, IfSome, IfNone};
+ghost use Rattle.bpf_text_lines.specs.Lines.{is_blank};
+ghost use Rattle.bpf_text_lines.specs.Words.{words_of};
+
+use crate::lines::trim_start;
+
+/// Whether the byte is a space or a tab.
+pub fn is_blank(byte: u8) -> bool
+    ensures { result ≡ is_blank byte }
+{
+    byte == b' ' || byte == b'\t'
+}
+
+/// The first word of a line and what stands behind that word, or None where the line is blank.
+pub fn next_word(line: &[u8]) -> Option<(&[u8], &[u8])>
+    ensures none { IfNone result (words_of line.now ≡ []) }
+    ensures some { IfSome result (λ x. words_of line.now ≡ x.0.now ∷ words_of x.1.now) }
+    ensures shorter { IfSome result (λ x. length x.1.now < length line.now) }
+{
+    let line = trim_start(line);
+    if line.is_empty() {
+        return None;
+    }
+    match blank_at(line) {
+        Some(end) => Some(line.split_at(end)),
+        None => Some((line, &[])),
+    }
+}
+
+/// Where the first blank stands.
+fn blank_at(line: &[u8]) -> Option<usize>
+    ensures { result ≡ position is_blank line.now }
+{
+    line.iter().position(|b| is_blank(*b))
+}
