@@ -1,3 +1,4 @@
 pub mod Endings
 pub mod BoundLaws
 pub mod StateLists
+pub mod StuckRuns

@@ -1,10 +1,10 @@
 -- A run as a list of states, each the step of the one before.
-use Rattle.std.specs.Prelude.{◌≡◌, ℕ, zero, suc, ◌≤◌, ◌↔◌, List, [], ◌∷◌, ◌++◌, slice_get, Some}
+use Rattle.std.specs.Prelude.{◌≡◌, ℕ, zero, suc, ◌<◌, ◌≤◌, ◌↔◌, List, [], ◌∷◌, ◌++◌, slice_get, Some, None}
 use Rattle.array_maps.specs.Accesses.{Access, words_after}
 use Rattle.bpf_step_model.specs.Program.{Program}
 use Rattle.bpf_step_model.specs.State.{Machine}
 use Rattle.bpf_step_model.specs.Step.{Request, Move, NoStep, Next, Asks, Loops, Refuses, Exits, step}
-use Rattle.bpf_step_model.specs.Run.{Ended, Turn, Exit, Loop, Refused, Stretch, action_of, told, run}
+use Rattle.bpf_step_model.specs.Run.{Ended, Stuck, Turn, Exit, Loop, Refused, Stretch, action_of, told, run}
 
 -- the access that a request is, where a word stands
 abbrev pub access_of : ℕ → Request → ℕ → Access
@@ -49,3 +49,26 @@ pub record IsListOfStates (program : Program) (m : Machine) (words : List ℕ) (
 abbrev pub RunIsListOfStates : Type 0
 RunIsListOfStates = (program : Program) (bound : ℕ) (m : Machine) (words : List ℕ) (s : Stretch) →
     (run program bound m words ≡ Ended s) ↔ ((s.steps ≤ bound) × IsListOfStates program m words s)
+
+-- an instruction has no step over these words: none at all, or an access of an element that they don't have
+abbrev pub HasNoStep : Move → List ℕ → Type 0
+HasNoStep NoStep words = Unit {0}
+HasNoStep (Asks element request next) words = slice_get words element ≡ None
+HasNoStep (Next next) words = ⊥
+HasNoStep (Loops call next) words = ⊥
+HasNoStep (Refuses answer next) words = ⊥
+HasNoStep (Exits ret) words = ⊥
+
+-- steps lead to a state that has no step
+pub record LeadsToNoStep (program : Program) (m : Machine) (words : List ℕ) : Type 0 where
+  pub before : ℕ
+  pub accesses : List Access
+  pub last : Machine
+  pub after : List ℕ
+  pub steps : Steps program before m words accesses last after
+  pub stuck : HasNoStep (step program last) after
+
+-- a run is stuck exactly where fewer steps than its bound lead to a state that has none
+abbrev pub RunIsStuck : Type 0
+RunIsStuck = (program : Program) (bound : ℕ) (m : Machine) (words : List ℕ) →
+    (run program bound m words ≡ Stuck) ↔ ((states : LeadsToNoStep program m words) × (states.before < bound))

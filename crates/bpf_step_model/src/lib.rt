@@ -6,7 +6,7 @@ ghost use Rattle.bpf_step_model.specs.Bounds.{GreaterBoundAgrees};
 ghost use Rattle.bpf_step_model.specs.LoopRows.{LoopRows};
 ghost use Rattle.bpf_step_model.specs.ProgramRows.{ProgramRows};
 ghost use Rattle.bpf_step_model.specs.StepRows.{StepRows};
-ghost use Rattle.bpf_step_model.specs.Steps.{RunIsListOfStates};
+ghost use Rattle.bpf_step_model.specs.Steps.{RunIsListOfStates, RunIsStuck};
 
 /// The definitions give what programs without loops return: arithmetic at its corners, lookups, and
 /// reads of what is unwritten, which are stuck.
@@ -28,9 +28,10 @@ pub fn worked_steps()
 
 /// The law of runs: a run that ends within its bound is a list of states from its entry, each the
 /// step of the one before, and its length is the number of its instructions; and each such list of
-/// states is a run.
+/// states is a run. It is stuck exactly where fewer steps than its bound lead to a state that has none.
 pub fn law_of_runs()
-    ensures { RunIsListOfStates }
+    ensures ended { RunIsListOfStates }
+    ensures stuck { RunIsStuck }
 {}
 
 /// The law of bounds: with a greater bound what ended ends the same way, and what was stuck is stuck.
