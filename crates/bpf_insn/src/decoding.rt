@@ -330,6 +330,7 @@ fn next(bytes: &[u8], slot: usize) -> Result<(Insn, usize), CodecError>
     }
 }
 
+// By a slice of one: the borrow checker has no plan yet for a push of an enum within an enum.
 fn add(insns: &mut Vec<Insn>, insn: Insn) -> Result<(), CodecError>
     ensures ok { OnOk result (insns.new.items ≡ insns.old.items ++ insn ∷ []) }
     ensures err { IfErr result (λ e. e ≡ CodecError.Memory) }
@@ -355,8 +356,8 @@ fn all(alloc: Global, bytes: &[u8]) -> Result<Vec<Insn>, CodecError>
 }
 
 /// The program that the bytes spell, 8 bytes a slot, all of the bytes. Where they spell none it
-/// refuses by the first slot with a fault, and there by the least number. Memory may run out in
-/// place of either answer.
+/// refuses by the first slot with a fault, counted from 0, and there by the least number (see
+/// `Fault`). Memory may run out in place of either answer.
 pub fn decode(alloc: Global, bytes: &[u8]) -> Result<Vec<Insn>, CodecError>
     // What is read is spelled so.
     ensures found { IfOk result (λ v. AreInsns v.items × (program_spelling v.items ≡ Ok bytes.now)) }
