@@ -1,7 +1,7 @@
 -- Reading instructions one after the other, as a loop does.
-use Rattle.std.proofs.Common.{◌≡◌, ℕ, zero, suc, ◌+◌, ◌-◌, ◌*◌, ◌/◌, ◌%◌, ◌≤◌, ◌<◌, Bool, true, false, cond, ltb, List, [], ◌∷◌, ◌++◌, length, drop, take, get_or, Option, Some, None, Result, Ok, Err, refl, sym, ap, subst, ◌∙◌, append_assoc, length-drop, arith, ◌⊎◌, inl, inr}
+use Rattle.std.proofs.Common.{◌≡◌, ℕ, zero, suc, ◌+◌, ◌-◌, ◌*◌, ◌/◌, ◌%◌, ◌≤◌, ◌<◌, cond, ltb, List, [], ◌∷◌, ◌++◌, length, drop, take, Option, Some, None, Result, Ok, Err, refl, sym, ap, subst, ◌∙◌, append_assoc, length-drop, arith, inl, inr}
 use Rattle.std.proofs.lemmas.List.{append-nil, drop-drop, nil_from_length, get_or-drop, take_all}
-use Rattle.std.proofs.lemmas.Bool.{le-ltb, lt-ltb, ltb-false, ltb-true, cases_lt}
+use Rattle.std.proofs.lemmas.Bool.{le-ltb, lt-ltb, cases_lt}
 use Rattle.bpf_insn.specs.declared.insn.Insn.{Insn}
 use Rattle.bpf_insn.specs.declared.slot.Slot.{Slot}
 use Rattle.bpf_insn.specs.declared.codec_error.Fault.{Fault}
@@ -18,7 +18,7 @@ use Rattle.bpf_insn.specs.Values.{AreInsns}
 use Rattle.bpf_insn.specs.Spelling.{program_spelling}
 use Rattle.bpf_insn.proofs.Spelled.{Reads}
 use Rattle.bpf_insn.proofs.SlotReads.{slot_reads}
-use Rattle.bpf_insn.proofs.Bytes.{IsBytes, IsSlot, AreSlots, slots_in-are}
+use Rattle.bpf_insn.proofs.Bytes.{IsBytes, AreSlots, slots_in-are}
 use Rattle.bpf_insn.proofs.Programs.{of_ok, next_holds, taken_len, reading_found}
 
 -- ---- the slot at the front

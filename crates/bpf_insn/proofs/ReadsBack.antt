@@ -1,6 +1,6 @@
 -- What is spelled is read again.
-use Rattle.std.proofs.Common.{◌≡◌, ℕ, zero, suc, ◌≤◌, ◌<◌, Bool, true, false, cond, eqb, ltb, List, [], ◌∷◌, Option, Some, None, Result, Ok, Err, refl, sym, ap, ◌∙◌, arith}
-use Rattle.std.specs.Prelude.{◌&&◌, ◌||◌, ℤ, pos, negsuc}
+use Rattle.std.proofs.Common.{◌≡◌, ℕ, zero, suc, ◌≤◌, Bool, true, false, cond, ltb, List, [], ◌∷◌, Option, Some, Result, Ok, Err, refl, ap, ◌∙◌, arith}
+use Rattle.std.specs.Prelude.{◌||◌, ℤ, pos, negsuc}
 use Rattle.std.proofs.lemmas.Bool.{le-ltb}
 use Rattle.bpf_insn.specs.declared.insn.Width.{Width}
 use Rattle.bpf_insn.specs.declared.insn.Width.TheVariants.{W32, W64}
@@ -29,9 +29,9 @@ use Rattle.bpf_insn.specs.declared.codec_error.Fault.{Fault}
 use Rattle.bpf_insn.specs.declared.codec_error.Fault.TheVariants.{I3, I4}
 use Rattle.bpf_insn.specs.Opcode.{opcode, form_at}
 use Rattle.bpf_insn.specs.SlotBytes.{slot}
-use Rattle.bpf_insn.specs.Spelling.{code_of, op_offset, movsx_offset, endian_imm, callee_src, atomic_imm, kind_src, has_next, second, two, spelling}
+use Rattle.bpf_insn.specs.Spelling.{code_of, op_offset, endian_imm, callee_src, atomic_imm, kind_src, has_next, second, two, spelling}
 use Rattle.bpf_insn.specs.Values.{InsnFits}
-use Rattle.bpf_insn.specs.Reading.{unused_are_zero, op_at, alu_reg, mov_at, endian_at, call_at, atomic_at, atomic_insn, kind_at, load_imm_at, insn_of, tested, insn_at}
+use Rattle.bpf_insn.specs.Reading.{unused_are_zero, op_at, alu_reg, mov_at, endian_at, call_at, atomic_at, kind_at, load_imm_at, insn_of, tested, insn_at}
 use Rattle.bpf_insn.proofs.Forms.{form_at-alu_imm, form_at-alu_reg, form_at-jump_imm, form_at-jump_reg, form_at-neg, form_at-endian, form_at-load, form_at-store_imm, form_at-store, form_at-atomic}
 
 -- the slots of a spelling are read as this instruction

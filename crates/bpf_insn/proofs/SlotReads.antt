@@ -1,7 +1,6 @@
 -- What is read from slots is spelled by them: every form.
-use Rattle.std.proofs.Common.{◌≡◌, ℕ, zero, suc, ◌≤◌, ◌<◌, Bool, true, false, cond, eqb, ltb, List, [], ◌∷◌, Option, Some, None, Result, Ok, Err, refl, sym, ap, subst, ◌∙◌, arith, inl, inr}
-use Rattle.std.specs.Prelude.{IfOk, IfSome, ◌&&◌, ◌||◌, not, ℤ, pos, negsuc, FitsSigned}
-use Rattle.std.specs.Int.{w16, w32}
+use Rattle.std.proofs.Common.{◌≡◌, ℕ, zero, suc, ◌<◌, Bool, true, false, cond, eqb, ltb, List, [], ◌∷◌, Option, Some, None, Result, Ok, Err, refl, sym, ap, ◌∙◌, arith, inl, inr}
+use Rattle.std.specs.Prelude.{IfOk, IfSome, ◌&&◌, ◌||◌, not, ℤ, pos, negsuc}
 use Rattle.std.proofs.lemmas.Bool.{eqb-true, ltb-false}
 use Rattle.bpf_insn.specs.declared.insn.Width.{Width}
 use Rattle.bpf_insn.specs.declared.insn.Size.TheVariants as size
@@ -22,14 +21,13 @@ use Rattle.bpf_insn.specs.declared.form.Form.{Form}
 use Rattle.bpf_insn.specs.declared.form.Form.TheVariants as form
 use Rattle.bpf_insn.specs.declared.slot.Slot.{Slot}
 use Rattle.bpf_insn.specs.declared.codec_error.Fault.{Fault}
-use Rattle.bpf_insn.specs.declared.codec_error.Fault.TheVariants.{I2, I3, I4, I5, I6, I7}
+use Rattle.bpf_insn.specs.declared.codec_error.Fault.TheVariants.{I3, I4, I5, I7}
 use Rattle.bpf_insn.specs.Opcode.{opcode, form_at}
 use Rattle.bpf_insn.specs.SlotBytes.{slot}
-use Rattle.bpf_insn.specs.Spelling.{endian_imm, callee_src, atomic_imm, kind_src, has_next, second, both, two, spelling}
-use Rattle.bpf_insn.specs.Values.{InsnFits}
+use Rattle.bpf_insn.specs.Spelling.{endian_imm, callee_src, atomic_imm, kind_src, has_next, second, both, two}
 use Rattle.bpf_insn.specs.Reading.{is, uses_dst, uses_src, uses_offset, uses_imm, unused_are_zero, endian_at, call_at, atomic_at, atomic_insn, kind_at, is_second, load_imm_at, insn_of, tested, insn_at}
 use Rattle.bpf_insn.proofs.Forms.{opcode-form_at}
-use Rattle.bpf_insn.proofs.Spelled.{Holds, Takes, Reads, Passed, if_ok, if_some, and_true, or_false, not_false, is_true, slot_is, one_is, imm_reads, reg_reads, mov_reads}
+use Rattle.bpf_insn.proofs.Spelled.{Holds, Reads, Passed, if_ok, if_some, and_true, or_false, not_false, is_true, slot_is, one_is, imm_reads, reg_reads, mov_reads}
 
 -- ---- byte orders, calls
 

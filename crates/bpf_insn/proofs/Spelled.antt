@@ -1,24 +1,15 @@
 -- What is read from slots is spelled by them.
-use Rattle.std.proofs.Common.{◌≡◌, ℕ, zero, suc, ◌≤◌, ◌<◌, Bool, true, false, cond, eqb, ltb, List, [], ◌∷◌, Option, Some, None, Result, Ok, Err, refl, sym, ap, subst, ◌∙◌, arith, inl, inr, ◌⊎◌}
+use Rattle.std.proofs.Common.{◌≡◌, ℕ, ◌≤◌, Bool, true, false, cond, eqb, [], ◌∷◌, Option, Some, Result, Ok, Err, refl, sym, ap, ◌∙◌, inl, ◌⊎◌}
 use Rattle.std.specs.Prelude.{IfOk, IfSome, ◌&&◌, ◌||◌, not, ℤ, pos, negsuc, FitsSigned}
 use Rattle.std.specs.Int.{w16, w32}
-use Rattle.std.proofs.lemmas.Bool.{eqb-true, ltb-false}
+use Rattle.std.proofs.lemmas.Bool.{eqb-true}
 use Rattle.bpf_insn.specs.declared.insn.Width.{Width}
 use Rattle.bpf_insn.specs.declared.insn.Width.TheVariants.{W32, W64}
-use Rattle.bpf_insn.specs.declared.insn.Size.TheVariants as size
-use Rattle.bpf_insn.specs.declared.insn.ByteOrder.{ByteOrder}
 use Rattle.bpf_insn.specs.declared.insn.MovsxBits.TheVariants as movsx
-use Rattle.bpf_insn.specs.declared.insn.EndianBits.TheVariants as endian
 use Rattle.bpf_insn.specs.declared.insn.AluOp.{AluOp}
 use Rattle.bpf_insn.specs.declared.insn.AluOp.TheVariants as op
 use Rattle.bpf_insn.specs.declared.insn.Operand.{Operand}
 use Rattle.bpf_insn.specs.declared.insn.Operand.TheVariants.{Imm, Reg}
-use Rattle.bpf_insn.specs.declared.insn.Callee.TheVariants.{Helper, Local, Btf}
-use Rattle.bpf_insn.specs.declared.insn.SimpleOp.TheVariants as simple
-use Rattle.bpf_insn.specs.declared.insn.AtomicOp.{AtomicOp}
-use Rattle.bpf_insn.specs.declared.insn.AtomicOp.TheVariants.{Simple, Fetch, Xchg, Cmpxchg}
-use Rattle.bpf_insn.specs.declared.insn.ImmKind.{ImmKind}
-use Rattle.bpf_insn.specs.declared.insn.ImmKind.TheVariants as kind
 use Rattle.bpf_insn.specs.declared.insn.Insn.{Insn}
 use Rattle.bpf_insn.specs.declared.insn.Insn.TheVariants as insn
 use Rattle.bpf_insn.specs.declared.form.AluCode.{AluCode}
@@ -27,13 +18,12 @@ use Rattle.bpf_insn.specs.declared.form.Form.{Form}
 use Rattle.bpf_insn.specs.declared.form.Form.TheVariants as form
 use Rattle.bpf_insn.specs.declared.slot.Slot.{Slot}
 use Rattle.bpf_insn.specs.declared.codec_error.Fault.{Fault}
-use Rattle.bpf_insn.specs.declared.codec_error.Fault.TheVariants.{I2, I3, I4, I5, I6, I7}
+use Rattle.bpf_insn.specs.declared.codec_error.Fault.TheVariants.{I6}
 use Rattle.bpf_insn.specs.Opcode.{opcode, form_at}
 use Rattle.bpf_insn.specs.SlotBytes.{slot}
-use Rattle.bpf_insn.specs.Spelling.{code_of, op_offset, movsx_offset, endian_imm, callee_src, atomic_imm, kind_src, has_next, one, second, both, two, spelling}
-use Rattle.bpf_insn.specs.Values.{OperandFits, InsnFits}
-use Rattle.bpf_insn.specs.Reading.{is, uses_dst, uses_src, uses_offset, uses_imm, has_signed, unused_are_zero, signed_at, op_at, alu_insn, movsx_32, mov_at, alu_reg, endian_at, call_at, atomic_at, atomic_insn, kind_at, is_second, load_imm_at, insn_of, tested, insn_at}
-use Rattle.bpf_insn.proofs.Forms.{opcode-form_at}
+use Rattle.bpf_insn.specs.Spelling.{code_of, op_offset, one, spelling}
+use Rattle.bpf_insn.specs.Values.{InsnFits}
+use Rattle.bpf_insn.specs.Reading.{is, uses_dst, uses_src, uses_offset, uses_imm, has_signed, signed_at, op_at, alu_insn, movsx_32, mov_at}
 
 -- the signed fields of a slot fit
 pub record Holds (s : Slot) : Type 0 where

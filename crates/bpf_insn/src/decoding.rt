@@ -318,7 +318,9 @@ fn first(bytes: &[u8]) -> Result<Insn, Fault>
 
 /// The instruction at the front of bytes, and how many bytes it takes; slot is where it stands.
 fn next(bytes: &[u8], slot: usize) -> Result<(Insn, usize), CodecError>
-    ensures value { MatchResult result (λ x. (first_insn bytes.now ≡ Ok x.0) × (x.1 ≡ 8 * slots_of x.0)) (FailsFirst bytes.now slot) }
+    ensures value { MatchResult result
+        (λ x. (first_insn bytes.now ≡ Ok x.0) × (x.1 ≡ 8 * slots_of x.0))
+        (FailsFirst bytes.now slot) }
     ensures within { IfOk result (λ x. x.1 ≤ length bytes.now) }
 {
     match first(bytes) {
@@ -330,6 +332,7 @@ fn next(bytes: &[u8], slot: usize) -> Result<(Insn, usize), CodecError>
     }
 }
 
+// By a slice of one: the borrow checker has no plan yet for a push of an enum within an enum.
 fn add(insns: &mut Vec<Insn>, insn: Insn) -> Result<(), CodecError>
     ensures ok { OnOk result (insns.new.items ≡ insns.old.items ++ insn ∷ []) }
     ensures err { IfErr result (λ e. e ≡ CodecError.Memory) }
@@ -355,13 +358,14 @@ fn all(alloc: Global, bytes: &[u8]) -> Result<Vec<Insn>, CodecError>
 }
 
 /// The program that the bytes spell, 8 bytes a slot, all of the bytes. Where they spell none it
-/// refuses by the first slot with a fault, and there by the least number. Memory may run out in
-/// place of either answer.
+/// refuses by the first slot with a fault, counted from 0, and there by the least number (see
+/// `Fault`). Memory may run out in place of either answer.
 pub fn decode(alloc: Global, bytes: &[u8]) -> Result<Vec<Insn>, CodecError>
     // What is read is spelled so.
     ensures found { IfOk result (λ v. AreInsns v.items × (program_spelling v.items ≡ Ok bytes.now)) }
     // What is spelled so is read, unless memory runs out.
-    ensures only { (insns : List Insn) → AreInsns insns → program_spelling insns ≡ Ok bytes.now → Gives (λ v. v.items) result (Ok insns) }
+    ensures only { (insns : List Insn) → AreInsns insns → program_spelling insns ≡ Ok bytes.now
+        → Gives (λ v. v.items) result (Ok insns) }
     // Which refusal it is.
     ensures exact { Gives (λ v. v.items) result (reading bytes.now) }
 {

@@ -8,20 +8,25 @@ ghost use Rattle.bpf_insn.specs.Reading.{reading};
 
 /// Bytes spell one program at most.
 pub fn one_program()
-    ensures { (p q : List Insn) (bytes : List ℕ) → AreInsns p → AreInsns q → program_spelling p ≡ Ok bytes → program_spelling q ≡ Ok bytes → p ≡ q }
+    ensures { (p q : List Insn) (bytes : List ℕ) → AreInsns p → AreInsns q
+        → program_spelling p ≡ Ok bytes → program_spelling q ≡ Ok bytes → p ≡ q }
 {}
 
 /// No instruction's bytes begin another's, whatever follows them.
 pub fn no_beginning()
-    ensures { (i j : Insn) (a b x y : List ℕ) → InsnFits i → InsnFits j → insn_spelling i ≡ Ok a → insn_spelling j ≡ Ok b → a ++ x ≡ b ++ y → (i ≡ j) × (a ≡ b) }
+    ensures { (i j : Insn) (a b x y : List ℕ) → InsnFits i → InsnFits j
+        → insn_spelling i ≡ Ok a → insn_spelling j ≡ Ok b
+        → a ++ x ≡ b ++ y → (i ≡ j) × (a ≡ b) }
 {}
 
 /// What is spelled is read without a fault, as the same program.
 pub fn spelled_is_read()
-    ensures { (p : List Insn) (bytes : List ℕ) → AreInsns p → program_spelling p ≡ Ok bytes → reading bytes ≡ Ok p }
+    ensures { (p : List Insn) (bytes : List ℕ) → AreInsns p → program_spelling p ≡ Ok bytes
+        → reading bytes ≡ Ok p }
 {}
 
 /// What is read without a fault is spelled so, where each number is a byte.
 pub fn read_is_spelled()
-    ensures { (p : List Insn) (bytes : List ℕ) → AreBytes bytes → reading bytes ≡ Ok p → AreInsns p × (program_spelling p ≡ Ok bytes) }
+    ensures { (p : List Insn) (bytes : List ℕ) → AreBytes bytes
+        → reading bytes ≡ Ok p → AreInsns p × (program_spelling p ≡ Ok bytes) }
 {}

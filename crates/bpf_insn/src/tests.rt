@@ -226,7 +226,7 @@ fn encode_refuses(rt: HostRuntime) -> Result<(), Fail> {
     Ok(())
 }
 
-/// Under `rt try --test --fail-alloc 1..` each growth is refused in turn: out of memory is then
+/// Under `rt try --test --fail-alloc N` each growth is refused in turn: out of memory is then
 /// the answer, and no other one comes in its place.
 #[test]
 fn growths_refused(rt: HostRuntime) {
