@@ -151,18 +151,18 @@ module _ (e : Extent) (next least : ℕ) (views : List V) (id : ℕ) (v : V) (h 
       let below = below_from_once x (min next e.blocks) (omega arith) in
       omega arith)
 
--- a claim
-pub claims : (e : Extent) → e.blocks ≤ 64 → e.workers ≤ 16 → (slots id : ℕ) (me : Me (Unit {0}) V) → me.0.parts ≡ 1 → me.0.nones ≡ 0
-    → Allows (Kept e) slots id me 0 (λ n. (n + 1) % 2 ^ 64) (Turns Claims me)
-claims e blocks workers slots id me one never = at_words e slots id me 0 (λ n. (n + 1) % 2 ^ 64) Claims go
+-- a claim, which adds 1
+pub claims : (e : Extent) → e.blocks ≤ 64 → e.workers ≤ 16 → (slots id : ℕ) (me : Me (Unit {0}) V) → me.0.parts ≡ 1 → me.0.nones ≡ 0 → (added : ℕ) → added ≡ 1
+    → Allows (Kept e) slots id me 0 (λ n. (n + added) % 2 ^ 64) (Turns Claims me)
+claims e blocks workers slots id me one never added is_one = at_words e slots id me 0 (λ n. (n + added) % 2 ^ 64) Claims go
   where
     go : (next least : ℕ) (views : List V) → Agrees e next least views → get_elem? views id ≡ some me.0
-        → (w : V) × (next' : ℕ) × (least' : ℕ) × (slice_set (next ∷ least ∷ []) 0 ((next + 1) % 2 ^ 64) ≡ next' ∷ least' ∷ []) × Agrees e next' least' (set views id w) × Claims me.0 next w
+        → (w : V) × (next' : ℕ) × (least' : ℕ) × (slice_set (next ∷ least ∷ []) 0 ((next + added) % 2 ^ 64) ≡ next' ∷ least' ∷ []) × Agrees e next' least' (set views id w) × Claims me.0 next w
     go next least views h at =
         let room = room_of e next least views h in
         let own = of_board e me.0 (omega arith) (h.fits id me.0 at) in
         let all : me.0.extent.blocks ≡ e.blocks = ap (λ (x : Extent). x.blocks) own.0 in
-        let words : ((next + 1) % 2 ^ 64) ∷ least ∷ [] ≡ (next + 1) ∷ least ∷ [] = ap (λ (n : ℕ). n ∷ least ∷ []) (omega arith) in
+        let words : ((next + added) % 2 ^ 64) ∷ least ∷ [] ≡ (next + 1) ∷ least ∷ [] = ap (λ (n : ℕ). n ∷ least ∷ []) (omega arith) in
         ⊎_elim (λ (below : next < e.blocks).
         (with_draw me.0 next, next + 1, least, words, draws e next least views id me.0 h at one never below, record { above = above e next least views id me.0 h at; draws = λ _. refl; drains = λ past. absurd (omega arith) }))
         (λ (past : e.blocks ≤ next).
