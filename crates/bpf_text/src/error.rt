@@ -1,7 +1,7 @@
 //! Why a text is refused.
 
 ghost use Rattle.std.specs.Prelude.{◌≡◌};
-ghost use Rattle.bpf_text.specs.declared.error.TextError.TheVariants.{Memory};
+ghost use Rattle.bpf_text.specs.declared.error.TextError.TheVariants.{Memory, Refused};
 
 use std::alloc::{AllocError, AllocFailed};
 use thiserror::Error;
@@ -47,6 +47,15 @@ pub enum TextError {
     /// There was no memory for the answer.
     #[error("out of memory")]
     Memory,
+}
+
+impl Fault {
+    /// The refusal of a text with this fault at this line.
+    pub fn at(self, line: u32) -> TextError
+        ensures { result ≡ Refused self line }
+    {
+        TextError::Refused { fault: self, line }
+    }
 }
 
 impl From<AllocError> for TextError {

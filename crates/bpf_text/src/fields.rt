@@ -31,14 +31,8 @@ fn read_field(word: &[u8], limit: u64, line: u32) -> Result<u64, TextError>
 {
     match read_number(word, limit) {
         Ok(number) => Ok(number),
-        Err(NumberError::Form) => Err(TextError::Refused {
-            fault: Fault::Form,
-            line,
-        }),
-        Err(NumberError::Field) => Err(TextError::Refused {
-            fault: Fault::Field,
-            line,
-        }),
+        Err(NumberError::Form) => Err(Fault::Form.at(line)),
+        Err(NumberError::Field) => Err(Fault::Field.at(line)),
     }
 }
 
@@ -66,10 +60,7 @@ pub fn read_fields(
     ensures { Gives (λ v. v.items) result (at_line line (fields_of limit (words_of words.now))) }
 {
     if !are_numbers(words) {
-        return Err(TextError::Refused {
-            fault: Fault::Form,
-            line,
-        });
+        return Err(Fault::Form.at(line));
     }
     read_numbers(alloc, words, limit, line)
 }

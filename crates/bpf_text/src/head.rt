@@ -8,14 +8,9 @@ ghost use Rattle.bpf_text.specs.Head.{total, are_sizes, head_of};
 
 use crate::error::{Fault, TextError};
 use crate::fields::read_fields;
+use crate::limits::{MAX_ELEMENTS, MAX_MAPS};
 use bpf_text_lines::next_word;
 use std::alloc::{AllocError, Global};
-
-/// The most maps that there may be.
-const MAX_MAPS: usize = 16;
-
-/// The most elements that all maps may have together.
-const MAX_ELEMENTS: u64 = 65_536;
 
 /// Whether each map has an element.
 fn have_elements(sizes: &[u64]) -> bool
@@ -30,7 +25,7 @@ fn fit_together(sizes: &[u64]) -> bool
 {
     let mut sum: u64 = 0;
     for size in sizes {
-        if *size > MAX_ELEMENTS - sum {
+        if *size > MAX_ELEMENTS as u64 - sum {
             return false;
         }
         sum += *size;
@@ -65,23 +60,14 @@ pub fn read_head(alloc: Global, content: &[u8], line: u32) -> Result<Vec<u32>, T
     ensures { Gives (λ v. v.items) result (at_line line (head_of (words_of content.now))) }
 {
     let Some((word, rest)) = next_word(content) else {
-        return Err(TextError::Refused {
-            fault: Fault::Form,
-            line,
-        });
+        return Err(Fault::Form.at(line));
     };
     if word != b"maps".as_slice() {
-        return Err(TextError::Refused {
-            fault: Fault::Form,
-            line,
-        });
+        return Err(Fault::Form.at(line));
     }
     let sizes = read_fields(alloc, rest, u64::from(u32::MAX), line)?;
     if !are_sizes(&sizes) {
-        return Err(TextError::Refused {
-            fault: Fault::Limits,
-            line,
-        });
+        return Err(Fault::Limits.at(line));
     }
     let sizes = narrowed(alloc, &sizes)?;
     Ok(sizes)

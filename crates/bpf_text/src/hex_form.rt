@@ -9,15 +9,10 @@ ghost use Rattle.bpf_text.specs.HexText.{as_bytes, bytes_of, bytes_behind, hex_p
 
 use crate::error::{Fault, TextError};
 use crate::head::read_head;
+use crate::limits::{MAX_BYTES, MAX_TEXT};
 use bpf_text_lines::{next_line, next_word};
 use hex::FromHexError;
 use std::alloc::Global;
-
-/// The most bytes of a text.
-const MAX_TEXT: usize = 1_048_576;
-
-/// The most bytes that the instructions of a unit take: 4,096 slots of 8.
-const MAX_BYTES: usize = 32_768;
 
 /// What the hex form of a unit gives.
 #[derive(Debug, Drop)]
@@ -37,18 +32,12 @@ fn read_digits(alloc: Global, word: &[u8], line: u32, before: usize) -> Result<V
     match hex::decode(alloc, word) {
         Ok(bytes) => {
             if bytes.len() > MAX_BYTES - before {
-                return Err(TextError::Refused {
-                    fault: Fault::TooLong,
-                    line,
-                });
+                return Err(Fault::TooLong.at(line));
             }
             Ok(bytes)
         }
         Err(FromHexError::OutOfMemory) => Err(TextError::Memory),
-        Err(_) => Err(TextError::Refused {
-            fault: Fault::Form,
-            line,
-        }),
+        Err(_) => Err(Fault::Form.at(line)),
     }
 }
 
@@ -59,16 +48,10 @@ fn read_bytes(alloc: Global, content: &[u8], line: u32, before: usize) -> Result
     ensures room { IfOk result (λ v. before + vec_len v ≤ 32768) }
 {
     let Some((word, rest)) = next_word(content) else {
-        return Err(TextError::Refused {
-            fault: Fault::Form,
-            line,
-        });
+        return Err(Fault::Form.at(line));
     };
     if next_word(rest).is_some() {
-        return Err(TextError::Refused {
-            fault: Fault::Form,
-            line,
-        });
+        return Err(Fault::Form.at(line));
     }
     read_digits(alloc, word, line, before)
 }
@@ -96,10 +79,7 @@ fn read_parts(alloc: Global, text: &[u8]) -> Result<HexUnit, TextError>
     ensures { Gives parts result (hex_parts_of (contents_of text.now)) }
 {
     let Some(head) = next_line(text, 1) else {
-        return Err(TextError::Refused {
-            fault: Fault::Form,
-            line: 0,
-        });
+        return Err(Fault::Form.at(0));
     };
     let sizes = read_head(alloc, head.content, head.number)?;
     let bytes = read_lines(alloc, head.rest, head.number + 1)?;
@@ -120,10 +100,7 @@ pub fn read_hex(alloc: Global, text: &str) -> Result<HexUnit, TextError>
 {
     let bytes = text.as_bytes();
     if bytes.len() > MAX_TEXT {
-        return Err(TextError::Refused {
-            fault: Fault::TooLong,
-            line: 0,
-        });
+        return Err(Fault::TooLong.at(0));
     }
     read_parts(alloc, bytes)
 }

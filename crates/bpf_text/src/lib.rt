@@ -6,6 +6,7 @@ mod error;
 mod fields;
 mod head;
 mod hex_form;
+mod limits;
 mod maps;
 mod maps_print;
 

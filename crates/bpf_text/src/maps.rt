@@ -9,17 +9,9 @@ ghost use Rattle.bpf_text.specs.MapsText.{lists, label_number, is_label, is_map_
 
 use crate::error::{Fault, TextError};
 use crate::fields::read_fields;
+use crate::limits::{MAX_ELEMENTS, MAX_MAPS, MAX_TEXT};
 use bpf_text_lines::{is_number, next_line, next_word, read_number};
 use std::alloc::Global;
-
-/// The most bytes of a text.
-const MAX_TEXT: usize = 1_048_576;
-
-/// The most maps that there may be.
-const MAX_MAPS: usize = 16;
-
-/// The most values that all maps may have together.
-const MAX_VALUES: usize = 65_536;
 
 /// Whether the word is a number and a colon.
 fn is_label(label: &[u8]) -> bool
@@ -63,7 +55,7 @@ fn fits_as_map(label: &[u8], number: usize, held: usize, values: &[u64]) -> bool
     if !is_turn(label, number) {
         return false;
     }
-    number < MAX_MAPS && !values.is_empty() && values.len() <= MAX_VALUES - held
+    number < MAX_MAPS && !values.is_empty() && values.len() <= MAX_ELEMENTS - held
 }
 
 /// The values of the map of this number, behind this many values of the maps before it, or the
@@ -80,29 +72,17 @@ fn read_values(
     ensures room { IfOk result (λ v. held + vec_len v ≤ 65536) }
 {
     let Some((word, rest)) = next_word(content) else {
-        return Err(TextError::Refused {
-            fault: Fault::Form,
-            line,
-        });
+        return Err(Fault::Form.at(line));
     };
     let Some((label, rest)) = next_word(rest) else {
-        return Err(TextError::Refused {
-            fault: Fault::Form,
-            line,
-        });
+        return Err(Fault::Form.at(line));
     };
     if !is_map_head(word, label) {
-        return Err(TextError::Refused {
-            fault: Fault::Form,
-            line,
-        });
+        return Err(Fault::Form.at(line));
     }
     let values = read_fields(alloc, rest, u64::MAX, line)?;
     if !fits_as_map(label, number, held, &values) {
-        return Err(TextError::Refused {
-            fault: Fault::Limits,
-            line,
-        });
+        return Err(Fault::Limits.at(line));
     }
     Ok(values)
 }
@@ -139,17 +119,11 @@ pub fn parse_maps(alloc: Global, text: &str) -> Result<Vec<Vec<u64>>, TextError>
 {
     let bytes = text.as_bytes();
     if bytes.len() > MAX_TEXT {
-        return Err(TextError::Refused {
-            fault: Fault::TooLong,
-            line: 0,
-        });
+        return Err(Fault::TooLong.at(0));
     }
     let maps = read_maps(alloc, bytes)?;
     if maps.is_empty() {
-        return Err(TextError::Refused {
-            fault: Fault::Limits,
-            line: 0,
-        });
+        return Err(Fault::Limits.at(0));
     }
     Ok(maps)
 }

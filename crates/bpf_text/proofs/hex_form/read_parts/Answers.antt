@@ -5,7 +5,7 @@ use Rattle.bpf_text.proofs.HexLaws.{no_head, head_fails, bytes_fail, bytes_read}
 use Rattle.bpf_text.proofs.hex_form.read_parts.Goals as goal
 
 pub returns-in_default : goal.returns-in_default
-returns-in_default c = no_head (contents_of c.args.text.now) c.in_default.ensures.none
+returns-in_default c = rw c.at.ensures (no_head (contents_of c.args.text.now) c.in_default.ensures.none)
 
 pub returns-in_err-sizes : goal.returns-in_err-sizes
 returns-in_err-sizes c =
