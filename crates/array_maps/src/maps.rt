@@ -117,7 +117,7 @@ impl Maps {
         ensures { IfOk result (λ copy. copy ≡ self.now) }
     {
         Ok(Maps {
-            sizes: self.sizes.as_slice().to_vec(alloc)?,
+            sizes: self.sizes().to_vec(alloc)?,
             words: self.words.as_slice().to_vec(alloc)?,
         })
     }
