@@ -12,7 +12,7 @@ use Rattle.bpf_step_model.specs.ProgramInOrder.{Finished, one_loop_more, resumed
 use Rattle.bpf_step_model.specs.Bounds.{Extends, GreaterBoundAgrees}
 
 -- a function that keeps what is unfinished
-through : {A B : Type 0} (f : Ending A → Ending B) → f Unfinished ≡ Unfinished → {e g : Ending A} → Extends e g → Extends (f e) (f g)
+pub through : {A B : Type 0} (f : Ending A → Ending B) → f Unfinished ≡ Unfinished → {e g : Ending A} → Extends e g → Extends (f e) (f g)
 through f keeps (inl h) = inl (subst (λ e. f e ≡ Unfinished) (sym h) keeps)
 through f keeps (inr h) = inr (ap f h)
 

@@ -64,3 +64,41 @@ filter_none test from (suc count) h e low high =
         ((eqb e from ≡ true) × (e ≡ from)) ⊎ ((eqb e from ≡ false) × (e ≡ from → ⊥)) → test e ≡ false
     go here later (inl same) = subst (λ (i : ℕ). test i ≡ false) (sym same.1) here
     go here later (inr other) = later (let apart = other.1 in omega arith) (omega arith)
+
+module _ (test : ℕ → Bool) where
+  -- how the numbers from an index on end: with all that are left, none of which passes, or with the first that does
+  abbrev pub EndsAt : (count left index : ℕ) → Type 0
+  EndsAt count left index = ((count ≡ left) × NoneBelow test (index + count))
+      ⊎ ((last : ℕ) × (index + count ≡ last + 1) × (index ≤ last) × (test last ≡ true) × NoneBelow test last)
+
+  -- the first of them passes: it is the last
+  pub ends_here : (count left index : ℕ) → test index ≡ true → EndsAt (suc count) (suc left) index → count ≡ 0
+  ends_here zero left index passes ends = refl
+  ends_here (suc count) left index passes ends = absurd (go ends)
+    where
+      go : EndsAt (suc (suc count)) (suc left) index → ⊥
+      go (inl all) = let never : test index ≡ false = all.1 index (omega arith) in cc
+      go (inr first) = let never : test index ≡ false = first.4 index (let h = first.1 in omega arith) in cc
+
+  -- it doesn't: the others follow
+  pub ends_next : (count left index : ℕ) → test index ≡ false → EndsAt (suc count) (suc left) index → EndsAt count left (index + 1)
+  ends_next count left index going (inl all) = inl ((let h = all.0 in omega arith), λ j h. all.1 j (omega arith))
+  ends_next count left index going (inr first) = inr (first.0, (let h = first.1 in omega arith), behind_it, first.3, first.4)
+    where
+      apart : index ≡ first.0 → ⊥
+      apart e = let back : test first.0 ≡ false = subst (λ (i : ℕ). test i ≡ false) e going in let passes = first.3 in absurd (cc)
+
+      behind_it : index + 1 ≤ first.0
+      behind_it = let h = first.2 in let a = apart in omega arith
+
+  -- with none of some that are left it doesn't end
+  pub ends_somewhere : (left index : ℕ) → EndsAt zero (suc left) index → ⊥
+  ends_somewhere left index (inl all) = let h = all.0 in omega arith
+  ends_somewhere left index (inr first) = let h = first.1 in let k = first.2 in omega arith
+
+  pub ends_at_zero : (n count : ℕ) → CountsTo test n count → EndsAt count n 0
+  ends_at_zero n count counts = go counts.ending
+    where
+      go : ((count ≡ n) × NoneBelow test n) ⊎ ((last : ℕ) × (count ≡ last + 1) × (test last ≡ true) × NoneBelow test last) → EndsAt count n 0
+      go (inl all) = inl (all.0, λ j h. all.1 j (let same = all.0 in omega arith))
+      go (inr first) = inr (first.0, (let h = first.1 in omega arith), omega arith, first.2, first.3)

@@ -5,3 +5,4 @@ pub mod Least
 pub mod LoopAgain
 pub mod MarkLaws
 pub mod ClashPairs
+pub mod VerdictLaws

@@ -1,5 +1,5 @@
 -- The loop in order does again what the counted iterations did on the start words.
-use Rattle.std.proofs.Common.{◌≡◌, ℕ, zero, suc, ◌+◌, ◌≤◌, Bool, true, false, ◌&&◌, ◌⊎◌, inl, inr, List, [], ◌∷◌, ◌++◌, map, length, refl, sym, ◌∙◌, ap, subst, arith, add-zero}
+use Rattle.std.proofs.Common.{◌≡◌, ℕ, zero, suc, ◌+◌, ◌≤◌, Bool, true, false, ◌&&◌, List, [], ◌∷◌, ◌++◌, map, length, refl, sym, ◌∙◌, ap, subst, arith, add-zero}
 use Rattle.std.specs.Prelude.{if◌then◌else◌, ◌==◌, is_none}
 use Rattle.std.specs.List.{AllByRecursion, range_with_len}
 use Rattle.std.proofs.lemmas.List.{append-nil}
@@ -17,7 +17,7 @@ use Rattle.loop_core_law.specs.Law.{IsInOrder, IsUnharmed}
 use Rattle.loop_core_law.proofs.OneElement.{harm-clash}
 use Rattle.loop_core_law.proofs.Turns.{Saws, InTurn, words_after_all-append, in_turn_at_start, all_committed}
 use Rattle.loop_core_law.proofs.RunAgain.{iteration_local}
-use Rattle.loop_core_law.proofs.Least.{NoneBelow, CountsTo, counts_to, filter_none}
+use Rattle.loop_core_law.proofs.Least.{EndsAt, ends_here, ends_next, ends_somewhere, ends_at_zero, counts_to, filter_none}
 
 -- an iteration ended
 abbrev pub IsEnded : Ending Iterated → Type 0
@@ -80,10 +80,9 @@ module _ (program : Program) (bound : ℕ) (call : LoopCall) (start : List ℕ) 
   abbrev pub runs_from : ℕ → ℕ → List (List Access)
   runs_from index count = map accesses_of (map speculated (range_with_len index count))
 
-  -- how the iterations from an index on end: with all that are left, none of which breaks, or with the first that does
+  -- how the iterations from an index on end: with all that are left, or with the first that breaks
   abbrev pub EndsWith : (count left index : ℕ) → Type 0
-  EndsWith count left index = ((count ≡ left) × NoneBelow breaks (index + count))
-      ⊎ ((last : ℕ) × (index + count ≡ last + 1) × (index ≤ last) × (breaks last ≡ true) × NoneBelow breaks last)
+  EndsWith count left index = EndsAt breaks count left index
 
   -- one iteration of the loop in order, where it sees the same
   step_again : (left index : ℕ) (now : List ℕ) (it : Iterated) → speculated index ≡ Ended it → length now ≡ length start → Saws it.accesses now →
@@ -97,25 +96,8 @@ module _ (program : Program) (bound : ℕ) (call : LoopCall) (start : List ℕ) 
       EndsWith (suc count) (suc left) index →
       loop_end (index + 1) (words_after_all it.accesses now) ≡ loop_end (index + suc count) (words_after_all (it.accesses ++ joined (runs_from (index + 1) count)) now)
   last_one zero left index now it same one ends = ap (λ accesses. loop_end (index + 1) (words_after_all accesses now)) (sym (append-nil it.accesses))
-  last_one (suc count) left index now it same one ends = absurd (go ends)
-    where
-      breaking : breaks index ≡ true
-      breaking = ap is_break same ∙ one
-
-      go : EndsWith (suc (suc count)) (suc left) index → ⊥
-      go (inl all) = let never : breaks index ≡ false = all.1 index (omega arith) in cc
-      go (inr first) = let never : breaks index ≡ false = first.4 index (let h = first.1 in omega arith) in cc
-
-  -- it doesn't: the others follow
-  ends_next : (count left index : ℕ) → breaks index ≡ false → EndsWith (suc count) (suc left) index → EndsWith count left (index + 1)
-  ends_next count left index going (inl all) = inl ((let h = all.0 in omega arith), λ j h. all.1 j (omega arith))
-  ends_next count left index going (inr first) = inr (first.0, (let h = first.1 in omega arith), behind_it, first.3, first.4)
-    where
-      apart : index ≡ first.0 → ⊥
-      apart e = let back : breaks first.0 ≡ false = subst (λ (i : ℕ). breaks i ≡ false) e going in let yes' = first.3 in absurd (cc)
-
-      behind_it : index + 1 ≤ first.0
-      behind_it = let h = first.2 in let a = apart in omega arith
+  last_one (suc count) left index now it same one ends =
+      absurd (let none : suc count ≡ 0 = ends_here breaks (suc count) left index (ap is_break same ∙ one) ends in omega arith)
 
   -- what is claimed of the loop from an index on
   abbrev pub GoesAgain : (count left index : ℕ) → List ℕ → Type 0
@@ -138,18 +120,14 @@ module _ (program : Program) (bound : ℕ) (call : LoopCall) (start : List ℕ) 
       go true one = last_one count left index now it same one ends
       go false one =
           let answer : index + 1 + count ≡ index + suc count = omega arith in
-          later (words_after_all it.accesses now) turns (length-words_after_all it.accesses now ∙ long) (ends_next count left index (ap is_break same ∙ one) ends)
+          later (words_after_all it.accesses now) turns (length-words_after_all it.accesses now ∙ long) (ends_next breaks count left index (ap is_break same ∙ one) ends)
           ∙ ap (λ n. loop_end n (words_after_all (joined (runs_from (index + 1) count)) (words_after_all it.accesses now))) answer
           ∙ ap (loop_end (index + suc count)) (sym (words_after_all-append it.accesses (joined (runs_from (index + 1) count)) now))
 
   pub loop_again : (count left index : ℕ) (now : List ℕ) → count ≤ left → AllByRecursion IsEnded (map speculated (range_with_len index count)) →
       InTurn (runs_from index count) now → length now ≡ length start → EndsWith count left index → GoesAgain count left index now
   loop_again zero zero index now within ended turns long ends = ap (λ answer. loop_end answer now) (sym (add-zero index))
-  loop_again zero (suc left) index now within ended turns long ends = absurd (go ends)
-    where
-      go : EndsWith zero (suc left) index → ⊥
-      go (inl all) = let h = all.0 in omega arith
-      go (inr first) = let h = first.1 in let k = first.2 in omega arith
+  loop_again zero (suc left) index now within ended turns long ends = absurd (ends_somewhere breaks left index ends)
   loop_again (suc count) zero index now within ended turns long ends = absurd (omega arith)
   loop_again (suc count) (suc left) index now within ended turns long ends =
       turn_again count left index now (speculated index) refl ended.0 long turns.0 turns.1 ends
@@ -165,13 +143,6 @@ module _ (program : Program) (bound : ℕ) (call : LoopCall) (start : List ℕ) 
       go Unfinished same h = absurd h
       go (Ended it) same h = (iteration_local program bound call index).saw start it same
 
-  ends_at_zero : (n count : ℕ) → CountsTo breaks n count → EndsWith count n 0
-  ends_at_zero n count counts = go counts.ending
-    where
-      go : ((count ≡ n) × NoneBelow breaks n) ⊎ ((last : ℕ) × (count ≡ last + 1) × (breaks last ≡ true) × NoneBelow breaks last) → EndsWith count n 0
-      go (inl all) = inl (all.0, λ j h. all.1 j (let same = all.0 in omega arith))
-      go (inr first) = inr (first.0, (let h = first.1 in omega arith), omega arith, first.2, first.3)
-
 -- where all counted iterations ended and no writer stands before a reader, the loop in order is what was speculated
 all_in_order : (program : Program) (bound : ℕ) (call : LoopCall) (words : List ℕ) →
     AllByRecursion IsEnded (counted_iterations program bound call words) →
@@ -183,7 +154,7 @@ all_in_order program bound call words ended unharmed =
     let counts = counts_to (breaks program bound call words) call.n in
     let turns : InTurn runs words = in_turn_at_start runs words (saws_start program bound call words 0 count ended) unharmed in
     let answer : 0 + count ≡ count = omega arith in
-    loop_again program bound call words count call.n 0 words counts.within ended turns refl (ends_at_zero program bound call words call.n count counts)
+    loop_again program bound call words count call.n 0 words counts.within ended turns refl (ends_at_zero (breaks program bound call words) call.n count counts)
     ∙ ap (λ n. loop_end n (words_after_all (joined runs) words)) answer
     ∙ ap (loop_end count) (all_committed runs words unharmed)
 

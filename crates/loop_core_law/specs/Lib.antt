@@ -6,3 +6,4 @@ pub mod Report
 pub mod Law
 pub mod PlaneMarks
 pub mod VerdictRows
+pub mod VerdictBounds

@@ -7,6 +7,7 @@ pub mod verdict;
 ghost use Rattle.loop_core_law.specs.Conflict.{ClashIsPair};
 ghost use Rattle.loop_core_law.specs.Law.{LoopLaw};
 ghost use Rattle.loop_core_law.specs.PlaneMarks.{MarksTell};
+ghost use Rattle.loop_core_law.specs.VerdictBounds.{VerdictsAgree};
 ghost use Rattle.loop_core_law.specs.VerdictRows.{VerdictRows};
 
 pub use verdict::{LoopReport, Verdict};
@@ -27,6 +28,12 @@ pub fn law_of_marks()
 /// other has an exposed read of it.
 pub fn law_of_clashes()
     ensures { ClashIsPair }
+{}
+
+/// The law of bounds for what is reported: with a greater bound the counted iterations, the verdicts
+/// and the reports that are there stay the same.
+pub fn law_of_verdict_bounds()
+    ensures { VerdictsAgree }
 {}
 
 /// The definitions give the verdicts of worked loops: which pass, and of which others how many

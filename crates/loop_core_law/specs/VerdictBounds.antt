@@ -1,0 +1,18 @@
+-- A bound decides nothing of a verdict but whether there is one yet.
+use Rattle.std.specs.Prelude.{ℕ, ◌≤◌, List}
+use Rattle.bpf_step_model.specs.Program.{Program}
+use Rattle.bpf_step_model.specs.State.{LoopCall}
+use Rattle.bpf_step_model.specs.Bounds.{Extends}
+use Rattle.loop_core_law.specs.LeastBreak.{counted_runs}
+use Rattle.loop_core_law.specs.Report.{verdict, report, report_in_order}
+
+-- with a greater bound the counted iterations, the verdicts and the reports that are there stay the same
+pub record VerdictsAgree : Type 0 where
+  pub runs : (program : Program) (low high : ℕ) → low ≤ high → (call : LoopCall) (words : List ℕ) →
+      Extends (counted_runs program low call words) (counted_runs program high call words)
+  pub verdicts : (program : Program) (low high : ℕ) → low ≤ high → (call : LoopCall) (words : List ℕ) →
+      Extends (verdict program low call words) (verdict program high call words)
+  pub reports : (program : Program) (low high : ℕ) → low ≤ high → (argument : ℕ) (words : List ℕ) →
+      Extends (report program low argument words) (report program high argument words)
+  pub reports_in_order : (program : Program) (low high : ℕ) → low ≤ high → (argument : ℕ) (words : List ℕ) →
+      Extends (report_in_order program low argument words) (report_in_order program high argument words)
