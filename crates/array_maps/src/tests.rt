@@ -54,6 +54,25 @@ fn values_stand_map_by_map(rt: HostRuntime) -> Result<(), Fail> {
     Ok(())
 }
 
+// Where a growth was refused, the maps are as before, and a second try has the memory.
+#[test]
+fn a_refused_growth_leaves_nothing_behind(rt: HostRuntime) -> Result<(), Fail> {
+    let mut maps = match Maps::new(rt.alloc(), &[1, 2]) {
+        Err(MapsError::Memory) => Maps::new(rt.alloc(), &[1, 2])?,
+        made => made?,
+    };
+    maps.set(1, 1, 7);
+    let copy = match maps.try_copy(rt.alloc()) {
+        Ok(copy) => copy,
+        Err(_) => {
+            assert_eq!(rt; (maps.get(0, 0), maps.get(1, 0), maps.get(1, 1)), (0, 0, 7));
+            maps.try_copy(rt.alloc())?
+        }
+    };
+    assert_eq!(rt; (copy.get(0, 0), copy.get(1, 0), copy.get(1, 1)), (0, 0, 7));
+    Ok(())
+}
+
 #[test]
 fn a_store_answers_old_words(rt: HostRuntime) -> Result<(), Fail> {
     let mut maps = Maps::new(rt.alloc(), &[1, 2])?;
