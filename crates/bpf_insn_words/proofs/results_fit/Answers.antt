@@ -18,6 +18,7 @@ use Rattle.bpf_insn_words.specs.Words.{alu, computed, negated, moved_signed, in_
 use Rattle.bpf_insn_words.proofs.SignedLaws.{half, signed-abs, div-abs, rem-abs, rem-le}
 use Rattle.bpf_insn_words.proofs.results_fit.Goals as goal
 
+-- every width has numbers
 positive : (width : Width) → 0 < modulus width
 positive W32 = omega arith
 positive W64 = omega arith
@@ -27,6 +28,7 @@ chosen : (test : Bool) (m x y : ℕ) → x < m → y < m → (if test then x els
 chosen true m x y h k = h
 chosen false m x y h k = k
 
+-- bit operators bring in no higher bit
 or-fits : (width : Width) (a b : ℕ) → a < modulus width → b < modulus width → bit_or a b < modulus width
 or-fits W32 a b h k = or_lt 32 a b h k
 or-fits W64 a b h k = or_lt 64 a b h k
@@ -46,6 +48,7 @@ cast-fits W64 (negsuc n) h = omega arith
 below : (m a r : ℕ) → r ≤ a → a < m → r < m
 below m a r h k = omega arith
 
+-- on numbers of the width
 computed-fits : (width : Width) (op : AluOp) (a b : ℕ) → a < modulus width → b < modulus width →
     computed width op a b < modulus width
 computed-fits width Add a b h k = mod_below (a + b) (modulus width) (positive width)
@@ -82,6 +85,7 @@ negated-fits : (width : Width) (a : ℕ) → negated width a < modulus width
 unfolding negated
 negated-fits width a = mod_below (modulus width - a % modulus width) (modulus width) (positive width)
 
+-- low bits are among the width's
 low-positive : (bits : MovsxBits) → 0 < low_modulus bits
 low-positive B8 = omega arith
 low-positive Low16 = omega arith
@@ -95,6 +99,7 @@ low-most W64 B8 = omega arith
 low-most W64 Low16 = omega arith
 low-most W64 Low32 = omega arith
 
+-- a sign extension from below m to below n
 extended : (m n x : ℕ) → x < m → m ≤ n → (if nat_lt (2 * x) m then x else x + (n - m)) < n
 extended m n x h k = chosen (nat_lt (2 * x) m) n x (x + (n - m)) (omega arith) (omega arith)
 
@@ -109,6 +114,7 @@ low-fits B16 a = omega arith
 low-fits B32 a = omega arith
 low-fits B64 a = omega arith
 
+-- reversed bytes are as many
 swapped-fits : (bits : EndianBits) (a : ℕ) → swap_bytes (endian_integers bits) a < endian_modulus bits
 swapped-fits B16 a = omega arith
 swapped-fits B32 a = omega arith

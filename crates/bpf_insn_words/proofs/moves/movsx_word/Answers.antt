@@ -4,9 +4,11 @@ use Rattle.std.proofs.lemmas.Bool.Decides.{nat_tests}
 use Rattle.bpf_insn_words.specs.Words.{moved_signed, sign_extended, low_modulus, modulus}
 use Rattle.bpf_insn_words.proofs.moves.movsx_word.Goals as goal
 
+-- the sign bit is clear in the lower half of the range
 sign-clear : (low n x : ℕ) → x ≤ low / 2 → x ≡ sign_extended (low + 1) n x
 sign-clear low n x h = grind (arith, nat_tests)
 
+-- and set in the upper half
 sign-set : (low top x : ℕ) → low / 2 < x → x + (top - low) ≡ sign_extended (low + 1) (top + 1) x
 sign-set low top x h = grind (arith, nat_tests)
 
