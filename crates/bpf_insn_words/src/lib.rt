@@ -16,6 +16,9 @@ pub use byte_orders::endian_word;
 pub use compares::compare_words;
 pub use moves::movsx_word;
 
+#[cfg(test)]
+mod tests;
+
 /// The definitions give the values that RFC 9669 asks for, on a row for each operator, byte order
 /// and comparison. Nothing runs here: the contract is the law.
 pub fn worked_words()
