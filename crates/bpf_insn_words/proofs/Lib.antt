@@ -1,1 +1,2 @@
+pub mod SignedLaws
 pub mod WordLaws

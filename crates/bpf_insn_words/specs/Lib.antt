@@ -1,2 +1,3 @@
-pub mod Words
+pub mod WordBounds
 pub mod WordRows
+pub mod Words
