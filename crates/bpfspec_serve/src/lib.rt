@@ -3,7 +3,14 @@
 #![tactic(auto)]
 
 mod counting;
+mod reading;
 mod streams;
+mod writing;
 
 pub use counting::Counted;
+pub use reading::{ReadAllError, read_all};
 pub use streams::{Fault, Sink, Source};
+pub use writing::write_all;
+
+#[cfg(test)]
+mod tests;
