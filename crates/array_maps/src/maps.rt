@@ -88,6 +88,7 @@ impl Maps {
     pub fn sizes(&self) -> &[u32]
         ensures sizes { result.now ≡ self.now.sizes }
         ensures limits { AreSizes self.now.sizes }
+        ensures words { length self.now.words ≡ sum self.now.sizes }
     {
         self.sizes.as_slice()
     }

@@ -1,0 +1,2 @@
+pub mod ThinLists
+pub mod ThinRuns
