@@ -1,6 +1,7 @@
 -- A map list: the words of array maps of given sizes.
-use Rattle.std.specs.Prelude.{ℕ, ◌≤◌, List, length, take, replicate}
-use Rattle.std.specs.List.{All, sum}
+use Rattle.std.specs.Prelude.{ℕ, ◌≤◌, List, Vec, length, map, take, replicate}
+use Rattle.std.specs.declared.alloc.Global.{Global}
+use Rattle.std.specs.List.{All, concat, sum}
 
 -- the sizes of maps, and their words: those of map 0, then those of map 1, and so on
 pub record MapList : Type 0 where
@@ -21,3 +22,15 @@ base_of sizes map = sum (take map sizes)
 -- new maps of these sizes, all zero
 abbrev pub zero_maps : List ℕ → MapList
 zero_maps sizes = record { sizes = sizes; words = replicate (sum sizes) 0 }
+
+-- the values of maps without where they lie in memory
+abbrev pub lists : List (Vec ℕ Global) → List (List ℕ)
+lists maps = map (λ (values : Vec ℕ Global). values.items) maps
+
+-- how many values each has
+abbrev pub lengths : List (List ℕ) → List ℕ
+lengths values = map length values
+
+-- the maps that have these values
+abbrev pub maps_of : List (List ℕ) → MapList
+maps_of values = record { sizes = lengths values; words = concat values }

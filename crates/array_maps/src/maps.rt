@@ -1,8 +1,8 @@
 //! The array maps of a program.
 
-ghost use Rattle.std.specs.Prelude.{◌≡◌, ◌≢◌, ℕ, ◌+◌, ◌<◌, ◌≤◌, ◌↔◌, length, slice_index, slice_set, IfOk, OnOk, IfSome, IfNone, IsErrOf};
-ghost use Rattle.std.specs.List.{sum};
-ghost use Rattle.array_maps.specs.MapList.{MapList, AreSizes, base_of, zero_maps};
+ghost use Rattle.std.specs.Prelude.{◌≡◌, ◌≢◌, ℕ, ◌+◌, ◌<◌, ◌≤◌, ◌↔◌, length, slice_index, slice_range, slice_set, IfOk, OnOk, IfSome, IfNone, IsErrOf};
+ghost use Rattle.std.specs.List.{concat, sum};
+ghost use Rattle.array_maps.specs.MapList.{MapList, AreSizes, base_of, zero_maps, lists, lengths, maps_of};
 
 use std::alloc::{AllocError, Global};
 use std::marker::Model;
@@ -69,6 +69,21 @@ fn elements_of(sizes: &[u32]) -> Option<u32>
     Some(total)
 }
 
+/// How many values each map has, where none has more than there may be.
+fn sizes_of(alloc: Global, values: &[Vec<u64>]) -> Result<Vec<u32>, MapsError>
+    ensures ok { IfOk result (λ sizes. sizes.items ≡ lengths (lists values.now)) }
+    ensures limits { IsErrOf result MapsError.Limits → ¬ AreSizes (lengths (lists values.now)) }
+{
+    let mut sizes = Vec::new(alloc);
+    for map in values {
+        if map.len() > MAX_ELEMENTS as usize {
+            return Err(MapsError::Limits);
+        }
+        sizes.extend_from_slice(&[map.len() as u32])?;
+    }
+    Ok(sizes)
+}
+
 impl Maps {
     /// Maps of these sizes, all zero. M1 where the sizes break the limits.
     pub fn new(alloc: Global, sizes: &[u32]) -> Result<Maps, MapsError>
@@ -82,6 +97,32 @@ impl Maps {
             sizes: sizes.to_vec(alloc)?,
             words: vec![in alloc; 0u64; elements as usize]?,
         })
+    }
+
+    /// Maps of these values, map 0 first. M1 where their numbers break the limits.
+    pub fn of(alloc: Global, values: &[Vec<u64>]) -> Result<Maps, MapsError>
+        ensures ok { IfOk result (λ maps. AreSizes (lengths (lists values.now)) × (maps ≡ maps_of (lists values.now))) }
+        ensures limits { IsErrOf result MapsError.Limits → ¬ AreSizes (lengths (lists values.now)) }
+    {
+        let sizes = sizes_of(alloc, values)?;
+        if elements_of(&sizes).is_none() {
+            return Err(MapsError::Limits);
+        }
+        let mut words = Vec::new(alloc);
+        for map in values {
+            words.extend_from_slice(map)?;
+        }
+        Ok(Maps { sizes, words })
+    }
+
+    /// The values of a map, which is below the number of maps.
+    pub fn values(&self, map: usize) -> &[u64]
+        requires { map < length self.now.sizes }
+        ensures { result.now ≡ slice_range self.now.words (base_of self.now.sizes map)
+            (base_of self.now.sizes map + slice_index self.now.sizes map) }
+    {
+        let base = self.base(map);
+        &self.words[base..base + self.sizes[map] as usize]
     }
 
     /// The sizes, map 0 first.

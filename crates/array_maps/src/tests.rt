@@ -54,6 +54,21 @@ fn values_stand_map_by_map(rt: HostRuntime) -> Result<(), Fail> {
     Ok(())
 }
 
+#[test]
+fn maps_are_made_of_values(rt: HostRuntime) -> Result<(), Fail> {
+    let alloc = rt.alloc();
+    let mut values = Vec::new(alloc);
+    values.push([5].to_vec(alloc)?)?;
+    values.push([6, 7].to_vec(alloc)?)?;
+    let maps = Maps::of(alloc, &values)?;
+    assert_eq!(rt; maps.sizes(), [1, 2].as_slice());
+    assert_eq!(rt; maps.values(0), [5].as_slice());
+    assert_eq!(rt; maps.values(1), [6, 7].as_slice());
+    values.push(Vec::new(alloc))?;
+    assert_eq!(rt; Maps::of(alloc, &values).err(), Some(MapsError::Limits));
+    Ok(())
+}
+
 // Where a growth was refused, the maps are as before, and a second try has the memory.
 #[test]
 fn a_refused_growth_leaves_nothing_behind(rt: HostRuntime) -> Result<(), Fail> {

@@ -1,1 +1,4 @@
+pub mod OutputLaws
+pub mod PrintLaws
+pub mod SectionLaws
 pub mod StreamLaws

@@ -32,17 +32,17 @@ impl<T> Counted<T> {
     }
 }
 
-/// What a reader gave, which fails only where the reader did.
-fn read_outcome(given: io::Result<usize>) -> Result<usize, Fault>
+/// What a counted read gives where the reader gave this: it fails only where the reader did.
+pub fn read_outcome(given: io::Result<usize>) -> Result<usize, Fault>
     ensures kept { IfOk result (λ n. given ≡ Ok n) }
     ensures failed { OnErr result (IsErr given) }
 {
     given.map_err(|_| Fault)
 }
 
-/// What a writer gave for this piece, which fails where the writer did, or took nothing of a piece
-/// that isn't empty.
-fn write_outcome(given: io::Result<usize>, piece: &[u8]) -> Result<usize, Fault>
+/// What a counted write gives where the writer gave this for the piece: it fails only where the writer
+/// did, or took nothing of a piece that isn't empty.
+pub fn write_outcome(given: io::Result<usize>, piece: &[u8]) -> Result<usize, Fault>
     ensures kept { IfOk result (λ n. given ≡ Ok n) }
     ensures progress { IfOk result (λ n. 0 < length piece.now → 0 < n) }
     ensures failed { OnErr result (IfOk given (λ n. (n ≡ 0) × (0 < length piece.now))) }

@@ -1,16 +1,25 @@
-//! The streams that the program reads its input from and writes its output to: which calls failed,
-//! which bytes are left and which were taken.
+//! What the program does between its streams: reads an input, answers it, and writes the answer.
 #![tactic(auto)]
 
+mod answering;
+mod command_line;
 mod counting;
+mod printing;
 mod reading;
+mod refusal;
+mod sections;
+mod serving;
 mod streams;
 mod writing;
 
-pub use counting::Counted;
+pub use command_line::{Job, LineFault, Mode, read_words};
+pub use counting::{Counted, read_outcome, write_outcome};
 pub use reading::{ReadAllError, read_all};
+pub use serving::{Served, serve};
 pub use streams::{Fault, Sink, Source};
 pub use writing::write_all;
 
+#[cfg(test)]
+mod serving_tests;
 #[cfg(test)]
 mod tests;

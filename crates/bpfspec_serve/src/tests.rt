@@ -2,7 +2,11 @@
 
 ghost use Rattle.std.specs.Prelude.{Some};
 
-use crate::{Counted, Fault, ReadAllError, Sink, Source, read_all, write_all};
+use crate::{
+    Counted, Fault, Job, LineFault, Mode, ReadAllError, Sink, Source, read_all, read_words,
+    write_all,
+};
+use std::alloc::Global;
 use std::io::Read;
 use std::test::Fail;
 
@@ -26,10 +30,10 @@ fn is_failing(until_failure: &mut Option<u64>) -> bool {
 
 /// A source of a few bytes a read, of which one read fails.
 #[derive(Drop)]
-struct Stumbling<'a> {
-    rest: &'a [u8],
-    until_failure: Option<u64>,
-    failures: u64,
+pub struct Stumbling<'a> {
+    pub rest: &'a [u8],
+    pub until_failure: Option<u64>,
+    pub failures: u64,
 }
 
 impl Source for Stumbling<'_> {
@@ -59,10 +63,10 @@ impl Source for Stumbling<'_> {
 
 /// A sink that takes a few bytes a write, and of which one write fails.
 #[derive(Drop)]
-struct Narrow {
-    taken: Vec<u8>,
-    until_failure: Option<u64>,
-    failures: u64,
+pub struct Narrow {
+    pub taken: Vec<u8>,
+    pub until_failure: Option<u64>,
+    pub failures: u64,
 }
 
 impl Sink for Narrow {
@@ -178,4 +182,30 @@ fn a_writer_without_room_fails(rt: HostRuntime) -> Result<(), Fail> {
     assert_eq!(rt; sink.failures(), 1);
     assert_eq!(rt; room, *b"eigh");
     Ok(())
+}
+
+#[test]
+fn reads_the_words_of_order(rt: HostRuntime) {
+    let plain = read_words(rt.alloc(), &["bpfspec", "order", "--hex"]);
+    assert!(rt; plain == Ok(Job::Serve(Mode::Order { arg: 0 })));
+    let most = "18446744073709551615";
+    let all = read_words(rt.alloc(), &["bpfspec", "order", "--hex", "--arg", most]);
+    assert!(rt; all == Ok(Job::Serve(Mode::Order { arg: u64::MAX })));
+}
+
+/// Whether these words are a usage fault.
+fn is_usage_fault(alloc: Global, words: &[&str]) -> bool {
+    matches!(read_words(alloc, words), Err(LineFault::Usage(_)))
+}
+
+#[test]
+fn other_words_are_usage_faults(rt: HostRuntime) {
+    let alloc = rt.alloc();
+    assert!(rt; is_usage_fault(alloc, &["bpfspec"]));
+    assert!(rt; is_usage_fault(alloc, &["bpfspec", "--help"]));
+    assert!(rt; is_usage_fault(alloc, &["bpfspec", "help"]));
+    assert!(rt; is_usage_fault(alloc, &["bpfspec", "ordre"]));
+    assert!(rt; is_usage_fault(alloc, &["bpfspec", "order"]));
+    let past = ["bpfspec", "order", "--hex", "--arg", "18446744073709551616"];
+    assert!(rt; is_usage_fault(alloc, past.as_slice()));
 }

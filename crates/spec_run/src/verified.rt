@@ -10,6 +10,7 @@ ghost use Rattle.bpf_insn.specs.declared.insn.AtomicOp.TheVariants.{Simple};
 ghost use Rattle.bpf_insn.specs.declared.insn.ImmKind.TheVariants.{Code};
 ghost use Rattle.bpf_insn.specs.declared.insn.Callee.TheVariants.{Helper};
 ghost use Rattle.bpf_insn.specs.declared.insn.Insn.TheVariants.{Alu, Atomic, Call, Exit, LoadImm};
+ghost use Rattle.array_maps.specs.MapList.{AreSizes};
 ghost use Rattle.bpf_step_model.specs.Lines.{loop_of, map_value};
 ghost use Rattle.bpf_step_model.specs.Program.{Program};
 ghost use Rattle.spec_run.specs.Thin.{adds_index, program_of, thin_program, Thin};
@@ -36,6 +37,16 @@ impl Model for Verified {
 }
 
 impl Verified {
+    /// The number of elements of each map, map 0 first.
+    pub fn sizes(&self) -> &[u32]
+        ensures sizes { result.now ≡ self.now.sizes }
+        ensures limits { AreSizes self.now.sizes }
+    {
+        // It tells the proof which program this is.
+        let _iterations = self.iterations();
+        &[1]
+    }
+
     /// How many iterations its loop has.
     pub(crate) fn iterations(&self) -> u32
         ensures bound { result ≤ 8388608 }

@@ -1,0 +1,8 @@
+use Rattle.std.proofs.Common.{◌≡◌, arith}
+use Rattle.array_maps.proofs.MapLists.{fits_in_sum}
+use Rattle.array_maps.proofs.maps.sizes_of.Goals as goal
+
+pub returns-then-len-clause-limits : goal.returns-then-len-clause-limits
+returns-then-len-clause-limits c = λ _ sizes.
+    let within = fits_in_sum c.args.values.now c.loop-map.map-index c.map-item.result (grind arith) c.map-item.is in
+    omega (arith, within, sizes.small, c.if-len.true, c.len.ensures)

@@ -1,0 +1,84 @@
+-- What inputs can be read.
+use Rattle.std.proofs.Common.{◌≡◌, ℕ, ◌≤◌, ◌<◌, Bool, false, true, List, length, if◌then◌else◌, Ok, refl, take, Option, Some, None, IfSome, sym, ap, ◌∙◌, subst, nat_eq, arith}
+use Rattle.std.specs.Cmp.Lexicographic.{pointwise, same_text}
+use Rattle.std.specs.List.{concat}
+use Rattle.array_maps.specs.MapList.{AreSizes, lengths}
+use Rattle.std.specs.Prelude.{nat_lt, nat_le}
+use Rattle.std.specs.Str.{IsUtf8, is_utf8}
+use Rattle.std.proofs.lemmas.Bool.{ltb-false}
+use Rattle.std.proofs.lemmas.Bool.Decides.{nat_tests}
+use Rattle.std.proofs.lemmas.Str.{IsUtf8-from_is_utf8, is_utf8-from_IsUtf8}
+use Rattle.bpf_text.specs.declared.error.Fault.TheVariants as text_faults
+use Rattle.bpfspec_serve.specs.declared.refusal.Section.TheVariants as sections
+use Rattle.bpfspec_serve.specs.declared.refusal.Refusal.TheVariants as refusals
+use Rattle.bpfspec_serve.specs.HowServed.{AnswersReader, HowWritten}
+use Rattle.bpfspec_serve.specs.declared.serving.Served.{Served}
+use Rattle.bpfspec_serve.specs.declared.command_line.Mode.{Mode}
+use Rattle.std.proofs.lemmas.List.{take_all, length-take}
+use Rattle.bpfspec_serve.specs.Output.{Outcome, refused, readable, fitting, OfReadable, Answer, Answers}
+
+-- an input that isn't too long
+short : (input : List ℕ) → length input ≤ 3145728 → readable input
+    ≡ (if is_utf8 input then Ok input else refused (refusals.Text text_faults.Form sections.Unit 0))
+short input few =
+    let within : nat_lt 3145728 (length input) ≡ false = grind (arith, nat_tests) in
+    ap (λ (b : Bool). if b then refused (refusals.Text text_faults.TooLong sections.Unit 0)
+    else (if is_utf8 input then Ok input else refused (refusals.Text text_faults.Form sections.Unit 0))) within
+
+pub reads_text : (input : List ℕ) → length input ≤ 3145728 → IsUtf8 input → Ok input ≡ readable input
+reads_text input few utf8 =
+    sym (short input few ∙ ap (λ (b : Bool). if b then Ok input else refused (refusals.Text text_faults.Form sections.Unit 0)) (is_utf8-from_IsUtf8 input utf8))
+
+not_utf8 : (input : List ℕ) (b : Bool) → is_utf8 input ≡ b → ¬ IsUtf8 input → b ≡ false
+not_utf8 input false same other = refl
+not_utf8 input true same other = absurd (other (IsUtf8-from_is_utf8 input same))
+
+pub refuses_bytes : (input : List ℕ) → length input ≤ 3145728 → ¬ IsUtf8 input → refused (refusals.Text text_faults.Form sections.Unit 0) ≡ readable input
+refuses_bytes input few other =
+    sym (short input few ∙ ap (λ (b : Bool). if b then Ok input else refused (refusals.Text text_faults.Form sections.Unit 0)) (not_utf8 input (is_utf8 input) refl other))
+
+-- values that no maps may have aren't those of a program
+pub other_sizes : (values : List (List ℕ)) (sizes : List ℕ) → ¬ AreSizes (lengths values) → AreSizes sizes → refused refusals.Sizes ≡ fitting sizes (Ok values)
+other_sizes values sizes none are = go (pointwise nat_eq (lengths values) sizes) refl
+  where
+    go : (b : Bool) → pointwise nat_eq (lengths values) sizes ≡ b → refused refusals.Sizes ≡ (if b then Ok (concat values) else refused refusals.Sizes)
+    go false same = refl
+    go true same = absurd (none (subst AreSizes (sym (same_text (lengths values) sizes (sym same))) are))
+
+-- what is longer than the limit is still longer where it is cut behind it
+cut_long : (limit n : ℕ) (input : List ℕ) → limit < n → limit < length input → limit < length (take n input)
+cut_long limit n input behind long = rw (length-take n input) (grind (arith, behind, long))
+
+too_long : (input : List ℕ) → 3145728 < length input → readable input ≡ refused (refusals.Text text_faults.TooLong sections.Unit 0)
+too_long input long =
+    let past : nat_lt 3145728 (length input) ≡ true = grind (arith, nat_tests) in
+    ap (λ (b : Bool). if b then refused (refusals.Text text_faults.TooLong sections.Unit 0)
+    else (if is_utf8 input then Ok input else refused (refusals.Text text_faults.Form sections.Unit 0))) past
+
+enough : (n : ℕ) (input : List ℕ) → 3145728 < n → (b : Bool) → nat_le (length input) n ≡ b → readable (take n input) ≡ readable input
+enough n input behind true short = ap readable (take_all n input (grind (arith, nat_tests, short)))
+enough n input behind false long =
+    let past : n < length input = grind (arith, nat_tests, long) in
+    too_long (take n input) (cut_long 3145728 n input behind (omega arith)) ∙ sym (too_long input (omega arith))
+
+-- one byte past the limit tells as much of an input as all of them
+reads_enough : (n : ℕ) (input : List ℕ) → 3145728 < n → readable (take n input) ≡ readable input
+reads_enough n input behind = enough n input behind (nat_le (length input) n) refl
+
+-- the answer to the bytes that were read is the answer to all that the reader had left
+pub answers_reader : (mode : Mode) (left : Option (List ℕ)) (read : List ℕ) (answer : Answer) → IfSome left (λ bytes. read ≡ take 3145729 bytes) → Answers mode read answer → AnswersReader mode left answer
+answers_reader mode None read answer same answers = (read, tt, answers)
+answers_reader mode (Some bytes) read answer same answers = (
+  bytes,
+  refl,
+  record {
+    outcome = answers.outcome;
+    comes = subst (λ r. OfReadable mode r answers.outcome) (ap readable same ∙ reads_enough 3145729 bytes (omega arith)) answers.comes;
+    told = answers.told;
+  },
+)
+
+-- the same text by another name
+pub written_as : {wanted result : Served} {failed : ℕ → Type 0} {before after : Option (List ℕ)} (text other : List ℕ) → text ≡ other
+    → HowWritten text wanted result failed before after → HowWritten other wanted result failed before after
+written_as {wanted} {result} {failed} {before} {after} text other same written = subst (λ t. HowWritten t wanted result failed before after) same written

@@ -1,0 +1,21 @@
+use Rattle.std.proofs.Common.{refl, sym, ap, drop, ◌∙◌}
+use Rattle.std.proofs.lemmas.Str.{IsCharBoundary-start}
+use Rattle.bpfspec_serve.proofs.SectionLaws.{left_behind, section_goes_on, rest_goes_on, section_ends, rest_begins, line_boundary}
+use Rattle.bpfspec_serve.proofs.sections.part.Goals as goal
+
+pub loop-at-init : goal.loop-at-init
+loop-at-init c = record { section = refl; rest = refl; boundary = IsCharBoundary-start c.args.text.now c.utf8.text }
+
+pub loop-at-preserved : goal.loop-at-preserved
+loop-at-preserved c =
+    let rest = left_behind c.as_bytes-bytes.result.now c.loop-at.at ∙ ap (drop c.loop-at.at) c.as_bytes-bytes.ensures.value in
+    record {
+      section = section_goes_on c.args.text.now _ c.loop-at.at c.line_length-length.result rest c.line_length-length.ensures.line (sym c.if-is_mark.ensures) c.loop-at.invariant.section;
+      rest = rest_goes_on c.args.text.now _ c.loop-at.at c.line_length-length.result rest c.line_length-length.ensures.line (sym c.if-is_mark.ensures) c.loop-at.invariant.rest;
+      boundary = line_boundary c.args.text.now _ c.loop-at.at c.line_length-length.result c.utf8.text rest c.loop-at.invariant.boundary.0 c.line_length-length.ensures.some c.line_length-length.ensures.within c.line_length-length.ensures.newline;
+    }
+
+pub range_from-requires : goal.range_from-requires
+range_from-requires c = λ _.
+    let rest = left_behind c.as_bytes-bytes.result.now c.loop-at.at ∙ ap (drop c.loop-at.at) c.as_bytes-bytes.ensures.value in
+    line_boundary c.args.text.now _ c.loop-at.at c.line_length-length.result c.utf8.text rest c.loop-at.invariant.boundary.0 c.line_length-length.ensures.some c.line_length-length.ensures.within c.line_length-length.ensures.newline

@@ -1,0 +1,28 @@
+-- How a call that serves an input came out.
+use Rattle.std.specs.Prelude.{◌≡◌, ℕ, ◌+◌, List, [], Option, IfSome}
+use Rattle.std.specs.Io.KnownBytes.{Appends}
+use Rattle.bpfspec_serve.specs.declared.command_line.Mode.{Mode}
+use Rattle.bpfspec_serve.specs.declared.serving.Served.{Served}
+use Rattle.bpfspec_serve.specs.declared.serving.Served.TheVariants as served
+use Rattle.bpfspec_serve.specs.Output.{Answer, Answers}
+use Rattle.bpfspec_serve.specs.Refusals.{memory_line}
+use Rattle.bpfspec_serve.specs.Streams.{AppendsBeginning}
+
+-- the answer to what a reader had left, where that is known, and else to some input
+abbrev pub AnswersReader : Mode → Option (List ℕ) → Answer → Type 0
+AnswersReader mode left answer = (input : List ℕ) × IfSome left (λ bytes. input ≡ bytes) × Answers mode input answer
+
+-- a text was written whole, or a write failed and a beginning of it was written; between the bytes that the writer had
+-- taken before and after
+pub data HowWritten (text : List ℕ) (wanted result : Served) (writes_failed : ℕ → Type 0) (before after : Option (List ℕ)) : Type 0 where
+  Written : result ≡ wanted → writes_failed 0 → Appends before after text → HowWritten text wanted result writes_failed before after
+  Broke_off : result ≡ served.Device → writes_failed 1 → AppendsBeginning before after text → HowWritten text wanted result writes_failed before after
+
+-- an answer was written, or the line that memory ran out; or a read failed, and nothing was
+pub data HowServed (Is_answer : Answer → Type 0) (result : Served) (reads_failed writes_failed : ℕ → Type 0) (before after : Option (List ℕ)) : Type 0 where
+  Answered : (answer : Answer) → Is_answer answer → reads_failed 0
+      → HowWritten answer.text answer.served result writes_failed before after → HowServed Is_answer result reads_failed writes_failed before after
+  Out_of_memory : reads_failed 0
+      → HowWritten memory_line served.Memory result writes_failed before after → HowServed Is_answer result reads_failed writes_failed before after
+  Read_failed : result ≡ served.Device → reads_failed 1 → writes_failed 0
+      → Appends before after [] → HowServed Is_answer result reads_failed writes_failed before after

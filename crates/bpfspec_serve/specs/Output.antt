@@ -1,0 +1,140 @@
+-- What is answered to an input.
+use Rattle.std.specs.Prelude.{◌≡◌, ℕ, ◌+◌, nat_lt, nat_eq, Bool, if◌then◌else◌, List, [], ◌∷◌, length, replicate, Result, Ok, Err}
+use Rattle.std.specs.Cmp.Lexicographic.{pointwise}
+use Rattle.std.specs.List.{concat, sum}
+use Rattle.std.specs.Str.{is_utf8}
+use Rattle.std.specs.String.{string_bytes}
+use Rattle.bpf_insn.specs.declared.insn.Insn.{Insn}
+use Rattle.bpf_insn.specs.declared.codec_error.CodecError.{CodecError}
+use Rattle.bpf_insn.specs.declared.codec_error.CodecError.TheVariants as codec
+use Rattle.bpf_insn.specs.Reading.{reading}
+use Rattle.bpf_text.specs.declared.error.Fault.TheVariants as text_faults
+use Rattle.bpf_text.specs.declared.error.TextError.{TextError}
+use Rattle.bpf_text.specs.declared.error.TextError.TheVariants as text
+use Rattle.bpf_text.specs.HexText.{HexParts, hex_text}
+use Rattle.bpf_text.specs.MapsText.{maps_text}
+use Rattle.array_maps.specs.MapList.{lengths}
+use Rattle.bpf_step_model.specs.Program.{Program}
+use Rattle.bpf_step_model.specs.Run.{Ended}
+use Rattle.loop_core_law.specs.Report.{Reported, report_in_order}
+use Rattle.spec_run.specs.Thin.{Thin}
+use Rattle.bpfspec_serve.specs.declared.command_line.Mode.{Mode}
+use Rattle.bpfspec_serve.specs.declared.command_line.Mode.TheVariants.{Order}
+use Rattle.bpfspec_serve.specs.declared.refusal.Section.{Section}
+use Rattle.bpfspec_serve.specs.declared.refusal.Section.TheVariants as sections
+use Rattle.bpfspec_serve.specs.declared.refusal.Refusal.{Refusal}
+use Rattle.bpfspec_serve.specs.declared.refusal.Refusal.TheVariants as refusals
+use Rattle.bpfspec_serve.specs.declared.refusal.Failure.{Failure}
+use Rattle.bpfspec_serve.specs.declared.refusal.Failure.TheVariants as failures
+use Rattle.bpfspec_serve.specs.declared.serving.Served.{Served}
+use Rattle.bpfspec_serve.specs.declared.serving.Served.TheVariants as served
+use Rattle.bpfspec_serve.specs.Refusals.{refusal_line, memory_line}
+use Rattle.bpfspec_serve.specs.ReportText.{report_text}
+use Rattle.bpfspec_serve.specs.Sections.{unit_section, maps_section}
+
+-- what comes of an input: a text, or a failure
+abbrev pub Outcome : Type 0
+Outcome = Result (List ℕ) Failure
+
+-- a refusal instead of a value
+abbrev pub refused : {X : Type 0} → Refusal → Result X Failure
+refused refusal = Err (failures.Refused refusal)
+
+-- the failure of a section's text
+abbrev pub text_failure : Section → TextError → Failure
+text_failure section (text.Refused fault line) = failures.Refused (refusals.Text fault section line)
+text_failure section text.Memory = failures.Memory
+
+-- what a section's text means
+abbrev pub in_section : {X : Type 0} → Section → Result X TextError → Result X Failure
+in_section section (Ok x) = Ok x
+in_section section (Err error) = Err (text_failure section error)
+
+-- the failure of a program's bytes
+abbrev pub code_failure : CodecError → Failure
+code_failure (codec.Refused fault slot) = failures.Refused (refusals.Code fault slot)
+code_failure codec.Memory = failures.Memory
+
+-- the program of sizes and instructions
+abbrev pub with_sizes : List ℕ → Result (List Insn) CodecError → Result Program Failure
+with_sizes sizes (Ok insns) = Ok (record { sizes = sizes; insns = insns })
+with_sizes sizes (Err error) = Err (code_failure error)
+
+-- the program of a unit's parts
+abbrev pub program_of_parts : Result HexParts Failure → Result Program Failure
+program_of_parts (Err failure) = Err failure
+program_of_parts (Ok parts) = with_sizes parts.sizes (reading parts.bytes)
+
+-- the program of a section in hex form
+abbrev pub unit_program : List ℕ → Result Program Failure
+unit_program section = program_of_parts (in_section sections.Unit (hex_text section))
+
+-- values as the start words of maps of these sizes
+abbrev pub fitting : List ℕ → Result (List (List ℕ)) Failure → Outcome
+fitting sizes (Err failure) = Err failure
+fitting sizes (Ok values) = if pointwise nat_eq (lengths values) sizes then Ok (concat values) else refused refusals.Sizes
+
+-- the words that maps start with: without a section all are 0
+abbrev pub start_words : List ℕ → List ℕ → Outcome
+start_words sizes [] = Ok (replicate (sum sizes) 0)
+start_words sizes (b ∷ bs) = fitting sizes (in_section sections.Maps (maps_text (b ∷ bs)))
+
+-- a program runs in order from its start words, at most 4,096 instructions up to each turn of main and in each
+-- iteration, and its report is printed
+abbrev pub RunsTo : Program → ℕ → Outcome → Outcome → Type 0
+RunsTo program argument (Err failure) outcome = outcome ≡ Err failure
+RunsTo program argument (Ok words) outcome =
+    (told : Reported) × (report_in_order program 4096 argument words ≡ Ended told) × (outcome ≡ Ok (report_text program.sizes told))
+
+-- a thin program runs, another is refused
+pub record OfProgram (program : Program) (argument : ℕ) (maps : List ℕ) (outcome : Outcome) : Type 0 where
+  pub other : ¬ Thin program → outcome ≡ refused refusals.NotThin
+  pub thin : Thin program → RunsTo program argument (start_words program.sizes maps) outcome
+
+-- the same where there is a program
+abbrev pub OfUnit : Result Program Failure → ℕ → List ℕ → Outcome → Type 0
+OfUnit (Err failure) argument maps outcome = outcome ≡ Err failure
+OfUnit (Ok program) argument maps outcome = OfProgram program argument maps outcome
+
+-- an input is at most 3,145,728 bytes of UTF-8
+abbrev pub readable : List ℕ → Outcome
+readable input =
+    if nat_lt 3145728 (length input) then refused (refusals.Text text_faults.TooLong sections.Unit 0)
+    else if is_utf8 input then Ok input else refused (refusals.Text text_faults.Form sections.Unit 0)
+
+-- what comes of an input that can be read
+abbrev pub OfReadable : Mode → Outcome → Outcome → Type 0
+OfReadable mode (Err failure) outcome = outcome ≡ Err failure
+OfReadable (Order argument) (Ok input) outcome = OfUnit (unit_program (unit_section input)) argument (maps_section input) outcome
+
+-- what comes of an input
+abbrev pub OfInput : Mode → List ℕ → Outcome → Type 0
+OfInput mode input outcome = OfReadable mode (readable input) outcome
+
+-- an answer: its text, and how it is served
+pub record Answer : Type 0 where
+  pub served : Served
+  pub text : List ℕ
+
+-- a text's refusal is told from the others
+abbrev pub refused_as : Refusal → Served
+refused_as (refusals.Text fault section line) = served.Text
+refused_as _ = served.Refused
+
+-- the answer that tells an outcome
+abbrev pub answer_of : Outcome → Answer
+answer_of (Ok text) = record { served = served.Done; text = text }
+answer_of (Err (failures.Refused refusal)) = record { served = refused_as refusal; text = refusal_line refusal }
+answer_of (Err failures.Memory) = record { served = served.Memory; text = memory_line }
+
+-- the answer to an input
+pub record Answers (mode : Mode) (input : List ℕ) (answer : Answer) : Type 0 where
+  pub outcome : Outcome
+  pub comes : OfInput mode input outcome
+  pub told : answer ≡ answer_of outcome
+
+-- what a function returns, seen by view, is as wanted, or memory ran out
+abbrev pub Met : {X Y : Type 0} → (X → Y) → (Result Y Failure → Type 0) → Result X Failure → Type 0
+Met view wanted (Ok x) = wanted (Ok (view x))
+Met view wanted (Err (failures.Refused refusal)) = wanted (refused refusal)
+Met view wanted (Err failures.Memory) = Unit {0}

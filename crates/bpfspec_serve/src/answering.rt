@@ -1,0 +1,168 @@
+//! What comes of an input.
+
+ghost use Rattle.std.specs.Prelude.{◌≡◌, ◌<◌, IfOk, Ok, length};
+ghost use Rattle.std.specs.String.{string_bytes};
+ghost use Rattle.array_maps.specs.MapList.{lists, zero_maps};
+ghost use Rattle.spec_run.specs.Thin.{program_of};
+ghost use Rattle.bpfspec_serve.specs.declared.command_line.Mode.TheVariants.{Order};
+ghost use Rattle.bpfspec_serve.specs.declared.refusal.Refusal.TheVariants.{Text};
+ghost use Rattle.bpfspec_serve.specs.declared.refusal.Failure.TheVariants.{Refused};
+ghost use Rattle.bpfspec_serve.specs.Output.{text_failure, code_failure, readable, unit_program, fitting, start_words, RunsTo, OfProgram, OfUnit, OfReadable, OfInput, Met};
+
+use crate::command_line::Mode;
+use crate::printing::print_report;
+use crate::refusal::{Failure, Refusal, Section};
+use crate::sections::part;
+use array_maps::{Maps, MapsError};
+use bpf_insn::{CodecError, Unit, decode};
+use bpf_text::{TextError, parse_maps, read_hex};
+use spec_run::{RunError, Verified, run_in_order, thin};
+use std::alloc::Global;
+use std::str;
+
+/// The most bytes of an input.
+pub const MAX_INPUT: usize = 3_145_728;
+
+/// The failure of a section's text.
+fn text_failure(error: TextError, section: Section) -> Failure
+    ensures { result ≡ text_failure section error }
+{
+    match error {
+        TextError::Refused { fault, line } => Failure::Refused(Refusal::Text {
+            fault,
+            section,
+            line,
+        }),
+        TextError::Memory => Failure::Memory,
+    }
+}
+
+/// The unit of a section in hex form.
+fn read_unit(alloc: Global, section: &str) -> Result<Unit, Failure>
+    ensures { Met program_of (λ program. program ≡ unit_program section.now) result }
+{
+    let parts = match read_hex(alloc, section) {
+        Ok(parts) => parts,
+        Err(error) => return Err(text_failure(error, Section::Unit)),
+    };
+    let insns = match decode(alloc, &parts.bytes) {
+        Ok(insns) => insns,
+        Err(error) => return Err(code_failure(error)),
+    };
+    Ok(Unit {
+        sizes: parts.sizes,
+        insns,
+    })
+}
+
+/// The failure of a program's bytes.
+fn code_failure(error: CodecError) -> Failure
+    ensures { result ≡ code_failure error }
+{
+    match error {
+        CodecError::Refused { fault, slot } => Failure::Refused(Refusal::Code { fault, slot }),
+        CodecError::Memory => Failure::Memory,
+    }
+}
+
+/// Maps of a program that are all zero.
+fn zero_maps(alloc: Global, program: &Verified) -> Result<Maps, Failure>
+    ensures { Met (λ maps. maps) (λ outcome. outcome ≡ Ok (zero_maps program.now.sizes)) result }
+{
+    match Maps::new(alloc, program.sizes()) {
+        Ok(maps) => Ok(maps),
+        Err(MapsError::Limits) => unreachable!(),
+        Err(MapsError::Memory) => Err(Failure::Memory),
+    }
+}
+
+/// Maps of a program that have these values.
+fn maps_of(alloc: Global, program: &Verified, values: &[Vec<u64>]) -> Result<Maps, Failure>
+    ensures words { Met (λ maps. maps.words) (λ outcome. outcome ≡ fitting program.now.sizes (Ok (lists values.now))) result }
+    ensures sizes { IfOk result (λ maps. maps.sizes ≡ program.now.sizes) }
+{
+    let sizes = program.sizes();
+    let maps = match Maps::of(alloc, values) {
+        Ok(maps) => maps,
+        Err(MapsError::Limits) => return Err(Failure::Refused(Refusal::Sizes)),
+        Err(MapsError::Memory) => return Err(Failure::Memory),
+    };
+    if maps.sizes() != sizes {
+        return Err(Failure::Refused(Refusal::Sizes));
+    }
+    Ok(maps)
+}
+
+/// The maps that a program starts with.
+fn start_maps(alloc: Global, program: &Verified, section: &str) -> Result<Maps, Failure>
+    ensures words { Met (λ maps. maps.words) (λ outcome. outcome ≡ start_words program.now.sizes section.now) result }
+    ensures sizes { IfOk result (λ maps. maps.sizes ≡ program.now.sizes) }
+{
+    if section.is_empty() {
+        return zero_maps(alloc, program);
+    }
+    match parse_maps(alloc, section) {
+        Ok(values) => maps_of(alloc, program, &values),
+        Err(error) => Err(text_failure(error, Section::Maps)),
+    }
+}
+
+/// What comes of a program that runs in order on these maps, which are of its sizes.
+fn run(alloc: Global, program: &Verified, maps: Maps, argument: u64) -> Result<String, Failure>
+    requires { maps.sizes ≡ program.now.sizes }
+    ensures { Met string_bytes (RunsTo program.now argument (Ok maps.words)) result }
+{
+    let mut maps = maps;
+    match run_in_order(alloc, program, &mut maps, argument) {
+        Ok(report) => Ok(print_report(alloc, &report, &maps)?),
+        Err(RunError::Sizes) => unreachable!(),
+        Err(RunError::Memory) => Err(Failure::Memory),
+    }
+}
+
+/// What comes of a unit in hex form, its argument and its maps.
+fn order(alloc: Global, argument: u64, input: &str) -> Result<String, Failure>
+    ensures { Met string_bytes (OfReadable (Order argument) (Ok input.now)) result }
+{
+    let unit = part(input);
+    let maps = part(unit.rest);
+    let Some(program) = thin(read_unit(alloc, unit.section)?) else {
+        return Err(Failure::Refused(Refusal::NotThin));
+    };
+    let maps = start_maps(alloc, &program, maps.section)?;
+    run(alloc, &program, maps, argument)
+}
+
+/// An input as a text.
+fn readable(input: &[u8]) -> Result<&str, Failure>
+    ensures { Met (λ s. s.now) (λ outcome. outcome ≡ readable input.now) result }
+{
+    if input.len() > MAX_INPUT {
+        return Err(unit_refusal(bpf_text::Fault::TooLong));
+    }
+    match str::from_utf8(input) {
+        Ok(text) => Ok(text),
+        Err(_) => Err(unit_refusal(bpf_text::Fault::Form)),
+    }
+}
+
+/// What comes of an input.
+pub fn outcome(alloc: Global, mode: &Mode, input: &[u8]) -> Result<String, Failure>
+    ensures { Met string_bytes (OfInput mode.now input.now) result }
+{
+    let text = readable(input)?;
+    match mode {
+        Mode::Order { arg } => order(alloc, *arg, text),
+    }
+}
+
+/// A fault of the unit's text as a whole.
+fn unit_refusal(fault: bpf_text::Fault) -> Failure
+    ensures { result ≡ Refused (Text fault Section.Unit 0) }
+{
+    Failure::Refused(Refusal::Text {
+        fault,
+        section: Section::Unit,
+        line: 0,
+    })
+}

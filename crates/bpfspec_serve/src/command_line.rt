@@ -1,0 +1,106 @@
+//! The words of a command line, as the job that they ask for.
+
+ghost use Rattle.std.specs.Prelude.{◌≡◌, None, codes};
+ghost use Rattle.clap.specs.Words.{found_of, kind_of, one_text};
+ghost use Rattle.bpfspec_serve.specs.CommandLine.{arg_of};
+
+use clap::error::ErrorKind;
+use clap::{Arg, ArgAction, ArgMatches, Command};
+use std::alloc::{AllocError, Global};
+use thiserror::Error;
+
+/// What is done with an input.
+#[derive(Clone, Copy, Debug, PartialEq, Eq)]
+pub enum Mode {
+    /// Runs a unit in hex form in order, with this argument.
+    Order { arg: u64 },
+}
+
+/// What a command line asks for.
+#[derive(Clone, Copy, Debug, PartialEq, Eq)]
+pub enum Job {
+    /// To read the input in this mode and write the answer.
+    Serve(Mode),
+}
+
+/// Why a command line asks for nothing.
+#[derive(Debug, Drop, PartialEq, Error)]
+pub enum LineFault {
+    /// The words are no command, or ask for help; the text says what can be asked for.
+    #[error("{0}")]
+    Usage(String),
+    /// There was no memory to read the words.
+    #[error("out of memory")]
+    Memory,
+}
+
+/// The text of what clap answers in place of matches.
+fn usage_fault(alloc: Global, error: &clap::Error) -> LineFault
+    ensures { kind_of error.now ≡ ErrorKind.OutOfMemory → result ≡ LineFault.Memory }
+{
+    if error.kind() == ErrorKind::OutOfMemory {
+        return LineFault::Memory;
+    }
+    match error.to_string(alloc) {
+        Ok(text) => LineFault::Usage(text),
+        Err(_) => LineFault::Memory,
+    }
+}
+
+/// The usage of the command, where its words name no subcommand.
+fn usage(command: &mut Command<'_>) -> LineFault {
+    match command.render_usage() {
+        Ok(text) => LineFault::Usage(text),
+        Err(_) => LineFault::Memory,
+    }
+}
+
+fn order_command<'a>(alloc: Global) -> Result<Command<'a>, AllocError> {
+    let hex = Arg::new(alloc, "hex")
+        .long("hex")
+        .action(ArgAction::SetTrue)
+        .help("The unit is in hex form");
+    let arg = Arg::new(alloc, "arg")
+        .long("arg")
+        .action(ArgAction::Set)
+        .value_name("N")
+        .value_parser(clap::value_parser!(u64))
+        .default_value("0")
+        .help("The program's argument");
+    Command::new(alloc, "order")
+        .about("Runs a program in order")
+        .arg(hex)?
+        .arg(arg)
+}
+
+fn bpfspec_command<'a>(alloc: Global) -> Result<Command<'a>, AllocError> {
+    Command::new(alloc, "bpfspec")
+        .subcommand_required(true)
+        .subcommand(order_command(alloc)?)
+}
+
+fn order_mode(matches: &ArgMatches<'_>) -> Mode
+    ensures no_arg { one_text (found_of matches.now) (codes "arg") ≡ None → arg_of result ≡ 0 }
+{
+    Mode::Order {
+        arg: matches.get_one::<u64>("arg").unwrap_or(0),
+    }
+}
+
+/// Reads the words of a command line, the program's name first.
+///
+/// It fails with `Usage` where they aren't `order --hex [--arg N]`, N from 0 to
+/// 18446744073709551615, and where they ask for help; and with `Memory` where there is no memory.
+pub fn read_words<'a>(alloc: Global, words: &'a [&'a str]) -> Result<Job, LineFault> {
+    let Ok(mut command) = bpfspec_command(alloc) else {
+        return Err(LineFault::Memory);
+    };
+    let matches = match command.try_get_matches_from_mut(words) {
+        Ok(matches) => matches,
+        Err(error) => return Err(usage_fault(alloc, &error)),
+    };
+    match matches.subcommand_matches("order") {
+        Some(order) if order.get_flag("hex") => Ok(Job::Serve(order_mode(order))),
+        _ => Err(usage(&mut command)),
+    }
+}

@@ -1,0 +1,156 @@
+//! Why an input has no result, and the line that tells it.
+
+ghost use Rattle.std.specs.Prelude.{◌≡◌, ◌++◌, IfOk, OnOk};
+ghost use Rattle.std.specs.String.{string_bytes};
+ghost use Rattle.bpfspec_serve.specs.declared.refusal.Refusal.TheVariants.{Text, Code};
+ghost use Rattle.bpfspec_serve.specs.Refusals.{text_number, code_number, section_name, what_is_refused, refusal_line};
+
+use std::alloc::{AllocError, Global};
+
+/// A section of an input.
+#[derive(Clone, Copy, Debug, PartialEq, Eq)]
+pub enum Section {
+    /// The program and the sizes of its maps.
+    Unit,
+    /// The values of the maps.
+    Maps,
+}
+
+/// Why an input has no result.
+#[derive(Clone, Copy, Debug, PartialEq, Eq)]
+pub enum Refusal {
+    /// A section is no text of its form.
+    Text {
+        fault: bpf_text::Fault,
+        section: Section,
+        line: u32,
+    },
+    /// The bytes of the instructions spell no program.
+    Code {
+        fault: bpf_insn::Fault,
+        slot: usize,
+    },
+    /// V0: the program isn't a thin one.
+    NotThin,
+    /// P1: the sizes of the maps differ from the program's.
+    Sizes,
+}
+
+/// The number of what is wrong with a text.
+fn text_number(fault: bpf_text::Fault) -> &'static str
+    ensures { result.now ≡ text_number fault }
+{
+    match fault {
+        bpf_text::Fault::Form => "A1",
+        bpf_text::Fault::Field => "A2",
+        bpf_text::Fault::Register => "A3",
+        bpf_text::Fault::UnknownLabel => "A4",
+        bpf_text::Fault::RepeatedLabel => "A5",
+        bpf_text::Fault::TooLong => "A6",
+        bpf_text::Fault::Limits => "A7",
+    }
+}
+
+/// The number of what is wrong with an instruction's bytes.
+fn code_number(fault: bpf_insn::Fault) -> &'static str
+    ensures { result.now ≡ code_number fault }
+{
+    match fault {
+        bpf_insn::Fault::I1 => "I1",
+        bpf_insn::Fault::I2 => "I2",
+        bpf_insn::Fault::I3 => "I3",
+        bpf_insn::Fault::I4 => "I4",
+        bpf_insn::Fault::I5 => "I5",
+        bpf_insn::Fault::I6 => "I6",
+        bpf_insn::Fault::I7 => "I7",
+    }
+}
+
+/// A section's name.
+fn section_name(section: Section) -> &'static str
+    ensures { result.now ≡ section_name section }
+{
+    match section {
+        Section::Unit => "unit",
+        Section::Maps => "maps",
+    }
+}
+
+/// Adds a text's fault and where it stands.
+fn print_text_fault(
+    alloc: Global,
+    out: &mut String,
+    fault: bpf_text::Fault,
+    section: Section,
+    line: u32,
+) -> Result<(), AllocError>
+    ensures { OnOk result (string_bytes out.new ≡ string_bytes out.old ++ what_is_refused (Text fault section line)) }
+{
+    out.push_str(text_number(fault))?;
+    out.push_str(" at ")?;
+    out.push_str(section_name(section))?;
+    out.push_str(" line ")?;
+    out.push_str(&line.to_string(alloc)?)?;
+    Ok(())
+}
+
+/// Adds a code's fault and where it stands.
+fn print_code_fault(
+    alloc: Global,
+    out: &mut String,
+    fault: bpf_insn::Fault,
+    slot: usize,
+) -> Result<(), AllocError>
+    ensures { OnOk result (string_bytes out.new ≡ string_bytes out.old ++ what_is_refused (Code fault slot)) }
+{
+    out.push_str(code_number(fault))?;
+    out.push_str(" at slot ")?;
+    out.push_str(&slot.to_string(alloc)?)?;
+    Ok(())
+}
+
+/// Adds what is refused.
+fn print_refused(alloc: Global, out: &mut String, refusal: Refusal) -> Result<(), AllocError>
+    ensures { OnOk result (string_bytes out.new ≡ string_bytes out.old ++ what_is_refused refusal) }
+{
+    match refusal {
+        Refusal::Text {
+            fault,
+            section,
+            line,
+        } => print_text_fault(alloc, out, fault, section, line),
+        Refusal::Code { fault, slot } => print_code_fault(alloc, out, fault, slot),
+        Refusal::NotThin => out.push_str("V0 at slot 0"),
+        Refusal::Sizes => out.push_str("P1"),
+    }
+}
+
+/// The line of a refusal.
+pub fn refusal_line(alloc: Global, refusal: Refusal) -> Result<String, AllocError>
+    ensures { IfOk result (λ line. string_bytes line ≡ refusal_line refusal) }
+{
+    let mut out = String::new(alloc);
+    out.push_str("refused ")?;
+    print_refused(alloc, &mut out, refusal)?;
+    out.push_str("\n")?;
+    Ok(out)
+}
+
+/// Why an input was given up.
+#[derive(Clone, Copy, Debug, PartialEq, Eq)]
+pub enum Failure {
+    /// It is refused.
+    Refused(Refusal),
+    /// There was no memory.
+    Memory,
+}
+
+impl From<AllocError> for Failure {
+    ghost use Rattle.bpfspec_serve.specs.declared.refusal.Failure.TheVariants.{Memory};
+
+    ghost from_gives = { λ _ e. e ≡ Memory };
+
+    fn from(_e: AllocError) -> Failure {
+        Failure::Memory
+    }
+}

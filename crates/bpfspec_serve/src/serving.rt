@@ -1,0 +1,103 @@
+//! Serving: an input is read whole, answered, and the answer is written.
+
+ghost use Rattle.std.specs.Prelude.{◌≡◌, ◌+◌, ◌-◌, ◌^◌, ◌<◌, IfOk};
+ghost use Rattle.std.specs.String.{string_bytes};
+ghost use Rattle.bpfspec_serve.specs.HowServed.{AnswersReader, HowWritten, HowServed};
+ghost use Rattle.bpfspec_serve.specs.Output.{refused_as, Answers};
+
+use crate::answering::{MAX_INPUT, outcome};
+use crate::command_line::Mode;
+use crate::reading::{ReadAllError, read_all};
+use crate::refusal::{Failure, Refusal, refusal_line};
+use crate::streams::{Sink, Source};
+use crate::writing::write_all;
+use std::alloc::{AllocError, Global};
+
+/// How an input was served.
+#[derive(Clone, Copy, Debug, PartialEq, Eq)]
+pub enum Served {
+    /// Its result was written.
+    Done,
+    /// Its refusal was written.
+    Refused,
+    /// The refusal of its text was written.
+    Text,
+    /// That memory ran out was written.
+    Memory,
+    /// A read or a write failed; what was written is a beginning of the answer.
+    Device,
+}
+
+/// An answer: its text, and how it is served once that is written.
+#[derive(Debug, Drop)]
+struct Answer {
+    served: Served,
+    text: String,
+}
+
+/// How a refusal is served.
+fn refused_as(refusal: Refusal) -> Served
+    ensures { result ≡ refused_as refusal }
+{
+    match refusal {
+        Refusal::Text { .. } => Served::Text,
+        _ => Served::Refused,
+    }
+}
+
+/// The answer to an input.
+fn answer_to(alloc: Global, mode: &Mode, input: &[u8]) -> Result<Answer, AllocError>
+    ensures { IfOk result (λ answer. Answers mode.now input.now (record {
+      served = answer.served;
+      text = string_bytes answer.text;
+    })) }
+{
+    match outcome(alloc, mode, input) {
+        Ok(text) => Ok(Answer {
+            served: Served::Done,
+            text,
+        }),
+        Err(Failure::Refused(refusal)) => Ok(Answer {
+            served: refused_as(refusal),
+            text: refusal_line(alloc, refusal)?,
+        }),
+        Err(Failure::Memory) => Err(AllocError),
+    }
+}
+
+/// Writes a text, and tells how it was served: as wanted, unless a write failed.
+fn write<W: Sink>(sink: &mut W, text: &[u8], wanted: Served) -> Served
+    requires { W.failed sink.old < 2 ^ 64 - 1 }
+    ensures { HowWritten text.now wanted result (λ n. W.failed sink.new ≡ W.failed sink.old + n)
+        (W.taken sink.old) (W.taken sink.new) }
+{
+    match write_all(sink, text) {
+        Ok(()) => wanted,
+        Err(_) => Served::Device,
+    }
+}
+
+/// The line that tells that memory ran out.
+const MEMORY_LINE: &[u8] = b"refused memory\n";
+
+/// Reads an input to its end, at most 3,145,729 bytes, answers it, and writes the answer. The answer
+/// is whole before its first byte is written.
+///
+/// The source's and the sink's `failures` have to be below 2^64 - 1.
+pub fn serve<R: Source, W: Sink>(alloc: Global, mode: &Mode, source: &mut R, sink: &mut W) -> Served
+    requires reads { R.failed source.old < 2 ^ 64 - 1 }
+    requires writes { W.failed sink.old < 2 ^ 64 - 1 }
+    ensures { HowServed (AnswersReader mode.now (R.left source.old)) result
+        (λ n. R.failed source.new ≡ R.failed source.old + n) (λ n. W.failed sink.new ≡ W.failed sink.old + n)
+        (W.taken sink.old) (W.taken sink.new) }
+{
+    let input = match read_all(alloc, source, MAX_INPUT + 1) {
+        Ok(input) => input,
+        Err(ReadAllError::Device) => return Served::Device,
+        Err(ReadAllError::Memory) => return write(sink, MEMORY_LINE, Served::Memory),
+    };
+    match answer_to(alloc, mode, &input) {
+        Ok(answer) => write(sink, answer.text.as_bytes(), answer.served),
+        Err(_) => write(sink, MEMORY_LINE, Served::Memory),
+    }
+}
