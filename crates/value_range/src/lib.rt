@@ -1,0 +1,10 @@
+//! Ranges of words: what operations leave and what conditional jumps tell, for a verifier that knows
+//! each register as a range. Each operation is a row of `specs/AluRows.antt` and contains the result
+//! of every pair of words in its operands.
+#![tactic(auto)]
+
+mod operation;
+
+pub use operation::Operation;
+pub use value_range_refine::Condition;
+pub use value_range_spans::{Range, exact, join, norm, top};

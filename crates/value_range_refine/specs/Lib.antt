@@ -1,0 +1,2 @@
+pub use Rattle.value_range_spans.specs.Spans
+pub mod RefineRows
