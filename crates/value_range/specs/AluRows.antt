@@ -56,8 +56,8 @@ subtracted width a b =
 -- MUL
 unfoldable pub multiplied : Width → Span → Span → Span
 multiplied width a b =
-    if nat_lt (a.hi * b.hi) (modulus width) then norm (a.lo * b.lo) (a.hi * b.hi) (min 64 (a.zeros + b.zeros))
-    else norm 0 (modulus width - 1) (min 64 (a.zeros + b.zeros))
+    if nat_lt (a.hi * b.hi) (modulus width) then norm (a.lo * b.lo) (a.hi * b.hi) (min (a.zeros + b.zeros) 64)
+    else norm 0 (modulus width - 1) (min (a.zeros + b.zeros) 64)
 
 -- DIV
 unfoldable pub divided : Span → Span → Span
@@ -91,8 +91,8 @@ other_bits a b = norm 0 (filled (bit_or a.hi b.hi)) (min a.zeros b.zeros)
 -- LSH by a known amount, at most 63
 unfoldable pub shifted_left_by : Width → Span → ℕ → Span
 shifted_left_by width a s =
-    if nat_lt (a.hi * 2 ^ s) (modulus width) then norm (a.lo * 2 ^ s) (a.hi * 2 ^ s) (min 64 (a.zeros + s))
-    else norm 0 (modulus width - 1) (min 64 (a.zeros + s))
+    if nat_lt (a.hi * 2 ^ s) (modulus width) then norm (a.lo * 2 ^ s) (a.hi * 2 ^ s) (min (a.zeros + s) 64)
+    else norm 0 (modulus width - 1) (min (a.zeros + s) 64)
 
 -- LSH
 unfoldable pub shifted_left : Width → Span → Span → Span

@@ -3,8 +3,16 @@
 //! of every pair of words in its operands.
 #![tactic(auto)]
 
+mod bits;
+mod moves;
 mod operation;
+mod quotients;
+mod shifts;
+mod sums;
+mod table;
+mod widths;
 
 pub use operation::Operation;
+pub use table::alu;
 pub use value_range_refine::Condition;
 pub use value_range_spans::{Range, exact, join, norm, top};

@@ -104,10 +104,10 @@ lesser-multiple i j a b x h k e =
     (λ (s : x ≡ b). subst (λ (n : ℕ). n % 2 ^ min i j ≡ 0) (sym s) (coarser (min i j) j b (min-le_right i j) k))
     e
 
-min-one : (a b : ℕ) → (min a b ≡ a) ⊎ (min a b ≡ b)
+pub min-one : (a b : ℕ) → (min a b ≡ a) ⊎ (min a b ≡ b)
 min-one a b = ⊎_elim (λ (l : a < b). inl (min-eq_left (omega arith))) (λ (l : b ≤ a). inr (min-eq_right l)) (cases_lt a b)
 
-max-one : (a b : ℕ) → (max a b ≡ a) ⊎ (max a b ≡ b)
+pub max-one : (a b : ℕ) → (max a b ≡ a) ⊎ (max a b ≡ b)
 max-one a b = ⊎_elim (λ (l : a < b). inr (max-eq_right (omega arith))) (λ (l : b ≤ a). inl (max-eq_left l)) (cases_lt a b)
 
 pub join-span : (a b : Span) → IsSpan a → IsSpan b → IsSpan (join a b)
