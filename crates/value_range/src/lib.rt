@@ -14,5 +14,5 @@ mod widths;
 
 pub use operation::Operation;
 pub use table::alu;
-pub use value_range_refine::Condition;
+pub use value_range_refine::{Condition, refine};
 pub use value_range_spans::{Range, exact, join, norm, top};

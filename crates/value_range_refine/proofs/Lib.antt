@@ -1,1 +1,2 @@
 pub mod ConditionLaws
+pub mod RefineLaws

@@ -6,7 +6,8 @@ ghost use Rattle.bpf_insn_words.specs.Words.{holds};
 ghost use Rattle.value_range_refine.specs.declared.condition.Condition.TheVariants.{Holds};
 ghost use Rattle.value_range_refine.specs.RefineRows.{says, opposite};
 
-use bpf_insn::Compare;
+use bpf_insn::{Compare, Width};
+use bpf_insn_words::compare_words;
 
 /// What is known on one way of a conditional jump.
 #[derive(Clone, Copy, Debug, PartialEq, Eq)]
@@ -32,6 +33,16 @@ impl Condition {
         ensures meaning { (width : Width) (a b : ℕ) → says result width a b ≡ not (holds width compare a b) }
     {
         opposite_of(compare)
+    }
+
+    /// Whether two words meet it, at 32 bits by their lower halves.
+    pub fn says(self, width: Width, a: u64, b: u64) -> bool
+        ensures { result ≡ says self width a b }
+    {
+        match self {
+            Condition::Holds(compare) => compare_words(width, compare, a, b),
+            Condition::NotSet => !compare_words(width, Compare::Set, a, b),
+        }
     }
 }
 

@@ -148,3 +148,17 @@ norm-more lo hi z least greatest is_least is_greatest other =
     (sym (cond-false (rounded_up z lo == rounded_down z hi) (exact (rounded_up z lo))
     (record { lo = rounded_up z lo; hi = rounded_down z hi; zeros = z })
     (ne_eqb (rounded_up z lo) (rounded_down z hi) (λ e. other (is_least ∙ e ∙ sym is_greatest)))))
+
+-- a multiple between the bounds is what makes a span of them
+pub norm-some : (lo hi z x : ℕ) → lo ≤ x → x ≤ hi → x % 2 ^ z ≡ 0 → rounded_up z lo ≤ hi
+norm-some lo hi z x above below multiple = omega (arith, up-most z lo x multiple above, below)
+
+-- bounds that are rounded already stay
+pub norm-rounded : (lo hi z : ℕ) → norm lo hi z ≡ norm (rounded_up z lo) hi z
+unfolding norm
+norm-rounded lo hi z =
+    let least = rounded_up z lo in
+    let same : least ≡ rounded_up z least =
+    omega (arith, up-least z least, up-most z least least (up-multiple z lo) (omega arith)) in
+    ap (λ (n : ℕ).
+    if n == rounded_down z hi then exact n else record { lo = n; hi = rounded_down z hi; zeros = z }) same
