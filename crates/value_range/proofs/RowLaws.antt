@@ -24,8 +24,8 @@ pub some-between : (lo hi z x : ℕ) → Between lo hi z x → rounded_up z lo �
 some-between lo hi z x b = omega (arith, up-most z lo x b.multiple b.above, b.below)
 
 -- and it stays when they are rounded
-pub norm-between : (lo hi z x : ℕ) → hi < 2 ^ 64 → Between lo hi z x → Contains (norm lo hi z) x
-norm-between lo hi z x word b = norm-contains lo hi z x word b.above b.below b.multiple
+pub norm-between : (lo hi z x : ℕ) → Between lo hi z x → Contains (norm lo hi z) x
+norm-between lo hi z x b = norm-contains lo hi z x b.above b.below b.multiple
 
 -- from 0 there is always 0
 pub zero_some : (z hi : ℕ) → rounded_up z 0 ≤ hi

@@ -1,6 +1,7 @@
 //! The table of operations on ranges.
 
-ghost use Rattle.std.specs.Prelude.{◌≡◌};
+ghost use Rattle.std.specs.Prelude.{◌≡◌, ℕ};
+ghost use Rattle.value_range_spans.specs.Spans.{IsSpan, Contains};
 ghost use Rattle.value_range.specs.AluRows.{meant, operand_of, operand, alu_row, row, alu_reads_exact, reads_exact, of_operands, span_of};
 
 use crate::bits::{common_bits, other_bits, with_bits};
@@ -10,20 +11,19 @@ use crate::quotients::{divided, left_over};
 use crate::shifts::{shifted_left, shifted_right, shifted_signed};
 use crate::sums::{added, multiplied, subtracted};
 use bpf_insn::{AluOp, Width};
-use bpf_insn_words::{alu_word, endian_word, movsx_word, neg_word};
+use bpf_insn_words::{alu_word, endian_word, movsx_word, neg_word, results_fit};
 use value_range_spans::{Range, exact, top};
 
 /// What an operation leaves: the meaning of exact operands, or the operation's row. It contains the
 /// result of every pair of words in the operands.
 pub fn alu(operation: Operation, width: Width, a: Range, b: Range) -> Range
-    ensures { result ≡ span_of operation width a b }
+    ensures equal { result ≡ span_of operation width a b }
+    ensures contains { (x y : ℕ) → Contains a x → Contains b y → Contains result (meant operation width x y) }
 {
-    of_operands(
-        operation,
-        width,
-        operand(operation, width, a),
-        operand(operation, width, b),
-    )
+    results_fit();
+    let first = operand(operation, width, a);
+    let second = operand(operation, width, b);
+    of_operands(operation, width, first, second)
 }
 
 // An operand, save of byte orders a number of the width.
@@ -50,7 +50,9 @@ fn operand_of(width: Width, range: Range) -> Range
 // Of exact operands the meaning, else the row.
 #[tactic(auto, unfolding(crate::specs::AluRows::of_operands))]
 fn of_operands(operation: Operation, width: Width, a: Range, b: Range) -> Range
-    ensures { result ≡ of_operands operation width a b }
+    ensures equal { result ≡ of_operands operation width a b }
+    ensures first { IsSpan a }
+    ensures second { IsSpan b }
 {
     if reads_exact(operation, a, b) {
         exact(meaning(operation, width, a.lo(), b.lo()))
@@ -73,7 +75,9 @@ fn meaning(operation: Operation, width: Width, a: u64, b: u64) -> u64
 
 // Whether all operands that an operation reads are exact.
 fn reads_exact(operation: Operation, a: Range, b: Range) -> bool
-    ensures { result ≡ reads_exact operation a b }
+    ensures equal { result ≡ reads_exact operation a b }
+    ensures first { IsSpan a }
+    ensures second { IsSpan b }
 {
     let first = a.lo() == a.hi();
     let second = b.lo() == b.hi();

@@ -1,5 +1,6 @@
 -- Multiples of powers of two, and rounding to them.
 use Rattle.std.proofs.Common.{◌≡◌, ◌∙◌, ℕ, zero, suc, ◌+◌, ◌-◌, ◌*◌, ◌/◌, ◌%◌, ◌^◌, ◌<◌, ◌≤◌, min, max, refl, sym, ap, subst, arith, inl, inr, ⊎_elim}
+use Rattle.std.specs.Int.Count.{count_trailing_zeros, under}
 use Rattle.std.specs.Int.{◌∣◌, w64, trailing_zeros, next_multiple_of, bit_at}
 use Rattle.std.proofs.Math.Nat.{dvd-mul_right, dvd-mul_left, dvd_trans, dvd-add, dvd-sub, dvd-mod_iff, mul-dvd-mul, dvd-zero, dvd-mul_right_of_dvd, div-mul_cancel, mod_self, mod-eq_of_lt, mul-le-mul_right, div-mul-le_self, min-le_left, min-le_right}
 use Rattle.std.proofs.lemmas.Nat.{pow_pos, pow-add, mod-pow-add, mod_below, div-add-mod', shr_split, trailing_le}
@@ -53,19 +54,21 @@ multiple-wrap z w n h =
 no-more : (b p r : ℕ) → b ≡ 0 → r ≡ 0 → b * p + r ≡ 0
 no-more b p r h k = rw (h, k) (omega arith)
 
--- a number with no bit below t is a multiple of 2 ^ t
-zero-bits : (t n : ℕ) → ((i : ℕ) → i < t → bit_at n i ≡ 0) → n % 2 ^ t ≡ 0
-zero-bits zero n h = multiple-zero n
-zero-bits (suc t) n h =
-    let e : 1 + t ≡ suc t = omega arith in
-    subst (λ (k : ℕ). n % 2 ^ k ≡ 0) e
-    (mod-pow-add n 1 t
-    ∙ no-more (bit_at n t) (2 ^ t) (n % 2 ^ t) (h t (omega arith)) (zero-bits t n (λ i l. h i (omega arith))))
+-- a number is a multiple of its trailing zeros, however many digits are looked at
+trailing-any : (k n : ℕ) → n % 2 ^ count_trailing_zeros k n ≡ 0
+unfolding count_trailing_zeros
+trailing-any zero n = multiple-zero n
+trailing-any (suc k) n = go (n % 2) refl (trailing-any k (n / 2))
+  where
+    go : (r : ℕ) → n % 2 ≡ r → n / 2 % 2 ^ count_trailing_zeros k (n / 2) ≡ 0 → n % 2 ^ under r (count_trailing_zeros k (n / 2)) ≡ 0
+    go zero even half =
+        let t = count_trailing_zeros k (n / 2) in
+        let e : t + 1 ≡ suc t = omega arith in
+        subst (λ (z : ℕ). n % 2 ^ z ≡ 0) e (mod-pow-add n t 1 ∙ no-more (n / 2 % 2 ^ t) 2 (n % 2) half even)
+    go (suc r) odd half = multiple-zero n
 
--- a word is a multiple of its trailing zeros
-pub trailing-multiple : (n : ℕ) → n < 2 ^ 64 → n % 2 ^ trailing_zeros w64 n ≡ 0
-trailing-multiple zero h = zero-multiple (trailing_zeros w64 0)
-trailing-multiple (suc n) h = zero-bits (trailing_zeros w64 (suc n)) (suc n) (bit_at-trailing_zeros w64 (suc n) (omega arith) h).2
+pub trailing-multiple : (n : ℕ) → n % 2 ^ trailing_zeros w64 n ≡ 0
+trailing-multiple n = trailing-any 64 n
 
 pub trailing-most : (n : ℕ) → trailing_zeros w64 n ≤ 64
 trailing-most n = trailing_le 64 n

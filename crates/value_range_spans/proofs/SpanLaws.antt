@@ -16,12 +16,12 @@ exact-span n h = record {
   ordered = omega arith;
   word = h;
   bits = trailing-most n;
-  lo_multiple = trailing-multiple n h;
-  hi_multiple = trailing-multiple n h;
+  lo_multiple = trailing-multiple n;
+  hi_multiple = trailing-multiple n;
 }
 
-pub exact-contains : (n : ℕ) → n < 2 ^ 64 → Contains (exact n) n
-exact-contains n h = record { above = omega arith; below = omega arith; multiple = trailing-multiple n h }
+pub exact-contains : (n : ℕ) → Contains (exact n) n
+exact-contains n = record { above = omega arith; below = omega arith; multiple = trailing-multiple n }
 
 -- the least and the greatest number of a span are among its numbers
 pub lo-in : (s : Span) → IsSpan s → Contains s s.lo
@@ -43,9 +43,9 @@ pub top-contains : (width : Width) (x : ℕ) → x < modulus width → Contains 
 top-contains width x h = record { above = omega arith; below = omega arith; multiple = multiple-zero x }
 
 -- what is between the bounds stays between the rounded bounds
-pub norm-contains : (lo hi z x : ℕ) → hi < 2 ^ 64 → lo ≤ x → x ≤ hi → x % 2 ^ z ≡ 0 → Contains (norm lo hi z) x
+pub norm-contains : (lo hi z x : ℕ) → lo ≤ x → x ≤ hi → x % 2 ^ z ≡ 0 → Contains (norm lo hi z) x
 unfolding norm
-norm-contains lo hi z x word above below multiple =
+norm-contains lo hi z x above below multiple =
     go (rounded_up z lo == rounded_down z hi) refl
   where
     up : rounded_up z lo ≤ x
@@ -54,14 +54,11 @@ norm-contains lo hi z x word above below multiple =
     down : x ≤ rounded_down z hi
     down = down-least z hi x multiple below
 
-    small : rounded_up z lo < 2 ^ 64
-    small = omega (arith, up, below, word)
-
     go : (b : Bool) → (rounded_up z lo == rounded_down z hi) ≡ b →
         Contains (if b then exact (rounded_up z lo) else record { lo = rounded_up z lo; hi = rounded_down z hi; zeros = z }) x
     go true e =
         let same : rounded_up z lo ≡ x = omega (arith, eqb-true (rounded_up z lo) (rounded_down z hi) e, up, down) in
-        subst (λ (n : ℕ). Contains (exact (rounded_up z lo)) n) same (exact-contains (rounded_up z lo) small)
+        subst (λ (n : ℕ). Contains (exact (rounded_up z lo)) n) same (exact-contains (rounded_up z lo))
     go false e = record { above = up; below = down; multiple = multiple }
 
 -- where a multiple lies between the bounds, what they are rounded to is a span
