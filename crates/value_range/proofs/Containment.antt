@@ -1,9 +1,9 @@
 -- What an operation leaves of two spans contains its meaning on each pair of their words.
-use Rattle.std.proofs.Common.{◌≡◌, ◌∙◌, ℕ, ◌+◌, ◌-◌, ◌*◌, ◌/◌, ◌%◌, ◌^◌, ◌<◌, ◌≤◌, Bool, true, false, ◌&&◌, refl, sym, ap, subst, arith}
-use Rattle.std.specs.Prelude.{◌==◌, nat_lt, if◌then◌else◌}
+use Rattle.std.proofs.Common.{◌≡◌, ◌∙◌, ℕ, ◌+◌, ◌-◌, ◌*◌, ◌/◌, ◌%◌, ◌^◌, ◌<◌, true, ◌&&◌, refl, sym, ap, subst, arith}
+use Rattle.std.specs.Prelude.{nat_lt, if◌then◌else◌}
 use Rattle.std.proofs.Math.Nat.{mod-eq_of_lt, mod-mod}
 use Rattle.std.proofs.lemmas.Nat.{mod_below}
-use Rattle.std.proofs.lemmas.Bool.{ltb-true, eqb-true, and_parts, cond-true, lt-ltb}
+use Rattle.std.proofs.lemmas.Bool.{ltb-true, and_parts, cond-true, lt-ltb}
 use Rattle.bpf_insn.specs.declared.insn.Width.{Width}
 use Rattle.bpf_insn.specs.declared.insn.Width.TheVariants.{W32, W64}
 use Rattle.bpf_insn.specs.declared.insn.AluOp.{AluOp}
@@ -17,7 +17,7 @@ use Rattle.bpf_insn_words.specs.Words.{modulus, computed, alu, negated, moved_si
 use Rattle.bpf_insn_words.specs.WordBounds.{ResultsFit}
 use Rattle.value_range_spans.specs.Spans.{Span, IsSpan, Contains, is_exact, exact, top, norm}
 use Rattle.value_range_spans.proofs.Multiples.{multiple-zero, zero-multiple}
-use Rattle.value_range_spans.proofs.SpanLaws.{exact-span, exact-contains, exact-number, top-contains, number-word}
+use Rattle.value_range_spans.proofs.SpanLaws.{exact-contains, exact-number, top-contains, number-word}
 use Rattle.value_range.specs.declared.operation.Operation.{Operation}
 use Rattle.value_range.specs.declared.operation.Operation.TheVariants.{Alu, Neg, Movsx, Endian}
 use Rattle.value_range.specs.AluRows.{meant, low32, operand_of, operand, negative, extended, top_bits, little, ordered, alu_row, row, alu_reads_exact, reads_exact, of_operands, span_of}

@@ -1,7 +1,7 @@
 -- Each row of an operator contains what it computes of every pair of numbers in its operands.
 use Rattle.std.proofs.Common.{◌≡◌, ◌∙◌, ℕ, ◌+◌, ◌-◌, ◌*◌, ◌/◌, ◌%◌, ◌^◌, ◌<◌, ◌≤◌, min, max, Bool, true, false, refl, sym, ap, subst, arith}
 use Rattle.std.specs.Prelude.{◌==◌, nat_lt, nat_le, if◌then◌else◌, bit_and, bit_or, bit_xor}
-use Rattle.std.proofs.Math.Nat.{min-le_left, mod-eq_of_lt, add-mul-mod_self_left, mod_self, add-mod_left, div-mul-le_self}
+use Rattle.std.proofs.Math.Nat.{mod-eq_of_lt, add-mul-mod_self_left, add-mod_left}
 use Rattle.std.proofs.lemmas.Nat.{pow_pos, mod_below, shr_le}
 use Rattle.std.proofs.Math.Nat.{div-le_self, mod-le}
 use Rattle.std.proofs.lemmas.Bool.{ltb-true, leb-true, eqb-true, eqb-false, cond-true, cond-false, lt-ltb, ne_eqb}
@@ -11,10 +11,10 @@ use Rattle.bpf_insn.specs.declared.insn.AluOp.{AluOp}
 use Rattle.bpf_insn.specs.declared.insn.AluOp.TheVariants.{Add, Sub, Mul, Div, Sdiv, Or, And, Lsh, Rsh, Mod, Smod, Xor, Mov, Arsh}
 use Rattle.bpf_insn_words.specs.Words.{modulus, shift, quotient, remainder, arithmetic_shift, computed}
 use Rattle.value_range_spans.specs.Spans.{Span, IsSpan, Contains, is_exact, exact, top, norm}
-use Rattle.value_range_spans.proofs.Multiples.{coarser, zero-multiple, multiple-zero, multiple-add, multiple-sub, multiple-mul, multiple-wrap, pow-multiple}
+use Rattle.value_range_spans.proofs.Multiples.{coarser, multiple-zero, multiple-add, multiple-sub, multiple-mul, multiple-wrap, pow-multiple}
 use Rattle.value_range_spans.proofs.SpanLaws.{norm-contains, exact-contains, exact-number, top-contains}
 use Rattle.value_range.specs.AluRows.{filled, added, subtracted, multiplied, divided, left_over, with_bits, common_bits, other_bits, shifted_left_by, shifted_left, shifted_right, shifted_signed, alu_row}
-use Rattle.value_range.proofs.RowLaws.{Between, norm-between, min-first, min-second, sum-between, difference-between, product-between, quotient-between, or-between, xor-between, and-between, left-between, right-between, modulus-most}
+use Rattle.value_range.proofs.RowLaws.{norm-between, min-first, min-second, sum-between, difference-between, product-between, quotient-between, or-between, xor-between, and-between, left-between, right-between}
 
 -- every width has numbers
 pub modulus-positive : (width : Width) → 0 < modulus width

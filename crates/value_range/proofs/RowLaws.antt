@@ -1,9 +1,9 @@
 -- What each row's bounds have between them, and that there is something.
-use Rattle.std.proofs.Common.{◌≡◌, ◌∙◌, ℕ, zero, suc, ◌+◌, ◌-◌, ◌*◌, ◌/◌, ◌%◌, ◌^◌, ◌<◌, ◌≤◌, min, max, Bool, true, false, refl, sym, ap, subst, arith, inl, inr, ⊎_elim}
+use Rattle.std.proofs.Common.{◌≡◌, ◌∙◌, ℕ, ◌+◌, ◌-◌, ◌*◌, ◌/◌, ◌%◌, ◌^◌, ◌<◌, ◌≤◌, min, max, refl, sym, ap, subst, arith, inl, inr, ⊎_elim}
 use Rattle.std.specs.Prelude.{◌⊎◌, nat_lt, bit_and, bit_or, bit_xor}
 use Rattle.std.specs.Int.{w64, leading_zeros}
-use Rattle.std.proofs.Math.Nat.{min-le_left, min-le_right, le-max_left, le-max_right, le-min, max-le, div-mul-le_self, zero-div, mod-eq_of_lt, pow-suc}
-use Rattle.std.proofs.lemmas.Nat.{mul-le, pow_pos, pow-add, and_le_l, and_le_r, or_lt, xor_lt, le_or_l, le_or_r, and_mod, or_mod, xor_mod, leading_length, leading_le, le-div, field_of, shl_whole}
+use Rattle.std.proofs.Math.Nat.{min-le_left, min-le_right, le-min, max-le, div-mul-le_self, zero-div, mod-eq_of_lt, pow-suc}
+use Rattle.std.proofs.lemmas.Nat.{mul-le, pow_pos, and_le_l, and_le_r, or_lt, xor_lt, le_or_l, le_or_r, and_mod, or_mod, xor_mod, leading_length, leading_le, le-div, field_of, shl_whole}
 use Rattle.std.proofs.lemmas.Nat.Bits.{ones_shr}
 use Rattle.std.proofs.Math.Pow.{pow_mono}
 use Rattle.std.proofs.lemmas.Bool.{cases_lt, cond-true, lt-ltb}
@@ -11,7 +11,7 @@ use Rattle.bpf_insn.specs.declared.insn.Width.{Width}
 use Rattle.bpf_insn.specs.declared.insn.Width.TheVariants.{W32, W64}
 use Rattle.bpf_insn_words.specs.Words.{modulus}
 use Rattle.value_range_spans.specs.Spans.{Span, IsSpan, Contains, rounded_up, norm}
-use Rattle.value_range_spans.proofs.Multiples.{coarser, zero-multiple, multiple-zero, multiple-add, multiple-sub, multiple-mul, multiple-wrap, pow-multiple, up-most, up-least}
+use Rattle.value_range_spans.proofs.Multiples.{coarser, zero-multiple, multiple-zero, multiple-add, multiple-sub, multiple-mul, pow-multiple, up-most}
 use Rattle.value_range_spans.proofs.SpanLaws.{norm-contains, lo-in, max-one}
 use Rattle.value_range.specs.AluRows.{filled, shifted_left_by}
 

@@ -5,7 +5,7 @@ use Rattle.std.proofs.lemmas.Bool.Decides.{nat_tests}
 use Rattle.bpf_insn.specs.declared.insn.Width.{Width}
 use Rattle.bpf_insn.specs.declared.insn.Compare.{Compare}
 use Rattle.bpf_insn.specs.declared.insn.Compare.TheVariants.{Eq, Gt, Ge, Set, Ne, Sgt, Sge, Lt, Le, Slt, Sle}
-use Rattle.bpf_insn_words.specs.Words.{modulus, signed, compared, holds}
+use Rattle.bpf_insn_words.specs.Words.{modulus, signed, holds}
 use Rattle.value_range_refine.specs.RefineRows.{says, opposite}
 
 not-not : (b : Bool) → b ≡ not (not b)

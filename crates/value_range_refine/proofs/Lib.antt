@@ -1,2 +1,3 @@
 pub mod ConditionLaws
 pub mod RefineLaws
+pub mod Containment

@@ -1,14 +1,14 @@
 -- What is left of two spans, and that it holds every pair that meets the condition.
-use Rattle.std.proofs.Common.{◌≡◌, ◌∙◌, ℕ, ◌+◌, ◌-◌, ◌*◌, ◌%◌, ◌^◌, ◌<◌, ◌≤◌, min, max, Bool, true, false, refl, sym, ap, subst, arith, inl, inr, ⊎_elim}
-use Rattle.std.specs.Prelude.{◌==◌, nat_lt, nat_le, if◌then◌else◌}
+use Rattle.std.proofs.Common.{◌≡◌, ◌∙◌, ℕ, ◌+◌, ◌-◌, ◌*◌, ◌%◌, ◌^◌, ◌<◌, ◌≤◌, min, max, sym, ap, subst, arith, ⊎_elim}
+use Rattle.std.specs.Prelude.{nat_lt}
 use Rattle.std.specs.declared.option.Option.TheVariants.{None, Some}
 use Rattle.std.proofs.lemmas.Bool.{cases_lt, cond-true, cond-false, lt-ltb, le-ltb}
-use Rattle.std.proofs.lemmas.Nat.{one_shl, pow_pos}
-use Rattle.std.proofs.Math.Nat.{min-le_left, min-le_right, le-max_left, le-max_right, le-min, max-le}
-use Rattle.value_range_spans.specs.Spans.{Span, IsSpan, Contains, rounded_up, rounded_down, norm}
+use Rattle.std.proofs.lemmas.Nat.{one_shl}
+use Rattle.std.proofs.Math.Nat.{le-min, max-le}
+use Rattle.value_range_spans.specs.Spans.{Span, IsSpan, rounded_up, rounded_down, norm}
 use Rattle.value_range_spans.proofs.Multiples.{multiple-add, pow-multiple, apart, down-multiple, up-most, up-least}
 use Rattle.value_range_spans.proofs.SpanLaws.{norm-some, norm-rounded}
-use Rattle.value_range_refine.specs.RefineRows.{Refined, within, equal}
+use Rattle.value_range_refine.specs.RefineRows.{equal}
 
 -- rounding inward leaves nothing where the greatest multiple is below the least number
 pub equal-none : (a b : Span) (z lo hi h : ℕ) → z ≡ max a.zeros b.zeros → lo ≡ max a.lo b.lo → hi ≡ min a.hi b.hi →

@@ -1,7 +1,7 @@
 //! The table of conditions on ranges.
 
-ghost use Rattle.std.specs.Prelude.{◌≡◌, ◌^◌, ◌&&◌, nat_lt};
-ghost use Rattle.value_range_spans.specs.Spans.{Contains};
+ghost use Rattle.std.specs.Prelude.{◌≡◌, ℕ, ◌^◌, true, false, ◌&&◌, nat_lt, IfSome, IfNone};
+ghost use Rattle.value_range_spans.specs.Spans.{IsSpan, Contains};
 ghost use Rattle.value_range_refine.specs.RefineRows.{says, refine_row, refined};
 
 use crate::condition::Condition;
@@ -11,13 +11,26 @@ use value_range_spans::Range;
 
 /// The ranges of both operands where the condition holds. They contain every pair of words of a and b
 /// that meets it; None where no pair does.
-#[tactic(auto, unfolding(crate::specs::RefineRows::refined))]
 pub fn refine(condition: Condition, width: Width, a: Range, b: Range) -> Option<(Range, Range)>
     ensures equal { result ≡ refined condition width a b }
+    ensures some { IfSome result (λ pair. (x y : ℕ) → Contains a x → Contains b y
+        → says condition width x y ≡ true → Contains pair.0 x × Contains pair.1 y) }
+    ensures none { IfNone result ((x y : ℕ) → Contains a x → Contains b y → says condition width x y ≡ false) }
 {
+    refined(condition, width, a, b)
+}
+
+// The row of a condition; of ranges that aren't of 32 bits, at 32 bits, whether exact ones meet it.
+#[tactic(auto, unfolding(crate::specs::RefineRows::refined))]
+fn refined(condition: Condition, width: Width, a: Range, b: Range) -> Option<(Range, Range)>
+    ensures equal { result ≡ refined condition width a b }
+    ensures first { IsSpan a }
+    ensures second { IsSpan b }
+{
+    let greatest = a.hi().max(b.hi());
     match width {
         Width::W32 => {
-            if are_halves(a, b) {
+            if greatest < 0x1_0000_0000 {
                 refine_row(condition, width, a, b)
             } else {
                 tested(condition, width, a, b)
@@ -25,13 +38,6 @@ pub fn refine(condition: Condition, width: Width, a: Range, b: Range) -> Option<
         }
         Width::W64 => refine_row(condition, width, a, b),
     }
-}
-
-// Whether all words of both are numbers of 32 bits.
-fn are_halves(a: Range, b: Range) -> bool
-    ensures { result ≡ nat_lt a.hi (2 ^ 32) && nat_lt b.hi (2 ^ 32) }
-{
-    a.hi() < 0x1_0000_0000 && b.hi() < 0x1_0000_0000
 }
 
 // The row of a condition.

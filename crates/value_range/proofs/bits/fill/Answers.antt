@@ -1,6 +1,4 @@
 -- All bits of a word, shifted to the right by its leading zeros.
-use Rattle.std.proofs.Common.{◌≡◌, ◌∙◌, sym, ap, subst, ◌<◌, ◌≤◌, ℕ, arith, ◌/◌, ◌^◌}
-use Rattle.value_range.specs.AluRows.{filled}
 use Rattle.value_range.proofs.RowLaws.{filled-ones, filled-least, filled-most, filled-zero}
 use Rattle.value_range.proofs.bits.fill.Goals as goal
 

@@ -1,5 +1,5 @@
 -- Every number is a multiple of 1.
-use Rattle.std.proofs.Common.{◌∙◌, refl}
+use Rattle.std.proofs.Common.{refl}
 use Rattle.value_range_spans.specs.Spans.{rounded_up, rounded_down, norm}
 use Rattle.value_range.proofs.moves.every.Goals as goal
 

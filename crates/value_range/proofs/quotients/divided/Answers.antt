@@ -1,5 +1,5 @@
 -- The least number's quotient lies between.
-use Rattle.std.proofs.Common.{arith, ℕ, ◌<◌}
+use Rattle.std.proofs.Common.{arith, ◌<◌}
 use Rattle.value_range.proofs.RowLaws.{divided_some}
 use Rattle.value_range.proofs.quotients.divided.Goals as goal
 

@@ -1,5 +1,5 @@
 -- Nothing is lost where the greatest number, shifted, is one of the width.
-use Rattle.std.proofs.Common.{◌≡◌, ℕ, ◌*◌, ◌^◌, ◌%◌, arith}
+use Rattle.std.proofs.Common.{◌≡◌, ◌*◌, ◌^◌, ◌%◌, arith}
 use Rattle.value_range.proofs.RowLaws.{left-greatest, left-least, left-row, shifted_left_some, modulus-most}
 use Rattle.value_range.proofs.shifts.shifted_left_by.Goals as goal
 

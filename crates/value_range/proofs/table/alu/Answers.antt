@@ -1,5 +1,5 @@
 -- What the operands' spans contain decides what the result's contains.
-use Rattle.std.proofs.Common.{◌≡◌, subst}
+use Rattle.std.proofs.Common.{subst}
 use Rattle.value_range_spans.specs.Spans.{Span, IsSpan}
 use Rattle.value_range.proofs.Containment.{span_of-contains}
 use Rattle.value_range.proofs.table.alu.Goals as goal

@@ -1,5 +1,5 @@
 -- Rounded inward, the bounds cross where nothing lies between.
-use Rattle.std.proofs.Common.{◌≡◌, ◌∙◌, ℕ, min, max, arith}
+use Rattle.std.proofs.Common.{◌∙◌, min, max}
 use Rattle.value_range_refine.proofs.RefineLaws.{equal-none, equal-some, equal-within}
 use Rattle.value_range_refine.proofs.rows.equal.Goals as goal
 

@@ -1,5 +1,5 @@
 -- The first's greatest and the second's least number stay.
-use Rattle.std.proofs.Common.{arith, ℕ, ◌<◌, ◌≤◌}
+use Rattle.std.proofs.Common.{arith, ◌<◌}
 use Rattle.value_range_refine.proofs.RefineLaws.{greater-first, greater-second}
 use Rattle.value_range_refine.proofs.rows.greater.Goals as goal
 

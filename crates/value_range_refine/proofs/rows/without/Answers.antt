@@ -1,5 +1,4 @@
 -- A range of several words goes on a step past its least, and ends a step before its greatest.
-use Rattle.std.proofs.Common.{◌≡◌, ◌∙◌, ℕ, ◌*◌, ◌^◌, ◌%◌, ap}
 use Rattle.value_range_refine.proofs.RefineLaws.{step-shifted, without-least, without-greatest}
 use Rattle.value_range_refine.proofs.rows.without.Goals as goal
 

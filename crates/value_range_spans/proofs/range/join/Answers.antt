@@ -1,6 +1,4 @@
 -- The joined bounds have the numbers of both.
-use Rattle.std.proofs.Common.{◌≡◌, ℕ, min, max, subst, sym, ap, ◌∙◌}
-use Rattle.value_range_spans.specs.Spans.{Span, IsSpan, Contains, join}
 use Rattle.value_range_spans.proofs.SpanLaws.{join-span, join-first, join-second}
 use Rattle.value_range_spans.proofs.range.join.Goals as goal
 
