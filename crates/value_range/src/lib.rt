@@ -16,3 +16,6 @@ pub use operation::Operation;
 pub use table::alu;
 pub use value_range_refine::{Condition, refine};
 pub use value_range_spans::{Range, exact, join, norm, top};
+
+#[cfg(test)]
+mod tests;

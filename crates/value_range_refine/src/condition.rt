@@ -40,7 +40,7 @@ impl Condition {
         ensures { result ≡ says self width a b }
     {
         match self {
-            Condition::Holds(compare) => compare_words(width, compare, a, b),
+            Condition::Holds(test) => compare_words(width, test, a, b),
             Condition::NotSet => !compare_words(width, Compare::Set, a, b),
         }
     }

@@ -8,3 +8,6 @@ mod table;
 
 pub use condition::Condition;
 pub use table::refine;
+
+#[cfg(test)]
+mod tests;
