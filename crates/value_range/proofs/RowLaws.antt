@@ -107,7 +107,7 @@ below-filled x y word h =
     let e : 64 - leading_zeros w64 x ≡ length.0 = omega (arith, length.1) in
     subst (λ (k : ℕ). y < 2 ^ k) (sym e) (omega (arith, length.2))
 
-or-word : (a b : Span) → IsSpan a → IsSpan b → bit_or a.hi b.hi < 2 ^ 64
+pub or-word : (a b : Span) → IsSpan a → IsSpan b → bit_or a.hi b.hi < 2 ^ 64
 or-word a b i j = or_lt 64 a.hi b.hi i.word j.word
 
 first-below : (a b : Span) (x : ℕ) → IsSpan a → IsSpan b → Contains a x → x < 2 ^ (64 - leading_zeros w64 (bit_or a.hi b.hi))

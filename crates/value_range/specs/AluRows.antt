@@ -59,22 +59,21 @@ multiplied width a b =
     if nat_lt (a.hi * b.hi) (modulus width) then norm (a.lo * b.lo) (a.hi * b.hi) (min (a.zeros + b.zeros) 64)
     else norm 0 (modulus width - 1) (min (a.zeros + b.zeros) 64)
 
+-- DIV by a known number
+abbrev pub divided_by : Span → ℕ → Span
+divided_by a c = if c == 0 then exact 0 else norm (a.lo / c) (a.hi / c) 0
+
 -- DIV
 unfoldable pub divided : Span → Span → Span
-divided a b =
-    if is_exact b then
-    if b.lo == 0 then exact 0
-    else norm (a.lo / b.lo) (a.hi / b.lo) 0
-    else norm 0 a.hi 0
+divided a b = if is_exact b then divided_by a b.lo else norm 0 a.hi 0
+
+-- MOD by a known number
+abbrev pub left_over_by : Span → ℕ → Span
+left_over_by a c = if c == 0 then a else if nat_lt a.hi c then a else norm 0 (c - 1) 0
 
 -- MOD
 unfoldable pub left_over : Span → Span → Span
-left_over a b =
-    if is_exact b then
-    if b.lo == 0 then a
-    else if nat_lt a.hi b.lo then a
-    else norm 0 (b.lo - 1) 0
-    else norm 0 a.hi 0
+left_over a b = if is_exact b then left_over_by a b.lo else norm 0 a.hi 0
 
 -- OR
 unfoldable pub with_bits : Span → Span → Span
@@ -100,12 +99,13 @@ shifted_left width a b =
     if is_exact b then shifted_left_by width a (shift width b.lo)
     else norm 0 (modulus width - 1) a.zeros
 
+-- RSH by a known amount
+abbrev pub shifted_right_by : Span → ℕ → Span
+shifted_right_by a s = norm (a.lo / 2 ^ s) (a.hi / 2 ^ s) (a.zeros - s)
+
 -- RSH
 unfoldable pub shifted_right : Width → Span → Span → Span
-shifted_right width a b =
-    if is_exact b then
-    norm (a.lo / 2 ^ shift width b.lo) (a.hi / 2 ^ shift width b.lo) (a.zeros - shift width b.lo)
-    else norm 0 a.hi 0
+shifted_right width a b = if is_exact b then shifted_right_by a (shift width b.lo) else norm 0 a.hi 0
 
 -- ARSH
 unfoldable pub shifted_signed : Width → Span → Span → Span

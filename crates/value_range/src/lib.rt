@@ -13,7 +13,7 @@ mod table;
 mod widths;
 
 pub use operation::Operation;
-pub use table::alu;
+pub use table::{alu, alu_law};
 pub use value_range_refine::{Condition, refine};
 pub use value_range_spans::{Range, exact, join, norm, top};
 

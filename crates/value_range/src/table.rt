@@ -2,6 +2,7 @@
 
 ghost use Rattle.std.specs.Prelude.{◌≡◌, ℕ};
 ghost use Rattle.value_range_spans.specs.Spans.{IsSpan, Contains};
+ghost use Rattle.value_range.specs.AluLaw.{AluLaw};
 ghost use Rattle.value_range.specs.AluRows.{meant, operand_of, operand, alu_row, row, alu_reads_exact, reads_exact, of_operands, span_of};
 
 use crate::bits::{common_bits, other_bits, with_bits};
@@ -24,6 +25,13 @@ pub fn alu(operation: Operation, width: Width, a: Range, b: Range) -> Range
     let first = operand(operation, width, a);
     let second = operand(operation, width, b);
     of_operands(operation, width, first, second)
+}
+
+/// The law of operations on ranges, of the definitions alone. Nothing runs here.
+pub fn alu_law()
+    ensures { AluLaw }
+{
+    results_fit();
 }
 
 // An operand, save of byte orders a number of the width.

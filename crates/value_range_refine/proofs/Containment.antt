@@ -71,24 +71,27 @@ without-contains n s y i c other =
     norm-contains s.lo (s.hi - 2 ^ z) z y c.above (omega (arith, apart z y s.hi c.multiple i.hi_multiple sooner)) c.multiple)
     (λ _. c))
 
+-- the rest of the row, where the first isn't exact
+abbrev second-cut : Span → Span → Refined
+second-cut a b = if is_exact b then Some (without b.lo a, b) else Some (a, b)
+
 different-has : (a b : Span) (x y : ℕ) → IsSpan a → IsSpan b → Contains a x → Contains b y → (x ≡ y → ⊥) → Has (different a b) x y
 unfolding different
 different-has a b x y i j c d other =
-    has_by_test x y (if is_exact b then (if a.lo == b.lo then None else Some (a, b)) else Some (a, without a.lo b))
-    (if is_exact b then Some (without b.lo a, b) else Some (a, b)) (is_exact a)
-    (λ first.
-    let is_x : x ≡ a.lo = exact-number a x first c in
-    has_by_test x y (if a.lo == b.lo then None else Some (a, b)) (Some (a, without a.lo b)) (is_exact b)
-    (λ second.
-    let is_y : y ≡ b.lo = exact-number b y second d in
-    has_by_test x y None (Some (a, b)) (a.lo == b.lo)
-    (λ same. other (is_x ∙ eqb-true a.lo b.lo same ∙ sym is_y))
-    (λ _. (c, d)))
-    (λ _. (c, without-contains a.lo b y j d (λ e. other (is_x ∙ sym e)))))
+    has_by_test x y (if a.lo == b.lo then None else Some (a, b)) (if is_exact a then Some (a, without a.lo b) else second-cut a b)
+    (is_exact a && is_exact b)
+    (λ known.
+      let parts = and_parts (is_exact a) (is_exact b) known in
+      has_by_test x y None (Some (a, b)) (a.lo == b.lo)
+      (λ same. other (exact-number a x parts.0 c ∙ eqb-true a.lo b.lo same ∙ sym (exact-number b y parts.1 d)))
+      (λ _. (c, d)))
     (λ _.
-    has_by_test x y (Some (without b.lo a, b)) (Some (a, b)) (is_exact b)
-    (λ second. (without-contains b.lo a x i c (λ e. other (e ∙ sym (exact-number b y second d))), d))
-    (λ _. (c, d)))
+      has_by_test x y (Some (a, without a.lo b)) (second-cut a b) (is_exact a)
+      (λ first. (c, without-contains a.lo b y j d (λ e. other (exact-number a x first c ∙ sym e))))
+      (λ _.
+        has_by_test x y (Some (without b.lo a, b)) (Some (a, b)) (is_exact b)
+        (λ second. (without-contains b.lo a x i c (λ e. other (e ∙ sym (exact-number b y second d))), d))
+        (λ _. (c, d))))
 
 -- GT
 greater-has : (a b : Span) (x y : ℕ) → Contains a x → Contains b y → y < x → Has (greater a b) x y

@@ -51,14 +51,16 @@ without number r =
     else if r.hi == number then norm r.lo (r.hi - 2 ^ r.zeros) r.zeros
     else r
 
+-- two exact spans, where they differ
+abbrev pub apart : Span → Span → Refined
+apart a b = if a.lo == b.lo then None else Some (a, b)
+
 -- NE: of two exact spans whether they differ; else an exact one is cut off the other
 unfoldable pub different : Span → Span → Refined
 different a b =
-    if is_exact a then
-    if is_exact b then if a.lo == b.lo then None else Some (a, b)
-    else Some (a, without a.lo b)
-    else
-    if is_exact b then Some (without b.lo a, b)
+    if is_exact a && is_exact b then apart a b
+    else if is_exact a then Some (a, without a.lo b)
+    else if is_exact b then Some (without b.lo a, b)
     else Some (a, b)
 
 -- GT
