@@ -14,12 +14,8 @@ use Rattle.value_range_spans.proofs.Multiples.{apart, up-most, down-least}
 use Rattle.value_range_spans.proofs.SpanLaws.{norm-contains, exact-number, number-word, max-one}
 use Rattle.value_range_refine.specs.declared.condition.Condition.{Condition}
 use Rattle.value_range_refine.specs.declared.condition.Condition.TheVariants.{Holds, NotSet}
+use Rattle.value_range_refine.specs.RefineLaw.{Has}
 use Rattle.value_range_refine.specs.RefineRows.{Refined, says, within, equal, without, different, greater, not_less, exchanged, tested, refine_row, refined}
-
--- a pair is among what is left
-abbrev pub Has : Refined → ℕ → ℕ → Type 0
-Has None x y = ⊥
-Has (Some pair) x y = Contains pair.0 x × Contains pair.1 y
 
 -- whichever is chosen, by what the test tells
 has_by_test : (x y : ℕ) (p q : Refined) (b : Bool) → (b ≡ true → Has p x y) → (b ≡ false → Has q x y) → Has (if b then p else q) x y
@@ -81,17 +77,17 @@ different-has a b x y i j c d other =
     has_by_test x y (if a.lo == b.lo then None else Some (a, b)) (if is_exact a then Some (a, without a.lo b) else second-cut a b)
     (is_exact a && is_exact b)
     (λ known.
-      let parts = and_parts (is_exact a) (is_exact b) known in
-      has_by_test x y None (Some (a, b)) (a.lo == b.lo)
-      (λ same. other (exact-number a x parts.0 c ∙ eqb-true a.lo b.lo same ∙ sym (exact-number b y parts.1 d)))
-      (λ _. (c, d)))
+    let parts = and_parts (is_exact a) (is_exact b) known in
+    has_by_test x y None (Some (a, b)) (a.lo == b.lo)
+    (λ same. other (exact-number a x parts.0 c ∙ eqb-true a.lo b.lo same ∙ sym (exact-number b y parts.1 d)))
+    (λ _. (c, d)))
     (λ _.
-      has_by_test x y (Some (a, without a.lo b)) (second-cut a b) (is_exact a)
-      (λ first. (c, without-contains a.lo b y j d (λ e. other (exact-number a x first c ∙ sym e))))
-      (λ _.
-        has_by_test x y (Some (without b.lo a, b)) (Some (a, b)) (is_exact b)
-        (λ second. (without-contains b.lo a x i c (λ e. other (e ∙ sym (exact-number b y second d))), d))
-        (λ _. (c, d))))
+    has_by_test x y (Some (a, without a.lo b)) (second-cut a b) (is_exact a)
+    (λ first. (c, without-contains a.lo b y j d (λ e. other (exact-number a x first c ∙ sym e))))
+    (λ _.
+    has_by_test x y (Some (without b.lo a, b)) (Some (a, b)) (is_exact b)
+    (λ second. (without-contains b.lo a x i c (λ e. other (e ∙ sym (exact-number b y second d))), d))
+    (λ _. (c, d))))
 
 -- GT
 greater-has : (a b : Span) (x y : ℕ) → Contains a x → Contains b y → y < x → Has (greater a b) x y

@@ -7,7 +7,7 @@ mod rows;
 mod table;
 
 pub use condition::Condition;
-pub use table::refine;
+pub use table::{refine, refine_law};
 
 #[cfg(test)]
 mod tests;

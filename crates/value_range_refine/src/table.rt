@@ -2,6 +2,7 @@
 
 ghost use Rattle.std.specs.Prelude.{◌≡◌, ℕ, ◌^◌, true, false, ◌&&◌, nat_lt, IfSome, IfNone};
 ghost use Rattle.value_range_spans.specs.Spans.{IsSpan, Contains};
+ghost use Rattle.value_range_refine.specs.RefineLaw.{RefineLaw};
 ghost use Rattle.value_range_refine.specs.RefineRows.{says, refine_row, refined};
 
 use crate::condition::Condition;
@@ -19,6 +20,11 @@ pub fn refine(condition: Condition, width: Width, a: Range, b: Range) -> Option<
 {
     refined(condition, width, a, b)
 }
+
+/// The law of conditions on ranges, of the definitions alone. Nothing runs here.
+pub fn refine_law()
+    ensures { RefineLaw }
+{}
 
 // The row of a condition; of ranges that aren't of 32 bits, at 32 bits, whether exact ones meet it.
 #[tactic(auto, unfolding(crate::specs::RefineRows::refined))]
