@@ -1,5 +1,5 @@
 -- Each row leaves a span.
-use Rattle.std.proofs.Common.{◌≡◌, ◌∙◌, ℕ, ◌+◌, ◌-◌, ◌*◌, ◌/◌, ◌%◌, ◌^◌, ◌<◌, ◌≤◌, min, max, Bool, true, false, refl, sym, arith}
+use Rattle.std.proofs.Common.{◌≡◌, ℕ, ◌+◌, ◌-◌, ◌*◌, ◌/◌, ◌%◌, ◌^◌, ◌<◌, ◌≤◌, min, max, Bool, true, false, refl, arith}
 use Rattle.std.specs.Prelude.{◌==◌, nat_lt, nat_le, if◌then◌else◌, bit_or}
 use Rattle.std.proofs.Math.Nat.{div-le_self, min-le_left, min-le_right, max-le}
 use Rattle.std.proofs.lemmas.Nat.{shr_le}
@@ -12,11 +12,10 @@ use Rattle.bpf_insn.specs.declared.insn.ByteOrder.{ByteOrder}
 use Rattle.bpf_insn.specs.declared.insn.ByteOrder.TheVariants.{Le, Be, Swap}
 use Rattle.bpf_insn.specs.declared.insn.EndianBits.{EndianBits}
 use Rattle.bpf_insn.specs.declared.insn.EndianBits.TheVariants.{B16, B32, B64}
-use Rattle.bpf_insn.specs.declared.insn.MovsxBits.{MovsxBits}
 use Rattle.bpf_insn_words.specs.Words.{modulus, shift, low_modulus, endian_modulus}
 use Rattle.bpf_insn_words.specs.WordBounds.{ResultsFit}
 use Rattle.value_range_spans.specs.Spans.{Span, IsSpan, is_exact, exact, top, norm}
-use Rattle.value_range_spans.proofs.SpanLaws.{exact-span, norm-span}
+use Rattle.value_range_spans.proofs.SpanLaws.{exact-span, norm-span, top-span}
 use Rattle.value_range.specs.declared.operation.Operation.{Operation}
 use Rattle.value_range.specs.declared.operation.Operation.TheVariants.{Alu, Neg, Movsx, Endian}
 use Rattle.value_range.specs.AluRows.{meant, low32, operand_of, operand, filled, added, subtracted, multiplied, divided_by, divided, left_over_by, left_over, with_bits, common_bits, other_bits, shifted_left_by, shifted_left, shifted_right_by, shifted_right, shifted_signed, negative, extended, top_bits, little, ordered, alu_row, row, reads_exact, of_operands, span_of}
@@ -26,11 +25,6 @@ use Rattle.value_range.proofs.RowLaws.{modulus-most, zero_some, added_some, subt
 span_by_test : (s t : Span) (b : Bool) → (b ≡ true → IsSpan s) → (b ≡ false → IsSpan t) → IsSpan (if b then s else t)
 span_by_test s t true h k = h refl
 span_by_test s t false h k = k refl
-
--- all numbers of a width
-pub top-span : (width : Width) → IsSpan (top width)
-top-span W32 = record { ordered = omega arith; word = omega arith; bits = omega arith; lo_multiple = refl; hi_multiple = refl }
-top-span W64 = record { ordered = omega arith; word = omega arith; bits = omega arith; lo_multiple = refl; hi_multiple = refl }
 
 -- those with so many trailing zeros
 spread-span : (width : Width) (z : ℕ) → z ≤ 64 → IsSpan (norm 0 (modulus width - 1) z)

@@ -1,9 +1,9 @@
 -- What a condition leaves is two spans.
-use Rattle.std.proofs.Common.{◌≡◌, ◌∙◌, ℕ, ◌+◌, ◌-◌, ◌^◌, ◌<◌, ◌≤◌, min, max, Bool, true, false, ◌&&◌, not, refl, sym, arith}
+use Rattle.std.proofs.Common.{◌≡◌, ℕ, ◌+◌, ◌-◌, ◌^◌, ◌<◌, ◌≤◌, min, max, Bool, true, false, ◌&&◌, not, refl, arith}
 use Rattle.std.specs.Prelude.{◌==◌, nat_lt, nat_le, if◌then◌else◌}
 use Rattle.std.specs.declared.option.Option.TheVariants.{None, Some}
 use Rattle.std.proofs.Math.Nat.{max-le, min-le_left}
-use Rattle.std.proofs.lemmas.Bool.{ltb-false, leb-false, eqb-false, and_cases}
+use Rattle.std.proofs.lemmas.Bool.{ltb-false, leb-false, eqb-false}
 use Rattle.bpf_insn.specs.declared.insn.Width.{Width}
 use Rattle.bpf_insn.specs.declared.insn.Width.TheVariants.{W32, W64}
 use Rattle.bpf_insn.specs.declared.insn.Compare.TheVariants.{Eq, Gt, Ge, Set, Ne, Sgt, Sge, Lt, Le, Slt, Sle}
@@ -13,7 +13,7 @@ use Rattle.value_range_spans.proofs.SpanLaws.{norm-span}
 use Rattle.value_range_refine.specs.declared.condition.Condition.{Condition}
 use Rattle.value_range_refine.specs.declared.condition.Condition.TheVariants.{Holds, NotSet}
 use Rattle.value_range_refine.specs.RefineLaw.{AreSpans}
-use Rattle.value_range_refine.specs.RefineRows.{Refined, says, within, equal, without, apart, different, greater, not_less, exchanged, tested, refine_row, refined}
+use Rattle.value_range_refine.specs.RefineRows.{Refined, says, equal, without, apart, different, greater, not_less, exchanged, tested, refine_row, refined}
 use Rattle.value_range_refine.proofs.RefineLaws.{greater-first, greater-second, not_less-first, not_less-second, without-least, without-greatest}
 
 -- whichever is chosen, by what the test tells

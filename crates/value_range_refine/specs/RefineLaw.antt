@@ -1,5 +1,5 @@
 -- The law of conditions on spans.
-use Rattle.std.specs.Prelude.{◌≡◌, ℕ, Bool, true}
+use Rattle.std.specs.Prelude.{◌≡◌, ℕ, true}
 use Rattle.std.specs.declared.option.Option.TheVariants.{None, Some}
 use Rattle.bpf_insn.specs.declared.insn.Width.{Width}
 use Rattle.value_range_spans.specs.Spans.{Span, IsSpan, Contains}

@@ -4,6 +4,7 @@ use Rattle.std.specs.Prelude.{◌⊎◌, ◌==◌, if◌then◌else◌}
 use Rattle.std.proofs.lemmas.Bool.{eqb-true, eq-eqb, ne_eqb, cond-true, cond-false, cases_lt}
 use Rattle.std.proofs.Math.Nat.{min-le_left, min-le_right, le-max_left, le-max_right, min-eq_left, min-eq_right, max-eq_left, max-eq_right}
 use Rattle.bpf_insn.specs.declared.insn.Width.{Width}
+use Rattle.bpf_insn.specs.declared.insn.Width.TheVariants.{W32, W64}
 use Rattle.bpf_insn_words.specs.Words.{modulus}
 use Rattle.value_range_spans.specs.Spans.{Span, IsSpan, Contains, is_exact, exact, top, rounded_up, rounded_down, norm, join}
 use Rattle.value_range_spans.proofs.Multiples.{coarser, multiple-zero, trailing-multiple, trailing-most, down-most, down-multiple, down-least, up-least, up-multiple, up-most}
@@ -39,6 +40,10 @@ exact-number s x e c = omega (arith, eqb-true s.lo s.hi e, c.above, c.below)
 -- every number of the width
 pub top-contains : (width : Width) (x : ℕ) → x < modulus width → Contains (top width) x
 top-contains width x h = record { above = omega arith; below = omega arith; multiple = multiple-zero x }
+
+pub top-span : (width : Width) → IsSpan (top width)
+top-span W32 = record { ordered = omega arith; word = omega arith; bits = omega arith; lo_multiple = refl; hi_multiple = refl }
+top-span W64 = record { ordered = omega arith; word = omega arith; bits = omega arith; lo_multiple = refl; hi_multiple = refl }
 
 -- what is between the bounds stays between the rounded bounds
 pub norm-contains : (lo hi z x : ℕ) → lo ≤ x → x ≤ hi → x % 2 ^ z ≡ 0 → Contains (norm lo hi z) x

@@ -6,7 +6,7 @@ mod bounds;
 mod range;
 
 pub use bounds::round_down;
-pub use range::{Range, exact, join, norm, top};
+pub use range::{Range, exact, join, norm, span_law, top};
 
 #[cfg(test)]
 mod tests;

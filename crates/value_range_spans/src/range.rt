@@ -2,6 +2,7 @@
 
 ghost use Rattle.std.specs.Prelude.{◌≡◌, ℕ, ◌≤◌};
 ghost use Rattle.value_range_spans.specs.Spans.{Span, IsSpan, Contains, exact, top, norm, join, rounded_up};
+ghost use Rattle.value_range_spans.specs.SpanLaw.{SpanLaw};
 
 use crate::bounds::{round_down, round_up};
 use bpf_insn::Width;
@@ -110,3 +111,8 @@ pub fn join(a: Range, b: Range) -> Range
         zeros: a.zeros.min(b.zeros),
     }
 }
+
+/// The law of what makes a range, of the definitions alone. Nothing runs here.
+pub fn span_law()
+    ensures { SpanLaw }
+{}
