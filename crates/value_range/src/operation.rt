@@ -2,15 +2,15 @@
 
 use bpf_insn::{AluOp, ByteOrder, EndianBits, MovsxBits};
 
-/// An operation of two operands, of which a negative and a byte order take the first alone, and
-/// moves the second alone.
+/// An operation on two operands, a and b.
 #[derive(Clone, Copy, Debug, PartialEq, Eq)]
 pub enum Operation {
+    /// An operator; a move takes b alone.
     Alu(AluOp),
-    /// The negative.
+    /// The negative of a.
     Neg,
-    /// The low bits, sign-extended.
+    /// The low bits of b, sign-extended.
     Movsx(MovsxBits),
-    /// The low bits in a byte order.
+    /// The low bits of a in a byte order.
     Endian(ByteOrder, EndianBits),
 }

@@ -51,6 +51,6 @@ norm lo hi zeros =
     if rounded_up zeros lo == rounded_down zeros hi then exact (rounded_up zeros lo)
     else record { lo = rounded_up zeros lo; hi = rounded_down zeros hi; zeros = zeros }
 
--- the least span that has the numbers of both
+-- the least lo, the greatest hi and the lesser zeros of both
 abbrev pub join : Span → Span → Span
 join a b = record { lo = min a.lo b.lo; hi = max a.hi b.hi; zeros = min a.zeros b.zeros }

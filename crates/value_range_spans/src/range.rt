@@ -99,7 +99,7 @@ pub fn norm(lo: u64, hi: u64, zeros: u32) -> Range
     }
 }
 
-/// The least range that has the words of both.
+/// The words of both, and what lies between: the least lo, the greatest hi and the lesser zeros.
 pub fn join(a: Range, b: Range) -> Range
     ensures equal { result ≡ join a b }
     ensures first { (x : ℕ) → Contains a x → Contains result x }
