@@ -1,0 +1,4 @@
+pub mod RowLaws
+pub mod RowContains
+pub mod Containment
+pub mod RowSpans

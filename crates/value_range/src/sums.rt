@@ -1,0 +1,46 @@
+//! Sums, differences and products.
+
+ghost use Rattle.std.specs.Prelude.{◌≡◌, ◌<◌};
+ghost use Rattle.bpf_insn_words.specs.Words.{modulus};
+ghost use Rattle.value_range.specs.AluRows.{added, subtracted, multiplied};
+
+use crate::widths::{spread, within};
+use bpf_insn::Width;
+use value_range_spans::{Range, norm};
+
+/// Where no sum wraps, from the least to the greatest.
+#[tactic(auto, using(crate::proofs::RowLaws::added_some), unfolding(crate::specs::AluRows::added))]
+pub fn added(width: Width, a: Range, b: Range) -> Range
+    ensures { result ≡ added width a b }
+{
+    let zeros = a.zeros().min(b.zeros());
+    match within(width, a.hi() as u128 + b.hi() as u128) {
+        Some(hi) => norm(a.lo() + b.lo(), hi, zeros),
+        None => spread(width, zeros),
+    }
+}
+
+/// Where no difference wraps, from the least to the greatest.
+#[tactic(auto, using(crate::proofs::RowLaws::subtracted_some), unfolding(crate::specs::AluRows::subtracted))]
+pub fn subtracted(width: Width, a: Range, b: Range) -> Range
+    ensures { result ≡ subtracted width a b }
+{
+    let zeros = a.zeros().min(b.zeros());
+    if a.lo() >= b.hi() {
+        norm(a.lo() - b.hi(), a.hi() - b.lo(), zeros)
+    } else {
+        spread(width, zeros)
+    }
+}
+
+/// Where no product wraps, from the least to the greatest.
+#[tactic(auto, using(crate::proofs::RowLaws::multiplied_some), unfolding(crate::specs::AluRows::multiplied))]
+pub fn multiplied(width: Width, a: Range, b: Range) -> Range
+    ensures { result ≡ multiplied width a b }
+{
+    let zeros = (a.zeros() + b.zeros()).min(64);
+    match within(width, a.hi() as u128 * b.hi() as u128) {
+        Some(hi) => norm(a.lo() * b.lo(), hi, zeros),
+        None => spread(width, zeros),
+    }
+}

@@ -1,0 +1,40 @@
+//! What depends on the width of an operation alone.
+
+ghost use Rattle.std.specs.Prelude.{◌≡◌, ◌-◌, ◌<◌, ◌≤◌, IfSome, IfNone};
+ghost use Rattle.bpf_insn_words.specs.Words.{modulus, shift};
+ghost use Rattle.value_range_spans.specs.Spans.{norm};
+
+use bpf_insn::Width;
+use value_range_spans::{Range, norm, top};
+
+/// The number, where it is one of the width.
+pub fn within(width: Width, number: u128) -> Option<u64>
+    ensures some { IfSome result (λ n. (n ≡ number) × (n < modulus width)) }
+    ensures none { IfNone result (modulus width ≤ number) }
+{
+    if number <= top(width).hi() as u128 {
+        Some(number as u64)
+    } else {
+        None
+    }
+}
+
+#[tactic(auto, using(crate::proofs::RowLaws::zero_some))]
+/// Every number of the width that has so many trailing zeros.
+pub fn spread(width: Width, zeros: u32) -> Range
+    requires { zeros ≤ 64 }
+    ensures { result ≡ norm 0 (modulus width - 1) zeros }
+{
+    norm(0, top(width).hi(), zeros)
+}
+
+/// By how many bits a shift moves: its amount modulo the number of bits.
+pub fn shift_amount(width: Width, amount: u64) -> u32
+    ensures equal { result ≡ shift width amount }
+    ensures below { result < 64 }
+{
+    match width {
+        Width::W32 => (amount % 32) as u32,
+        Width::W64 => (amount % 64) as u32,
+    }
+}

@@ -1,0 +1,4 @@
+pub mod ConditionLaws
+pub mod RefineLaws
+pub mod Containment
+pub mod RefineSpans

@@ -1,0 +1,3 @@
+pub use Rattle.value_range_spans.specs.Spans
+pub mod RefineRows
+pub mod RefineLaw

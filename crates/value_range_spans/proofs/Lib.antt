@@ -1,0 +1,2 @@
+pub mod Multiples
+pub mod SpanLaws
