@@ -1,3 +1,4 @@
 pub mod MapLaws
 pub mod HexLaws
 pub mod PrintLaws
+pub mod EventLaws

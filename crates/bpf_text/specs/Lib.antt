@@ -1,2 +1,3 @@
 pub mod HexText
 pub mod MapsText
+pub mod EventsText

@@ -1,16 +1,16 @@
 //! The first line of a unit: `maps` and the number of elements of each map.
 
-ghost use Rattle.std.specs.Prelude.{◌≡◌, ◌<◌, ◌^◌, nat_le, All, IfOk};
+ghost use Rattle.std.specs.Prelude.{◌≡◌, nat_le};
 ghost use Rattle.std.specs.List.{list_all};
 ghost use Rattle.bpf_text_lines.specs.Words.{words_of};
 ghost use Rattle.bpf_text_fields.specs.Refusals.{at_line, Gives};
 ghost use Rattle.bpf_text_fields.specs.Head.{total, are_sizes, head_of};
 
 use crate::error::{Fault, TextError};
-use crate::fields::read_fields;
+use crate::fields::{narrowed, read_fields};
 use crate::limits::{MAX_ELEMENTS, MAX_MAPS};
 use bpf_text_lines::next_word;
-use std::alloc::{AllocError, Global};
+use std::alloc::Global;
 
 /// Whether each map has an element.
 fn have_elements(sizes: &[u64]) -> bool
@@ -41,18 +41,6 @@ fn are_sizes(sizes: &[u64]) -> bool
         return false;
     }
     have_elements(sizes) && fit_together(sizes)
-}
-
-/// The same numbers as `u32`.
-fn narrowed(alloc: Global, numbers: &[u64]) -> Result<Vec<u32>, AllocError>
-    requires { All (λ n. n < 2 ^ 32) numbers.now }
-    ensures { IfOk result (λ v. v.items ≡ numbers.now) }
-{
-    let mut narrow = Vec::new(alloc);
-    for number in numbers {
-        narrow.push(*number as u32)?;
-    }
-    Ok(narrow)
 }
 
 /// The sizes of maps that a unit's first line, whose number this is, gives, or its fault.

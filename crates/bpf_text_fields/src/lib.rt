@@ -7,6 +7,6 @@ mod head;
 mod limits;
 
 pub use error::{Fault, TextError};
-pub use fields::read_fields;
+pub use fields::{read_fields, read_u32_fields};
 pub use head::read_head;
 pub use limits::{MAX_BYTES, MAX_ELEMENTS, MAX_MAPS, MAX_SLOTS, MAX_TEXT};

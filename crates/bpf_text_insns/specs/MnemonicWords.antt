@@ -16,7 +16,6 @@ use Rattle.bpf_insn.specs.declared.insn.Compare.{Compare}
 use Rattle.bpf_insn.specs.declared.insn.Compare.TheVariants as compare
 use Rattle.bpf_insn.specs.declared.insn.Callee.{Callee}
 use Rattle.bpf_insn.specs.declared.insn.Callee.TheVariants as callee
-use Rattle.bpf_insn.specs.declared.insn.SimpleOp.{SimpleOp}
 use Rattle.bpf_insn.specs.declared.insn.SimpleOp.TheVariants as simple
 use Rattle.bpf_insn.specs.declared.insn.AtomicOp.{AtomicOp}
 use Rattle.bpf_insn.specs.declared.insn.AtomicOp.TheVariants as atomic
@@ -86,15 +85,15 @@ callee_word callee.Helper = codes "call"
 callee_word callee.Local = codes "call_local"
 callee_word callee.Btf = codes "call_btf"
 
-abbrev pub simple_word : SimpleOp → List ℕ
-simple_word simple.Add = codes "add"
-simple_word simple.Or = codes "or"
-simple_word simple.And = codes "and"
-simple_word simple.Xor = codes "xor"
-
 abbrev pub atomic_word : AtomicOp → List ℕ
-atomic_word (atomic.Simple o) = simple_word o
-atomic_word (atomic.Fetch o) = simple_word o ++ codes "_fetch"
+atomic_word (atomic.Simple simple.Add) = codes "add"
+atomic_word (atomic.Simple simple.Or) = codes "or"
+atomic_word (atomic.Simple simple.And) = codes "and"
+atomic_word (atomic.Simple simple.Xor) = codes "xor"
+atomic_word (atomic.Fetch simple.Add) = codes "add_fetch"
+atomic_word (atomic.Fetch simple.Or) = codes "or_fetch"
+atomic_word (atomic.Fetch simple.And) = codes "and_fetch"
+atomic_word (atomic.Fetch simple.Xor) = codes "xor_fetch"
 atomic_word atomic.Xchg = codes "xchg"
 atomic_word atomic.Cmpxchg = codes "cmpxchg"
 

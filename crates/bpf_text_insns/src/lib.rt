@@ -11,6 +11,7 @@ pub use mnemonic::Mnemonic;
 pub use print::{print_unit, write_hex};
 pub use statement::{mnemonic_of, operands_of};
 pub use value::{Operands, Value};
+pub use words::{alu_word, atomic_word, callee_word, compare_word, kind_word, order_word};
 
 #[cfg(test)]
 mod tests;

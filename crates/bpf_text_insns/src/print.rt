@@ -5,33 +5,18 @@ ghost use Rattle.std.specs.Int.{w16};
 ghost use Rattle.std.specs.List.{flat_map};
 ghost use Rattle.std.specs.String.{string_bytes};
 ghost use Rattle.bpf_insn.specs.Outcome.{Gives};
-ghost use Rattle.bpf_text_insns.specs.MnemonicWords.{atomic_word, mnemonic_word};
+ghost use Rattle.bpf_text_insns.specs.MnemonicWords.{mnemonic_word};
 ghost use Rattle.bpf_text_insns.specs.UnitText.{distance_spelling, value_spelling, operands_spelling, insn_spelling, insn_line, head_spelling, size_spelling, hex_lines, unit_text, unit_hex};
 
 use crate::mnemonic::Mnemonic;
 use crate::statement::{mnemonic_of, operands_of};
 use crate::value::{Operands, Value};
 use crate::words::{
-    alu_word, callee_word, compare_word, endian_word, kind_word, movsx_word, order_word,
-    simple_word, size_word, width_word,
+    alu_word, atomic_word, callee_word, compare_word, endian_word, kind_word, movsx_word,
+    order_word, size_word, width_word,
 };
-use bpf_insn::{AtomicOp, CodecError, Insn, Unit, encode};
+use bpf_insn::{CodecError, Insn, Unit, encode};
 use std::alloc::{AllocError, Global};
-
-/// Adds the word of an atomic operation to a text.
-fn print_atomic(out: &mut String, op: AtomicOp) -> Result<(), AllocError>
-    ensures { OnOk result (string_bytes out.new ≡ string_bytes out.old ++ atomic_word op) }
-{
-    match op {
-        AtomicOp::Simple(op) => out.push_str(simple_word(op)),
-        AtomicOp::Fetch(op) => {
-            out.push_str(simple_word(op))?;
-            out.push_str("_fetch")
-        }
-        AtomicOp::Xchg => out.push_str("xchg"),
-        AtomicOp::Cmpxchg => out.push_str("cmpxchg"),
-    }
-}
 
 /// Adds two words to a text.
 fn print_words(out: &mut String, first: &str, second: &str) -> Result<(), AllocError>
@@ -67,7 +52,7 @@ fn print_mnemonic(out: &mut String, mnemonic: Mnemonic) -> Result<(), AllocError
         Mnemonic::Atomic(width, op) => {
             print_words(out, "atomic", width_word(width))?;
             out.push_str(" ")?;
-            print_atomic(out, op)
+            out.push_str(atomic_word(op))
         }
         Mnemonic::LoadImm(kind) => out.push_str(kind_word(kind)),
     }

@@ -1,12 +1,14 @@
 //! The words of assembler text.
 
 ghost use Rattle.std.specs.Prelude.{◌≡◌};
-ghost use Rattle.bpf_text_insns.specs.MnemonicWords.{width_word, size_word, alu_word, order_word, endian_word, movsx_word, compare_word, callee_word, simple_word, kind_word};
+ghost use Rattle.bpf_text_insns.specs.MnemonicWords.{width_word, size_word, alu_word, order_word, endian_word, movsx_word, compare_word, callee_word, atomic_word, kind_word};
 
 use bpf_insn::{
-    AluOp, ByteOrder, Callee, Compare, EndianBits, ImmKind, MovsxBits, SimpleOp, Size, Width,
+    AluOp, AtomicOp, ByteOrder, Callee, Compare, EndianBits, ImmKind, MovsxBits, SimpleOp, Size,
+    Width,
 };
 
+/// The bits of a width.
 pub fn width_word(width: Width) -> &'static str
     ensures { result.now ≡ width_word width }
 {
@@ -16,6 +18,7 @@ pub fn width_word(width: Width) -> &'static str
     }
 }
 
+/// The bits of an access.
 pub fn size_word(size: Size) -> &'static str
     ensures { result.now ≡ size_word size }
 {
@@ -27,6 +30,7 @@ pub fn size_word(size: Size) -> &'static str
     }
 }
 
+/// The word of an arithmetic operation, without its width.
 pub fn alu_word(op: AluOp) -> &'static str
     ensures { result.now ≡ alu_word op }
 {
@@ -48,6 +52,7 @@ pub fn alu_word(op: AluOp) -> &'static str
     }
 }
 
+/// The word of a byte order, without its bits.
 pub fn order_word(order: ByteOrder) -> &'static str
     ensures { result.now ≡ order_word order }
 {
@@ -58,6 +63,7 @@ pub fn order_word(order: ByteOrder) -> &'static str
     }
 }
 
+/// The bits of a byte order.
 pub fn endian_word(bits: EndianBits) -> &'static str
     ensures { result.now ≡ endian_word bits }
 {
@@ -68,6 +74,7 @@ pub fn endian_word(bits: EndianBits) -> &'static str
     }
 }
 
+/// The bits of a sign-extending move.
 pub fn movsx_word(bits: MovsxBits) -> &'static str
     ensures { result.now ≡ movsx_word bits }
 {
@@ -78,6 +85,7 @@ pub fn movsx_word(bits: MovsxBits) -> &'static str
     }
 }
 
+/// The word of a test, without its width.
 pub fn compare_word(compare: Compare) -> &'static str
     ensures { result.now ≡ compare_word compare }
 {
@@ -96,6 +104,7 @@ pub fn compare_word(compare: Compare) -> &'static str
     }
 }
 
+/// The word of a call.
 pub fn callee_word(callee: Callee) -> &'static str
     ensures { result.now ≡ callee_word callee }
 {
@@ -106,17 +115,25 @@ pub fn callee_word(callee: Callee) -> &'static str
     }
 }
 
-pub fn simple_word(op: SimpleOp) -> &'static str
-    ensures { result.now ≡ simple_word op }
+/// The second word of an atomic.
+pub fn atomic_word(op: AtomicOp) -> &'static str
+    ensures { result.now ≡ atomic_word op }
 {
     match op {
-        SimpleOp::Add => "add",
-        SimpleOp::Or => "or",
-        SimpleOp::And => "and",
-        SimpleOp::Xor => "xor",
+        AtomicOp::Simple(SimpleOp::Add) => "add",
+        AtomicOp::Simple(SimpleOp::Or) => "or",
+        AtomicOp::Simple(SimpleOp::And) => "and",
+        AtomicOp::Simple(SimpleOp::Xor) => "xor",
+        AtomicOp::Fetch(SimpleOp::Add) => "add_fetch",
+        AtomicOp::Fetch(SimpleOp::Or) => "or_fetch",
+        AtomicOp::Fetch(SimpleOp::And) => "and_fetch",
+        AtomicOp::Fetch(SimpleOp::Xor) => "xor_fetch",
+        AtomicOp::Xchg => "xchg",
+        AtomicOp::Cmpxchg => "cmpxchg",
     }
 }
 
+/// The word of a two-slot load.
 pub fn kind_word(kind: ImmKind) -> &'static str
     ensures { result.now ≡ kind_word kind }
 {
