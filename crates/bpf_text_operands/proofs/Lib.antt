@@ -1,0 +1,2 @@
+pub mod StemLaws
+pub mod LabelLaws
