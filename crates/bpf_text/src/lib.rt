@@ -10,6 +10,7 @@ mod maps_print;
 
 pub use bpf_text_fields::{Fault, TextError};
 pub use bpf_text_insns::{print_unit, write_hex};
+pub use bpf_text_units::parse_unit;
 pub use event::{EventKind, EventWord};
 pub use events::parse_events;
 pub use hex_form::{HexUnit, read_hex};
