@@ -4,6 +4,7 @@
 mod building;
 mod kind;
 mod labels;
+pub mod laws;
 mod numbers;
 mod operands;
 mod pairs;
