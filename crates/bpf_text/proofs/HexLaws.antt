@@ -1,12 +1,12 @@
 -- Reading lines of hex digits one after the other, as a loop does.
 use Rattle.std.proofs.Common.{◌≡◌, ℕ, List, [], ◌∷◌, ◌++◌, length, Result, Ok, Err, refl, sym, ap, ◌∙◌, subst}
 use Rattle.bpf_text_lines.specs.Words.{words_of}
-use Rattle.bpf_text.specs.declared.error.Fault.TheVariants as faults
-use Rattle.bpf_text.specs.declared.error.TextError.{TextError}
-use Rattle.bpf_text.specs.declared.error.TextError.TheVariants as errors
-use Rattle.bpf_text.specs.Refusals.{at_line, ◌>>=◌, Fails}
+use Rattle.bpf_text_fields.specs.declared.error.Fault.TheVariants as faults
+use Rattle.bpf_text_fields.specs.declared.error.TextError.{TextError}
+use Rattle.bpf_text_fields.specs.declared.error.TextError.TheVariants as errors
+use Rattle.bpf_text_fields.specs.Refusals.{at_line, ◌>>=◌, Fails}
 use Rattle.bpf_text.specs.HexText.{HexParts, bytes_of, bytes_behind, hex_parts_of}
-use Rattle.bpf_text.specs.Head.{head_of}
+use Rattle.bpf_text_fields.specs.Head.{head_of}
 use Rattle.bpf_text.proofs.MapLaws.{bind_fails}
 
 pub bytes_behind-line : (before : List ℕ) (count : ℕ) (line : ℕ × List ℕ) (lines : List (ℕ × List ℕ)) (more : List ℕ) → count ≡ length before →

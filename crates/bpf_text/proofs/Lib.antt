@@ -1,5 +1,4 @@
-pub mod FieldLaws
-pub mod HeadLaws
 pub mod MapLaws
 pub mod HexLaws
 pub mod PrintLaws
+pub mod EventLaws

@@ -1,10 +1,10 @@
 -- Reading maps one after the other, as a loop does.
 use Rattle.std.proofs.Common.{◌≡◌, ℕ, ◌+◌, List, [], ◌∷◌, ◌++◌, length, Result, Ok, Err, refl, ap, subst, ◌<◌, arith}
 use Rattle.bpf_text_lines.specs.Words.{words_of}
-use Rattle.bpf_text.specs.declared.error.Fault.TheVariants as faults
-use Rattle.bpf_text.specs.declared.error.TextError.{TextError}
-use Rattle.bpf_text.specs.declared.error.TextError.TheVariants as errors
-use Rattle.bpf_text.specs.Refusals.{at_line, ◌>>=◌, Fails}
+use Rattle.bpf_text_fields.specs.declared.error.Fault.TheVariants as faults
+use Rattle.bpf_text_fields.specs.declared.error.TextError.{TextError}
+use Rattle.bpf_text_fields.specs.declared.error.TextError.TheVariants as errors
+use Rattle.bpf_text_fields.specs.Refusals.{at_line, ◌>>=◌, Fails}
 use Rattle.bpf_text.specs.MapsText.{some_maps, values_of, count_of, maps_behind}
 
 -- one more map, with its values

@@ -5,12 +5,12 @@ use Rattle.hex.specs.Hex.{decode_of}
 use Rattle.bpf_text_lines.specs.Lines.{contents_of}
 use Rattle.bpf_text_lines.specs.Words.{words_of}
 use Rattle.bpf_text.specs.declared.hex_form.HexUnit.{HexUnit}
-use Rattle.bpf_text.specs.declared.error.Fault.{Fault}
-use Rattle.bpf_text.specs.declared.error.Fault.TheVariants as faults
-use Rattle.bpf_text.specs.declared.error.TextError.{TextError}
-use Rattle.bpf_text.specs.declared.error.TextError.TheVariants as errors
-use Rattle.bpf_text.specs.Refusals.{at_line, ◌>>=◌}
-use Rattle.bpf_text.specs.Head.{head_of}
+use Rattle.bpf_text_fields.specs.declared.error.Fault.{Fault}
+use Rattle.bpf_text_fields.specs.declared.error.Fault.TheVariants as faults
+use Rattle.bpf_text_fields.specs.declared.error.TextError.{TextError}
+use Rattle.bpf_text_fields.specs.declared.error.TextError.TheVariants as errors
+use Rattle.bpf_text_fields.specs.Refusals.{at_line, ◌>>=◌}
+use Rattle.bpf_text_fields.specs.Head.{head_of}
 
 -- what the hex form gives: the maps' sizes and the instructions' bytes
 pub record HexParts : Type 0 where

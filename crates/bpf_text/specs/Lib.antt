@@ -1,5 +1,3 @@
-pub mod Refusals
-pub mod Fields
-pub mod Head
 pub mod HexText
 pub mod MapsText
+pub mod EventsText

@@ -8,12 +8,12 @@ use Rattle.bpf_text_lines.specs.declared.numbers.NumberError.{NumberError}
 use Rattle.bpf_text_lines.specs.Lines.{contents_of}
 use Rattle.bpf_text_lines.specs.Numbers.{is_number, number_in}
 use Rattle.bpf_text_lines.specs.Words.{words_of}
-use Rattle.bpf_text.specs.declared.error.Fault.{Fault}
-use Rattle.bpf_text.specs.declared.error.Fault.TheVariants as faults
-use Rattle.bpf_text.specs.declared.error.TextError.{TextError}
-use Rattle.bpf_text.specs.declared.error.TextError.TheVariants as errors
-use Rattle.bpf_text.specs.Refusals.{at_line, ◌>>=◌}
-use Rattle.bpf_text.specs.Fields.{fields_of}
+use Rattle.bpf_text_fields.specs.declared.error.Fault.{Fault}
+use Rattle.bpf_text_fields.specs.declared.error.Fault.TheVariants as faults
+use Rattle.bpf_text_fields.specs.declared.error.TextError.{TextError}
+use Rattle.bpf_text_fields.specs.declared.error.TextError.TheVariants as errors
+use Rattle.bpf_text_fields.specs.Refusals.{at_line, ◌>>=◌}
+use Rattle.bpf_text_fields.specs.Fields.{fields_of}
 
 -- maps without where they lie in memory
 abbrev pub lists : List (Vec ℕ Global) → List (List ℕ)

@@ -4,12 +4,10 @@ ghost use Rattle.std.specs.Prelude.{◌≡◌, ◌≤◌, ◌<◌, ◌+◌, ◌^
 ghost use Rattle.hex.specs.Hex.{decode_of};
 ghost use Rattle.bpf_text_lines.specs.Lines.{contents_of, contents_from, lines_of};
 ghost use Rattle.bpf_text_lines.specs.Words.{words_of};
-ghost use Rattle.bpf_text.specs.Refusals.{at_line, Gives};
+ghost use Rattle.bpf_text_fields.specs.Refusals.{at_line, Gives};
 ghost use Rattle.bpf_text.specs.HexText.{as_bytes, bytes_of, bytes_behind, hex_parts_of, hex_text, parts};
 
-use crate::error::{Fault, TextError};
-use crate::head::read_head;
-use crate::limits::{MAX_BYTES, MAX_TEXT};
+use bpf_text_fields::{Fault, MAX_BYTES, MAX_TEXT, TextError, read_head};
 use bpf_text_lines::{next_line, next_word};
 use hex::FromHexError;
 use std::alloc::Global;

@@ -2,15 +2,17 @@
 //! is refused with the least line over all its faults, and there the least of them.
 #![tactic(auto)]
 
-mod error;
-mod fields;
-mod head;
+mod event;
+mod events;
 mod hex_form;
-mod limits;
 mod maps;
 mod maps_print;
 
-pub use error::{Fault, TextError};
+pub use bpf_text_fields::{Fault, TextError};
+pub use bpf_text_insns::{print_unit, write_hex};
+pub use bpf_text_units::parse_unit;
+pub use event::{EventKind, EventWord};
+pub use events::parse_events;
 pub use hex_form::{HexUnit, read_hex};
 pub use maps::parse_maps;
 pub use maps_print::print_maps;

@@ -4,12 +4,10 @@ ghost use Rattle.std.specs.Prelude.{◌≡◌, ◌≤◌, ◌<◌, ◌+◌, ◌-
 ghost use Rattle.bpf_text_lines.specs.Lines.{contents_of, contents_from, lines_of};
 ghost use Rattle.bpf_text_lines.specs.Numbers.{number_in};
 ghost use Rattle.bpf_text_lines.specs.Words.{words_of};
-ghost use Rattle.bpf_text.specs.Refusals.{at_line, Gives};
+ghost use Rattle.bpf_text_fields.specs.Refusals.{at_line, Gives};
 ghost use Rattle.bpf_text.specs.MapsText.{lists, label_number, is_label, is_map_head, is_turn, fits_as_map, values_of, maps_behind, maps_text};
 
-use crate::error::{Fault, TextError};
-use crate::fields::read_fields;
-use crate::limits::{MAX_ELEMENTS, MAX_MAPS, MAX_TEXT};
+use bpf_text_fields::{Fault, MAX_ELEMENTS, MAX_MAPS, MAX_TEXT, TextError, read_fields};
 use bpf_text_lines::{is_number, next_line, next_word, read_number};
 use std::alloc::Global;
 

@@ -123,6 +123,62 @@ fn hex_is_refused(rt: HostRuntime) -> Result<(), Fail> {
     Ok(())
 }
 
+/// How the events text is refused.
+fn events_refusal(alloc: Global, text: &str) -> Option<TextError> {
+    parse_events(alloc, text).err()
+}
+
+#[test]
+fn events_are_read(rt: HostRuntime) -> Result<(), Fail> {
+    let alloc = rt.alloc();
+    let (bounds, events) = parse_events(
+        alloc,
+        "bounds 0 4 4294967295 ; three\n c0 l0\tt255\n\np1 s1",
+    )?;
+    assert_eq!(rt; bounds.as_slice(), [0, 4, 4_294_967_295].as_slice());
+    let word = |kind, worker| EventWord { kind, worker };
+    let want = [
+        word(EventKind::Claim, 0),
+        word(EventKind::Look, 0),
+        word(EventKind::Turn, 255),
+        word(EventKind::Post, 1),
+        word(EventKind::Stop, 1),
+    ];
+    assert_eq!(rt; events.as_slice(), want.as_slice());
+    let (bounds, events) = parse_events(alloc, "bounds")?;
+    assert!(rt; bounds.is_empty() && events.is_empty());
+    Ok(())
+}
+
+#[test]
+fn events_are_refused(rt: HostRuntime) -> Result<(), Fail> {
+    let alloc = rt.alloc();
+    assert_eq!(rt; events_refusal(alloc, " ; alone\n"), at(Fault::Form, 0));
+    assert_eq!(rt; events_refusal(alloc, "\nc0\nbounds 0"), at(Fault::Form, 2));
+    assert_eq!(rt; events_refusal(alloc, "bounds 0 1\r\n"), at(Fault::Form, 1));
+    assert_eq!(rt;
+        events_refusal(alloc, "bounds 4294967296"),
+        at(Fault::Field, 1)
+    );
+    assert_eq!(rt; events_refusal(alloc, "bounds -1 x"), at(Fault::Form, 1));
+    assert_eq!(rt;
+        events_refusal(alloc, "bounds 0\nc256"),
+        at(Fault::Field, 2)
+    );
+    assert_eq!(rt;
+        events_refusal(alloc, "bounds 0\nc256 x1"),
+        at(Fault::Form, 2)
+    );
+    assert_eq!(rt; events_refusal(alloc, "bounds 0\nc-1"), at(Fault::Field, 2));
+    assert_eq!(rt; events_refusal(alloc, "bounds 0\nc"), at(Fault::Form, 2));
+    assert_eq!(rt; events_refusal(alloc, "bounds 0\nc 0"), at(Fault::Form, 2));
+    assert_eq!(rt; events_refusal(alloc, "bounds 0\nc00"), at(Fault::Form, 2));
+    assert_eq!(rt; events_refusal(alloc, "bounds 0\nC0"), at(Fault::Form, 2));
+    let long = repeated(alloc, "bounds\n", 150_000)?;
+    assert_eq!(rt; events_refusal(alloc, &long), at(Fault::TooLong, 0));
+    Ok(())
+}
+
 #[test]
 fn refusals_are_shown(rt: HostRuntime) -> Result<(), Fail> {
     let alloc = rt.alloc();

@@ -1,0 +1,86 @@
+-- Reading events one after the other, as a loop does.
+use Rattle.std.proofs.Common.{◌≡◌, ℕ, List, [], ◌∷◌, ◌++◌, Result, Ok, Err, refl, sym, ap, ◌∙◌, subst, append_assoc}
+use Rattle.std.proofs.lemmas.List.{append-nil}
+use Rattle.bpf_text_lines.specs.Words.{words_of}
+use Rattle.bpf_text_fields.specs.declared.error.Fault.{Fault}
+use Rattle.bpf_text_fields.specs.declared.error.Fault.TheVariants as faults
+use Rattle.bpf_text_fields.specs.declared.error.TextError.{TextError}
+use Rattle.bpf_text_fields.specs.declared.error.TextError.TheVariants as errors
+use Rattle.bpf_text_fields.specs.Refusals.{at_line, ◌>>=◌, Fails}
+use Rattle.bpf_text.specs.declared.event.EventWord.{EventWord}
+use Rattle.bpf_text.specs.EventsText.{with_event, events_of, bounds_of, events_behind, schedule_of}
+use Rattle.bpf_text.proofs.MapLaws.{bind_fails}
+
+-- what was read before, and what is still read
+abbrev pub with_front : List EventWord → Result (List EventWord) Fault → Result (List EventWord) Fault
+with_front front (Ok es) = Ok (front ++ es)
+with_front front (Err fault) = Err fault
+
+regroup : (front : List EventWord) (e : EventWord) (others : Result (List EventWord) Fault) → with_front front (with_event (Ok e) others) ≡ with_front (front ++ e ∷ []) others
+regroup front e (Ok es) = ap (λ (list : List EventWord). Ok list) (simp append_assoc)
+regroup front e (Err fault) = refl
+
+pub goes_on : (line : ℕ) (front : List EventWord) (e : EventWord) (first : Result EventWord Fault) (others total : Result (List EventWord) Fault) → at_line line first ≡ Ok e →
+    with_front front (with_event first others) ≡ total → with_front (front ++ e ∷ []) others ≡ total
+goes_on line front e (Ok m) others total read so_far =
+    let same : m ≡ e = cc in
+    sym (regroup front e others) ∙ ap (λ (k : EventWord). with_front front (with_event (Ok k) others)) (sym same) ∙ so_far
+goes_on line front e (Err fault) others total read so_far = absurd cc
+
+pub ends : (e : TextError) (line : ℕ) (front : List EventWord) (first : Result EventWord Fault) (others total : Result (List EventWord) Fault) → Fails e (at_line line first) →
+    with_front front (with_event first others) ≡ total → Fails e (at_line line total)
+ends errors.Memory line front first others total fails so_far = tt
+ends (errors.Refused fault at) line front (Ok n) others total fails so_far = absurd cc
+ends (errors.Refused fault at) line front (Err other) others total fails so_far =
+    let refusal : total ≡ Err other = sym so_far in
+    let same : errors.Refused other line ≡ errors.Refused fault at = cc in
+    ap (at_line line) refusal ∙ ap (λ (x : TextError). Err x) same
+
+pub is_done : (line : ℕ) (front : List EventWord) (total : Result (List EventWord) Fault) → with_front front (Ok []) ≡ total → at_line line total ≡ Ok front
+is_done line front total so_far = ap (at_line line) (sym so_far) ∙ ap (λ (list : List EventWord). Ok list) (append-nil front)
+
+-- ---- lines
+
+pub events_behind-line : (before : List EventWord) (line : ℕ × List ℕ) (lines : List (ℕ × List ℕ)) (more : List EventWord) →
+    at_line line.0 (events_of (words_of line.1)) ≡ Ok more → events_behind before (line ∷ lines) ≡ events_behind (before ++ more) lines
+unfolding events_behind
+events_behind-line before line lines more read = ap (λ (r : Result (List EventWord) TextError). r >>= λ m. events_behind (before ++ m) lines) read
+
+pub events_behind-fails : (e : TextError) (before : List EventWord) (line : ℕ × List ℕ) (lines : List (ℕ × List ℕ)) →
+    Fails e (at_line line.0 (events_of (words_of line.1))) → Fails e (events_behind before (line ∷ lines))
+unfolding events_behind
+events_behind-fails e before line lines fails = bind_fails e (at_line line.0 (events_of (words_of line.1))) (λ m. events_behind (before ++ m) lines) fails
+
+pub events_behind-end : (before : List EventWord) → events_behind before [] ≡ Ok before
+unfolding events_behind
+events_behind-end before = refl
+
+-- ---- the first line and those behind it
+
+pub no_bounds : (contents : List (ℕ × List ℕ)) → contents ≡ [] → schedule_of contents ≡ Err (errors.Refused faults.Form 0)
+unfolding schedule_of
+no_bounds contents none = rw none refl
+
+pub bounds_fail : (e : TextError) (contents : List (ℕ × List ℕ)) (line : ℕ × List ℕ) (lines : List (ℕ × List ℕ)) → contents ≡ line ∷ lines →
+    Fails e (at_line line.0 (bounds_of (words_of line.1))) → Fails e (schedule_of contents)
+unfolding schedule_of
+bounds_fail e contents line lines same fails = rw same (bind_fails e (at_line line.0 (bounds_of (words_of line.1))) _ fails)
+
+-- the schedule whose bounds are read
+abbrev with_events : List ℕ → Result (List EventWord) TextError → Result (List ℕ × List EventWord) TextError
+with_events bounds read = read >>= λ events. Ok (bounds, events)
+
+bounds_read : (contents : List (ℕ × List ℕ)) (line : ℕ × List ℕ) (lines : List (ℕ × List ℕ)) (bounds : List ℕ) → contents ≡ line ∷ lines →
+    at_line line.0 (bounds_of (words_of line.1)) ≡ Ok bounds → schedule_of contents ≡ with_events bounds (events_behind [] lines)
+unfolding schedule_of
+bounds_read contents line lines bounds same read = rw same (ap (λ (r : Result (List ℕ) TextError). r >>= λ b. with_events b (events_behind [] lines)) read)
+
+pub events_fail : (e : TextError) (contents : List (ℕ × List ℕ)) (line : ℕ × List ℕ) (lines : List (ℕ × List ℕ)) (bounds : List ℕ) → contents ≡ line ∷ lines →
+    at_line line.0 (bounds_of (words_of line.1)) ≡ Ok bounds → Fails e (events_behind [] lines) → Fails e (schedule_of contents)
+events_fail e contents line lines bounds same read fails =
+    let P : Result (List ℕ × List EventWord) TextError → Type 0 = λ r. Fails e r in
+    subst P (sym (bounds_read contents line lines bounds same read)) (bind_fails e (events_behind [] lines) (λ events. Ok (bounds, events)) fails)
+
+pub events_read : (contents : List (ℕ × List ℕ)) (line : ℕ × List ℕ) (lines : List (ℕ × List ℕ)) (bounds : List ℕ) (events : List EventWord) → contents ≡ line ∷ lines →
+    at_line line.0 (bounds_of (words_of line.1)) ≡ Ok bounds → events_behind [] lines ≡ Ok events → schedule_of contents ≡ Ok (bounds, events)
+events_read contents line lines bounds events same read rest = bounds_read contents line lines bounds same read ∙ ap (with_events bounds) rest

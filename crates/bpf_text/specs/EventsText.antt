@@ -1,0 +1,79 @@
+-- Events as a text: a first line `bounds` and numbers, then lines of words, each a letter and a worker.
+use Rattle.std.specs.Prelude.{ℕ, ◌-◌, ◌^◌, ◌==◌, ◌&&◌, nat_lt, Bool, if◌then◌else◌, List, [], ◌∷◌, ◌++◌, length, drop, slice_index, codes, Option, Some, None, is_some, Result, Ok, Err}
+use Rattle.std.specs.List.{list_all}
+use Rattle.std.specs.Str.{bytes_eq}
+use Rattle.bpf_text_lines.specs.Lines.{contents_of}
+use Rattle.bpf_text_lines.specs.Numbers.{is_number}
+use Rattle.bpf_text_lines.specs.Words.{words_of}
+use Rattle.bpf_text_fields.specs.declared.error.Fault.{Fault}
+use Rattle.bpf_text_fields.specs.declared.error.Fault.TheVariants as faults
+use Rattle.bpf_text_fields.specs.declared.error.TextError.{TextError}
+use Rattle.bpf_text_fields.specs.declared.error.TextError.TheVariants as errors
+use Rattle.bpf_text_fields.specs.Refusals.{at_line, ◌>>=◌}
+use Rattle.bpf_text_fields.specs.Fields.{fields_of, field_of}
+use Rattle.bpf_text.specs.declared.event.EventKind.{EventKind}
+use Rattle.bpf_text.specs.declared.event.EventKind.TheVariants as kind
+use Rattle.bpf_text.specs.declared.event.EventWord.{EventWord}
+
+-- the kind that a letter stands for
+abbrev pub kind_at : ℕ → Option EventKind
+kind_at letter =
+    if letter == 99 then Some kind.Claim
+    else if letter == 108 then Some kind.Look
+    else if letter == 116 then Some kind.Turn
+    else if letter == 112 then Some kind.Post
+    else if letter == 115 then Some kind.Stop
+    else None
+
+-- whether a word is a letter of a kind and a number of any size
+abbrev pub is_event : List ℕ → Bool
+is_event word = is_some (kind_at (slice_index word 0)) && is_number (drop 1 word)
+
+-- an event of a kind and a worker
+abbrev pub event : Option EventKind → Result ℕ Fault → Result EventWord Fault
+event None worker = Err faults.Form
+event (Some k) (Err fault) = Err fault
+event (Some k) (Ok worker) = Ok (record { kind = k; worker = worker })
+
+-- the event of a word: its letter, and a worker of 0 to 255
+abbrev pub event_at : List ℕ → Result EventWord Fault
+event_at word = event (kind_at (slice_index word 0)) (field_of 255 (drop 1 word))
+
+-- an event before further ones, or the first fault
+abbrev pub with_event : Result EventWord Fault → Result (List EventWord) Fault → Result (List EventWord) Fault
+with_event (Ok e) (Ok es) = Ok (e ∷ es)
+with_event (Ok e) (Err fault) = Err fault
+with_event (Err fault) others = Err fault
+
+-- the events of words
+abbrev pub events_in : List (List ℕ) → Result (List EventWord) Fault
+events_in [] = Ok []
+events_in (word ∷ words) = with_event (event_at word) (events_in words)
+
+-- the same, where a word that is no event comes before a worker outside its field
+abbrev pub events_of : List (List ℕ) → Result (List EventWord) Fault
+events_of words = if list_all is_event words then events_in words else Err faults.Form
+
+-- the bounds that the words of a first line give
+abbrev pub bounds_of : List (List ℕ) → Result (List ℕ) Fault
+bounds_of [] = Err faults.Form
+bounds_of (word ∷ words) = if bytes_eq word (codes "bounds") then fields_of (2 ^ 32 - 1) words else Err faults.Form
+
+-- the events of earlier lines, and those of these lines behind them
+unfoldable pub events_behind : List EventWord → List (ℕ × List ℕ) → Result (List EventWord) TextError
+events_behind before [] = Ok before
+events_behind before (line ∷ lines) = do
+  events ← at_line line.0 (events_of (words_of line.1))
+  events_behind (before ++ events) lines
+
+-- the bounds and events that lines give, the first of which has the bounds
+unfoldable pub schedule_of : List (ℕ × List ℕ) → Result (List ℕ × List EventWord) TextError
+schedule_of [] = Err (errors.Refused faults.Form 0)
+schedule_of (line ∷ lines) = do
+  bounds ← at_line line.0 (bounds_of (words_of line.1))
+  events ← events_behind [] lines
+  Ok (bounds, events)
+
+-- what an events text means
+abbrev pub events_text : List ℕ → Result (List ℕ × List EventWord) TextError
+events_text text = if nat_lt 1048576 (length text) then Err (errors.Refused faults.TooLong 0) else schedule_of (contents_of text)

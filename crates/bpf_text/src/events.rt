@@ -1,0 +1,154 @@
+//! Events as a text.
+
+ghost use Rattle.std.specs.Prelude.{◌≡◌, ◌≤◌, ◌<◌, ◌+◌, ◌^◌, length, [], slice_index, IfOk};
+ghost use Rattle.std.specs.List.{list_all};
+ghost use Rattle.bpf_text_lines.specs.Lines.{contents_of, contents_from, lines_of};
+ghost use Rattle.bpf_text_lines.specs.Words.{words_of};
+ghost use Rattle.bpf_text_fields.specs.Refusals.{at_line, Gives};
+ghost use Rattle.bpf_text.specs.EventsText.{kind_at, is_event, event_at, events_in, events_of, bounds_of, events_behind, schedule_of, events_text};
+
+use crate::event::{EventKind, EventWord};
+use bpf_text_fields::{Fault, MAX_TEXT, TextError, read_u32_fields};
+use bpf_text_lines::{NumberError, is_number, next_line, next_word, read_number};
+use std::alloc::Global;
+
+/// The kind that a letter stands for.
+fn kind_at(letter: u8) -> Option<EventKind>
+    ensures { result ≡ kind_at letter }
+{
+    match letter {
+        b'c' => Some(EventKind::Claim),
+        b'l' => Some(EventKind::Look),
+        b't' => Some(EventKind::Turn),
+        b'p' => Some(EventKind::Post),
+        b's' => Some(EventKind::Stop),
+        _ => None,
+    }
+}
+
+/// Whether a word is a letter of a kind and a number of any size.
+fn is_event(word: &[u8]) -> bool
+    ensures { result ≡ is_event word.now }
+{
+    if word.is_empty() {
+        return false;
+    }
+    kind_at(word[0]).is_some() && is_number(&word[1..])
+}
+
+/// Whether each word of a line is a letter of a kind and a number of any size.
+fn are_events(words: &[u8]) -> bool
+    ensures { result ≡ list_all is_event (words_of words.now) }
+{
+    let mut rest = words;
+    while let Some((word, behind)) = next_word(rest) {
+        if !is_event(word) {
+            return false;
+        }
+        rest = behind;
+    }
+    true
+}
+
+/// The event of a word, or its fault.
+fn read_event(word: &[u8], line: u32) -> Result<EventWord, TextError>
+    ensures { Gives (λ e. e) result (at_line line (event_at word.now)) }
+{
+    if word.is_empty() {
+        return Err(Fault::Form.at(line));
+    }
+    let Some(kind) = kind_at(word[0]) else {
+        return Err(Fault::Form.at(line));
+    };
+    match read_number(&word[1..], u64::from(u8::MAX)) {
+        Ok(worker) => Ok(EventWord {
+            kind,
+            worker: worker as u8,
+        }),
+        Err(NumberError::Form) => Err(Fault::Form.at(line)),
+        Err(NumberError::Field) => Err(Fault::Field.at(line)),
+    }
+}
+
+/// The events of a line's words, or the first fault.
+fn read_words(alloc: Global, words: &[u8], line: u32) -> Result<Vec<EventWord>, TextError>
+    ensures { Gives (λ v. v.items) result (at_line line (events_in (words_of words.now))) }
+{
+    let mut events = Vec::new(alloc);
+    let mut rest = words;
+    while let Some((word, behind)) = next_word(rest) {
+        events.push(read_event(word, line)?)?;
+        rest = behind;
+    }
+    Ok(events)
+}
+
+/// The events of a line. A word that is no event is found before a worker outside its field.
+fn read_events(alloc: Global, words: &[u8], line: u32) -> Result<Vec<EventWord>, TextError>
+    ensures { Gives (λ v. v.items) result (at_line line (events_of (words_of words.now))) }
+{
+    if !are_events(words) {
+        return Err(Fault::Form.at(line));
+    }
+    read_words(alloc, words, line)
+}
+
+/// The bounds that the first line gives, or its fault.
+fn read_bounds(alloc: Global, content: &[u8], line: u32) -> Result<Vec<u32>, TextError>
+    ensures { Gives (λ v. v.items) result (at_line line (bounds_of (words_of content.now))) }
+{
+    let Some((word, rest)) = next_word(content) else {
+        return Err(Fault::Form.at(line));
+    };
+    if word != b"bounds".as_slice() {
+        return Err(Fault::Form.at(line));
+    }
+    read_u32_fields(alloc, rest, line)
+}
+
+/// The events of lines, the first of which has this number.
+fn read_lines(alloc: Global, text: &[u8], first: u32) -> Result<Vec<EventWord>, TextError>
+    requires { first + length text.now < 2 ^ 32 }
+    ensures { Gives (λ v. v.items) result (events_behind [] (contents_from first (lines_of text.now))) }
+{
+    let mut events = Vec::new(alloc);
+    let mut rest = text;
+    let mut number = first;
+    while let Some(line) = next_line(rest, number) {
+        let more = read_events(alloc, line.content, line.number)?;
+        events.extend_from_slice(&more)?;
+        rest = line.rest;
+        number = line.number + 1;
+    }
+    Ok(events)
+}
+
+/// The bounds and events of a text that isn't too long.
+fn read_schedule(alloc: Global, text: &[u8]) -> Result<(Vec<u32>, Vec<EventWord>), TextError>
+    requires { length text.now ≤ 1048576 }
+    ensures { Gives (λ x. (x.0.items, x.1.items)) result (schedule_of (contents_of text.now)) }
+{
+    let Some(head) = next_line(text, 1) else {
+        return Err(Fault::Form.at(0));
+    };
+    let bounds = read_bounds(alloc, head.content, head.number)?;
+    let events = read_lines(alloc, head.rest, head.number + 1)?;
+    Ok((bounds, events))
+}
+
+/// The bounds of blocks and the events of an events text: at most 1,048,576 bytes, a first line
+/// `bounds` and numbers below 2^32, then lines of words, each one of the letters c, l, t, p, s and
+/// the number of a worker, 0 to 255. `;` begins a comment, and empty lines are skipped.
+///
+/// The refusal is the least line over all faults of the text, and there the least fault: `TooLong` at
+/// line 0, `Form` at line 0 where there is no first line, `Form`, `Field` for a bound outside 0 to
+/// 2^32 - 1 or a worker outside 0 to 255. `Memory` may come in place of any answer.
+pub fn parse_events(alloc: Global, text: &str) -> Result<(Vec<u32>, Vec<EventWord>), TextError>
+    ensures { Gives (λ x. (x.0.items, x.1.items)) result (events_text text.now) }
+{
+    let bytes = text.as_bytes();
+    if bytes.len() > MAX_TEXT {
+        return Err(Fault::TooLong.at(0));
+    }
+    read_schedule(alloc, bytes)
+}

@@ -1,0 +1,82 @@
+-- Reading numbers one after the other, as a loop does.
+use Rattle.std.proofs.Common.{◌≡◌, ℕ, zero, suc, ◌<◌, ◌≤◌, Bool, true, false, cond, List, [], ◌∷◌, ◌++◌, length, get_or, Result, Ok, Err, refl, sym, ap, ◌∙◌, append_assoc, arith}
+use Rattle.std.specs.Prelude.{nat_le, IfOk}
+use Rattle.std.specs.List.{list_all}
+use Rattle.std.proofs.lemmas.Bool.{leb-true}
+use Rattle.bpf_text_lines.specs.declared.numbers.NumberError.{NumberError}
+use Rattle.bpf_text_lines.specs.declared.numbers.NumberError.TheVariants as numbers
+use Rattle.bpf_text_lines.specs.Numbers.{is_numeral, is_negative, is_number, value_of, number_in}
+use Rattle.bpf_text_fields.specs.declared.error.Fault.TheVariants as faults
+use Rattle.bpf_text_fields.specs.Fields.{as_field, field_of, numbers_in, fields_of}
+use Rattle.std.proofs.lemmas.List.{append-nil}
+use Rattle.bpf_text_fields.specs.declared.error.Fault.{Fault}
+use Rattle.bpf_text_fields.specs.declared.error.TextError.{TextError}
+use Rattle.bpf_text_fields.specs.declared.error.TextError.TheVariants as errors
+use Rattle.bpf_text_fields.specs.Refusals.{at_line, Fails}
+use Rattle.bpf_text_fields.specs.Fields.{with_field}
+
+-- what was read before, and what is still read
+abbrev pub with_front : List ℕ → Result (List ℕ) Fault → Result (List ℕ) Fault
+with_front front (Ok ns) = Ok (front ++ ns)
+with_front front (Err fault) = Err fault
+
+regroup : (front : List ℕ) (n : ℕ) (others : Result (List ℕ) Fault) → with_front front (with_field (Ok n) others) ≡ with_front (front ++ n ∷ []) others
+regroup front n (Ok ns) = ap (λ (list : List ℕ). Ok list) (simp append_assoc)
+regroup front n (Err fault) = refl
+
+pub goes_on : (line : ℕ) (front : List ℕ) (n : ℕ) (field : Result ℕ Fault) (others total : Result (List ℕ) Fault) → at_line line field ≡ Ok n →
+    with_front front (with_field field others) ≡ total → with_front (front ++ n ∷ []) others ≡ total
+goes_on line front n (Ok m) others total read so_far =
+    let same : m ≡ n = cc in
+    sym (regroup front n others) ∙ ap (λ (k : ℕ). with_front front (with_field (Ok k) others)) (sym same) ∙ so_far
+goes_on line front n (Err fault) others total read so_far = absurd cc
+
+pub ends : (e : TextError) (line : ℕ) (front : List ℕ) (field : Result ℕ Fault) (others total : Result (List ℕ) Fault) → Fails e (at_line line field) →
+    with_front front (with_field field others) ≡ total → Fails e (at_line line total)
+ends errors.Memory line front field others total fails so_far = tt
+ends (errors.Refused fault at) line front (Ok n) others total fails so_far = absurd cc
+ends (errors.Refused fault at) line front (Err other) others total fails so_far =
+    let refusal : total ≡ Err other = sym so_far in
+    let same : errors.Refused other line ≡ errors.Refused fault at = cc in
+    ap (at_line line) refusal ∙ ap (λ (x : TextError). Err x) same
+
+pub is_done : (line : ℕ) (front : List ℕ) (total : Result (List ℕ) Fault) → with_front front (Ok []) ≡ total → at_line line total ≡ Ok front
+is_done line front total so_far = ap (at_line line) (sym so_far) ∙ ap (λ (list : List ℕ). Ok list) (append-nil front)
+
+-- ---- what is read lies in its field
+
+field_small : (limit : ℕ) (r : Result ℕ NumberError) (n : ℕ) → IfOk r (λ m. m ≤ limit) → as_field r ≡ Ok n → n ≤ limit
+field_small limit (Ok m) n le e = let same : m ≡ n = cc in rw (← same) le
+field_small limit (Err error) n le e = absurd cc
+
+chosen_small : (limit : ℕ) (numeral small negative : Bool) (v : ℕ) → (small ≡ true → v ≤ limit) → IfOk {E = NumberError} (cond numeral (cond small (Ok v) (Err numbers.Field)) (cond negative (Err numbers.Field) (Err numbers.Form))) (λ m. m ≤ limit)
+chosen_small limit true true negative v le = le refl
+chosen_small limit true false negative v le = tt
+chosen_small limit false small true v le = tt
+chosen_small limit false small false v le = tt
+
+number_small : (limit : ℕ) (word : List ℕ) → IfOk (number_in limit word) (λ m. m ≤ limit)
+number_small limit word = chosen_small limit (is_numeral word) (nat_le (value_of word) limit) (is_negative word) (value_of word) (λ e. leb-true _ _ e)
+
+front_small : (limit : ℕ) (first : Result ℕ Fault) (others : Result (List ℕ) Fault) (ns : List ℕ) →
+    ((n : ℕ) → first ≡ Ok n → n ≤ limit) → ((ms : List ℕ) → others ≡ Ok ms → (k d : ℕ) → k < length ms → get_or ms k d ≤ limit) →
+    with_field first others ≡ Ok ns → (k d : ℕ) → k < length ns → get_or ns k d ≤ limit
+front_small limit (Ok n) (Ok ms) [] one more e k d lt = absurd cc
+front_small limit (Ok n) (Ok ms) (m ∷ rest) one more e zero d lt = let same : n ≡ m = cc in rw (← same) (one n refl)
+front_small limit (Ok n) (Ok ms) (m ∷ rest) one more e (suc k) d lt = let same : ms ≡ rest = cc in rw (← same) (more ms refl k d (rw same (omega arith)))
+front_small limit (Ok n) (Err fault) ns one more e k d lt = absurd cc
+front_small limit (Err fault) others ns one more e k d lt = absurd cc
+
+numbers_small : (limit : ℕ) (words : List (List ℕ)) (ns : List ℕ) → numbers_in limit words ≡ Ok ns → (k d : ℕ) → k < length ns → get_or ns k d ≤ limit
+numbers_small limit [] [] e k d lt = absurd (omega arith)
+numbers_small limit [] (n ∷ ns) e k d lt = absurd cc
+numbers_small limit (word ∷ words) ns e k d lt =
+    front_small limit (field_of limit word) (numbers_in limit words) ns (λ n h. field_small limit (number_in limit word) n (number_small limit word) h) (λ ms h. numbers_small limit words ms h) e k d lt
+
+tested : (t : Bool) (r : Result (List ℕ) Fault) (line : ℕ) (ns : List ℕ) → at_line line (cond t r (Err faults.Form)) ≡ Ok ns → r ≡ Ok ns
+tested true (Ok ms) line ns e = (let same : ms ≡ ns = cc in ap (λ (list : List ℕ). Ok list) same)
+tested true (Err fault) line ns e = absurd cc
+tested false r line ns e = absurd cc
+
+pub fields_small : (limit line : ℕ) (words : List (List ℕ)) (ns : List ℕ) → at_line line (fields_of limit words) ≡ Ok ns → (k d : ℕ) → k < length ns → get_or ns k d ≤ limit
+fields_small limit line words ns e = numbers_small limit words ns (tested (list_all is_number words) (numbers_in limit words) line ns e)

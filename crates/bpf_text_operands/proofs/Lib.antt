@@ -1,0 +1,8 @@
+pub mod StemLaws
+pub mod LabelLaws
+pub mod MnemonicLaws
+pub mod PlainLaws
+pub mod ValueLaws
+pub mod WideLaws
+pub mod LineBack
+pub mod InsnBack

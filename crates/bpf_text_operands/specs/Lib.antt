@@ -1,0 +1,5 @@
+pub mod Stems
+pub mod SignedNumbers
+pub mod LabelTable
+pub mod Operands
+pub mod Statements

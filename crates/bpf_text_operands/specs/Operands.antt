@@ -1,0 +1,189 @@
+-- The operands of a line: what kinds a mnemonic takes, and what a word of a kind means.
+use Rattle.std.specs.Prelude.{ℕ, ℤ, ◌+◌, ◌-◌, ◌^◌, ◌==◌, ◌&&◌, ◌||◌, nat_lt, nat_le, Bool, false, if◌then◌else◌, List, length, take, drop, slice_index, position, Option, Some, None, is_ok, Result, Ok, Err}
+use Rattle.std.specs.List.{position_or_len}
+use Rattle.bpf_insn.specs.declared.insn.ImmKind.TheVariants as load
+use Rattle.bpf_text_lines.specs.Lines.{trim}
+use Rattle.bpf_text_lines.specs.Names.{is_name}
+use Rattle.bpf_text_lines.specs.Numbers.{is_number}
+use Rattle.bpf_text_fields.specs.declared.error.Fault.{Fault}
+use Rattle.bpf_text_fields.specs.declared.error.Fault.TheVariants as faults
+use Rattle.bpf_text_fields.specs.Fields.{field_of}
+use Rattle.bpf_text_insns.specs.declared.mnemonic.Mnemonic.{Mnemonic}
+use Rattle.bpf_text_insns.specs.declared.mnemonic.Mnemonic.TheVariants as mnemonic
+use Rattle.bpf_text_insns.specs.declared.value.Value.{Value}
+use Rattle.bpf_text_insns.specs.declared.value.Value.TheVariants as value
+use Rattle.bpf_text_insns.specs.declared.value.Operands.{Operands}
+use Rattle.bpf_text_insns.specs.declared.value.Operands.TheVariants as operands
+use Rattle.bpf_text_operands.specs.declared.kind.Kind.{Kind}
+use Rattle.bpf_text_operands.specs.declared.kind.Kind.TheVariants as kind
+use Rattle.bpf_text_operands.specs.declared.kind.Kinds.{Kinds}
+use Rattle.bpf_text_operands.specs.declared.kind.Kinds.TheVariants as kinds
+use Rattle.bpf_text_operands.specs.SignedNumbers.{is_register, register_at, signed_at, is_offset, offset_at, distance_at}
+
+-- the kinds of operands that a mnemonic takes
+abbrev pub kinds_of : Mnemonic → Kinds
+kinds_of (mnemonic.Alu w o) = kinds.Two kind.Reg kind.RegOrImm
+kinds_of (mnemonic.Neg w) = kinds.One kind.Reg
+kinds_of (mnemonic.Movsx w bits) = kinds.Two kind.Reg kind.Reg
+kinds_of (mnemonic.Endian o bits) = kinds.One kind.Reg
+kinds_of mnemonic.Ja = kinds.One kind.Distance
+kinds_of mnemonic.Ja32 = kinds.One kind.FarDistance
+kinds_of (mnemonic.Jump w c) = kinds.Three kind.Reg kind.RegOrImm kind.Distance
+kinds_of (mnemonic.Call c) = kinds.One kind.Imm
+kinds_of mnemonic.Exit = kinds.Zero
+kinds_of (mnemonic.Load s) = kinds.Two kind.Reg kind.Address
+kinds_of (mnemonic.LoadSx s) = kinds.Two kind.Reg kind.Address
+kinds_of (mnemonic.StoreImm s) = kinds.Two kind.Address kind.Imm
+kinds_of (mnemonic.Store s) = kinds.Two kind.Address kind.Reg
+kinds_of (mnemonic.Atomic w o) = kinds.Two kind.Address kind.Reg
+kinds_of (mnemonic.LoadImm load.Number) = kinds.Two kind.Reg kind.Wide
+kinds_of (mnemonic.LoadImm load.MapFd) = kinds.Two kind.Reg kind.Imm
+kinds_of (mnemonic.LoadImm load.MapFdValue) = kinds.Three kind.Reg kind.Imm kind.Imm
+kinds_of (mnemonic.LoadImm load.Variable) = kinds.Two kind.Reg kind.Imm
+kinds_of (mnemonic.LoadImm load.Code) = kinds.Two kind.Reg kind.FarDistance
+kinds_of (mnemonic.LoadImm load.Map) = kinds.Two kind.Reg kind.Imm
+kinds_of (mnemonic.LoadImm load.MapValue) = kinds.Three kind.Reg kind.Imm kind.Imm
+
+-- a fault's number
+abbrev pub fault_number : Fault → ℕ
+fault_number faults.Form = 1
+fault_number faults.Field = 2
+fault_number faults.Register = 3
+fault_number faults.UnknownLabel = 4
+fault_number faults.RepeatedLabel = 5
+fault_number faults.TooLong = 6
+fault_number faults.Limits = 7
+
+-- the least of two faults
+abbrev pub least : Fault → Fault → Fault
+least a b = if nat_le (fault_number a) (fault_number b) then a else b
+
+-- both, or the least fault
+abbrev pub pair : {A B : Type 0} → Result A Fault → Result B Fault → Result (A × B) Fault
+pair (Ok a) (Ok b) = Ok (a, b)
+pair (Ok a) (Err fault) = Err fault
+pair (Err fault) (Ok b) = Err fault
+pair (Err fault) (Err other) = Err (least fault other)
+
+-- what is read, as an operand
+abbrev pub as_reg : Result ℕ Fault → Result Value Fault
+as_reg (Ok r) = Ok (value.Reg r)
+as_reg (Err fault) = Err fault
+
+abbrev pub as_imm : Result ℤ Fault → Result Value Fault
+as_imm (Ok n) = Ok (value.Imm n)
+as_imm (Err fault) = Err fault
+
+abbrev pub as_wide : Result ℕ Fault → Result Value Fault
+as_wide (Ok n) = Ok (value.Wide n)
+as_wide (Err fault) = Err fault
+
+abbrev pub as_distance : Result ℤ Fault → Result Value Fault
+as_distance (Ok d) = Ok (value.Distance d)
+as_distance (Err fault) = Err fault
+
+abbrev pub as_far_distance : Result ℤ Fault → Result Value Fault
+as_far_distance (Ok d) = Ok (value.FarDistance d)
+as_far_distance (Err fault) = Err fault
+
+abbrev pub as_address : Result (ℕ × ℤ) Fault → Result Value Fault
+as_address (Ok a) = Ok (value.Address a.0 a.1)
+as_address (Err fault) = Err fault
+
+-- a sign, 43 or 45
+abbrev pub is_sign : ℕ → Bool
+is_sign b = (b == 43) || (b == 45)
+
+-- between brackets, 91 and 93
+abbrev pub is_bracketed : List ℕ → Bool
+is_bracketed word = (slice_index word 0 == 91) && (nat_lt 1 (length word) && (slice_index word (length word - 1) == 93))
+
+-- what stands between the brackets: the base up to the first sign, and the offset from there
+abbrev pub inside : List ℕ → List ℕ
+inside word = take (length word - 2) (drop 1 word)
+
+abbrev pub base_of : List ℕ → List ℕ
+base_of text = take (position_or_len is_sign text) text
+
+abbrev pub offset_of : List ℕ → List ℕ
+offset_of text = drop (position_or_len is_sign text) text
+
+-- the memory that a word names: a register and an offset with its sign, between brackets
+abbrev pub address_at : List ℕ → Result Value Fault
+address_at word =
+    if is_bracketed word then as_address (pair (register_at (base_of (inside word))) (offset_at (2 ^ 15) (offset_of (inside word))))
+    else Err faults.Form
+
+-- the operand that a word of a kind is, at a slot, where labels are found by this function
+abbrev pub value_at : (List ℕ → Option ℕ) → ℕ → Kind → List ℕ → Result Value Fault
+value_at find slot kind.Reg word = as_reg (register_at word)
+value_at find slot kind.RegOrImm word = if is_register word then as_reg (register_at word) else as_imm (signed_at (2 ^ 31) word)
+value_at find slot kind.Imm word = as_imm (signed_at (2 ^ 31) word)
+value_at find slot kind.Wide word = as_wide (field_of (2 ^ 64 - 1) word)
+value_at find slot kind.Distance word = as_distance (distance_at find (2 ^ 15) slot word)
+value_at find slot kind.FarDistance word = as_far_distance (distance_at find (2 ^ 31) slot word)
+value_at find slot kind.Address word = address_at word
+
+-- a text cut at this place, where one byte goes
+abbrev pub cut : List ℕ → Option ℕ → Option (List ℕ × List ℕ)
+cut text None = None
+cut text (Some n) = Some (take n text, drop (n + 1) text)
+
+-- a text cut at its first comma, 44
+abbrev pub cut_comma : List ℕ → Option (List ℕ × List ℕ)
+cut_comma text = cut text (position (λ b. b == 44) text)
+
+-- operands of which one, two or three were read
+abbrev pub one : Result Value Fault → Result Operands Fault
+one (Ok a) = Ok (operands.One a)
+one (Err fault) = Err fault
+
+abbrev pub two : Result (Value × Value) Fault → Result Operands Fault
+two (Ok x) = Ok (operands.Two x.0 x.1)
+two (Err fault) = Err fault
+
+abbrev pub three : Result (Value × (Value × Value)) Fault → Result Operands Fault
+three (Ok x) = Ok (operands.Three x.0 x.1.0 x.1.1)
+three (Err fault) = Err fault
+
+-- two operands on both sides of a comma
+abbrev pub both_at : (List ℕ → Option ℕ) → ℕ → Kind → Kind → Option (List ℕ × List ℕ) → Result (Value × Value) Fault
+both_at find slot a b None = Err faults.Form
+both_at find slot a b (Some parts) = pair (value_at find slot a (trim parts.0)) (value_at find slot b (trim parts.1))
+
+-- an operand, and two behind the first comma
+abbrev pub three_at : (List ℕ → Option ℕ) → ℕ → Kind → Kind → Kind → Option (List ℕ × List ℕ) → Result (Value × (Value × Value)) Fault
+three_at find slot a b c None = Err faults.Form
+three_at find slot a b c (Some parts) = pair (value_at find slot a (trim parts.0)) (both_at find slot b c (cut_comma parts.1))
+
+-- the operands of these kinds that a text is, parted by commas with blanks round them
+abbrev pub operands_at : (List ℕ → Option ℕ) → ℕ → Kinds → List ℕ → Result Operands Fault
+operands_at find slot kinds.Zero text = if length text == 0 then Ok operands.Zero else Err faults.Form
+operands_at find slot (kinds.One a) text = one (value_at find slot a (trim text))
+operands_at find slot (kinds.Two a b) text = two (both_at find slot a b (cut_comma text))
+operands_at find slot (kinds.Three a b c) text = three (three_at find slot a b c (cut_comma text))
+
+-- whether a word has the form of a kind, and its registers are there, whatever its numbers and labels are
+abbrev pub stands : Kind → List ℕ → Bool
+stands kind.Reg word = is_ok (register_at word)
+stands kind.RegOrImm word = if is_register word then is_ok (register_at word) else is_number word
+stands kind.Imm word = is_number word
+stands kind.Wide word = is_number word
+stands kind.Distance word = is_name word || is_offset word
+stands kind.FarDistance word = is_name word || is_offset word
+stands kind.Address word = is_bracketed word && (is_ok (register_at (base_of (inside word))) && is_offset (offset_of (inside word)))
+
+abbrev pub both_stand : Kind → Kind → Option (List ℕ × List ℕ) → Bool
+both_stand a b None = false
+both_stand a b (Some parts) = stands a (trim parts.0) && stands b (trim parts.1)
+
+abbrev pub three_stand : Kind → Kind → Kind → Option (List ℕ × List ℕ) → Bool
+three_stand a b c None = false
+three_stand a b c (Some parts) = stands a (trim parts.0) && both_stand b c (cut_comma parts.1)
+
+-- whether a text has the form of operands of these kinds, and its registers are there
+abbrev pub all_stand : Kinds → List ℕ → Bool
+all_stand kinds.Zero text = length text == 0
+all_stand (kinds.One a) text = stands a (trim text)
+all_stand (kinds.Two a b) text = both_stand a b (cut_comma text)
+all_stand (kinds.Three a b c) text = three_stand a b c (cut_comma text)

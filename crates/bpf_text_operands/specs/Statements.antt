@@ -1,0 +1,108 @@
+-- What a line that isn't a label means: the instruction of its mnemonic and operands.
+use Rattle.std.specs.Prelude.{ℕ, ◌%◌, ◌/◌, ◌^◌, if◌then◌else◌, List, take, drop, Option, Some, None, pos, Result, Ok, Err}
+use Rattle.std.specs.Int.{w32, cast_signed}
+use Rattle.std.specs.List.{position_or_len}
+use Rattle.bpf_insn.specs.declared.insn.ImmKind.{ImmKind}
+use Rattle.bpf_insn.specs.declared.insn.ImmKind.TheVariants as load
+use Rattle.bpf_insn.specs.declared.insn.Width.{Width}
+use Rattle.bpf_insn.specs.declared.insn.AtomicOp.{AtomicOp}
+use Rattle.bpf_insn.specs.declared.insn.Operand.TheVariants as operand
+use Rattle.bpf_insn.specs.declared.insn.Insn.{Insn}
+use Rattle.bpf_insn.specs.declared.insn.Insn.TheVariants as insn
+use Rattle.bpf_text_lines.specs.Lines.{is_blank, trim_start}
+use Rattle.bpf_text_fields.specs.declared.error.Fault.{Fault}
+use Rattle.bpf_text_fields.specs.declared.error.Fault.TheVariants as faults
+use Rattle.bpf_text_insns.specs.declared.mnemonic.Mnemonic.{Mnemonic}
+use Rattle.bpf_text_insns.specs.declared.mnemonic.Mnemonic.TheVariants as mnemonic
+use Rattle.bpf_text_insns.specs.declared.value.Value.TheVariants as value
+use Rattle.bpf_text_insns.specs.declared.value.Operands.{Operands}
+use Rattle.bpf_text_insns.specs.declared.value.Operands.TheVariants.{Zero, One, Two, Three}
+use Rattle.bpf_text_operands.specs.Stems.{mnemonic_at, atomic_width, atomics, first_atomic}
+use Rattle.bpf_text_operands.specs.Operands.{kinds_of, operands_at, all_stand}
+
+-- a two-slot load of this kind
+abbrev pub two_slots_of : ImmKind → Operands → Option Insn
+two_slots_of load.Number (Two (value.Reg dst) (value.Wide n)) = Some (insn.LoadImm load.Number dst (cast_signed w32 (n % 2 ^ 32)) (cast_signed w32 (n / 2 ^ 32)))
+two_slots_of load.Code (Two (value.Reg dst) (value.FarDistance d)) = Some (insn.LoadImm load.Code dst d (pos 0))
+two_slots_of kind (Two (value.Reg dst) (value.Imm imm)) = Some (insn.LoadImm kind dst imm (pos 0))
+two_slots_of kind (Three (value.Reg dst) (value.Imm imm) (value.Imm next)) = Some (insn.LoadImm kind dst imm next)
+two_slots_of kind _ = None
+
+-- the instruction of a mnemonic and operands of its kinds
+abbrev pub insn_of : Mnemonic → Operands → Option Insn
+insn_of (mnemonic.Alu w o) (Two (value.Reg dst) (value.Imm imm)) = Some (insn.Alu w o dst (operand.Imm imm))
+insn_of (mnemonic.Alu w o) (Two (value.Reg dst) (value.Reg src)) = Some (insn.Alu w o dst (operand.Reg src))
+insn_of (mnemonic.Neg w) (One (value.Reg dst)) = Some (insn.Neg w dst)
+insn_of (mnemonic.Movsx w bits) (Two (value.Reg dst) (value.Reg src)) = Some (insn.Movsx w bits dst src)
+insn_of (mnemonic.Endian o bits) (One (value.Reg dst)) = Some (insn.Endian o bits dst)
+insn_of mnemonic.Ja (One (value.Distance d)) = Some (insn.Ja d)
+insn_of mnemonic.Ja32 (One (value.FarDistance d)) = Some (insn.Ja32 d)
+insn_of (mnemonic.Jump w c) (Three (value.Reg dst) (value.Imm imm) (value.Distance d)) = Some (insn.Jump w c dst (operand.Imm imm) d)
+insn_of (mnemonic.Jump w c) (Three (value.Reg dst) (value.Reg src) (value.Distance d)) = Some (insn.Jump w c dst (operand.Reg src) d)
+insn_of (mnemonic.Call c) (One (value.Imm imm)) = Some (insn.Call c imm)
+insn_of mnemonic.Exit Zero = Some insn.Exit
+insn_of (mnemonic.Load s) (Two (value.Reg dst) (value.Address base offset)) = Some (insn.Load s dst base offset)
+insn_of (mnemonic.LoadSx s) (Two (value.Reg dst) (value.Address base offset)) = Some (insn.LoadSx s dst base offset)
+insn_of (mnemonic.StoreImm s) (Two (value.Address base offset) (value.Imm imm)) = Some (insn.StoreImm s base offset imm)
+insn_of (mnemonic.Store s) (Two (value.Address base offset) (value.Reg src)) = Some (insn.Store s base src offset)
+insn_of (mnemonic.Atomic w o) (Two (value.Address base offset) (value.Reg src)) = Some (insn.Atomic w o base src offset)
+insn_of (mnemonic.LoadImm k) values = two_slots_of k values
+insn_of m values = None
+
+-- a text up to its first blank, and what stands behind that blank and those that follow it
+abbrev pub first_word : List ℕ → List ℕ
+first_word text = take (position_or_len is_blank text) text
+
+abbrev pub behind_word : List ℕ → List ℕ
+behind_word text = trim_start (drop (position_or_len is_blank text) text)
+
+-- a mnemonic before a text of operands
+abbrev pub before_text : List ℕ → Option Mnemonic → Option (Mnemonic × List ℕ)
+before_text text None = None
+before_text text (Some m) = Some (m, text)
+
+-- an atomic before a text of operands
+abbrev pub atomic_of : Width → List ℕ → Option AtomicOp → Option (Mnemonic × List ℕ)
+atomic_of w text None = None
+atomic_of w text (Some o) = Some (mnemonic.Atomic w o, text)
+
+-- an atomic where its first word gives a width, or another mnemonic
+abbrev pub by_width : Option Width → (word rest : List ℕ) → Option (Mnemonic × List ℕ)
+by_width (Some w) word rest = atomic_of w (behind_word rest) (first_atomic (first_word rest) atomics)
+by_width None word rest = before_text rest (mnemonic_at word)
+
+-- the mnemonic of a line, and the text of its operands
+abbrev pub statement_at : List ℕ → Option (Mnemonic × List ℕ)
+statement_at line = by_width (atomic_width (first_word line)) (first_word line) (behind_word line)
+
+-- an instruction where there is one
+abbrev pub some_insn : Option Insn → Result Insn Fault
+some_insn None = Err faults.Form
+some_insn (Some i) = Ok i
+
+-- the instruction of a mnemonic and what was read of its operands
+abbrev pub built : Mnemonic → Result Operands Fault → Result Insn Fault
+built m (Err fault) = Err fault
+built m (Ok values) = some_insn (insn_of m values)
+
+-- the instruction of a mnemonic and a text of operands
+abbrev pub with_operands : (List ℕ → Option ℕ) → ℕ → Option (Mnemonic × List ℕ) → Result Insn Fault
+with_operands find slot None = Err faults.Form
+with_operands find slot (Some s) = built s.0 (operands_at find slot (kinds_of s.0) s.1)
+
+-- the instruction that a line is at a slot, where labels are found by this function, or the least fault
+unfoldable pub insn_at : (List ℕ → Option ℕ) → ℕ → List ℕ → Result Insn Fault
+insn_at find slot line = with_operands find slot (statement_at line)
+
+-- how many slots the instructions of a mnemonic take
+abbrev pub mnemonic_slots : Mnemonic → ℕ
+mnemonic_slots (mnemonic.LoadImm k) = 2
+mnemonic_slots _ = 1
+
+-- how many slots a line takes: none unless its form and its registers stand
+abbrev pub slots_where : Option (Mnemonic × List ℕ) → ℕ
+slots_where None = 0
+slots_where (Some s) = if all_stand (kinds_of s.0) s.1 then mnemonic_slots s.0 else 0
+
+unfoldable pub slots_at : List ℕ → ℕ
+slots_at line = slots_where (statement_at line)

@@ -1,0 +1,55 @@
+//! The labels of a text.
+
+ghost use Rattle.std.specs.Prelude.{◌≡◌, IfOk, OnOk, ℕ, List, None};
+ghost use Rattle.bpf_text_operands.specs.LabelTable.{found, slot_in, defined};
+
+use std::alloc::{AllocError, AllocFailed, Global};
+use std::collections::HashMap;
+
+/// Where a label is defined.
+#[derive(Clone, Copy, Debug, PartialEq, Eq)]
+pub struct Label {
+    /// The line that defines it.
+    pub line: u32,
+    /// The slot of the instruction behind it.
+    pub slot: u32,
+}
+
+/// The labels of a text by their names.
+#[derive(Drop)]
+pub struct Labels<'a> {
+    places: HashMap<&'a [u8], Label>,
+}
+
+impl<'a> Labels<'a> {
+    /// No labels.
+    pub fn new(alloc: Global) -> Labels<'a>
+        ensures { (name : List ℕ) → found result name ≡ None }
+    {
+        Labels {
+            places: HashMap::new(alloc),
+        }
+    }
+
+    /// Where a label is defined, if it is.
+    pub fn get(&self, name: &[u8]) -> Option<Label>
+        ensures { result ≡ found self.now name.now }
+    {
+        self.places.get(name).copied()
+    }
+
+    /// Adds a label, unless one of this name is defined already.
+    pub fn define(
+        &mut self,
+        name: &'a [u8],
+        label: Label,
+    ) -> Result<(), AllocFailed<(&'a [u8], Label)>>
+        ensures { OnOk result ((other : List ℕ) → found self.new other ≡ defined (found self.old) name.now label other) }
+    {
+        if self.get(name).is_some() {
+            return Ok(());
+        }
+        self.places.insert(name, label)?;
+        Ok(())
+    }
+}

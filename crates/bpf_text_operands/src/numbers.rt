@@ -1,0 +1,149 @@
+//! Registers, numbers with a sign, and distances.
+
+ghost use Rattle.std.specs.Prelude.{◌≡◌, ◌≤◌, ◌<◌, ◌-◌, ◌^◌, pos, neg_ℤ, IfOk, FitsSigned};
+ghost use Rattle.std.specs.List.{list_all};
+ghost use Rattle.std.specs.Char.{is_ascii_digit};
+ghost use Rattle.std.specs.Int.{w16};
+ghost use Rattle.bpf_text_lines.specs.Numbers.{number_in};
+ghost use Rattle.bpf_text_fields.specs.Fields.{fault_of};
+ghost use Rattle.bpf_text_operands.specs.SignedNumbers.{is_register, register_at, ahead, back, signed_at, is_ahead, is_offset, offset_at, distance_to};
+
+use bpf_insn::Reg;
+use bpf_text_fields::Fault;
+use bpf_text_lines::{NumberError, is_negative, is_numeral, read_number};
+
+/// Whether all bytes are decimal digits.
+fn has_only_digits(word: &[u8]) -> bool
+    ensures { result ≡ list_all is_ascii_digit word.now }
+{
+    word.iter().all(|b| b.is_ascii_digit())
+}
+
+/// Whether a word is an `r` and digits.
+pub fn is_register(word: &[u8]) -> bool
+    ensures { result ≡ is_register word.now }
+{
+    if word.len() < 2 || word[0] != b'r' {
+        return false;
+    }
+    has_only_digits(&word[1..])
+}
+
+/// The register that a word names.
+pub fn register_at(word: &[u8]) -> Result<Reg, Fault>
+    ensures { result ≡ register_at word.now }
+{
+    if !is_register(word) {
+        return Err(Fault::Form);
+    }
+    match read_number(&word[1..], 10) {
+        Ok(number) => Reg::new(number as u8).ok_or(Fault::Register),
+        Err(_) => Err(Fault::Register),
+    }
+}
+
+/// The fault of a word that is no number of its field.
+pub fn fault_of(error: NumberError) -> Fault
+    ensures { result ≡ fault_of error }
+{
+    match error {
+        NumberError::Form => Fault::Form,
+        NumberError::Field => Fault::Field,
+    }
+}
+
+/// A number without a minus sign, up to a limit.
+fn ahead(digits: &[u8], limit: u64) -> Result<i32, Fault>
+    requires { limit < 2 ^ 31 }
+    ensures value { result ≡ ahead (number_in limit digits.now) }
+    ensures small { IfOk result (λ n. limit < 2 ^ 15 → FitsSigned w16 n) }
+{
+    match read_number(digits, limit) {
+        Ok(number) => Ok(number as i32),
+        Err(error) => Err(fault_of(error)),
+    }
+}
+
+/// The negative of a number.
+fn minus(number: u64) -> i32
+    requires { number ≤ 2 ^ 31 }
+    ensures { result ≡ neg_ℤ (pos number) }
+{
+    (-(number as i64)) as i32
+}
+
+/// The digits behind a minus sign as a number down to a limit.
+fn back(digits: &[u8], limit: u64) -> Result<i32, Fault>
+    requires { limit ≤ 2 ^ 31 }
+    ensures value { result ≡ back (number_in limit digits.now) }
+    ensures small { IfOk result (λ n. limit ≤ 2 ^ 15 → FitsSigned w16 n) }
+{
+    match read_number(digits, limit) {
+        Ok(number) => Ok(minus(number)),
+        Err(error) => Err(fault_of(error)),
+    }
+}
+
+/// The number of a word, in a field of 32 bits.
+pub fn signed_at(word: &[u8]) -> Result<i32, Fault>
+    ensures { result ≡ signed_at (2 ^ 31) word.now }
+{
+    if is_negative(word) {
+        return back(&word[1..], 1 << 31);
+    }
+    ahead(word, (1 << 31) - 1)
+}
+
+/// Whether a word is a plus sign and a number of any size.
+fn is_ahead(word: &[u8]) -> bool
+    ensures { result ≡ is_ahead word.now }
+{
+    if word.is_empty() || word[0] != b'+' {
+        return false;
+    }
+    is_numeral(&word[1..])
+}
+
+/// Whether a word is a number of any size that has a sign.
+pub fn is_offset(word: &[u8]) -> bool
+    ensures { result ≡ is_offset word.now }
+{
+    is_negative(word) || is_ahead(word)
+}
+
+/// The number of a word, which has a sign, in a field of -bound to bound - 1.
+pub fn offset_at(word: &[u8], bound: u64) -> Result<i32, Fault>
+    requires low { 0 < bound }
+    requires high { bound ≤ 2 ^ 31 }
+    ensures value { result ≡ offset_at bound word.now }
+    ensures small { IfOk result (λ n. bound ≤ 2 ^ 15 → FitsSigned w16 n) }
+{
+    if is_negative(word) {
+        return back(&word[1..], bound);
+    }
+    if is_ahead(word) {
+        return ahead(&word[1..], bound - 1);
+    }
+    Err(Fault::Form)
+}
+
+/// The distance from the slot behind one slot to another, in a field of -bound to bound - 1.
+pub fn distance_to(target: u32, bound: u64, slot: u32) -> Result<i32, Fault>
+    requires high { bound ≤ 2 ^ 31 }
+    ensures value { result ≡ distance_to bound slot target }
+    ensures small { IfOk result (λ n. bound ≤ 2 ^ 15 → FitsSigned w16 n) }
+{
+    let (slot, target) = (u64::from(slot), u64::from(target));
+    if slot < target {
+        let distance = target - slot - 1;
+        if distance < bound {
+            return Ok(distance as i32);
+        }
+    } else {
+        let distance = slot + 1 - target;
+        if distance <= bound {
+            return Ok(minus(distance));
+        }
+    }
+    Err(Fault::Field)
+}

@@ -1,0 +1,110 @@
+//! A line that isn't a label.
+
+ghost use Rattle.std.specs.Prelude.{◌≡◌, Some, None, IfSome, IfNone, position, ◌≤◌};
+ghost use Rattle.bpf_text_lines.specs.Lines.{is_blank};
+ghost use Rattle.bpf_text_operands.specs.LabelTable.{slots_of};
+ghost use Rattle.bpf_text_operands.specs.Statements.{first_word, behind_word, statement_at, insn_at, mnemonic_slots, slots_at, built};
+
+use crate::building::insn_of;
+use crate::kind::kinds_of;
+use crate::labels::Labels;
+use crate::operands::{all_stand, operands_at};
+use crate::tables::{atomic_at, atomic_width, mnemonic_at};
+use bpf_insn::Insn;
+use bpf_text_fields::Fault;
+use bpf_text_insns::{Mnemonic, Operands};
+use bpf_text_lines::{is_blank, trim_start};
+
+/// Where a text has its first blank.
+fn blank_at(text: &[u8]) -> Option<usize>
+    ensures { result ≡ position is_blank text.now }
+{
+    text.iter().position(|b| is_blank(*b))
+}
+
+/// A text up to its first blank, and what stands behind its blanks there.
+fn split_word(text: &[u8]) -> (&[u8], &[u8])
+    ensures word { result.0.now ≡ first_word text.now }
+    ensures rest { result.1.now ≡ behind_word text.now }
+{
+    match blank_at(text) {
+        Some(at) => {
+            let (word, rest) = text.split_at(at);
+            (word, trim_start(rest))
+        }
+        None => (text, &[]),
+    }
+}
+
+/// The mnemonic of a line, and the text of its operands.
+fn statement_at(line: &[u8]) -> Option<(Mnemonic, &[u8])>
+    ensures some { IfSome result (λ x. statement_at line.now ≡ Some (x.0, x.1.now)) }
+    ensures none { IfNone result (statement_at line.now ≡ None) }
+{
+    let (word, rest) = split_word(line);
+    if let Some(width) = atomic_width(word) {
+        let (word, rest) = split_word(rest);
+        return match atomic_at(word) {
+            Some(op) => Some((Mnemonic::Atomic(width, op), rest)),
+            None => None,
+        };
+    }
+    match mnemonic_at(word) {
+        Some(mnemonic) => Some((mnemonic, rest)),
+        None => None,
+    }
+}
+
+/// The instruction of a mnemonic and what was read of its operands.
+fn built(mnemonic: Mnemonic, operands: Result<Operands, Fault>) -> Result<Insn, Fault>
+    ensures { result ≡ built mnemonic operands }
+{
+    match operands {
+        Ok(operands) => match insn_of(mnemonic, &operands) {
+            Some(insn) => Ok(insn),
+            None => Err(Fault::Form),
+        },
+        Err(fault) => Err(fault),
+    }
+}
+
+/// The instruction that a line is, where its slot is this, or the least of its faults: `Form`,
+/// `Field` for a number or a distance outside its field, `Register`, or `UnknownLabel`. The line has
+/// no comment and no blanks round it.
+#[tactic(auto, unfolding(crate::specs::Statements::insn_at))]
+pub fn read_insn(line: &[u8], labels: &Labels<'_>, slot: u32) -> Result<Insn, Fault>
+    ensures { result ≡ insn_at (slots_of labels.now) slot line.now }
+{
+    match statement_at(line) {
+        Some((mnemonic, text)) => {
+            built(
+                mnemonic,
+                operands_at(kinds_of(mnemonic), text, labels, slot),
+            )
+        }
+        None => Err(Fault::Form),
+    }
+}
+
+/// How many slots the instructions of a mnemonic take.
+fn mnemonic_slots(mnemonic: Mnemonic) -> u32
+    ensures { result ≡ mnemonic_slots mnemonic }
+{
+    match mnemonic {
+        Mnemonic::LoadImm(_) => 2,
+        _ => 1,
+    }
+}
+
+/// How many slots a line takes: those of its instruction where its form and its registers stand,
+/// whatever its numbers and labels are, and else none.
+#[tactic(auto, unfolding(crate::specs::Statements::slots_at))]
+pub fn line_slots(line: &[u8]) -> u32
+    ensures slots { result ≡ slots_at line.now }
+    ensures bound { result ≤ 2 }
+{
+    match statement_at(line) {
+        Some((mnemonic, text)) if all_stand(kinds_of(mnemonic), text) => mnemonic_slots(mnemonic),
+        _ => 0,
+    }
+}

@@ -1,0 +1,36 @@
+use Rattle.std.proofs.Common.{◌+◌, sym, ap, ◌∙◌, arith}
+use Rattle.std.proofs.lemmas.Result.{err_from_is_err_and}
+use Rattle.bpf_text_lines.specs.Lines.{contents_from, lines_of}
+use Rattle.bpf_text_operands.specs.LabelTable.{found}
+use Rattle.bpf_text_units.specs.UnitReading.{insns_behind, slots_in}
+use Rattle.bpf_text_units.proofs.ReadingLaws.{slots_in-append, insns_behind-line, insns_behind-fails, insns_behind-end}
+use Rattle.bpf_text_units.proofs.program.read_insns.Goals as goal
+
+pub returns-in_err-slot : goal.returns-in_err-slot
+returns-in_err-slot c =
+    let p = err_from_is_err_and c.from_residual.result c.from_residual.ensures.1 in
+    let e = c.in_err-slot.field-0.0 in
+    let labels = found c.args.labels.now in
+    let before = c.loop-line.insns.items in
+    let line = c.in-Some.line in
+    let lines = contents_from (line.number + 1) (lines_of line.rest.now) in
+    let all = sym c.loop-line.invariant.so_far ∙ ap (insns_behind labels before) c.in-Some.ensures.some in
+    rw (p.1, p.2, all) (insns_behind-fails labels e before c.loop-line.slot (line.number, line.content.now) lines c.loop-line.invariant.slot c.in_err-slot.ensures.adds)
+
+pub loop-line-preserved : goal.loop-line-preserved
+loop-line-preserved c =
+    let labels = found c.args.labels.now in
+    let before = c.loop-line.insns.items in
+    let line = c.in-Some.line in
+    let lines = contents_from (line.number + 1) (lines_of line.rest.now) in
+    let adds = c.in_ok-slot.ensures.adds in
+    let step = insns_behind-line labels before c.loop-line.slot (line.number, line.content.now) lines adds.0 c.loop-line.invariant.slot adds.1 in
+    record {
+      so_far = rw adds.2 (sym step ∙ ap (insns_behind labels before) (sym c.in-Some.ensures.some) ∙ c.loop-line.invariant.so_far);
+      slot = rw (adds.2, slots_in-append before adds.0) (adds.3 ∙ ap (λ n. n + slots_in adds.0) c.loop-line.invariant.slot);
+      room = c.in_ok-slot.ensures.bound;
+      ahead = omega (arith, c.in-Some.ensures.shorter);
+    }
+
+pub returns : goal.returns
+returns c = sym c.loop-line.invariant.so_far ∙ ap (insns_behind (found c.args.labels.now) c.loop-line.insns.items) c.in_default.ensures.none ∙ insns_behind-end (found c.args.labels.now) c.loop-line.insns.items

@@ -1,0 +1,63 @@
+//! Label lines.
+
+ghost use Rattle.std.specs.Prelude.{◌≡◌, ◌≤◌, ◌<◌, ◌+◌, ◌^◌, ℕ, List, IfSome, IfNone, IfOk, OnOk, length, true, false};
+ghost use Rattle.bpf_text_lines.specs.Lines.{contents_from, lines_of};
+ghost use Rattle.bpf_text_operands.specs.LabelTable.{or_this, found};
+ghost use Rattle.bpf_text_units.specs.UnitReading.{name_of, is_label, line_slots, line_label, labels_from};
+
+use bpf_text_lines::{is_name, next_line};
+use bpf_text_operands::{Label, Labels, line_slots};
+use std::alloc::{AllocError, Global};
+
+/// The name of a label line, or None where the line is none.
+pub fn label_name(line: &[u8]) -> Option<&[u8]>
+    ensures some { IfSome result (λ name. (is_label line.now ≡ true) × (name.now ≡ name_of line.now)) }
+    ensures none { IfNone result (is_label line.now ≡ false) }
+{
+    if line.is_empty() || line[line.len() - 1] != b':' {
+        return None;
+    }
+    let name = &line[..line.len() - 1];
+    if !is_name(name) {
+        return None;
+    }
+    Some(name)
+}
+
+/// Adds the label of a line to the labels before it, if the line is one, and gives the slot behind
+/// the line.
+fn define_line<'a>(
+    labels: &mut Labels<'a>,
+    content: &'a [u8],
+    number: u32,
+    slot: u32,
+) -> Result<u32, AllocError>
+    requires { slot ≤ 2097152 }
+    ensures slot { IfOk result (λ next. next ≡ slot + line_slots content.now) }
+    ensures bound { IfOk result (λ next. next ≤ slot + 2) }
+    ensures labels { OnOk result ((name : List ℕ) → found labels.new name ≡ or_this (found labels.old name) (line_label slot number content.now name)) }
+{
+    let Some(name) = label_name(content) else {
+        return Ok(slot + line_slots(content));
+    };
+    labels.define(name, Label { line: number, slot })?;
+    Ok(slot)
+}
+
+/// The labels of lines, the first of which has this number and stands at slot 0.
+pub fn read_labels<'a>(alloc: Global, text: &'a [u8], first: u32) -> Result<Labels<'a>, AllocError>
+    requires number { first + length text.now < 2 ^ 32 }
+    requires text { length text.now ≤ 1048576 }
+    ensures { IfOk result (λ labels. (name : List ℕ) → found labels name ≡ labels_from 0 (contents_from first (lines_of text.now)) name) }
+{
+    let mut labels = Labels::new(alloc);
+    let mut slot = 0;
+    let mut rest = text;
+    let mut number = first;
+    while let Some(line) = next_line(rest, number) {
+        slot = define_line(&mut labels, line.content, line.number, slot)?;
+        rest = line.rest;
+        number = line.number + 1;
+    }
+    Ok(labels)
+}

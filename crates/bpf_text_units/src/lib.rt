@@ -1,0 +1,11 @@
+//! Units as assembler text, read.
+#![tactic(auto)]
+
+mod label;
+mod program;
+mod unit_text;
+
+pub use unit_text::parse_unit;
+
+#[cfg(test)]
+mod tests;

@@ -1,0 +1,91 @@
+//! The instructions of a unit's lines.
+
+ghost use Rattle.std.specs.Prelude.{◌≡◌, ◌≤◌, ◌<◌, ◌+◌, ◌^◌, [], IfOk, length, if◌then◌else◌, Ok, Err};
+ghost use Rattle.bpf_text_fields.specs.Refusals.{at_line, Gives};
+ghost use Rattle.bpf_text_lines.specs.Lines.{contents_from, lines_of};
+ghost use Rattle.bpf_text_operands.specs.LabelTable.{found};
+ghost use Rattle.bpf_text_operands.specs.Statements.{insn_at};
+ghost use Rattle.bpf_text_operands.specs.LabelTable.{slots_of};
+ghost use Rattle.bpf_text_units.specs.UnitReading.{label_at, in_limit, line_at, insns_behind, slots_in, Adds};
+
+use crate::label::label_name;
+use bpf_insn::{Insn, slots};
+use bpf_text_fields::{Fault, MAX_SLOTS, TextError};
+use bpf_text_lines::next_line;
+use bpf_text_operands::{Labels, read_insn};
+use std::alloc::Global;
+
+/// Whether the label line of this number repeats the label of another line.
+fn repeats(labels: &Labels<'_>, name: &[u8], number: u32) -> bool
+    ensures { (if result then Err Fault.RepeatedLabel else Ok []) ≡ label_at number (found labels.now name.now) }
+{
+    match labels.get(name) {
+        Some(label) => label.line != number,
+        None => false,
+    }
+}
+
+/// Adds the instruction of a line to others, and gives the slot behind it.
+fn add_insn(
+    insns: &mut Vec<Insn>,
+    content: &[u8],
+    number: u32,
+    labels: &Labels<'_>,
+    slot: u32,
+) -> Result<u32, TextError>
+    requires { slot ≤ 4096 }
+    ensures adds { Adds insns.old.items insns.new.items slot result (at_line number (in_limit slot (insn_at (slots_of labels.now) slot content.now))) }
+    ensures bound { IfOk result (λ next. next ≤ 4096) }
+{
+    let insn = match read_insn(content, labels, slot) {
+        Ok(insn) => insn,
+        Err(fault) => return Err(fault.at(number)),
+    };
+    let next = slot + slots(&insn);
+    if next as usize > MAX_SLOTS {
+        return Err(Fault::TooLong.at(number));
+    }
+    insns.extend_from_slice(&[insn])?;
+    Ok(next)
+}
+
+/// Adds what a line gives to the instructions before it, and gives the slot behind it.
+fn add_line(
+    insns: &mut Vec<Insn>,
+    content: &[u8],
+    number: u32,
+    labels: &Labels<'_>,
+    slot: u32,
+) -> Result<u32, TextError>
+    requires { slot ≤ 4096 }
+    ensures adds { Adds insns.old.items insns.new.items slot result (at_line number (line_at (found labels.now) slot number content.now)) }
+    ensures bound { IfOk result (λ next. next ≤ 4096) }
+{
+    match label_name(content) {
+        Some(name) if repeats(labels, name, number) => Err(Fault::RepeatedLabel.at(number)),
+        Some(_) => Ok(slot),
+        None => add_insn(insns, content, number, labels, slot),
+    }
+}
+
+/// The instructions of lines, the first of which has this number, where these are the labels.
+pub fn read_insns(
+    alloc: Global,
+    text: &[u8],
+    first: u32,
+    labels: &Labels<'_>,
+) -> Result<Vec<Insn>, TextError>
+    requires { first + length text.now < 2 ^ 32 }
+    ensures { Gives (λ v. v.items) result (insns_behind (found labels.now) [] (contents_from first (lines_of text.now))) }
+{
+    let mut insns = Vec::new(alloc);
+    let mut slot = 0;
+    let mut rest = text;
+    let mut number = first;
+    while let Some(line) = next_line(rest, number) {
+        slot = add_line(&mut insns, line.content, line.number, labels, slot)?;
+        rest = line.rest;
+        number = line.number + 1;
+    }
+    Ok(insns)
+}
