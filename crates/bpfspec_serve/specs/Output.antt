@@ -8,18 +8,22 @@ use Rattle.bpf_insn.specs.declared.insn.Insn.{Insn}
 use Rattle.bpf_insn.specs.declared.codec_error.CodecError.{CodecError}
 use Rattle.bpf_insn.specs.declared.codec_error.CodecError.TheVariants as codec
 use Rattle.bpf_insn.specs.Reading.{reading}
-use Rattle.bpf_text.specs.declared.error.Fault.TheVariants as text_faults
-use Rattle.bpf_text.specs.declared.error.TextError.{TextError}
-use Rattle.bpf_text.specs.declared.error.TextError.TheVariants as text
+use Rattle.bpf_text_fields.specs.declared.error.Fault.TheVariants as text_faults
+use Rattle.bpf_text_fields.specs.declared.error.TextError.{TextError}
+use Rattle.bpf_text_fields.specs.declared.error.TextError.TheVariants as text
 use Rattle.bpf_text.specs.HexText.{HexParts, hex_text}
 use Rattle.bpf_text.specs.MapsText.{maps_text}
+use Rattle.bpf_text_insns.specs.UnitText.{unit_text as assembler_form, unit_hex as hex_form}
+use Rattle.bpf_text_units.specs.UnitReading.{UnitParts, unit_text as assembler_text}
 use Rattle.array_maps.specs.MapList.{lengths}
 use Rattle.bpf_step_model.specs.Program.{Program}
 use Rattle.bpf_step_model.specs.Run.{Ended}
 use Rattle.loop_core_law.specs.Report.{Reported, report_in_order}
 use Rattle.spec_run.specs.Thin.{Thin}
 use Rattle.bpfspec_serve.specs.declared.command_line.Mode.{Mode}
-use Rattle.bpfspec_serve.specs.declared.command_line.Mode.TheVariants.{Order}
+use Rattle.bpfspec_serve.specs.declared.command_line.Mode.TheVariants.{Order, Asm, Disasm}
+use Rattle.bpfspec_serve.specs.declared.command_line.UnitForm.{UnitForm}
+use Rattle.bpfspec_serve.specs.declared.command_line.UnitForm.TheVariants.{Assembler, Hex}
 use Rattle.bpfspec_serve.specs.declared.refusal.Section.{Section}
 use Rattle.bpfspec_serve.specs.declared.refusal.Section.TheVariants as sections
 use Rattle.bpfspec_serve.specs.declared.refusal.Refusal.{Refusal}
@@ -60,14 +64,31 @@ abbrev pub with_sizes : List ℕ → Result (List Insn) CodecError → Result Pr
 with_sizes sizes (Ok insns) = Ok (record { sizes = sizes; insns = insns })
 with_sizes sizes (Err error) = Err (code_failure error)
 
--- the program of a unit's parts
-abbrev pub program_of_parts : Result HexParts Failure → Result Program Failure
-program_of_parts (Err failure) = Err failure
-program_of_parts (Ok parts) = with_sizes parts.sizes (reading parts.bytes)
+-- the program of a unit in hex form
+abbrev pub of_hex : Result HexParts Failure → Result Program Failure
+of_hex (Err failure) = Err failure
+of_hex (Ok parts) = with_sizes parts.sizes (reading parts.bytes)
 
--- the program of a section in hex form
-abbrev pub unit_program : List ℕ → Result Program Failure
-unit_program section = program_of_parts (in_section sections.Unit (hex_text section))
+-- the program of a unit of assembler text
+abbrev pub of_assembler : Result UnitParts Failure → Result Program Failure
+of_assembler (Err failure) = Err failure
+of_assembler (Ok parts) = Ok (record { sizes = parts.sizes; insns = parts.insns })
+
+-- the program of a section
+abbrev pub unit_program : UnitForm → List ℕ → Result Program Failure
+unit_program Assembler section = of_assembler (in_section sections.Unit (assembler_text section))
+unit_program Hex section = of_hex (in_section sections.Unit (hex_text section))
+
+-- a text of a unit, where its instructions have bytes
+abbrev pub as_outcome : Result (List ℕ) CodecError → Outcome
+as_outcome (Ok text) = Ok text
+as_outcome (Err error) = Err (code_failure error)
+
+-- a unit in the other form
+abbrev pub written : UnitForm → Result Program Failure → Outcome
+written form (Err failure) = Err failure
+written Assembler (Ok program) = as_outcome (assembler_form program.sizes program.insns)
+written Hex (Ok program) = as_outcome (hex_form program.sizes program.insns)
 
 -- values as the start words of maps of these sizes
 abbrev pub fitting : List ℕ → Result (List (List ℕ)) Failure → Outcome
@@ -105,7 +126,9 @@ readable input =
 -- what comes of an input that can be read
 abbrev pub OfReadable : Mode → Outcome → Outcome → Type 0
 OfReadable mode (Err failure) outcome = outcome ≡ Err failure
-OfReadable (Order argument) (Ok input) outcome = OfUnit (unit_program (unit_section input)) argument (maps_section input) outcome
+OfReadable (Order form argument) (Ok input) outcome = OfUnit (unit_program form (unit_section input)) argument (maps_section input) outcome
+OfReadable Asm (Ok input) outcome = outcome ≡ written Hex (unit_program Assembler (unit_section input))
+OfReadable Disasm (Ok input) outcome = outcome ≡ written Assembler (unit_program Hex (unit_section input))
 
 -- what comes of an input
 abbrev pub OfInput : Mode → List ℕ → Outcome → Type 0

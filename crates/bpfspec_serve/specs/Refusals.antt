@@ -3,8 +3,8 @@ use Rattle.std.specs.Prelude.{ℕ, List, ◌++◌, codes}
 use Rattle.std.specs.Fmt.{decimal}
 use Rattle.bpf_insn.specs.declared.codec_error.Fault.{Fault as CodeFault}
 use Rattle.bpf_insn.specs.declared.codec_error.Fault.TheVariants as code_faults
-use Rattle.bpf_text.specs.declared.error.Fault.{Fault as TextFault}
-use Rattle.bpf_text.specs.declared.error.Fault.TheVariants as text_faults
+use Rattle.bpf_text_fields.specs.declared.error.Fault.{Fault as TextFault}
+use Rattle.bpf_text_fields.specs.declared.error.Fault.TheVariants as text_faults
 use Rattle.bpfspec_serve.specs.declared.refusal.Section.{Section}
 use Rattle.bpfspec_serve.specs.declared.refusal.Section.TheVariants as sections
 use Rattle.bpfspec_serve.specs.declared.refusal.Refusal.{Refusal}

@@ -7,15 +7,16 @@ ghost use Rattle.spec_run.specs.Thin.{program_of};
 ghost use Rattle.bpfspec_serve.specs.declared.command_line.Mode.TheVariants.{Order};
 ghost use Rattle.bpfspec_serve.specs.declared.refusal.Refusal.TheVariants.{Text};
 ghost use Rattle.bpfspec_serve.specs.declared.refusal.Failure.TheVariants.{Refused};
-ghost use Rattle.bpfspec_serve.specs.Output.{text_failure, code_failure, readable, unit_program, fitting, start_words, RunsTo, OfProgram, OfUnit, OfReadable, OfInput, Met};
+ghost use Rattle.bpfspec_serve.specs.Output.{text_failure, code_failure, readable, unit_program, fitting, start_words, RunsTo, OfProgram, OfUnit, OfReadable, OfInput, Met, written};
+ghost use Rattle.bpfspec_serve.specs.Sections.{unit_section};
 
-use crate::command_line::Mode;
+use crate::command_line::{Mode, UnitForm};
 use crate::printing::print_report;
 use crate::refusal::{Failure, Refusal, Section};
 use crate::sections::part;
 use array_maps::{Maps, MapsError};
 use bpf_insn::{CodecError, Unit, decode};
-use bpf_text::{TextError, parse_maps, read_hex};
+use bpf_text::{TextError, parse_maps, parse_unit, print_unit, read_hex, write_hex};
 use spec_run::{RunError, Verified, run_in_order, thin};
 use std::alloc::Global;
 use std::str;
@@ -38,8 +39,8 @@ fn text_failure(error: TextError, section: Section) -> Failure
 }
 
 /// The unit of a section in hex form.
-fn read_unit(alloc: Global, section: &str) -> Result<Unit, Failure>
-    ensures { Met program_of (λ program. program ≡ unit_program section.now) result }
+fn read_hex_unit(alloc: Global, section: &str) -> Result<Unit, Failure>
+    ensures { Met program_of (λ program. program ≡ unit_program UnitForm.Hex section.now) result }
 {
     let parts = match read_hex(alloc, section) {
         Ok(parts) => parts,
@@ -53,6 +54,33 @@ fn read_unit(alloc: Global, section: &str) -> Result<Unit, Failure>
         sizes: parts.sizes,
         insns,
     })
+}
+
+/// The unit of a section.
+fn read_unit(alloc: Global, form: UnitForm, section: &str) -> Result<Unit, Failure>
+    ensures { Met program_of (λ program. program ≡ unit_program form section.now) result }
+{
+    match form {
+        UnitForm::Assembler => match parse_unit(alloc, section) {
+            Ok(unit) => Ok(unit),
+            Err(error) => Err(text_failure(error, Section::Unit)),
+        },
+        UnitForm::Hex => read_hex_unit(alloc, section),
+    }
+}
+
+/// A unit as a text.
+fn write_unit(alloc: Global, form: UnitForm, unit: &Unit) -> Result<String, Failure>
+    ensures { Met string_bytes (λ outcome. outcome ≡ written form (Ok (program_of unit.now))) result }
+{
+    let text = match form {
+        UnitForm::Assembler => print_unit(alloc, unit),
+        UnitForm::Hex => write_hex(alloc, unit),
+    };
+    match text {
+        Ok(text) => Ok(text),
+        Err(error) => Err(code_failure(error)),
+    }
 }
 
 /// The failure of a program's bytes.
@@ -120,17 +148,25 @@ fn run(alloc: Global, program: &Verified, maps: Maps, argument: u64) -> Result<S
     }
 }
 
-/// What comes of a unit in hex form, its argument and its maps.
-fn order(alloc: Global, argument: u64, input: &str) -> Result<String, Failure>
-    ensures { Met string_bytes (OfReadable (Order argument) (Ok input.now)) result }
+/// What comes of a unit, its argument and its maps.
+fn order(alloc: Global, form: UnitForm, argument: u64, input: &str) -> Result<String, Failure>
+    ensures { Met string_bytes (OfReadable (Order form argument) (Ok input.now)) result }
 {
     let unit = part(input);
     let maps = part(unit.rest);
-    let Some(program) = thin(read_unit(alloc, unit.section)?) else {
+    let Some(program) = thin(read_unit(alloc, form, unit.section)?) else {
         return Err(Failure::Refused(Refusal::NotThin));
     };
     let maps = start_maps(alloc, &program, maps.section)?;
     run(alloc, &program, maps, argument)
+}
+
+/// What comes of a unit that is written in another form.
+fn translate(alloc: Global, from: UnitForm, to: UnitForm, input: &str) -> Result<String, Failure>
+    ensures { Met string_bytes (λ outcome. outcome ≡ written to (unit_program from (unit_section input.now))) result }
+{
+    let unit = read_unit(alloc, from, part(input).section)?;
+    write_unit(alloc, to, &unit)
 }
 
 /// An input as a text.
@@ -152,7 +188,9 @@ pub fn outcome(alloc: Global, mode: &Mode, input: &[u8]) -> Result<String, Failu
 {
     let text = readable(input)?;
     match mode {
-        Mode::Order { arg } => order(alloc, *arg, text),
+        Mode::Order { form, arg } => order(alloc, *form, *arg, text),
+        Mode::Asm => translate(alloc, UnitForm::Assembler, UnitForm::Hex, text),
+        Mode::Disasm => translate(alloc, UnitForm::Hex, UnitForm::Assembler, text),
     }
 }
 

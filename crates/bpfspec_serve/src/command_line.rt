@@ -1,6 +1,6 @@
 //! The words of a command line, as the job that they ask for.
 
-ghost use Rattle.std.specs.Prelude.{◌≡◌, None, codes};
+ghost use Rattle.std.specs.Prelude.{◌≡◌, Some, None, codes};
 ghost use Rattle.clap.specs.Words.{found_of, kind_of, one_text};
 ghost use Rattle.bpfspec_serve.specs.CommandLine.{arg_of};
 
@@ -9,11 +9,24 @@ use clap::{Arg, ArgAction, ArgMatches, Command};
 use std::alloc::{AllocError, Global};
 use thiserror::Error;
 
+/// How a unit is written.
+#[derive(Clone, Copy, Debug, PartialEq, Eq)]
+pub enum UnitForm {
+    /// As assembler text.
+    Assembler,
+    /// As hex digits.
+    Hex,
+}
+
 /// What is done with an input.
 #[derive(Clone, Copy, Debug, PartialEq, Eq)]
 pub enum Mode {
-    /// Runs a unit in hex form in order, with this argument.
-    Order { arg: u64 },
+    /// Runs a unit of this form in order, with this argument.
+    Order { form: UnitForm, arg: u64 },
+    /// Writes a unit of assembler text in hex form.
+    Asm,
+    /// Writes a unit in hex form as assembler text.
+    Disasm,
 }
 
 /// What a command line asks for.
@@ -74,23 +87,50 @@ fn order_command<'a>(alloc: Global) -> Result<Command<'a>, AllocError> {
 }
 
 fn bpfspec_command<'a>(alloc: Global) -> Result<Command<'a>, AllocError> {
+    let asm = Command::new(alloc, "asm").about("Writes assembler text in hex form");
+    let disasm = Command::new(alloc, "disasm").about("Writes the hex form as assembler text");
     Command::new(alloc, "bpfspec")
         .subcommand_required(true)
-        .subcommand(order_command(alloc)?)
+        .subcommand(order_command(alloc)?)?
+        .subcommand(asm)?
+        .subcommand(disasm)
+}
+
+fn unit_form(matches: &ArgMatches<'_>) -> UnitForm {
+    if matches.get_flag("hex") {
+        UnitForm::Hex
+    } else {
+        UnitForm::Assembler
+    }
 }
 
 fn order_mode(matches: &ArgMatches<'_>) -> Mode
-    ensures no_arg { one_text (found_of matches.now) (codes "arg") ≡ None → arg_of result ≡ 0 }
+    ensures no_arg { one_text (found_of matches.now) (codes "arg") ≡ None → arg_of result ≡ Some 0 }
 {
     Mode::Order {
+        form: unit_form(matches),
         arg: matches.get_one::<u64>("arg").unwrap_or(0),
     }
 }
 
+/// The mode of the subcommand that was matched.
+fn mode_of(matches: &ArgMatches<'_>) -> Option<Mode> {
+    if let Some(order) = matches.subcommand_matches("order") {
+        return Some(order_mode(order));
+    }
+    if matches.subcommand_matches("asm").is_some() {
+        return Some(Mode::Asm);
+    }
+    matches
+        .subcommand_matches("disasm")
+        .map(|_| Mode::Disasm)
+}
+
 /// Reads the words of a command line, the program's name first.
 ///
-/// It fails with `Usage` where they aren't `order --hex [--arg N]`, N from 0 to
-/// 18446744073709551615, and where they ask for help; and with `Memory` where there is no memory.
+/// It fails with `Usage` where they aren't `order [--hex] [--arg N]`, N from 0 to
+/// 18446744073709551615, `asm` or `disasm`, and where they ask for help; and with `Memory` where there
+/// is no memory.
 pub fn read_words<'a>(alloc: Global, words: &'a [&'a str]) -> Result<Job, LineFault> {
     let Ok(mut command) = bpfspec_command(alloc) else {
         return Err(LineFault::Memory);
@@ -99,8 +139,8 @@ pub fn read_words<'a>(alloc: Global, words: &'a [&'a str]) -> Result<Job, LineFa
         Ok(matches) => matches,
         Err(error) => return Err(usage_fault(alloc, &error)),
     };
-    match matches.subcommand_matches("order") {
-        Some(order) if order.get_flag("hex") => Ok(Job::Serve(order_mode(order))),
-        _ => Err(usage(&mut command)),
+    match mode_of(&matches) {
+        Some(mode) => Ok(Job::Serve(mode)),
+        None => Err(usage(&mut command)),
     }
 }

@@ -12,7 +12,7 @@ mod serving;
 mod streams;
 mod writing;
 
-pub use command_line::{Job, LineFault, Mode, read_words};
+pub use command_line::{Job, LineFault, Mode, UnitForm, read_words};
 pub use counting::{Counted, read_outcome, write_outcome};
 pub use reading::{ReadAllError, read_all};
 pub use serving::{Served, serve};

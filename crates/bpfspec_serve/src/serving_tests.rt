@@ -1,9 +1,17 @@
 //! Inputs from their bytes to the bytes of their answers.
 
+ghost use Rattle.std.specs.Prelude.{◌≡◌};
+
 use crate::tests::{Narrow, Stumbling};
-use crate::{Mode, Served, Sink, Source, serve};
+use crate::{Mode, Served, Sink, Source, UnitForm, serve};
 use std::alloc::{AllocError, Global};
 use std::test::Fail;
+
+/// Runs a unit in hex form in order.
+const ORDER_HEX: Mode = Mode::Order {
+    form: UnitForm::Hex,
+    arg: 0,
+};
 
 /// The loop of eight iterations that adds its index.
 const LOOP: &str =
@@ -15,7 +23,9 @@ const LOOP: &str =
 const SEVEN: &str = "maps 1\nb700000007000000\n9500000000000000\n";
 
 /// A source of these bytes, of which the read before which so many come fails.
-fn source(bytes: &[u8], until_failure: Option<u64>) -> Stumbling<'_> {
+fn source(bytes: &[u8], until_failure: Option<u64>) -> Stumbling<'_>
+    ensures { result.failures ≡ 0 }
+{
     Stumbling {
         rest: bytes,
         until_failure,
@@ -24,7 +34,9 @@ fn source(bytes: &[u8], until_failure: Option<u64>) -> Stumbling<'_> {
 }
 
 /// An empty sink, of which the write before which so many come fails.
-fn sink(alloc: Global, until_failure: Option<u64>) -> Narrow {
+fn sink(alloc: Global, until_failure: Option<u64>) -> Narrow
+    ensures { result.failures ≡ 0 }
+{
     Narrow {
         taken: Vec::new(alloc),
         until_failure,
@@ -36,7 +48,7 @@ fn sink(alloc: Global, until_failure: Option<u64>) -> Narrow {
 fn order(alloc: Global, input: &[u8]) -> (Served, Vec<u8>) {
     let mut source = source(input, None);
     let mut sink = sink(alloc, None);
-    let served = serve(alloc, &Mode::Order { arg: 0 }, &mut source, &mut sink);
+    let served = serve(alloc, &ORDER_HEX, &mut source, &mut sink);
     (served, sink.taken)
 }
 
@@ -166,7 +178,7 @@ fn an_input_has_a_limit(rt: HostRuntime) -> Result<(), Fail> {
     let alloc = rt.alloc();
     let mut input = with_section(alloc, LOOP, "")?;
     input.push_str("%%\n")?;
-    while input.len() < 3_145_728 {
+    for _ in input.len()..3_145_728 {
         input.push_str(" ")?;
     }
     assert!(rt; order(alloc, input.as_bytes()).0 == Served::Done);
@@ -190,7 +202,7 @@ fn a_failed_read_is_a_device_fault(rt: HostRuntime) -> Result<(), Fail> {
     for position in 0..reads {
         let mut source = source(SEVEN.as_bytes(), Some(position));
         let mut sink = sink(alloc, None);
-        let served = serve(alloc, &Mode::Order { arg: 0 }, &mut source, &mut sink);
+        let served = serve(alloc, &ORDER_HEX, &mut source, &mut sink);
         let has_failed = source.failures() == 1;
         assert!(rt; has_failed == (served == Served::Device));
         assert!(rt; has_failed == sink.taken.is_empty());
@@ -203,7 +215,7 @@ fn a_failed_write_leaves_a_beginning(rt: HostRuntime) -> Result<(), Fail> {
     let alloc = rt.alloc();
     let mut source = source(LOOP.as_bytes(), None);
     let mut sink = sink(alloc, Some(1));
-    let served = serve(alloc, &Mode::Order { arg: 0 }, &mut source, &mut sink);
+    let served = serve(alloc, &ORDER_HEX, &mut source, &mut sink);
     assert!(rt; served == Served::Device);
     assert_eq!(rt; sink.taken.as_slice(), b"ret".as_slice());
     assert_eq!(rt; sink.failures(), 1);
@@ -215,20 +227,16 @@ fn a_failed_write_leaves_a_beginning(rt: HostRuntime) -> Result<(), Fail> {
 #[test]
 fn a_refused_growth_is_told(rt: HostRuntime) -> Result<(), Fail> {
     let alloc = rt.alloc();
-    let mut sink = sink(alloc, None);
-    let mut first = source(LOOP.as_bytes(), None);
-    let served = serve(alloc, &Mode::Order { arg: 0 }, &mut first, &mut sink);
-    if served == Served::Memory {
-        assert_eq!(rt; sink.taken.as_slice(), b"refused memory\n".as_slice());
+    let mut first = order(alloc, LOOP.as_bytes());
+    if first.0 == Served::Memory {
+        assert_eq!(rt; first.1.as_slice(), b"refused memory\n".as_slice());
     }
-    if served != Served::Done {
-        sink.taken.clear();
-        let mut second = source(LOOP.as_bytes(), None);
-        let again = serve(alloc, &Mode::Order { arg: 0 }, &mut second, &mut sink);
-        assert!(rt; again == Served::Done);
+    if first.0 != Served::Done {
+        first = order(alloc, LOOP.as_bytes());
     }
+    assert!(rt; first.0 == Served::Done);
     assert_eq!(rt;
-        sink.taken.as_slice(),
+        first.1.as_slice(),
         b"return 8\nloop 0 at 5: answer 8, in order\nmap 0: 28\n".as_slice()
     );
     Ok(())

@@ -3,7 +3,7 @@
 ghost use Rattle.std.specs.Prelude.{Some};
 
 use crate::{
-    Counted, Fault, Job, LineFault, Mode, ReadAllError, Sink, Source, read_all, read_words,
+    Counted, Fault, Job, LineFault, Mode, ReadAllError, Sink, Source, UnitForm, read_all, read_words,
     write_all,
 };
 use std::alloc::Global;
@@ -186,11 +186,22 @@ fn a_writer_without_room_fails(rt: HostRuntime) -> Result<(), Fail> {
 
 #[test]
 fn reads_the_words_of_order(rt: HostRuntime) {
-    let plain = read_words(rt.alloc(), &["bpfspec", "order", "--hex"]);
-    assert!(rt; plain == Ok(Job::Serve(Mode::Order { arg: 0 })));
+    let alloc = rt.alloc();
+    let plain = read_words(alloc, &["bpfspec", "order"]);
+    let order = Mode::Order {
+        form: UnitForm::Assembler,
+        arg: 0,
+    };
+    assert!(rt; plain == Ok(Job::Serve(order)));
     let most = "18446744073709551615";
-    let all = read_words(rt.alloc(), &["bpfspec", "order", "--hex", "--arg", most]);
-    assert!(rt; all == Ok(Job::Serve(Mode::Order { arg: u64::MAX })));
+    let all = read_words(alloc, &["bpfspec", "order", "--hex", "--arg", most]);
+    let order = Mode::Order {
+        form: UnitForm::Hex,
+        arg: u64::MAX,
+    };
+    assert!(rt; all == Ok(Job::Serve(order)));
+    assert!(rt; read_words(alloc, &["bpfspec", "asm"]) == Ok(Job::Serve(Mode::Asm)));
+    assert!(rt; read_words(alloc, &["bpfspec", "disasm"]) == Ok(Job::Serve(Mode::Disasm)));
 }
 
 /// Whether these words are a usage fault.
@@ -205,7 +216,8 @@ fn other_words_are_usage_faults(rt: HostRuntime) {
     assert!(rt; is_usage_fault(alloc, &["bpfspec", "--help"]));
     assert!(rt; is_usage_fault(alloc, &["bpfspec", "help"]));
     assert!(rt; is_usage_fault(alloc, &["bpfspec", "ordre"]));
-    assert!(rt; is_usage_fault(alloc, &["bpfspec", "order"]));
-    let past = ["bpfspec", "order", "--hex", "--arg", "18446744073709551616"];
+    assert!(rt; is_usage_fault(alloc, &["bpfspec", "asm", "--hex"]));
+    assert!(rt; is_usage_fault(alloc, &["bpfspec", "disasm", "--arg", "1"]));
+    let past = ["bpfspec", "order", "--arg", "18446744073709551616"];
     assert!(rt; is_usage_fault(alloc, past.as_slice()));
 }
