@@ -121,9 +121,7 @@ fn mode_of(matches: &ArgMatches<'_>) -> Option<Mode> {
     if matches.subcommand_matches("asm").is_some() {
         return Some(Mode::Asm);
     }
-    matches
-        .subcommand_matches("disasm")
-        .map(|_| Mode::Disasm)
+    matches.subcommand_matches("disasm").map(|_| Mode::Disasm)
 }
 
 /// Reads the words of a command line, the program's name first.

@@ -44,12 +44,32 @@ fn sink(alloc: Global, until_failure: Option<u64>) -> Narrow
     }
 }
 
-/// How an input is served by order, and what is written then.
-fn order(alloc: Global, input: &[u8]) -> (Served, Vec<u8>) {
+/// How an input is served, and what is written then.
+fn served_as(alloc: Global, mode: Mode, input: &[u8]) -> (Served, Vec<u8>) {
     let mut source = source(input, None);
     let mut sink = sink(alloc, None);
-    let served = serve(alloc, &ORDER_HEX, &mut source, &mut sink);
+    let served = serve(alloc, &mode, &mut source, &mut sink);
     (served, sink.taken)
+}
+
+/// How an input in hex form is served by order, and what is written then.
+fn order(alloc: Global, input: &[u8]) -> (Served, Vec<u8>) {
+    served_as(alloc, ORDER_HEX, input)
+}
+
+/// Whether an input is served with this text.
+fn is_done(alloc: Global, mode: Mode, input: &str, text: &str) -> bool {
+    let answer = served_as(alloc, mode, input.as_bytes());
+    answer.0 == Served::Done && answer.1.as_slice() == text.as_bytes()
+}
+
+/// Whether asm writes a unit of a line as these slots, and disasm these as that line.
+fn both_ways(alloc: Global, line: &str, slots: &str) -> Result<bool, AllocError> {
+    let mut text = String::from_str(alloc, "maps 1\n")?;
+    text.push_str(line)?;
+    let mut hex = String::from_str(alloc, "maps 1\n")?;
+    hex.push_str(slots)?;
+    Ok(is_done(alloc, Mode::Asm, &text, &hex) && is_done(alloc, Mode::Disasm, &hex, &text))
 }
 
 /// An input of a unit and a section behind it.
@@ -146,6 +166,102 @@ fn each_refusal_is_told(rt: HostRuntime) -> Result<(), Fail> {
     let input = with_section(alloc, LOOP, "map 0: 1 2\n")?;
     assert!(rt; is_refused(alloc, input.as_bytes(), refused, b"refused P1\n"));
     Ok(())
+}
+
+#[test]
+fn lines_and_slots_are_written_both_ways(rt: HostRuntime) -> Result<(), Fail> {
+    let alloc = rt.alloc();
+    assert!(rt; both_ways(alloc, "add64 r1, -5\n", "07010000fbffffff\n")?);
+    assert!(rt; both_ways(alloc, "smod64 r1, r2\n", "9f21010000000000\n")?);
+    assert!(rt; both_ways(alloc, "mov64s8 r1, r2\n", "bf21080000000000\n")?);
+    assert!(rt; both_ways(alloc, "be32 r1\n", "dc01000020000000\n")?);
+    assert!(rt; both_ways(alloc, "jlt32 r1, r2, +2\n", "ae21020000000000\n")?);
+    assert!(rt; both_ways(alloc, "ja32 +1\n", "0600000001000000\n")?);
+    assert!(rt; both_ways(alloc, "ldxs8 r1, [r2-1]\n", "9121ffff00000000\n")?);
+    assert!(rt; both_ways(alloc, "atomic32 cmpxchg [r1+4], r2\n", "c3210400f1000000\n")?);
+    assert!(rt; both_ways(alloc, "call_btf 4\n", "8520000004000000\n")?);
+    let number = "1801000000000000\n0000000000000080\n";
+    assert!(rt; both_ways(alloc, "lddw r1, 9223372036854775808\n", number)?);
+    let map = "1811000003000000\n0000000000000000\n";
+    assert!(rt; both_ways(alloc, "ldmapfd r1, 3\n", map)?);
+    Ok(())
+}
+
+#[test]
+fn labels_become_distances(rt: HostRuntime) {
+    let alloc = rt.alloc();
+    let hex = "maps 1\n0500000000000000\n9500000000000000\n";
+    assert!(rt; is_done(alloc, Mode::Asm, "maps 1\nja out\nout:\nexit", hex));
+    assert!(rt; is_done(alloc, Mode::Disasm, hex, "maps 1\nja +0\nexit\n"));
+    let upper = "maps 1\nB700000007000000";
+    assert!(rt; is_done(alloc, Mode::Disasm, upper, "maps 1\nmov64 r0, 7\n"));
+}
+
+/// Whether an input is refused so.
+fn is_refused_by(alloc: Global, mode: Mode, input: &str, served: Served, line: &str) -> bool {
+    let answer = served_as(alloc, mode, input.as_bytes());
+    answer.0 == served && answer.1.as_slice() == line.as_bytes()
+}
+
+#[test]
+fn faults_of_code_are_told(rt: HostRuntime) -> Result<(), Fail> {
+    let alloc = rt.alloc();
+    for (slots, line) in [
+        ("b7000000070000", "refused I1 at slot 0\n"),
+        (
+            "b700000000000000\n1800000000000000",
+            "refused I7 at slot 1\n",
+        ),
+        ("8d00000000000000", "refused I2 at slot 0\n"),
+        ("b70b000000000000", "refused I3 at slot 0\n"),
+        ("b710000007000000", "refused I4 at slot 0\n"),
+        ("d400000008000000", "refused I5 at slot 0\n"),
+        ("3700020001000000", "refused I6 at slot 0\n"),
+    ] {
+        let mut input = String::from_str(alloc, "maps 1\n")?;
+        input.push_str(slots)?;
+        assert!(rt; is_refused_by(alloc, Mode::Disasm, &input, Served::Refused, line));
+    }
+    Ok(())
+}
+
+#[test]
+fn faults_of_assembler_text_are_told(rt: HostRuntime) {
+    let alloc = rt.alloc();
+    for (input, line) in [
+        ("maps 1\nmov64 r11, 0", "refused A3 at unit line 2\n"),
+        ("maps 1\nja nowhere", "refused A4 at unit line 2\n"),
+        ("maps 1\na:\na:\nexit", "refused A5 at unit line 3\n"),
+        (
+            "maps 1\nmov64 r0, 2147483648",
+            "refused A2 at unit line 2\n",
+        ),
+        ("maps 0", "refused A7 at unit line 1\n"),
+        ("maps 65537", "refused A7 at unit line 1\n"),
+        (
+            "maps 1\nja out\ngarbage\nout:",
+            "refused A1 at unit line 3\n",
+        ),
+        ("maps 1\nja out\ngarbage", "refused A4 at unit line 2\n"),
+        ("maps 1\r\nexit\r\n", "refused A1 at unit line 1\n"),
+    ] {
+        assert!(rt; is_refused_by(alloc, Mode::Asm, input, Served::Text, line));
+    }
+}
+
+#[test]
+fn assembler_text_runs_in_order(rt: HostRuntime) {
+    let alloc = rt.alloc();
+    let mode = Mode::Order {
+        form: UnitForm::Assembler,
+        arg: 5,
+    };
+    let input =
+        "maps 1\nmov64 r1, 8\nldcode r2, cb\nmov64 r3, 0\nmov64 r4, 0\ncall 181\nexit\ncb:\n\
+        ldmapval r2, 0, 0\natomic64 add [r2+0], r1\nmov64 r0, 0\nexit\n%%\n\
+        map 0: 18446744073709551615\n";
+    let output = "return 8\nloop 0 at 5: answer 8, in order\nmap 0: 27\n";
+    assert!(rt; is_done(alloc, mode, input, output));
 }
 
 // The unit is judged before its maps, and a unit that isn't thin before them too.

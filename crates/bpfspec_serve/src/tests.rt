@@ -3,8 +3,8 @@
 ghost use Rattle.std.specs.Prelude.{Some};
 
 use crate::{
-    Counted, Fault, Job, LineFault, Mode, ReadAllError, Sink, Source, UnitForm, read_all, read_words,
-    write_all,
+    Counted, Fault, Job, LineFault, Mode, ReadAllError, Sink, Source, UnitForm, read_all,
+    read_words, write_all,
 };
 use std::alloc::Global;
 use std::io::Read;
