@@ -199,3 +199,36 @@ fn maps_are_printed(rt: HostRuntime) -> Result<(), Fail> {
     assert_eq!(rt; print_maps(alloc, &maps)?.as_str(), text);
     Ok(())
 }
+
+/// Under `rt try --test --fail-alloc N` each growth is refused in turn: out of memory is then the
+/// answer, and no other one comes in its place.
+#[test]
+fn growths_refused(rt: HostRuntime) {
+    let alloc = rt.alloc();
+    match parse_events(alloc, "bounds 0 4\nc0 s1\n") {
+        Ok((bounds, events)) => assert_eq!(rt; bounds.len() + events.len(), 4),
+        Err(error) => assert_eq!(rt; error, TextError::Memory),
+    }
+    match read_hex(alloc, "maps 1\n95\n") {
+        Ok(unit) => assert_eq!(rt; unit.bytes.as_slice(), [0x95].as_slice()),
+        Err(error) => assert_eq!(rt; error, TextError::Memory),
+    }
+    match parse_maps(alloc, "map 0: 5\n") {
+        Ok(maps) => assert_eq!(rt; maps[0].as_slice(), [5].as_slice()),
+        Err(error) => assert_eq!(rt; error, TextError::Memory),
+    }
+}
+
+#[test]
+fn canonical_units_are_read_back(rt: HostRuntime) -> Result<(), Fail> {
+    let alloc = rt.alloc();
+    let text =
+        "maps 1 65535\nmov64 r1, -8\nldcode r2, +5\nlddw r3, 18446744073709551615\natomic64 cmpxchg [r10-8], r1\njset32 r1, r2, -3\nja +0\nldmapval r4, 1, 8\nexit\n";
+    let unit = parse_unit(alloc, text)?;
+    assert_eq!(rt; print_unit(alloc, &unit)?.as_str(), text);
+    let hex = write_hex(alloc, &unit)?;
+    let read = read_hex(alloc, &hex)?;
+    assert_eq!(rt; read.sizes.as_slice(), unit.sizes.as_slice());
+    assert_eq!(rt; read.bytes.len(), 88);
+    Ok(())
+}
