@@ -8,5 +8,6 @@ mod flowing;
 mod outflow;
 mod ways;
 
+pub use behind::{code_target, moved};
 pub use flowing::flow;
 pub use outflow::{Edge, Outflow};
