@@ -1,0 +1,195 @@
+-- The longest paths, from the end of a program on.
+use Rattle.std.proofs.Common.{◌≡◌, ◌≢◌, ℕ, zero, suc, ◌+◌, ◌-◌, ◌<◌, ◌≤◌, max, Bool, true, false, List, [], ◌∷◌, length, get_or, set, refl, ap, sym, ◌∙◌, arith, Option, Some, None, take, replicate, map}
+use Rattle.std.specs.Prelude.{nat_eq, nat_lt}
+use Rattle.std.proofs.lemmas.Bool.Decides.{nat_tests}
+use Rattle.std.proofs.lemmas.List.{get_or-set_same, get_or-set_other}
+use Rattle.bpf_insn.specs.declared.insn.Insn.{Insn}
+use Rattle.bpf_insn.specs.declared.insn.Insn.TheVariants.{Ja, Ja32, Jump, Exit}
+use Rattle.bpf_insn.specs.Slots.{slots_of}
+use Rattle.bpf_step_model.specs.Program.{slot_count, insn_at, moved, callback_starts}
+use Rattle.bpf_verify_rules.specs.Rules.{jump_distance, jump_target}
+use Rattle.bpf_verify_flow.specs.Count.{behind_jump, through, longest, count_of}
+use Rattle.bpf_verify.specs.Counting.{JumpsForward, slice_index_or_zero}
+use Rattle.bpf_verify.proofs.ProgramLaws.{slots_some, insn_at-end, slot_count-more, slot_count-front, insn_at-index, insn_at-index_inner}
+
+behind-congr : (f g : ℕ → ℕ) (slot : ℕ) (t : Option ℕ) → ((k : ℕ) → slot + 1 ≤ k → f k ≡ g k) → ((target : ℕ) → t ≡ Some target → slot < target) →
+    behind_jump f t ≡ behind_jump g t
+behind-congr f g slot None same forward = refl
+behind-congr f g slot (Some target) same forward =
+    let later : slot < target = forward target refl in
+    same target (omega (arith, later))
+
+-- what is known of later slots alone matters
+pub through-congr : (f g : ℕ → ℕ) (slot : ℕ) (insn : Insn) → ((k : ℕ) → slot + slots_of insn ≤ k → f k ≡ g k) →
+    ((target : ℕ) → jump_target slot (jump_distance insn) ≡ Some target → slot < target) → through f slot (Some insn) ≡ through g slot (Some insn)
+through-congr f g slot (Ja offset) same forward = ap (λ (n : ℕ). 1 + n) (behind-congr f g slot (moved (slot + 1) offset) same forward)
+through-congr f g slot (Ja32 imm) same forward = ap (λ (n : ℕ). 1 + n) (behind-congr f g slot (moved (slot + 1) imm) same forward)
+through-congr f g slot (Jump width compare dst operand offset) same forward =
+    ap (λ (n : ℕ). 1 + max n (behind_jump f (moved (slot + 1) offset))) (same (slot + 1) (omega arith))
+    ∙ ap (λ (n : ℕ). 1 + max (g (slot + 1)) n) (behind-congr f g slot (moved (slot + 1) offset) same forward)
+through-congr f g slot Exit same forward = refl
+through-congr f g slot insn same forward = ap (λ (n : ℕ). 1 + n) (same (slot + slots_of insn) (omega arith))
+
+through-congr-any : (insns : List Insn) (f g : ℕ → ℕ) (slot : ℕ) (i : Option Insn) → i ≡ insn_at insns slot → JumpsForward insns →
+    ((k : ℕ) → slot < k → f k ≡ g k) → through f slot i ≡ through g slot i
+through-congr-any insns f g slot None here forward same = refl
+through-congr-any insns f g slot (Some insn) here forward same =
+    through-congr f g slot insn (λ k h. same k (omega (arith, slots_some insn, h))) (λ target jumps. forward.later slot insn target (sym here) jumps)
+
+-- past the end there is none
+pub longest-end : (insns : List Insn) (left slot : ℕ) → slot_count insns ≤ slot → longest insns left slot ≡ 0
+longest-end insns zero slot h = refl
+longest-end insns (suc left) slot h = ap (through (longest insns left) slot) (insn_at-end insns slot h)
+
+-- more slots than are left give nothing more
+longest-stable : (insns : List Insn) (left slot : ℕ) → JumpsForward insns → slot_count insns ≤ left + slot → longest insns left slot ≡ longest insns (suc left) slot
+longest-stable insns zero slot forward h = sym (longest-end insns 1 slot (omega arith))
+longest-stable insns (suc left) slot forward h =
+    through-congr-any insns (longest insns left) (longest insns (suc left)) slot (insn_at insns slot) refl forward
+    (λ k m. longest-stable insns left k forward (omega (arith, h, m)))
+
+-- one step from a slot on
+pub longest-step : (insns : List Insn) (n slot : ℕ) (i : Option Insn) → JumpsForward insns → slot_count insns ≡ n → 0 < n → insn_at insns slot ≡ i →
+    longest insns n slot ≡ through (longest insns n) slot i
+longest-step insns zero slot i forward counted some here = absurd (omega arith)
+longest-step insns (suc m) slot i forward counted some here =
+    through-congr-any insns (longest insns m) (longest insns (suc m)) slot (insn_at insns slot) refl forward (λ k h. longest-stable insns m k forward (omega (arith, h, counted)))
+    ∙ ap (through (longest insns (suc m)) slot) here
+
+-- it isn't more than the slots
+behind-small : (f : ℕ → ℕ) (m : ℕ) (t : Option ℕ) → ((k : ℕ) → f k ≤ m) → behind_jump f t ≤ m
+behind-small f m None small = omega arith
+behind-small f m (Some target) small = small target
+
+through-small : (f : ℕ → ℕ) (m slot : ℕ) (i : Option Insn) → ((k : ℕ) → f k ≤ m) → through f slot i ≤ suc m
+through-small f m slot None small = omega arith
+through-small f m slot (Some (Ja offset)) small = omega (arith, behind-small f m (moved (slot + 1) offset) small)
+through-small f m slot (Some (Ja32 imm)) small = omega (arith, behind-small f m (moved (slot + 1) imm) small)
+through-small f m slot (Some (Jump width compare dst operand offset)) small = omega (arith, small (slot + 1), behind-small f m (moved (slot + 1) offset) small)
+through-small f m slot (Some Exit) small = omega arith
+through-small f m slot (Some insn) small = omega (arith, small (slot + slots_of insn))
+
+pub longest-small : (insns : List Insn) (left slot : ℕ) → longest insns left slot ≤ left
+longest-small insns zero slot = omega arith
+longest-small insns (suc left) slot = through-small (longest insns left) left slot (insn_at insns slot) (longest-small insns left)
+
+-- an instruction at an index from the end
+pub record Back (insns : List Insn) (n slot slot' i : ℕ) (x : Insn) : Type 0 where
+  pub low : slot' ≡ slot_count (take i insns)
+  pub step : slot ≡ slot' + slots_of x
+  pub here : insn_at insns slot' ≡ Some x
+  pub inside : slot ≤ n
+  pub some : 1 ≤ slots_of x
+  pub inner : (k : ℕ) → slot' < k → k < slot → insn_at insns k ≡ None
+
+pub back-index : (insns : List Insn) (n slot size left : ℕ) (x : Insn) → 0 < left → left ≤ length insns → slot ≡ slot_count (take left insns) →
+    x ≡ get_or insns (left - 1) x → size ≡ slots_of x → slot_count insns ≡ n → Back insns n slot (slot - size) (left - 1) x
+back-index insns n slot size left x some within low read size_is counted =
+    let inside : left - 1 < length insns = omega arith in
+    let left_is : left - 1 + 1 ≡ left = omega arith in
+    let more : slot ≡ slot_count (take (left - 1) insns) + slots_of x =
+    low ∙ sym (ap (λ (k : ℕ). slot_count (take k insns)) left_is) ∙ slot_count-more insns (left - 1) x inside read in
+    let there : slot - size ≡ slot_count (take (left - 1) insns) = omega arith in
+    record {
+      low = there;
+      step = omega arith;
+      here = ap (insn_at insns) there ∙ insn_at-index insns (left - 1) x inside read;
+      inside = omega (arith, slot_count-front insns (left - 1) x inside read);
+      some = slots_some x;
+      inner = λ k m h. insn_at-index_inner insns (left - 1) x k inside read (omega arith) (omega arith);
+    }
+
+-- the numbers from a slot on
+pub record CountsFrom (insns : List Insn) (n slot : ℕ) (xs : List ℕ) : Type 0 where
+  pub done : (k : ℕ) → slot ≤ k → get_or xs k 0 ≡ longest insns n k
+  pub before : (k : ℕ) → k < slot → get_or xs k 0 ≡ 0
+  pub small : (k : ℕ) → get_or xs k 0 ≤ 4096
+
+-- at no slot's instruction there is none
+longest-none : (insns : List Insn) (n k : ℕ) → JumpsForward insns → slot_count insns ≡ n → 0 < n → insn_at insns k ≡ None → longest insns n k ≡ 0
+longest-none insns n k forward counted some none = longest-step insns n k None forward counted some none
+
+-- an instruction's number
+most-is : (insns : List Insn) (n slot slot' i most : ℕ) (x : Insn) (xs : List ℕ) → JumpsForward insns → slot_count insns ≡ n →
+    Back insns n slot slot' i x → CountsFrom insns n slot xs → most ≡ through (slice_index_or_zero xs) slot' (Some x) → most ≡ longest insns n slot'
+most-is insns n slot slot' i most x xs forward counted back counts is =
+    is ∙ through-congr (slice_index_or_zero xs) (longest insns n) slot' x (λ k h. counts.done k (omega (arith, back.step, h)))
+    (λ target jumps. forward.later slot' x target back.here jumps)
+    ∙ sym (longest-step insns n slot' (Some x) forward counted (omega (arith, back.inside, back.step, back.some)) back.here)
+
+-- the numbers from the slot before on
+pub counts-more : (insns : List Insn) (n slot slot' i most : ℕ) (x : Insn) (xs xs' : List ℕ) → JumpsForward insns → slot_count insns ≡ n → n ≤ 4096 →
+    Back insns n slot slot' i x → length xs ≡ n → CountsFrom insns n slot xs → most ≡ through (slice_index_or_zero xs) slot' (Some x) →
+    xs' ≡ set xs slot' most → CountsFrom insns n slot' xs'
+counts-more insns n slot slot' i most x xs xs' forward counted few back size counts is written =
+    let inside : slot' < length xs = omega (arith, back.inside, back.step, back.some) in
+    let most_is : most ≡ longest insns n slot' = most-is insns n slot slot' i most x xs forward counted back counts is in
+    let at_slot : get_or xs' slot' 0 ≡ most = ap (λ (l : List ℕ). get_or l slot' 0) written ∙ get_or-set_same xs slot' most 0 inside in
+    let elsewhere : (k : ℕ) → k ≢ slot' → get_or xs' k 0 ≡ get_or xs k 0 =
+    λ k other. ap (λ (l : List ℕ). get_or l k 0) written ∙ get_or-set_other xs slot' k most 0 other in
+    record {
+      done = λ k h. from_here insns n slot slot' i k x xs xs' forward counted back counts (at_slot ∙ most_is) (elsewhere k) h (nat_eq k slot') refl (nat_lt k slot) refl;
+      before = λ k h.
+          let other : k ≢ slot' = λ e. omega (arith, e, h) in
+          let below : k < slot = omega (arith, back.step, h) in
+          elsewhere k other ∙ counts.before k below;
+      small = λ k. bounded insns n slot' k most xs xs' few at_slot most_is (elsewhere k) counts.small (nat_eq k slot') refl;
+    }
+  where
+    from_here : (insns : List Insn) (n slot slot' i k : ℕ) (x : Insn) (xs xs' : List ℕ) → JumpsForward insns → slot_count insns ≡ n →
+        Back insns n slot slot' i x → CountsFrom insns n slot xs → get_or xs' slot' 0 ≡ longest insns n slot' → (k ≢ slot' → get_or xs' k 0 ≡ get_or xs k 0) →
+        slot' ≤ k → (same : Bool) → nat_eq k slot' ≡ same → (inner : Bool) → nat_lt k slot ≡ inner → get_or xs' k 0 ≡ longest insns n k
+    from_here insns n slot slot' i k x xs xs' forward counted back counts here elsewhere h true e inner f =
+        let same : k ≡ slot' = grind (arith, nat_tests) in
+        ap (λ (j : ℕ). get_or xs' j 0) same ∙ here ∙ sym (ap (longest insns n) same)
+    from_here insns n slot slot' i k x xs xs' forward counted back counts here elsewhere h false e true f =
+        let other : k ≢ slot' = grind (arith, nat_tests) in
+        let below : k < slot = grind (arith, nat_tests) in
+        let above : slot' < k = omega (arith, other) in
+        elsewhere other ∙ counts.before k below ∙ sym (longest-none insns n k forward counted (omega (arith, back.inside, below)) (back.inner k above below))
+    from_here insns n slot slot' i k x xs xs' forward counted back counts here elsewhere h false e false f =
+        let other : k ≢ slot' = grind (arith, nat_tests) in
+        let past : slot ≤ k = grind (arith, nat_tests) in
+        elsewhere other ∙ counts.done k past
+
+    bounded : (insns : List Insn) (n slot' k most : ℕ) (xs xs' : List ℕ) → n ≤ 4096 → get_or xs' slot' 0 ≡ most → most ≡ longest insns n slot' →
+        (k ≢ slot' → get_or xs' k 0 ≡ get_or xs k 0) → ((k : ℕ) → get_or xs k 0 ≤ 4096) → (same : Bool) → nat_eq k slot' ≡ same → get_or xs' k 0 ≤ 4096
+    bounded insns n slot' k most xs xs' few here most_is elsewhere small true e =
+        let same : k ≡ slot' = grind (arith, nat_tests) in
+        let at : get_or xs' k 0 ≡ longest insns n slot' = ap (λ (j : ℕ). get_or xs' j 0) same ∙ here ∙ most_is in
+        omega (arith, at, longest-small insns n slot')
+    bounded insns n slot' k most xs xs' few here most_is elsewhere small false e =
+        let other : k ≢ slot' = grind (arith, nat_tests) in
+        omega (arith, elsewhere other, small k)
+
+-- before the first, all numbers are 0
+pub counts-none : (insns : List Insn) (n : ℕ) (xs : List ℕ) → slot_count insns ≡ n → ((k : ℕ) → get_or xs k 0 ≡ 0) → CountsFrom insns n n xs
+counts-none insns n xs counted zeros = record {
+  done = λ k h. zeros k ∙ sym (longest-end insns n k (omega (arith, h)));
+  before = λ k h. zeros k;
+  small = λ k. omega (arith, zeros k);
+}
+
+-- a list of one number
+zeros_at : (z n k : ℕ) → get_or (replicate n z) k z ≡ z
+zeros_at z zero k = refl
+zeros_at z (suc n) zero = refl
+zeros_at z (suc n) (suc k) = zeros_at z n k
+
+pub get_or-zeros : (xs : List ℕ) (n k : ℕ) → xs ≡ replicate n 0 → get_or xs k 0 ≡ 0
+get_or-zeros xs n k is = ap (λ (l : List ℕ). get_or l k 0) is ∙ zeros_at 0 n k
+
+-- a function of each
+get_or-map : (g : ℕ → ℕ) (xs : List ℕ) (k : ℕ) → k < length xs → get_or (map g xs) k 0 ≡ g (get_or xs k 0)
+get_or-map g [] k h = absurd (omega arith)
+get_or-map g (x ∷ xs) zero h = refl
+get_or-map g (x ∷ xs) (suc k) h = get_or-map g xs k (omega arith)
+
+-- a function's count is its start's
+pub count-at : (insns : List Insn) (starts counts : List ℕ) (f : ℕ) → starts ≡ callback_starts insns →
+    counts ≡ map (longest insns (slot_count insns)) (0 ∷ starts) → f ≤ length starts → get_or counts f 0 ≡ count_of insns f
+unfolding count_of
+count-at insns starts counts zero starts_are counts_are h = ap (λ (l : List ℕ). get_or l 0 0) counts_are
+count-at insns starts counts (suc k) starts_are counts_are h =
+    ap (λ (l : List ℕ). get_or l (suc k) 0) counts_are ∙ get_or-map (longest insns (slot_count insns)) starts k (omega arith)
+    ∙ ap (λ (l : List ℕ). longest insns (slot_count insns) (get_or l k 0)) starts_are

@@ -1,0 +1,4 @@
+pub mod Marks
+pub mod Layout
+pub mod Passing
+pub mod Counting

@@ -1,0 +1,41 @@
+-- How far a pass over a program's slots has come.
+use Rattle.std.specs.Prelude.{◌≡◌, ℕ, ◌<◌, true, List, length, slice_index_or, Option, Some, None, is_some}
+use Rattle.bpf_insn.specs.declared.insn.Insn.{Insn}
+use Rattle.bpf_step_model.specs.Program.{Program, insn_at}
+use Rattle.bpf_verify_rules.specs.declared.state.State.{State}
+use Rattle.bpf_verify_rules.specs.Rules.{targets_in}
+use Rattle.bpf_verify_flow.specs.declared.outflow.Outflow.{Outflow}
+use Rattle.bpf_verify_flow.specs.Flow.{flow}
+use Rattle.bpf_verify_flow.specs.Inflow.{incoming, no_way, entry}
+use Rattle.bpf_verify_flow.specs.Accepted.{Fault, fault_within}
+use Rattle.bpf_verify.specs.declared.error.VerifyError.{VerifyError}
+use Rattle.bpf_verify.specs.declared.error.VerifyError.TheVariants.{Refused, Memory}
+use Rattle.bpf_verify.specs.declared.layout.Layout.{Layout}
+use Rattle.bpf_verify.specs.Layout.{IsLayout}
+
+-- an instruction starts at a slot of a program with this layout
+pub record Stands (insns : List Insn) (layout : Layout) (slot : ℕ) : Type 0 where
+  pub layout_is : IsLayout insns layout
+  pub here : is_some (insn_at insns slot) ≡ true
+  pub low : slot < 4096
+
+-- what flows from an instruction that breaks no rule
+abbrev pub out_of : List ℕ → ℕ → Insn → Option State → Outflow
+out_of sizes slot insn None = no_way
+out_of sizes slot insn (Some state) = flow sizes slot state insn
+
+-- the first so many slots break no rule; what flowed from them is in the table, and their targets are listed
+pub record Passed (program : Program) (count : ℕ) (targets : List ℕ) (table : List (Option State)) : Type 0 where
+  pub fine : fault_within program count ≡ None
+  pub listed : targets ≡ targets_in program.insns count
+  pub known : (slot : ℕ) → slot < length table → slice_index_or table slot None ≡ incoming program count slot
+
+-- what is known before each slot where nothing flowed yet
+pub record IsFirst (count : ℕ) (table : List (Option State)) : Type 0 where
+  pub size : length table ≡ count
+  pub known : (slot : ℕ) → slot < count → slice_index_or table slot None ≡ entry slot
+
+-- an error is this fault, unless memory ran out
+abbrev pub IsFault : Option Fault → VerifyError → Type 0
+IsFault fault Memory = Unit {0}
+IsFault fault (Refused rule slot) = fault ≡ Some (record { rule = rule; slot = slot })

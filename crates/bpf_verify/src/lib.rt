@@ -1,0 +1,19 @@
+//! The verifier: which programs are safe to run, and how many instructions each of their functions
+//! takes at most.
+#![tactic(auto)]
+
+mod accepting;
+mod counting;
+mod error;
+mod layout;
+mod passing;
+mod sizes;
+mod verified;
+
+pub use accepting::verify;
+pub use bpf_verify_rules::Rule;
+pub use error::VerifyError;
+pub use verified::Verified;
+
+#[cfg(test)]
+mod tests;

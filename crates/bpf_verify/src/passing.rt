@@ -1,0 +1,332 @@
+//! The pass over a program's instructions: what is known before each, and the first fault.
+
+ghost use Rattle.std.specs.Prelude.{◌≡◌, ℕ, ◌+◌, ◌<◌, ◌≤◌, ◌++◌, ◌∷◌, [], length, nat_eq, slice_index_or, IfOk, IfErr, OnOk};
+ghost use Rattle.std.specs.List.{list_any};
+ghost use Rattle.bpf_step_model.specs.Program.{slot_count, insn_at, function_of, leads_to};
+ghost use Rattle.bpf_verify_rules.specs.Rules.{leads_later, jumps_astray, falls_off, starts, names_none, targets_in, with_target, slot_fault, or_else, reached, state_fault, exit_fault, fault_of};
+ghost use Rattle.bpf_verify_flow.specs.Inflow.{met, received};
+ghost use Rattle.bpf_verify_flow.specs.Accepted.{fault_within};
+ghost use Rattle.bpf_verify.specs.Layout.{IsLayout, place_of, program_of};
+ghost use Rattle.bpf_verify.specs.Passing.{Stands, out_of, Passed, IsFirst, IsFault};
+
+use crate::error::VerifyError;
+use crate::layout::{Layout, named_by};
+use bpf_insn::{Insn, Unit, slots};
+use bpf_verify_flow::{Edge, Outflow, flow, moved};
+use bpf_verify_rules::{
+    Rule, State, callback_fault, exit_fault, goes_on, insn_fault, is_code_load, jump_distance,
+    state_fault,
+};
+use std::alloc::Global;
+
+/// A unit with its layout.
+#[derive(Clone, Copy)]
+pub struct Code<'a> {
+    pub unit: &'a Unit,
+    pub layout: &'a Layout,
+}
+
+// The function of the instruction at a slot, if one starts there.
+fn place(code: &Code, slot: u32) -> Option<u32>
+    requires { IsLayout code.now.unit.now.insns.items code.now.layout.now }
+    ensures { result ≡ place_of code.now.unit.now.insns.items slot }
+{
+    match code.layout.places.get(slot as usize) {
+        None => None,
+        Some(place) => *place,
+    }
+}
+
+// The function of an instruction.
+fn function_at(code: &Code, slot: u32) -> u32
+    requires { Stands code.now.unit.now.insns.items code.now.layout.now slot }
+    ensures { result ≡ function_of code.now.unit.now.insns.items slot }
+{
+    match place(code, slot) {
+        None => unreachable!(),
+        Some(function) => function,
+    }
+}
+
+// Whether an instruction of the same function starts at another slot.
+fn leads_to(code: &Code, slot: u32, target: u32) -> bool
+    requires { Stands code.now.unit.now.insns.items code.now.layout.now slot }
+    ensures { result ≡ leads_to code.now.unit.now.insns.items slot target }
+{
+    match place(code, target) {
+        None => false,
+        Some(function) => function_at(code, slot) == function,
+    }
+}
+
+// A later slot, where an instruction of the same function starts.
+fn leads_later(code: &Code, slot: u32, target: Option<u32>) -> bool
+    requires { Stands code.now.unit.now.insns.items code.now.layout.now slot }
+    ensures { result ≡ leads_later code.now.unit.now.insns.items slot target }
+{
+    match target {
+        None => false,
+        Some(target) => slot < target && leads_to(code, slot, target),
+    }
+}
+
+// V3: a jump's target isn't a later slot where an instruction of the same function starts.
+fn jumps_astray(code: &Code, slot: u32, insn: Insn) -> bool
+    requires { Stands code.now.unit.now.insns.items code.now.layout.now slot }
+    ensures { result ≡ jumps_astray code.now.unit.now.insns.items slot insn }
+{
+    match jump_distance(insn) {
+        None => false,
+        Some(distance) => !leads_later(code, slot, moved(slot, distance)),
+    }
+}
+
+// V4: it goes on, but no instruction of the same function follows.
+fn falls_off(code: &Code, slot: u32, insn: &Insn) -> bool
+    requires { Stands code.now.unit.now.insns.items code.now.layout.now slot }
+    ensures { result ≡ falls_off code.now.unit.now.insns.items slot insn.now }
+{
+    goes_on(*insn) && !leads_to(code, slot, slot + slots(insn))
+}
+
+// Whether an instruction starts at a slot.
+fn starts(code: &Code, slot: Option<u32>) -> bool
+    requires { IsLayout code.now.unit.now.insns.items code.now.layout.now }
+    ensures { result ≡ starts code.now.unit.now.insns.items slot }
+{
+    match slot {
+        None => false,
+        Some(slot) => place(code, slot).is_some(),
+    }
+}
+
+// V5: a code address's target isn't the first slot of an instruction past the load.
+fn names_none(code: &Code, slot: u32, insn: &Insn) -> bool
+    requires { Stands code.now.unit.now.insns.items code.now.layout.now slot }
+    ensures { result ≡ names_none code.now.unit.now.insns.items slot insn.now }
+{
+    is_code_load(*insn) && !starts(code, named_by(slot, *insn))
+}
+
+// The least of V3 to V6; so many targets are named up to this slot.
+#[tactic(auto, unfolding(bpf_verify_rules::specs::Rules::slot_fault))]
+fn slot_fault(code: &Code, slot: u32, insn: &Insn, targets: usize) -> Option<Rule>
+    requires stands { Stands code.now.unit.now.insns.items code.now.layout.now slot }
+    requires targets { targets ≡ length (targets_in code.now.unit.now.insns.items (slot + 1)) }
+    ensures { result ≡ slot_fault code.now.unit.now.insns.items slot insn.now }
+{
+    let astray = jumps_astray(code, slot, *insn);
+    let off = falls_off(code, slot, insn);
+    let none = names_none(code, slot, insn);
+    if astray {
+        Some(Rule::V3)
+    } else if off {
+        Some(Rule::V4)
+    } else if none {
+        Some(Rule::V5)
+    } else if targets > 15 {
+        Some(Rule::V6)
+    } else {
+        None
+    }
+}
+
+// The first of two.
+fn or_else(first: Option<Rule>, later: Option<Rule>) -> Option<Rule>
+    ensures { result ≡ or_else first later }
+{
+    match first {
+        Some(rule) => Some(rule),
+        None => later,
+    }
+}
+
+fn reached_fault(sizes: &[u32], before: &Option<State>, insn: &Insn) -> Option<Rule>
+    ensures { result ≡ reached (λ state. state_fault sizes.now state insn.now) before.now }
+{
+    match before {
+        None => None,
+        Some(state) => state_fault(sizes, state, insn),
+    }
+}
+
+fn reached_exit_fault(function: u32, before: &Option<State>, insn: &Insn) -> Option<Rule>
+    ensures { result ≡ reached (λ state. exit_fault function state insn.now) before.now }
+{
+    match before {
+        None => None,
+        Some(state) => exit_fault(function, state, *insn),
+    }
+}
+
+// The least rule that an instruction breaks at a slot; so many targets are named up to this slot.
+#[tactic(auto, unfolding(bpf_verify_rules::specs::Rules::fault_of))]
+fn fault_of(
+    code: &Code,
+    slot: u32,
+    insn: &Insn,
+    targets: usize,
+    before: &Option<State>,
+) -> Option<Rule>
+    requires stands { Stands code.now.unit.now.insns.items code.now.layout.now slot }
+    requires targets { targets ≡ length (targets_in code.now.unit.now.insns.items (slot + 1)) }
+    ensures { result ≡ fault_of (program_of code.now.unit.now) slot insn.now before.now }
+{
+    let sizes = code.unit.sizes.as_slice();
+    let function = function_at(code, slot);
+    let slot_rule = slot_fault(code, slot, insn, targets);
+    let insn_rule = insn_fault(sizes, insn);
+    let state_rule = reached_fault(sizes, before, insn);
+    let callback_rule = callback_fault(function, *insn);
+    let exit_rule = reached_exit_fault(function, before, insn);
+    or_else(
+        slot_rule,
+        or_else(
+            insn_rule,
+            or_else(state_rule, or_else(callback_rule, exit_rule)),
+        ),
+    )
+}
+
+// What is known where one more way comes in.
+fn met(before: Option<State>, state: &State) -> Option<State>
+    ensures { result ≡ met before state.now }
+{
+    match before {
+        None => Some(*state),
+        Some(mut known) => {
+            known.meet(state);
+            Some(known)
+        }
+    }
+}
+
+// One more way comes in.
+fn receive(table: &mut Vec<Option<State>>, edge: &Option<Edge>)
+    ensures size { length table.new.items ≡ length table.old.items }
+    ensures received { (slot : ℕ) → slot < length table.old.items
+        → slice_index_or table.new.items slot None ≡ received slot (slice_index_or table.old.items slot None) edge.now }
+{
+    let Some(edge) = edge else {
+        return;
+    };
+    let at = edge.target as usize;
+    if at < table.len() {
+        table[at] = met(table[at], &edge.state);
+    }
+}
+
+// What flows from an instruction that breaks no rule.
+fn out_of(sizes: &[u32], slot: u32, insn: &Insn, before: &Option<State>) -> Outflow
+    requires { slot < 4096 }
+    ensures { result ≡ out_of sizes.now slot insn.now before.now }
+{
+    match before {
+        None => Outflow {
+            ahead: None,
+            aside: None,
+        },
+        Some(state) => flow(sizes, slot, state, *insn),
+    }
+}
+
+fn is_among(targets: &[u32], target: u32) -> bool
+    ensures { result ≡ list_any (nat_eq target) targets.now }
+{
+    targets.iter().any(|known| target == *known)
+}
+
+// A target, if it is a new one.
+fn add_target(targets: &mut Vec<u32>, target: Option<u32>) -> Result<(), VerifyError>
+    ensures ok { OnOk result (targets.new.items ≡ with_target targets.old.items target) }
+    ensures err { IfErr result (λ e. e ≡ VerifyError.Memory) }
+{
+    let Some(target) = target else {
+        return Ok(());
+    };
+    if is_among(targets, target) {
+        return Ok(());
+    }
+    Ok(targets.push(target)?)
+}
+
+// What is known before a slot.
+fn known(table: &Vec<Option<State>>, slot: u32) -> Option<State>
+    requires { slot < length table.now.items }
+    ensures { result ≡ slice_index_or table.now.items slot None }
+{
+    let states = table.as_slice();
+    states[slot as usize]
+}
+
+// Passes over one instruction.
+fn visit(
+    code: &Code,
+    slot: u32,
+    insn: &Insn,
+    targets: &mut Vec<u32>,
+    table: &mut Vec<Option<State>>,
+) -> Result<(), VerifyError>
+    requires stands { Stands code.now.unit.now.insns.items code.now.layout.now slot }
+    requires here { insn_at code.now.unit.now.insns.items slot ≡ Some insn.now }
+    requires within { slot < length table.old.items }
+    requires passed { Passed (program_of code.now.unit.now) slot targets.old.items table.old.items }
+    ensures size { OnOk result (length table.new.items ≡ length table.old.items) }
+    ensures ok { OnOk result (Passed (program_of code.now.unit.now) (slot + 1) targets.new.items table.new.items) }
+    ensures err { IfErr result (IsFault (fault_within (program_of code.now.unit.now) (slot + 1))) }
+{
+    add_target(targets, named_by(slot, *insn))?;
+    let before = known(table, slot);
+    if let Some(rule) = fault_of(code, slot, insn, targets.len(), &before) {
+        return Err(VerifyError::Refused { rule, slot });
+    }
+    let out = out_of(&code.unit.sizes, slot, insn, &before);
+    receive(table, &out.ahead);
+    receive(table, &out.aside);
+    Ok(())
+}
+
+// By a slice of one: the borrow checker has no plan yet for a push of a struct within an enum.
+fn add_state(table: &mut Vec<Option<State>>, state: Option<State>) -> Result<(), VerifyError>
+    ensures ok { OnOk result (table.new.items ≡ table.old.items ++ state ∷ []) }
+    ensures err { IfErr result (λ e. e ≡ VerifyError.Memory) }
+{
+    Ok(table.extend_from_slice(&[state])?)
+}
+
+// What is known before each slot where nothing flowed yet.
+fn first_table(alloc: Global, count: u32) -> Result<Vec<Option<State>>, VerifyError>
+    requires { 0 < count }
+    ensures ok { IfOk result (λ table. IsFirst count table.items) }
+    ensures err { IfErr result (λ e. e ≡ VerifyError.Memory) }
+{
+    let mut table = Vec::new(alloc);
+    add_state(&mut table, Some(State::main_entry()))?;
+    for slot in 1..count {
+        add_state(&mut table, None)?;
+    }
+    Ok(table)
+}
+
+/// Passes over all instructions, up to the first fault.
+pub fn pass(alloc: Global, code: &Code, count: u32) -> Result<(), VerifyError>
+    requires layout { IsLayout code.now.unit.now.insns.items code.now.layout.now }
+    requires slots { slot_count code.now.unit.now.insns.items ≡ count }
+    requires some { 0 < count }
+    requires few { count ≤ 4096 }
+    ensures ok { IfOk result (λ _. fault_within (program_of code.now.unit.now) count ≡ None) }
+    ensures err { IfErr result (IsFault (fault_within (program_of code.now.unit.now) count)) }
+{
+    let mut table = first_table(alloc, count)?;
+    let mut targets = Vec::new(alloc);
+    let mut slot = 0;
+    let insns = code.unit.insns.as_slice();
+    for insn in insns {
+        match visit(code, slot, insn, &mut targets, &mut table) {
+            Err(error) => return Err(error),
+            Ok(()) => {}
+        }
+        slot += slots(insn);
+    }
+    Ok(())
+}

@@ -1,0 +1,54 @@
+-- Which programs are accepted, and the first fault of the others.
+use Rattle.std.specs.Prelude.{◌≡◌, ℕ, zero, suc, ◌==◌, Bool, not, ◌&&◌, ◌||◌, nat_lt, nat_le, if◌then◌else◌, List, length, Option, Some, None}
+use Rattle.std.specs.List.{list_all, sum}
+use Rattle.bpf_insn.specs.declared.insn.Insn.{Insn}
+use Rattle.bpf_step_model.specs.Program.{Program, insn_at, slot_count}
+use Rattle.bpf_verify_rules.specs.declared.rule.Rule.{Rule}
+use Rattle.bpf_verify_rules.specs.declared.rule.Rule.TheVariants.{V1, V2}
+use Rattle.bpf_verify_rules.specs.Rules.{fault_of}
+use Rattle.bpf_verify_flow.specs.Inflow.{before}
+
+-- a broken rule at a slot
+pub record Fault : Type 0 where
+  pub rule : Rule
+  pub slot : ℕ
+
+-- the least rule that is broken at a slot where an instruction starts
+abbrev pub fault_at_insn : Program → ℕ → Option Insn → Option Rule
+fault_at_insn program slot None = None
+fault_at_insn program slot (Some insn) = fault_of program slot insn (before program slot)
+
+-- at a slot
+abbrev pub fault_at : Program → ℕ → Option Rule
+fault_at program slot = fault_at_insn program slot (insn_at program.insns slot)
+
+-- a fault, unless there is an earlier one
+abbrev pub unless_earlier : Option Fault → ℕ → Option Rule → Option Fault
+unless_earlier (Some fault) slot rule = Some fault
+unless_earlier None slot None = None
+unless_earlier None slot (Some rule) = Some (record { rule = rule; slot = slot })
+
+-- the first fault of so many slots
+unfoldable pub fault_within : Program → ℕ → Option Fault
+fault_within program zero = None
+fault_within program (suc slot) = unless_earlier (fault_within program slot) slot (fault_at program slot)
+
+-- sizes within the limits: 1 to 16 maps, each of at least 1 element, and at most 65,536 elements over all
+abbrev pub sizes_fit : List ℕ → Bool
+sizes_fit sizes =
+    nat_le 1 (length sizes) && nat_le (length sizes) 16 && list_all (λ size. nat_le 1 size) sizes && nat_le (sum sizes) 65536
+
+-- V2: more than 4,096 slots, or sizes that break the limits
+abbrev pub is_too_large : Program → Bool
+is_too_large program = nat_lt 4096 (slot_count program.insns) || not (sizes_fit program.sizes)
+
+-- the first fault: of the least slot, there of the least number. V1: there is no slot
+unfoldable pub first_fault : Program → Option Fault
+first_fault program =
+    if slot_count program.insns == 0 then Some (record { rule = V1; slot = 0 })
+    else if is_too_large program then Some (record { rule = V2; slot = 0 })
+    else fault_within program (slot_count program.insns)
+
+-- a program is accepted where there is none
+abbrev pub Accepted : Program → Type 0
+Accepted program = first_fault program ≡ None

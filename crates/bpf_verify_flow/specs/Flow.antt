@@ -1,0 +1,236 @@
+-- What flows from a slot to later ones.
+use Rattle.std.specs.Prelude.{ℕ, ℤ, pos, negsuc, ◌+◌, ◌+ℤ◌, ◌-◌, ◌*◌, ◌^◌, ◌==◌, Bool, nat_le, if◌then◌else◌, min, max, List, slice_get, slice_set, Option, Some, None}
+use Rattle.std.specs.Int.{cast_unsigned, w32}
+use Rattle.bpf_insn.specs.declared.insn.Width.{Width}
+use Rattle.bpf_insn.specs.declared.insn.Width.TheVariants.{W32, W64}
+use Rattle.bpf_insn.specs.declared.insn.Size.{Size}
+use Rattle.bpf_insn.specs.declared.insn.AluOp.TheVariants.{Mov}
+use Rattle.bpf_insn.specs.declared.insn.Compare.{Compare}
+use Rattle.bpf_insn.specs.declared.insn.Compare.TheVariants.{Eq}
+use Rattle.bpf_insn.specs.declared.insn.AtomicOp.{AtomicOp}
+use Rattle.bpf_insn.specs.declared.insn.AtomicOp.TheVariants.{Fetch, Xchg, Cmpxchg}
+use Rattle.bpf_insn.specs.declared.insn.Operand.{Operand}
+use Rattle.bpf_insn.specs.declared.insn.Operand.TheVariants.{Imm, Reg}
+use Rattle.bpf_insn.specs.declared.insn.ImmKind.{ImmKind}
+use Rattle.bpf_insn.specs.declared.insn.ImmKind.TheVariants.{Number as NumberKind, Code as CodeKind, Map as MapKind, MapValue}
+use Rattle.bpf_insn.specs.declared.insn.Insn.{Insn}
+use Rattle.bpf_insn.specs.declared.insn.Insn.TheVariants.{Alu, Neg, Movsx, Endian, Ja, Ja32, Jump, Call, Exit, Load, LoadSx, StoreImm, Store, Atomic, LoadImm}
+use Rattle.bpf_insn.specs.Slots.{slots_of}
+use Rattle.bpf_insn_words.specs.Words.{word_of}
+use Rattle.bpf_step_model.specs.Program.{moved, code_target}
+use Rattle.bpf_step_model.specs.Memory.{bytes_of}
+use Rattle.value_range_spans.specs.Spans.{Span, exact, top, norm}
+use Rattle.value_range.specs.declared.operation.Operation.TheVariants.{Alu as AluOperation, Neg as NegOperation, Movsx as MovsxOperation, Endian as EndianOperation}
+use Rattle.value_range_refine.specs.declared.condition.Condition.TheVariants.{Holds}
+use Rattle.value_range.specs.AluRows.{span_of}
+use Rattle.value_range_refine.specs.RefineRows.{refined, opposite}
+use Rattle.bpf_verify_rules.specs.declared.abstract_value.AbstractValue.{AbstractValue}
+use Rattle.bpf_verify_rules.specs.declared.abstract_value.AbstractValue.TheVariants.{Unwritten, Number, Frame, Ctx, Map, Area, AreaOrNull, Code}
+use Rattle.bpf_verify_rules.specs.declared.helper.Helper.{Helper}
+use Rattle.bpf_verify_rules.specs.declared.helper.Helper.TheVariants.{Lookup, Loop}
+use Rattle.bpf_verify_rules.specs.declared.state.State.{State}
+use Rattle.bpf_verify_flow.specs.declared.outflow.Edge.{Edge}
+use Rattle.bpf_verify_flow.specs.declared.outflow.Outflow.{Outflow}
+use Rattle.bpf_verify_flow.specs.declared.ways.Ways.{Ways}
+use Rattle.bpf_verify_rules.specs.Abstract.{register, with_register, none_written, written_at, starting_registers}
+use Rattle.bpf_verify_rules.specs.Values.{operand_value, on_number, result_of}
+use Rattle.bpf_verify_rules.specs.Helpers.{helper_called}
+
+-- a register gets what is given, if anything is
+abbrev pub sets : State → ℕ → Option AbstractValue → State
+sets state r None = state
+sets state r (Some value) = with_register state r value
+
+-- a number of so many bytes
+abbrev pub number_of_size : Size → AbstractValue
+number_of_size size = Number (norm 0 (256 ^ bytes_of size - 1) 0)
+
+-- a state with so many bytes of the frame written from a position on
+abbrev pub with_own : State → List Bool → State
+with_own state own = record { registers = state.registers; own = own; caller = state.caller }
+
+-- a store to the frame marks its bytes
+abbrev pub with_written : State → ℕ → ℤ → State
+with_written state size (pos position) =
+    if nat_le (position + size) 512 then with_own state (written_at state.own position size) else state
+with_written state size (negsuc _) = state
+
+abbrev pub stores : State → ℕ → ℤ → AbstractValue → State
+stores state size offset (Frame position) = with_written state size (pos position +ℤ offset)
+stores state size offset _ = state
+
+-- an atomic operation puts the old number into the source register where it fetches or exchanges, and into R0 where
+-- it compares (RFC 9669, section 5.3)
+abbrev pub fetches : State → Width → AtomicOp → ℕ → State
+fetches state width (Fetch op) src = with_register state src (Number (top width))
+fetches state width Xchg src = with_register state src (Number (top width))
+fetches state width Cmpxchg src = with_register state 0 (Number (top width))
+fetches state width _ src = state
+
+-- the callback that a slot is the start of
+abbrev pub code_at : Option ℕ → AbstractValue
+code_at None = Unwritten
+code_at (Some start) = Code start
+
+-- what a two-slot load puts into its register
+abbrev pub wide_value : ℕ → ImmKind → ℤ → ℤ → AbstractValue
+wide_value slot NumberKind imm next_imm = Number (exact (cast_unsigned w32 imm + 2 ^ 32 * cast_unsigned w32 next_imm))
+wide_value slot CodeKind imm next_imm = code_at (code_target CodeKind slot imm)
+wide_value slot MapKind imm next_imm = Map (cast_unsigned w32 imm)
+wide_value slot MapValue imm next_imm = Area (cast_unsigned w32 imm) (exact (cast_unsigned w32 next_imm))
+wide_value slot _ imm next_imm = Unwritten
+
+-- after a call R0 has the answer, and R1 to R5 are unwritten
+abbrev pub forgets : List AbstractValue → ℕ → List AbstractValue
+forgets registers r = slice_set registers r Unwritten
+
+abbrev pub after_call : State → AbstractValue → State
+after_call state answer = record {
+  registers = forgets (forgets (forgets (forgets (forgets (slice_set state.registers 0 answer) 1) 2) 3) 4) 5;
+  own = state.own;
+  caller = state.caller;
+}
+
+-- a lookup answers the address of one of a map's values, or 0
+abbrev pub address_in : ℕ → Option ℕ → AbstractValue
+address_in map None = Unwritten
+address_in map (Some count) = AreaOrNull map (norm 0 (8 * count - 8) 3)
+
+abbrev pub found : List ℕ → AbstractValue → AbstractValue
+found sizes (Map map) = address_in map (slice_get sizes map)
+found sizes _ = Unwritten
+
+-- what a helper answers
+abbrev pub answer_of : List ℕ → State → Option Helper → AbstractValue
+answer_of sizes state (Some Lookup) = found sizes (register state 1)
+answer_of sizes state (Some Loop) = Number (top W64)
+answer_of sizes state None = Unwritten
+
+-- what is known behind an instruction that doesn't jump
+unfoldable pub behind : List ℕ → ℕ → State → Insn → State
+behind sizes slot state (Alu width op dst operand) =
+    sets state dst (result_of width op (register state dst) (operand_value state operand))
+behind sizes slot state (Neg width dst) = sets state dst (on_number NegOperation width (register state dst))
+behind sizes slot state (Movsx width bits dst src) = sets state dst (on_number (MovsxOperation bits) width (register state src))
+behind sizes slot state (Endian order bits dst) = sets state dst (on_number (EndianOperation order bits) W64 (register state dst))
+behind sizes slot state (Load size dst src offset) = with_register state dst (number_of_size size)
+behind sizes slot state (LoadSx size dst src offset) = with_register state dst (Number (top W64))
+behind sizes slot state (StoreImm size dst offset imm) = stores state (bytes_of size) offset (register state dst)
+behind sizes slot state (Store size dst src offset) = stores state (bytes_of size) offset (register state dst)
+behind sizes slot state (Atomic width op dst src offset) = fetches state width op src
+behind sizes slot state (LoadImm kind dst imm next_imm) = with_register state dst (wide_value slot kind imm next_imm)
+behind sizes slot state (Call callee imm) = after_call state (answer_of sizes state (helper_called callee imm))
+behind sizes slot state _ = state
+
+-- a way to a slot, if it is followed
+abbrev pub way : Option ℕ → Option State → Option Edge
+way (Some target) (Some state) = Some (record { target = target; state = state })
+way _ _ = None
+
+-- the number that a comparison's second operand is: an immediate is sign-extended at 64 bits, and has its 32 bits
+-- at 32 bits
+abbrev pub compared_imm : Width → ℤ → ℕ
+compared_imm W64 imm = word_of imm
+compared_imm W32 imm = cast_unsigned w32 imm
+
+-- what a comparison's second register is known to be, if it is a number
+abbrev pub with_number : State → Operand → Span → State
+with_number state (Imm imm) b = state
+with_number state (Reg r) b = with_register state r (Number b)
+
+-- what is known where a comparison's operands are refined, if a pair of their numbers is left
+abbrev pub refines : State → ℕ → Operand → Option (Span × Span) → Option State
+refines state dst operand None = None
+refines state dst operand (Some pair) = Some (with_number (with_register state dst (Number pair.0)) operand pair.1)
+
+-- both are followed with nothing more known
+abbrev pub both_ways : State → Ways
+both_ways state = record { holds = Some state; fails = Some state }
+
+-- a comparison of two numbers
+abbrev pub number_ways : State → Width → Compare → ℕ → Operand → Span → Span → Ways
+number_ways state width compare dst operand a b = record {
+  holds = refines state dst operand (refined (Holds compare) width a b);
+  fails = refines state dst operand (refined (opposite compare) width a b);
+}
+
+-- a register with itself refines nothing
+abbrev pub register_ways : State → Width → Compare → ℕ → ℕ → Span → AbstractValue → Ways
+register_ways state width compare dst r a (Number b) =
+    if dst == r then both_ways state else number_ways state width compare dst (Reg r) a b
+register_ways state width compare dst r a _ = both_ways state
+
+abbrev pub operand_ways : State → Width → Compare → ℕ → Operand → Span → Ways
+operand_ways state width compare dst (Imm imm) a = number_ways state width compare dst (Imm imm) a (exact (compared_imm width imm))
+operand_ways state width compare dst (Reg r) a = register_ways state width compare dst r a (register state r)
+
+-- the null check: null where it is equal, and an address where it isn't
+abbrev pub null_ways : State → Compare → ℕ → ℕ → Span → Ways
+null_ways state Eq dst map offset = record {
+  holds = Some (with_register state dst (Number (exact 0)));
+  fails = Some (with_register state dst (Area map offset));
+}
+null_ways state compare dst map offset = record {
+  holds = Some (with_register state dst (Area map offset));
+  fails = Some (with_register state dst (Number (exact 0)));
+}
+
+-- both ways of a comparison, by what its first register has
+abbrev pub ways_of : State → Width → Compare → ℕ → Operand → AbstractValue → Ways
+ways_of state width compare dst operand (Number a) = operand_ways state width compare dst operand a
+ways_of state width compare dst operand (AreaOrNull map offset) = null_ways state compare dst map offset
+ways_of state width compare dst operand _ = both_ways state
+
+-- the ways out of a comparison
+abbrev pub branches : ℕ → ℤ → Ways → Outflow
+branches slot offset ways = record { ahead = way (Some (slot + 1)) ways.fails; aside = way (moved (slot + 1) offset) ways.holds }
+
+-- a jump's one way
+abbrev pub jumps : ℕ → ℤ → State → Outflow
+jumps slot distance state = record { ahead = None; aside = way (moved (slot + 1) distance) (Some state) }
+
+-- the way to the next slot
+abbrev pub goes_ahead : ℕ → State → Outflow
+goes_ahead slot state = record { ahead = way (Some slot) (Some state); aside = None }
+
+-- a callback's index is below a number of iterations: one of 32 bits, at least 1 and at most 8,388,608
+abbrev pub most_iterations : Span → ℕ
+most_iterations number = max (min (span_of (AluOperation Mov) W32 number number).hi 8388608) 1
+
+abbrev pub index_value : AbstractValue → AbstractValue
+index_value (Number number) = Number (norm 0 (most_iterations number - 1) 0)
+index_value _ = Unwritten
+
+-- a callback's ctx: an address of main's frame, or 0
+abbrev pub ctx_value : AbstractValue → AbstractValue
+ctx_value (Frame position) = Ctx position
+ctx_value (Number number) = Number (exact 0)
+ctx_value _ = Unwritten
+
+-- a callback as it starts: the index in R1, ctx in R2, a fresh frame, and main's as at the call
+unfoldable pub callback_entry : State → State
+callback_entry state = record {
+  registers = slice_set (starting_registers (index_value (register state 1))) 2 (ctx_value (register state 3));
+  own = none_written;
+  caller = Some state.own;
+}
+
+-- the way to a loop's callback
+abbrev pub enters : State → AbstractValue → Option Edge
+enters state (Code start) = Some (record { target = start; state = callback_entry state })
+enters state _ = None
+
+abbrev pub calls_back : State → Option Helper → Option Edge
+calls_back state (Some Loop) = enters state (register state 2)
+calls_back state _ = None
+
+-- the ways out of an instruction at a slot
+unfoldable pub flow : List ℕ → ℕ → State → Insn → Outflow
+flow sizes slot state (Ja offset) = jumps slot offset state
+flow sizes slot state (Ja32 imm) = jumps slot imm state
+flow sizes slot state (Jump width compare dst operand offset) =
+    branches slot offset (ways_of state width compare dst operand (register state dst))
+flow sizes slot state Exit = record { ahead = None; aside = None }
+flow sizes slot state (Call callee imm) =
+    record { ahead = way (Some (slot + 1)) (Some (behind sizes slot state (Call callee imm))); aside = calls_back state (helper_called callee imm) }
+flow sizes slot state insn = goes_ahead (slot + slots_of insn) (behind sizes slot state insn)

@@ -1,0 +1,4 @@
+pub mod Flow
+pub mod Inflow
+pub mod Accepted
+pub mod Count

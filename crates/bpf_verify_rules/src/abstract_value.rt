@@ -1,0 +1,49 @@
+//! What is known of a register.
+
+ghost use Rattle.std.specs.Prelude.{◌≡◌};
+ghost use Rattle.bpf_verify_rules.specs.Values.{is_number};
+ghost use Rattle.bpf_verify_rules.specs.Rules.{is_unwritten_value};
+
+use value_range::Range;
+
+/// What is known of a register: the values that it may have. Frame and ctx addresses count bytes from
+/// the lowest of a frame's 512, so that the frame pointer is 512.
+#[derive(Clone, Copy)]
+pub enum AbstractValue {
+    /// Anything; it can't be read.
+    Unwritten,
+    /// A number of a range.
+    Number(Range),
+    /// The address of a byte of the own frame.
+    Frame(u32),
+    /// In a callback, the address of a byte of main's frame.
+    Ctx(u32),
+    /// A map by its number.
+    Map(u32),
+    /// The address of a byte of a map's values, at an offset of a range.
+    Area(u32, Range),
+    /// Such an address, or 0.
+    AreaOrNull(u32, Range),
+    /// The callback that starts at a slot.
+    Code(u32),
+}
+
+/// Whether it is a number.
+pub fn is_number(value: AbstractValue) -> bool
+    ensures { result ≡ is_number value }
+{
+    match value {
+        AbstractValue::Number(_) => true,
+        _ => false,
+    }
+}
+
+/// Whether it can't be read.
+pub fn is_unwritten(value: AbstractValue) -> bool
+    ensures { result ≡ is_unwritten_value value }
+{
+    match value {
+        AbstractValue::Unwritten => true,
+        _ => false,
+    }
+}

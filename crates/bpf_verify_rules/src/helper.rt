@@ -1,0 +1,26 @@
+//! The helpers that a program may call.
+
+ghost use Rattle.std.specs.Prelude.{◌≡◌};
+ghost use Rattle.bpf_verify_rules.specs.Helpers.{helper_called};
+
+use bpf_insn::Callee;
+
+/// A helper by its name (bpf-helpers(7)).
+#[derive(Clone, Copy)]
+pub enum Helper {
+    /// Helper 1, bpf_map_lookup_elem.
+    Lookup,
+    /// Helper 181, bpf_loop.
+    Loop,
+}
+
+/// The helper that a call names, if it is one of the two.
+pub fn helper_of(callee: Callee, imm: i32) -> Option<Helper>
+    ensures { result ≡ helper_called callee imm }
+{
+    match (callee, imm) {
+        (Callee::Helper, 1) => Some(Helper::Lookup),
+        (Callee::Helper, 181) => Some(Helper::Loop),
+        _ => None,
+    }
+}

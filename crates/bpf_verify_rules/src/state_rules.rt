@@ -1,0 +1,396 @@
+//! The rules that an instruction breaks by what is known of registers.
+
+ghost use Rattle.std.specs.Prelude.{◌≡◌, ◌≤◌};
+ghost use Rattle.bpf_verify_rules.specs.declared.helper.Helper.TheVariants.{Lookup, Loop};
+ghost use Rattle.bpf_verify_rules.specs.Accesses.{access_of};
+ghost use Rattle.bpf_verify_rules.specs.Rules.{unwritten, unwritten_operand, unwritten_compared, unwritten_arguments, unwritten_operands, reads_unwritten, mistakes_arithmetic, mistakes_comparison, mistakes_compared, mistakes_stored, place_fault, bytes_fault, access_fault, is_key_position, is_key, is_map, is_code, is_ctx_argument, mistakes_loop, helper_fault, call_fault, operand_fault, state_fault, is_bit, end_fault, exit_fault, or_else};
+
+use crate::abstract_value::{AbstractValue, is_number, is_unwritten};
+use crate::access::{Access, access_of, reads, writes};
+use crate::helper::{Helper, helper_of};
+use crate::places::{
+    is_ctx, is_memory, is_outside, is_part_of_value, is_unwritten_at, misses_alignment,
+};
+use crate::registers::reg;
+use crate::rule::Rule;
+use crate::state::State;
+use crate::values::{compares, operand_value, result_of};
+use bpf_insn::{AluOp, AtomicOp, Insn, Operand, Reg};
+
+fn unwritten(state: &State, reg: Reg) -> bool
+    ensures { result ≡ unwritten state.now reg }
+{
+    is_unwritten(state.register(reg))
+}
+
+fn unwritten_operand(state: &State, operand: Operand) -> bool
+    ensures { result ≡ unwritten_operand state.now operand }
+{
+    match operand {
+        Operand::Imm(_) => false,
+        Operand::Reg(reg) => unwritten(state, reg),
+    }
+}
+
+fn unwritten_compared(state: &State, op: AtomicOp) -> bool
+    ensures { result ≡ unwritten_compared state.now op }
+{
+    match op {
+        AtomicOp::Cmpxchg => unwritten(state, reg(0)),
+        _ => false,
+    }
+}
+
+fn unwritten_arguments(state: &State, helper: Option<Helper>) -> bool
+    ensures { result ≡ unwritten_arguments state.now helper }
+{
+    match helper {
+        Some(Helper::Lookup) => unwritten(state, reg(1)) || unwritten(state, reg(2)),
+        Some(Helper::Loop) => {
+            unwritten(state, reg(1))
+                || unwritten(state, reg(2))
+                || unwritten(state, reg(3))
+                || unwritten(state, reg(4))
+        }
+        None => false,
+    }
+}
+
+// What arithmetic reads: a move its operand alone.
+fn unwritten_operands(state: &State, op: AluOp, dst: Reg, operand: Operand) -> bool
+    ensures { result ≡ unwritten_operands state.now op dst operand }
+{
+    match op {
+        AluOp::Mov => unwritten_operand(state, operand),
+        _ => unwritten(state, dst) || unwritten_operand(state, operand),
+    }
+}
+
+/// V12: it reads an unwritten register.
+fn reads_unwritten(state: &State, insn: Insn) -> bool
+    ensures { result ≡ reads_unwritten state.now insn }
+{
+    match insn {
+        Insn::Alu {
+            op,
+            dst,
+            operand,
+            ..
+        } => unwritten_operands(state, op, dst, operand),
+        Insn::Neg { dst, .. } => unwritten(state, dst),
+        Insn::Movsx { src, .. } => unwritten(state, src),
+        Insn::Endian { dst, .. } => unwritten(state, dst),
+        Insn::Jump { dst, operand, .. } => {
+            unwritten(state, dst) || unwritten_operand(state, operand)
+        }
+        Insn::Call { callee, imm } => unwritten_arguments(state, helper_of(callee, imm)),
+        Insn::Exit => unwritten(state, reg(0)),
+        Insn::Load { src, .. } => unwritten(state, src),
+        Insn::LoadSx { src, .. } => unwritten(state, src),
+        Insn::StoreImm { dst, .. } => unwritten(state, dst),
+        Insn::Store { dst, src, .. } => unwritten(state, dst) || unwritten(state, src),
+        Insn::Atomic { op, dst, src, .. } => {
+            unwritten(state, dst) || unwritten(state, src) || unwritten_compared(state, op)
+        }
+        _ => false,
+    }
+}
+
+/// V13: arithmetic with an operand that isn't of a kind that it takes.
+fn mistakes_arithmetic(state: &State, insn: Insn) -> bool
+    ensures { result ≡ mistakes_arithmetic state.now insn }
+{
+    match insn {
+        Insn::Alu {
+            width,
+            op,
+            dst,
+            operand,
+        } => result_of(
+            width,
+            op,
+            state.register(dst),
+            operand_value(state, operand),
+        )
+        .is_none(),
+        Insn::Neg { dst, .. } => !is_number(state.register(dst)),
+        Insn::Movsx { src, .. } => !is_number(state.register(src)),
+        Insn::Endian { dst, .. } => !is_number(state.register(dst)),
+        _ => false,
+    }
+}
+
+/// V14: a comparison with an operand that isn't of a kind that it takes.
+fn mistakes_comparison(state: &State, insn: Insn) -> bool
+    ensures { result ≡ mistakes_comparison state.now insn }
+{
+    match insn {
+        Insn::Jump {
+            width,
+            compare,
+            dst,
+            operand,
+            ..
+        } => !compares(state, width, compare, operand, state.register(dst)),
+        _ => false,
+    }
+}
+
+fn mistakes_compared(state: &State, op: AtomicOp) -> bool
+    ensures { result ≡ mistakes_compared state.now op }
+{
+    match op {
+        AtomicOp::Cmpxchg => !is_number(state.register(reg(0))),
+        _ => false,
+    }
+}
+
+/// V15: what is stored, or an atomic operation's operand, isn't a number.
+fn mistakes_stored(state: &State, insn: Insn) -> bool
+    ensures { result ≡ mistakes_stored state.now insn }
+{
+    match insn {
+        Insn::Store { src, .. } => !is_number(state.register(src)),
+        Insn::Atomic { op, src, .. } => {
+            !is_number(state.register(src)) || mistakes_compared(state, op)
+        }
+        _ => false,
+    }
+}
+
+// V12 to V15: what an instruction reads.
+fn operand_fault(state: &State, insn: &Insn) -> Option<Rule>
+    ensures { result ≡ operand_fault state.now insn.now }
+{
+    let unwritten = reads_unwritten(state, *insn);
+    let arithmetic = mistakes_arithmetic(state, *insn);
+    let comparison = mistakes_comparison(state, *insn);
+    let stored = mistakes_stored(state, *insn);
+    if unwritten {
+        Some(Rule::V12)
+    } else if arithmetic {
+        Some(Rule::V13)
+    } else if comparison {
+        Some(Rule::V14)
+    } else if stored {
+        Some(Rule::V15)
+    } else {
+        None
+    }
+}
+
+// V16 to V19: where an access goes.
+fn place_fault(sizes: &[u32], access: &Access, base: &AbstractValue) -> Option<Rule>
+    requires { 1 ≤ access.now.size }
+    ensures { result ≡ place_fault sizes.now access.now base.now }
+{
+    let offset = access.offset;
+    let size = access.size;
+    let memory = is_memory(*base);
+    let part = is_part_of_value(size, *base);
+    let misaligned = misses_alignment(size, offset, *base);
+    let outside = is_outside(sizes, size, offset, *base);
+    if !memory {
+        Some(Rule::V16)
+    } else if part {
+        Some(Rule::V17)
+    } else if misaligned {
+        Some(Rule::V18)
+    } else if outside {
+        Some(Rule::V19)
+    } else {
+        None
+    }
+}
+
+// V20 of an access: a byte that is read isn't written. V21: a callback writes main's frame.
+fn bytes_fault(state: &State, access: &Access, base: &AbstractValue) -> Option<Rule>
+    ensures { result ≡ bytes_fault state.now access.now base.now }
+{
+    let unwritten = is_unwritten_at(state, access.size, access.offset, *base);
+    let of_main = is_ctx(*base);
+    if reads(access.kind) && unwritten {
+        Some(Rule::V20)
+    } else if writes(access.kind) && of_main {
+        Some(Rule::V21)
+    } else {
+        None
+    }
+}
+
+// The first of two.
+fn or_else(first: Option<Rule>, later: Option<Rule>) -> Option<Rule>
+    ensures { result ≡ or_else first later }
+{
+    match first {
+        Some(rule) => Some(rule),
+        None => later,
+    }
+}
+
+fn fault_of_access(sizes: &[u32], state: &State, access: &Access) -> Option<Rule>
+    requires { 1 ≤ access.now.size }
+    ensures { result ≡ access_fault sizes.now state.now (Some access.now) }
+{
+    let base = state.register(access.base);
+    or_else(
+        place_fault(sizes, access, &base),
+        bytes_fault(state, access, &base),
+    )
+}
+
+// V16 to V21: the access that an instruction makes.
+fn access_fault(sizes: &[u32], state: &State, insn: Insn) -> Option<Rule>
+    ensures { result ≡ access_fault sizes.now state.now (access_of insn) }
+{
+    match access_of(insn) {
+        None => None,
+        Some(access) => fault_of_access(sizes, state, &access),
+    }
+}
+
+fn is_key_position(position: u32) -> bool
+    ensures { result ≡ is_key_position position }
+{
+    position % 4 == 0 && position <= 508
+}
+
+// The address of a key.
+fn is_key(value: AbstractValue) -> bool
+    ensures { result ≡ is_key value }
+{
+    match value {
+        AbstractValue::Frame(position) => is_key_position(position),
+        AbstractValue::Ctx(position) => is_key_position(position),
+        _ => false,
+    }
+}
+
+fn is_map(value: AbstractValue) -> bool
+    ensures { result ≡ is_map value }
+{
+    match value {
+        AbstractValue::Map(_) => true,
+        _ => false,
+    }
+}
+
+fn is_code(value: AbstractValue) -> bool
+    ensures { result ≡ is_code value }
+{
+    match value {
+        AbstractValue::Code(_) => true,
+        _ => false,
+    }
+}
+
+// A loop's ctx: an address of main's frame, or the number 0.
+fn is_ctx_argument(value: AbstractValue) -> bool
+    ensures { result ≡ is_ctx_argument value }
+{
+    match value {
+        AbstractValue::Frame(_) => true,
+        AbstractValue::Number(number) => number.hi() == 0,
+        _ => false,
+    }
+}
+
+// V20 and V22 of a lookup.
+fn lookup_fault(state: &State) -> Option<Rule>
+    ensures { result ≡ helper_fault state.now (Some Lookup) }
+{
+    let unwritten = is_unwritten_at(state, 4, 0, state.register(reg(2)));
+    let mistaken = !is_map(state.register(reg(1))) || !is_key(state.register(reg(2)));
+    if unwritten {
+        Some(Rule::V20)
+    } else if mistaken {
+        Some(Rule::V22)
+    } else {
+        None
+    }
+}
+
+fn mistakes_loop(state: &State) -> bool
+    ensures { result ≡ mistakes_loop state.now }
+{
+    !is_number(state.register(reg(1)))
+        || !is_code(state.register(reg(2)))
+        || !is_ctx_argument(state.register(reg(3)))
+        || !is_number(state.register(reg(4)))
+}
+
+// V22 of a loop.
+fn loop_fault(state: &State) -> Option<Rule>
+    ensures { result ≡ helper_fault state.now (Some Loop) }
+{
+    if mistakes_loop(state) {
+        Some(Rule::V22)
+    } else {
+        None
+    }
+}
+
+// V20 and V22 of a helper.
+fn helper_fault(state: &State, helper: Option<Helper>) -> Option<Rule>
+    ensures { result ≡ helper_fault state.now helper }
+{
+    match helper {
+        None => None,
+        Some(Helper::Lookup) => lookup_fault(state),
+        Some(Helper::Loop) => loop_fault(state),
+    }
+}
+
+fn call_fault(state: &State, insn: Insn) -> Option<Rule>
+    ensures { result ≡ call_fault state.now insn }
+{
+    match insn {
+        Insn::Call { callee, imm } => helper_fault(state, helper_of(callee, imm)),
+        _ => None,
+    }
+}
+
+/// The least of V12 to V22 that an instruction breaks in a state.
+#[tactic(auto, unfolding(crate::specs::Rules::state_fault))]
+pub fn state_fault(sizes: &[u32], state: &State, insn: &Insn) -> Option<Rule>
+    ensures { result ≡ state_fault sizes.now state.now insn.now }
+{
+    let operands = operand_fault(state, insn);
+    let access = access_fault(sizes, state, *insn);
+    let call = call_fault(state, *insn);
+    or_else(operands, or_else(access, call))
+}
+
+fn is_bit(value: AbstractValue) -> bool
+    ensures { result ≡ is_bit value }
+{
+    match value {
+        AbstractValue::Number(number) => number.hi() <= 1,
+        _ => false,
+    }
+}
+
+// V24: a callback doesn't end with 0 or 1. V25: main doesn't end with a number.
+fn end_fault(function: u32, value: AbstractValue) -> Option<Rule>
+    ensures { result ≡ end_fault function value }
+{
+    if function == 0 {
+        if is_number(value) {
+            None
+        } else {
+            Some(Rule::V25)
+        }
+    } else {
+        if is_bit(value) { None } else { Some(Rule::V24) }
+    }
+}
+
+/// V24 or V25: a function doesn't end as it has to. Main is function 0.
+pub fn exit_fault(function: u32, state: &State, insn: Insn) -> Option<Rule>
+    ensures { result ≡ exit_fault function state.now insn }
+{
+    match insn {
+        Insn::Exit => end_fault(function, state.register(reg(0))),
+        _ => None,
+    }
+}
