@@ -1,11 +1,13 @@
 -- Printing one after the other, as loops do.
-use Rattle.std.proofs.Common.{◌≡◌, ℕ, zero, suc, ◌+◌, ◌-◌, ◌<◌, List, [], ◌∷◌, ◌++◌, length, take, drop, get_or, Vec, Global, sym, ap, ◌∙◌, append_assoc, add-one, arith}
+use Rattle.std.proofs.Common.{◌≡◌, ℕ, zero, suc, ◌+◌, ◌-◌, ◌<◌, List, [], ◌∷◌, ◌++◌, length, take, drop, get_or, Vec, Global, refl, sym, ap, ◌∙◌, append_assoc, add-one, arith}
 use Rattle.std.specs.Prelude.{slice_range, slice_index}
 use Rattle.std.specs.List.{sum}
 use Rattle.std.proofs.lemmas.List.Sums.{sum_by_more}
 use Rattle.std.proofs.lemmas.List.{append-nil, drop-drop}
 use Rattle.array_maps.specs.MapList.{base_of}
 use Rattle.loop_core_law.specs.declared.verdict.LoopReport.{LoopReport}
+use Rattle.bpf_insn.specs.declared.insn.Insn.{Insn}
+use Rattle.bpfspec_serve.specs.AcceptedText.{function_line, function_lines}
 use Rattle.bpfspec_serve.specs.ReportText.{values_of, loop_line, loop_lines}
 
 front_suc : {X : Type 0} (xs : List X) (i : ℕ) (x : X) → i < length xs → x ≡ get_or xs i x → drop i xs ≡ x ∷ drop (suc i) xs
@@ -41,3 +43,19 @@ values_more values whole sizes words map size within read so_far =
     ∙ ap (λ (ws : List ℕ). values ++ take size (drop base words) ∷ values_of (drop (map + 1) sizes) ws) (sym (drop-drop size base words))
     ∙ ap (λ (ss : List ℕ). values ++ values_of ss (drop base words)) (sym (front sizes map size within read))
     ∙ so_far
+
+functions_next : (insns : List Insn) (count : ℕ) → function_lines insns (suc count) ≡ function_lines insns count ++ function_line insns count
+unfolding function_lines
+functions_next insns count = refl
+
+-- main alone
+pub functions_first : (insns : List Insn) → function_line insns 0 ≡ function_lines insns (0 + 1)
+unfolding function_lines
+functions_first insns = refl
+
+-- one more function is printed
+pub functions_more : (before out : List ℕ) (insns : List Insn) (count : ℕ) → out ≡ (before ++ function_lines insns count) ++ function_line insns count
+    → out ≡ before ++ function_lines insns (count + 1)
+functions_more before out insns count printed =
+    printed ∙ append_assoc before (function_lines insns count) (function_line insns count)
+    ∙ ap (λ (ls : List ℕ). before ++ ls) (rw add-one (sym (functions_next insns count)))

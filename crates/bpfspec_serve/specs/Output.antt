@@ -1,5 +1,5 @@
 -- What is answered to an input.
-use Rattle.std.specs.Prelude.{◌≡◌, ℕ, ◌+◌, nat_lt, nat_eq, Bool, if◌then◌else◌, List, [], ◌∷◌, length, replicate, Result, Ok, Err}
+use Rattle.std.specs.Prelude.{◌≡◌, ℕ, ◌+◌, nat_lt, nat_eq, Bool, if◌then◌else◌, List, [], ◌∷◌, length, replicate, Option, Some, None, Result, Ok, Err}
 use Rattle.std.specs.Cmp.Lexicographic.{pointwise}
 use Rattle.std.specs.List.{concat, sum}
 use Rattle.std.specs.Str.{is_utf8}
@@ -21,7 +21,7 @@ use Rattle.bpf_step_model.specs.Run.{Ended}
 use Rattle.loop_core_law.specs.Report.{Reported, report_in_order}
 use Rattle.spec_run.specs.Thin.{Thin}
 use Rattle.bpfspec_serve.specs.declared.command_line.Mode.{Mode}
-use Rattle.bpfspec_serve.specs.declared.command_line.Mode.TheVariants.{Order, Asm, Disasm}
+use Rattle.bpfspec_serve.specs.declared.command_line.Mode.TheVariants.{Verify, Order, Asm, Disasm}
 use Rattle.bpfspec_serve.specs.declared.command_line.UnitForm.{UnitForm}
 use Rattle.bpfspec_serve.specs.declared.command_line.UnitForm.TheVariants.{Assembler, Hex}
 use Rattle.bpfspec_serve.specs.declared.refusal.Section.{Section}
@@ -32,6 +32,8 @@ use Rattle.bpfspec_serve.specs.declared.refusal.Failure.{Failure}
 use Rattle.bpfspec_serve.specs.declared.refusal.Failure.TheVariants as failures
 use Rattle.bpfspec_serve.specs.declared.serving.Served.{Served}
 use Rattle.bpfspec_serve.specs.declared.serving.Served.TheVariants as served
+use Rattle.bpf_verify_flow.specs.Accepted.{Fault, first_fault}
+use Rattle.bpfspec_serve.specs.AcceptedText.{accepted_text}
 use Rattle.bpfspec_serve.specs.Refusals.{refusal_line, memory_line}
 use Rattle.bpfspec_serve.specs.ReportText.{report_text}
 use Rattle.bpfspec_serve.specs.Sections.{unit_section, maps_section}
@@ -90,6 +92,16 @@ written form (Err failure) = Err failure
 written Assembler (Ok program) = as_outcome (assembler_form program.sizes program.insns)
 written Hex (Ok program) = as_outcome (hex_form program.sizes program.insns)
 
+-- an accepted program is told with its functions, another is refused by its first fault
+abbrev pub judged : Program → Option Fault → Outcome
+judged program None = Ok (accepted_text program.insns)
+judged program (Some fault) = refused (refusals.Rule fault.rule fault.slot)
+
+-- the same where there is a program
+abbrev pub verified : Result Program Failure → Outcome
+verified (Err failure) = Err failure
+verified (Ok program) = judged program (first_fault program)
+
 -- values as the start words of maps of these sizes
 abbrev pub fitting : List ℕ → Result (List (List ℕ)) Failure → Outcome
 fitting sizes (Err failure) = Err failure
@@ -127,6 +139,7 @@ readable input =
 abbrev pub OfReadable : Mode → Outcome → Outcome → Type 0
 OfReadable mode (Err failure) outcome = outcome ≡ Err failure
 OfReadable (Order form argument) (Ok input) outcome = OfUnit (unit_program form (unit_section input)) argument (maps_section input) outcome
+OfReadable (Verify form) (Ok input) outcome = outcome ≡ verified (unit_program form (unit_section input))
 OfReadable Asm (Ok input) outcome = outcome ≡ written Hex (unit_program Assembler (unit_section input))
 OfReadable Disasm (Ok input) outcome = outcome ≡ written Assembler (unit_program Hex (unit_section input))
 

@@ -7,9 +7,10 @@ ghost use Rattle.spec_run.specs.Thin.{program_of};
 ghost use Rattle.bpfspec_serve.specs.declared.command_line.Mode.TheVariants.{Order};
 ghost use Rattle.bpfspec_serve.specs.declared.refusal.Refusal.TheVariants.{Text};
 ghost use Rattle.bpfspec_serve.specs.declared.refusal.Failure.TheVariants.{Refused};
-ghost use Rattle.bpfspec_serve.specs.Output.{text_failure, code_failure, readable, unit_program, fitting, start_words, RunsTo, OfProgram, OfUnit, OfReadable, OfInput, Met, written};
+ghost use Rattle.bpfspec_serve.specs.Output.{text_failure, code_failure, readable, unit_program, fitting, start_words, RunsTo, OfProgram, OfUnit, OfReadable, OfInput, Met, written, verified};
 ghost use Rattle.bpfspec_serve.specs.Sections.{unit_section};
 
+use crate::accepted::print_accepted;
 use crate::command_line::{Mode, UnitForm};
 use crate::printing::print_report;
 use crate::refusal::{Failure, Refusal, Section};
@@ -17,6 +18,7 @@ use crate::sections::part;
 use array_maps::{Maps, MapsError};
 use bpf_insn::{CodecError, Unit, decode};
 use bpf_text::{TextError, parse_maps, parse_unit, print_unit, read_hex, write_hex};
+use bpf_verify::{VerifyError, verify};
 use spec_run::{RunError, Verified, run_in_order, thin};
 use std::alloc::Global;
 use std::str;
@@ -169,6 +171,20 @@ fn translate(alloc: Global, from: UnitForm, to: UnitForm, input: &str) -> Result
     write_unit(alloc, to, &unit)
 }
 
+/// What comes of a unit that is verified.
+fn judge(alloc: Global, form: UnitForm, input: &str) -> Result<String, Failure>
+    ensures { Met string_bytes (λ outcome. outcome ≡ verified (unit_program form (unit_section input.now))) result }
+{
+    let unit = read_unit(alloc, form, part(input).section)?;
+    match verify(alloc, unit) {
+        Ok(program) => Ok(print_accepted(alloc, &program)?),
+        Err(VerifyError::Refused { rule, slot }) => {
+            Err(Failure::Refused(Refusal::Rule { rule, slot }))
+        }
+        Err(VerifyError::Memory) => Err(Failure::Memory),
+    }
+}
+
 /// An input as a text.
 fn readable(input: &[u8]) -> Result<&str, Failure>
     ensures { Met (λ s. s.now) (λ outcome. outcome ≡ readable input.now) result }
@@ -188,6 +204,7 @@ pub fn outcome(alloc: Global, mode: &Mode, input: &[u8]) -> Result<String, Failu
 {
     let text = readable(input)?;
     match mode {
+        Mode::Verify { form } => judge(alloc, *form, text),
         Mode::Order { form, arg } => order(alloc, *form, *arg, text),
         Mode::Asm => translate(alloc, UnitForm::Assembler, UnitForm::Hex, text),
         Mode::Disasm => translate(alloc, UnitForm::Hex, UnitForm::Assembler, text),

@@ -21,6 +21,8 @@ pub enum UnitForm {
 /// What is done with an input.
 #[derive(Clone, Copy, Debug, PartialEq, Eq)]
 pub enum Mode {
+    /// Tells whether a unit of this form is accepted.
+    Verify { form: UnitForm },
     /// Runs a unit of this form in order, with this argument.
     Order { form: UnitForm, arg: u64 },
     /// Writes a unit of assembler text in hex form.
@@ -68,11 +70,20 @@ fn usage(command: &mut Command<'_>) -> LineFault {
     }
 }
 
-fn order_command<'a>(alloc: Global) -> Result<Command<'a>, AllocError> {
-    let hex = Arg::new(alloc, "hex")
+fn hex_flag<'a>(alloc: Global) -> Arg<'a> {
+    Arg::new(alloc, "hex")
         .long("hex")
         .action(ArgAction::SetTrue)
-        .help("The unit is in hex form");
+        .help("The unit is in hex form")
+}
+
+fn verify_command<'a>(alloc: Global) -> Result<Command<'a>, AllocError> {
+    Command::new(alloc, "verify")
+        .about("Tells whether a program is accepted")
+        .arg(hex_flag(alloc))
+}
+
+fn order_command<'a>(alloc: Global) -> Result<Command<'a>, AllocError> {
     let arg = Arg::new(alloc, "arg")
         .long("arg")
         .action(ArgAction::Set)
@@ -82,7 +93,7 @@ fn order_command<'a>(alloc: Global) -> Result<Command<'a>, AllocError> {
         .help("The program's argument");
     Command::new(alloc, "order")
         .about("Runs a program in order")
-        .arg(hex)?
+        .arg(hex_flag(alloc))?
         .arg(arg)
 }
 
@@ -91,6 +102,7 @@ fn bpfspec_command<'a>(alloc: Global) -> Result<Command<'a>, AllocError> {
     let disasm = Command::new(alloc, "disasm").about("Writes the hex form as assembler text");
     Command::new(alloc, "bpfspec")
         .subcommand_required(true)
+        .subcommand(verify_command(alloc)?)?
         .subcommand(order_command(alloc)?)?
         .subcommand(asm)?
         .subcommand(disasm)
@@ -115,6 +127,11 @@ fn order_mode(matches: &ArgMatches<'_>) -> Mode
 
 /// The mode of the subcommand that was matched.
 fn mode_of(matches: &ArgMatches<'_>) -> Option<Mode> {
+    if let Some(verify) = matches.subcommand_matches("verify") {
+        return Some(Mode::Verify {
+            form: unit_form(verify),
+        });
+    }
     if let Some(order) = matches.subcommand_matches("order") {
         return Some(order_mode(order));
     }
@@ -126,8 +143,8 @@ fn mode_of(matches: &ArgMatches<'_>) -> Option<Mode> {
 
 /// Reads the words of a command line, the program's name first.
 ///
-/// It fails with `Usage` where they aren't `order [--hex] [--arg N]`, N from 0 to
-/// 18446744073709551615, `asm` or `disasm`, and where they ask for help; and with `Memory` where there
+/// It fails with `Usage` where they aren't `verify [--hex]`, `order [--hex] [--arg N]`, N from
+/// 0 to 18446744073709551615, `asm` or `disasm`, and where they ask for help; and with `Memory` where there
 /// is no memory.
 pub fn read_words<'a>(alloc: Global, words: &'a [&'a str]) -> Result<Job, LineFault> {
     let Ok(mut command) = bpfspec_command(alloc) else {

@@ -1,6 +1,7 @@
 //! What the program does between its streams: reads an input, answers it, and writes the answer.
 #![tactic(auto)]
 
+mod accepted;
 mod answering;
 mod command_line;
 mod counting;

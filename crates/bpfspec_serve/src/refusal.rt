@@ -3,7 +3,7 @@
 ghost use Rattle.std.specs.Prelude.{◌≡◌, ◌++◌, IfOk, OnOk};
 ghost use Rattle.std.specs.String.{string_bytes};
 ghost use Rattle.bpfspec_serve.specs.declared.refusal.Refusal.TheVariants.{Text, Code};
-ghost use Rattle.bpfspec_serve.specs.Refusals.{text_number, code_number, section_name, what_is_refused, refusal_line};
+ghost use Rattle.bpfspec_serve.specs.Refusals.{text_number, code_number, rule_number, section_name, what_is_refused, refusal_line};
 
 use std::alloc::{AllocError, Global};
 
@@ -29,6 +29,11 @@ pub enum Refusal {
     Code {
         fault: bpf_insn::Fault,
         slot: usize,
+    },
+    /// The program breaks a rule of the verifier.
+    Rule {
+        rule: bpf_verify::Rule,
+        slot: u32,
     },
     /// V0: the program isn't a thin one.
     NotThin,
@@ -63,6 +68,39 @@ fn code_number(fault: bpf_insn::Fault) -> &'static str
         bpf_insn::Fault::I5 => "I5",
         bpf_insn::Fault::I6 => "I6",
         bpf_insn::Fault::I7 => "I7",
+    }
+}
+
+/// The number of a rule that is broken.
+fn rule_number(rule: bpf_verify::Rule) -> &'static str
+    ensures { result.now ≡ rule_number rule }
+{
+    match rule {
+        bpf_verify::Rule::V1 => "V1",
+        bpf_verify::Rule::V2 => "V2",
+        bpf_verify::Rule::V3 => "V3",
+        bpf_verify::Rule::V4 => "V4",
+        bpf_verify::Rule::V5 => "V5",
+        bpf_verify::Rule::V6 => "V6",
+        bpf_verify::Rule::V7 => "V7",
+        bpf_verify::Rule::V8 => "V8",
+        bpf_verify::Rule::V9 => "V9",
+        bpf_verify::Rule::V10 => "V10",
+        bpf_verify::Rule::V11 => "V11",
+        bpf_verify::Rule::V12 => "V12",
+        bpf_verify::Rule::V13 => "V13",
+        bpf_verify::Rule::V14 => "V14",
+        bpf_verify::Rule::V15 => "V15",
+        bpf_verify::Rule::V16 => "V16",
+        bpf_verify::Rule::V17 => "V17",
+        bpf_verify::Rule::V18 => "V18",
+        bpf_verify::Rule::V19 => "V19",
+        bpf_verify::Rule::V20 => "V20",
+        bpf_verify::Rule::V21 => "V21",
+        bpf_verify::Rule::V22 => "V22",
+        bpf_verify::Rule::V23 => "V23",
+        bpf_verify::Rule::V24 => "V24",
+        bpf_verify::Rule::V25 => "V25",
     }
 }
 
@@ -109,6 +147,21 @@ fn print_code_fault(
     Ok(())
 }
 
+/// Adds a broken rule and where it is broken.
+fn print_rule(
+    alloc: Global,
+    out: &mut String,
+    rule: bpf_verify::Rule,
+    slot: u32,
+) -> Result<(), AllocError>
+    ensures { OnOk result (string_bytes out.new ≡ string_bytes out.old ++ what_is_refused (Refusal.Rule rule slot)) }
+{
+    out.push_str(rule_number(rule))?;
+    out.push_str(" at slot ")?;
+    out.push_str(&slot.to_string(alloc)?)?;
+    Ok(())
+}
+
 /// Adds what is refused.
 fn print_refused(alloc: Global, out: &mut String, refusal: Refusal) -> Result<(), AllocError>
     ensures { OnOk result (string_bytes out.new ≡ string_bytes out.old ++ what_is_refused refusal) }
@@ -120,6 +173,7 @@ fn print_refused(alloc: Global, out: &mut String, refusal: Refusal) -> Result<()
             line,
         } => print_text_fault(alloc, out, fault, section, line),
         Refusal::Code { fault, slot } => print_code_fault(alloc, out, fault, slot),
+        Refusal::Rule { rule, slot } => print_rule(alloc, out, rule, slot),
         Refusal::NotThin => out.push_str("V0 at slot 0"),
         Refusal::Sizes => out.push_str("P1"),
     }
