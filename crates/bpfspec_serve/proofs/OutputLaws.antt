@@ -5,7 +5,6 @@ use Rattle.std.specs.List.{concat}
 use Rattle.array_maps.specs.MapList.{AreSizes, lengths}
 use Rattle.std.specs.Prelude.{nat_lt, nat_le}
 use Rattle.std.specs.Str.{IsUtf8, is_utf8}
-use Rattle.std.proofs.lemmas.Bool.{ltb-false}
 use Rattle.std.proofs.lemmas.Bool.Decides.{nat_tests}
 use Rattle.std.proofs.lemmas.Str.{IsUtf8-from_is_utf8, is_utf8-from_IsUtf8}
 use Rattle.bpf_text_fields.specs.declared.error.Fault.TheVariants as text_faults
@@ -15,7 +14,7 @@ use Rattle.bpfspec_serve.specs.HowServed.{AnswersReader, HowWritten}
 use Rattle.bpfspec_serve.specs.declared.serving.Served.{Served}
 use Rattle.bpfspec_serve.specs.declared.command_line.Mode.{Mode}
 use Rattle.std.proofs.lemmas.List.{take_all, length-take}
-use Rattle.bpfspec_serve.specs.Output.{Outcome, refused, readable, fitting, OfReadable, Answer, Answers}
+use Rattle.bpfspec_serve.specs.Output.{refused, readable, fitting, OfReadable, Answer, Answers}
 
 -- an input that isn't too long
 short : (input : List ℕ) → length input ≤ 3145728 → readable input

@@ -1,5 +1,5 @@
 -- How a call that serves an input came out.
-use Rattle.std.specs.Prelude.{◌≡◌, ℕ, ◌+◌, List, [], Option, IfSome}
+use Rattle.std.specs.Prelude.{◌≡◌, ℕ, List, [], Option, IfSome}
 use Rattle.std.specs.Io.KnownBytes.{Appends}
 use Rattle.bpfspec_serve.specs.declared.command_line.Mode.{Mode}
 use Rattle.bpfspec_serve.specs.declared.serving.Served.{Served}

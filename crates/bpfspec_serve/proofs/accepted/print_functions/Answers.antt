@@ -12,7 +12,7 @@ loop-callback-init c =
 pub loop-callback-preserved : goal.loop-callback-preserved
 loop-callback-preserved c =
     functions_more (string_bytes c.args.out.now) _ c.args.program.now.insns (c.loop-callback.callback + 1)
-      (c.in_ok-print_function-2.ensures ∙ ap (λ ls. ls ++ function_line c.args.program.now.insns (c.loop-callback.callback + 1)) c.loop-callback.invariant)
+    (c.in_ok-print_function-2.ensures ∙ ap (λ ls. ls ++ function_line c.args.program.now.insns (c.loop-callback.callback + 1)) c.loop-callback.invariant)
 
 pub returns : goal.returns
 returns c =

@@ -1,6 +1,6 @@
 use Rattle.std.proofs.Common.{refl, sym, ap, drop, ◌∙◌}
 use Rattle.std.proofs.lemmas.Str.{IsCharBoundary-start}
-use Rattle.bpfspec_serve.proofs.SectionLaws.{left_behind, section_goes_on, rest_goes_on, section_ends, rest_begins, line_boundary}
+use Rattle.bpfspec_serve.proofs.SectionLaws.{left_behind, section_goes_on, rest_goes_on, line_boundary}
 use Rattle.bpfspec_serve.proofs.sections.part.Goals as goal
 
 pub loop-at-init : goal.loop-at-init
