@@ -24,3 +24,5 @@ pub use writing::write_all;
 mod serving_tests;
 #[cfg(test)]
 mod tests;
+#[cfg(test)]
+mod verify_tests;

@@ -45,7 +45,7 @@ fn sink(alloc: Global, until_failure: Option<u64>) -> Narrow
 }
 
 /// How an input is served, and what is written then.
-fn served_as(alloc: Global, mode: Mode, input: &[u8]) -> (Served, Vec<u8>) {
+pub fn served_as(alloc: Global, mode: Mode, input: &[u8]) -> (Served, Vec<u8>) {
     let mut source = source(input, None);
     let mut sink = sink(alloc, None);
     let served = serve(alloc, &mode, &mut source, &mut sink);
@@ -58,7 +58,7 @@ fn order(alloc: Global, input: &[u8]) -> (Served, Vec<u8>) {
 }
 
 /// Whether an input is served with this text.
-fn is_done(alloc: Global, mode: Mode, input: &str, text: &str) -> bool {
+pub fn is_done(alloc: Global, mode: Mode, input: &str, text: &str) -> bool {
     let answer = served_as(alloc, mode, input.as_bytes());
     answer.0 == Served::Done && answer.1.as_slice() == text.as_bytes()
 }
@@ -198,7 +198,7 @@ fn labels_become_distances(rt: HostRuntime) {
 }
 
 /// Whether an input is refused so.
-fn is_refused_by(alloc: Global, mode: Mode, input: &str, served: Served, line: &str) -> bool {
+pub fn is_refused_by(alloc: Global, mode: Mode, input: &str, served: Served, line: &str) -> bool {
     let answer = served_as(alloc, mode, input.as_bytes());
     answer.0 == served && answer.1.as_slice() == line.as_bytes()
 }
