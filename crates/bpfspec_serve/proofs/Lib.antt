@@ -1,3 +1,4 @@
+pub mod CommandLaws
 pub mod OutputLaws
 pub mod PrintLaws
 pub mod SectionLaws

@@ -13,7 +13,7 @@ mod serving;
 mod streams;
 mod writing;
 
-pub use command_line::{Job, LineFault, Mode, UnitForm, read_words};
+pub use command_line::{Job, LineFault, Mode, UnitForm, mode_of, read_words};
 pub use counting::{Counted, read_outcome, write_outcome};
 pub use reading::{ReadAllError, read_all};
 pub use serving::{Served, serve};

@@ -200,6 +200,10 @@ fn reads_the_words_of_order(rt: HostRuntime) {
         arg: u64::MAX,
     };
     assert!(rt; all == Ok(Job::Serve(order)));
+    let verify = Mode::Verify {
+        form: UnitForm::Hex,
+    };
+    assert!(rt; read_words(alloc, &["bpfspec", "verify", "--hex"]) == Ok(Job::Serve(verify)));
     assert!(rt; read_words(alloc, &["bpfspec", "asm"]) == Ok(Job::Serve(Mode::Asm)));
     assert!(rt; read_words(alloc, &["bpfspec", "disasm"]) == Ok(Job::Serve(Mode::Disasm)));
 }
@@ -218,6 +222,8 @@ fn other_words_are_usage_faults(rt: HostRuntime) {
     assert!(rt; is_usage_fault(alloc, &["bpfspec", "ordre"]));
     assert!(rt; is_usage_fault(alloc, &["bpfspec", "asm", "--hex"]));
     assert!(rt; is_usage_fault(alloc, &["bpfspec", "disasm", "--arg", "1"]));
+    assert!(rt; is_usage_fault(alloc, &["bpfspec", "verify", "--arg", "1"]));
+    assert!(rt; is_usage_fault(alloc, &["bpfspec", "order", "--arg", "many"]));
     let past = ["bpfspec", "order", "--arg", "18446744073709551616"];
     assert!(rt; is_usage_fault(alloc, past.as_slice()));
 }
