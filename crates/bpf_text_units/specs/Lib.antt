@@ -1,1 +1,2 @@
 pub mod UnitReading
+pub mod UnitLaw

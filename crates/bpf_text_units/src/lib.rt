@@ -2,6 +2,7 @@
 #![tactic(auto)]
 
 mod label;
+pub mod laws;
 mod program;
 mod unit_text;
 
