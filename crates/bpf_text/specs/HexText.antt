@@ -21,6 +21,10 @@ pub record HexParts : Type 0 where
 abbrev pub parts : HexUnit → HexParts
 parts unit = record { sizes = unit.sizes.items; bytes = unit.bytes.items }
 
+-- a unit in hex form of these sizes and bytes
+abbrev pub these_parts : (sizes bytes : List ℕ) → HexParts
+these_parts sizes bytes = record { sizes = sizes; bytes = bytes }
+
 -- decoded bytes behind `before` others, of which a unit has at most 32,768
 abbrev pub as_bytes : ℕ → Result (List ℕ) FromHexError → Result (List ℕ) Fault
 as_bytes before (Err error) = Err faults.Form

@@ -5,6 +5,7 @@
 mod event;
 mod events;
 mod hex_form;
+pub mod laws;
 mod maps;
 mod maps_print;
 

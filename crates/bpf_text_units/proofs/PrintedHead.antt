@@ -29,7 +29,7 @@ word_before b (c ∷ cs) rest e all ends =
     ∙ passed (ends_word behind) ((b ∷ []) ∷ words_of behind) (with_front b (words_of behind)) (solid_no_blank c h.0)
     ∙ ap (with_front b) (word_before c cs rest h.0 h.1 ends)
 
-word_first : (w rest : List ℕ) → 0 < length w → list_all is_solid w ≡ true → ends_word rest ≡ true → words_of (w ++ rest) ≡ w ∷ words_of rest
+pub word_first : (w rest : List ℕ) → 0 < length w → list_all is_solid w ≡ true → ends_word rest ≡ true → words_of (w ++ rest) ≡ w ∷ words_of rest
 word_first [] rest some all ends = absurd (omega arith)
 word_first (b ∷ bs) rest some all ends = (let h = both (is_solid b) (list_all is_solid bs) all in word_before b bs rest h.0 h.1 ends)
 
