@@ -10,9 +10,10 @@ use Rattle.std.proofs.lemmas.Str.{IsUtf8-from_is_utf8, is_utf8-from_IsUtf8}
 use Rattle.bpf_text_fields.specs.declared.error.Fault.TheVariants as text_faults
 use Rattle.bpfspec_serve.specs.declared.refusal.Section.TheVariants as sections
 use Rattle.bpfspec_serve.specs.declared.refusal.Refusal.TheVariants as refusals
+use Rattle.bpfspec_streams.specs.Streams.{ReadsToEnd}
 use Rattle.bpfspec_serve.specs.HowServed.{AnswersReader, HowWritten}
 use Rattle.bpfspec_serve.specs.declared.serving.Served.{Served}
-use Rattle.bpfspec_serve.specs.declared.command_line.Mode.{Mode}
+use Rattle.bpfspec_command_line.specs.declared.job.Mode.{Mode}
 use Rattle.std.proofs.lemmas.List.{take_all, length-take}
 use Rattle.bpfspec_serve.specs.Output.{refused, readable, fitting, OfReadable, Answer, Answers}
 
@@ -65,17 +66,20 @@ reads_enough : (n : ℕ) (input : List ℕ) → 3145728 < n → readable (take n
 reads_enough n input behind = enough n input behind (nat_le (length input) n) refl
 
 -- the answer to the bytes that were read is the answer to all that the reader had left
-pub answers_reader : (mode : Mode) (left : Option (List ℕ)) (read : List ℕ) (answer : Answer) → IfSome left (λ bytes. read ≡ take 3145729 bytes) → Answers mode read answer → AnswersReader mode left answer
-answers_reader mode None read answer same answers = (read, tt, answers)
-answers_reader mode (Some bytes) read answer same answers = (
-  bytes,
-  refl,
-  record {
+pub answers_reader : (mode : Mode) (old new : Option (List ℕ)) (read : List ℕ) (answer : Answer) → IfSome old (λ bytes. read ≡ take 3145729 bytes)
+    → ReadsToEnd old new 3145729 read → Answers mode read answer → AnswersReader mode old new answer
+answers_reader mode None new read answer same to_end answers = record { input = read; known = tt; answers = answers; read = read; to_end = to_end }
+answers_reader mode (Some bytes) new read answer same to_end answers = record {
+  input = bytes;
+  known = refl;
+  answers = record {
     outcome = answers.outcome;
     comes = subst (λ r. OfReadable mode r answers.outcome) (ap readable same ∙ reads_enough 3145729 bytes (omega arith)) answers.comes;
     told = answers.told;
-  },
-)
+  };
+  read = read;
+  to_end = to_end;
+}
 
 -- the same text by another name
 pub written_as : {wanted result : Served} {failed : ℕ → Type 0} {before after : Option (List ℕ)} (text other : List ℕ) → text ≡ other

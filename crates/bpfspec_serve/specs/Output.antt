@@ -19,10 +19,10 @@ use Rattle.bpf_step_model.specs.Program.{Program}
 use Rattle.bpf_step_model.specs.Run.{Ended}
 use Rattle.loop_core_law.specs.Report.{Reported, report_in_order}
 use Rattle.spec_run.specs.Thin.{Thin}
-use Rattle.bpfspec_serve.specs.declared.command_line.Mode.{Mode}
-use Rattle.bpfspec_serve.specs.declared.command_line.Mode.TheVariants.{Verify, Order, Asm, Disasm}
-use Rattle.bpfspec_serve.specs.declared.command_line.UnitForm.{UnitForm}
-use Rattle.bpfspec_serve.specs.declared.command_line.UnitForm.TheVariants.{Assembler, Hex}
+use Rattle.bpfspec_command_line.specs.declared.job.Mode.{Mode}
+use Rattle.bpfspec_command_line.specs.declared.job.Mode.TheVariants.{Verify, Order, Asm, Disasm}
+use Rattle.bpfspec_command_line.specs.declared.job.UnitForm.{UnitForm}
+use Rattle.bpfspec_command_line.specs.declared.job.UnitForm.TheVariants.{Assembler, Hex}
 use Rattle.bpfspec_serve.specs.declared.refusal.Section.{Section}
 use Rattle.bpfspec_serve.specs.declared.refusal.Section.TheVariants as sections
 use Rattle.bpfspec_serve.specs.declared.refusal.Refusal.{Refusal}

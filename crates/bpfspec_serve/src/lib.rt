@@ -3,26 +3,20 @@
 
 mod accepted;
 mod answering;
-mod command_line;
-mod counting;
 mod printing;
-mod reading;
 mod refusal;
 mod sections;
 mod serving;
-mod streams;
-mod writing;
 
-pub use command_line::{Job, LineFault, Mode, UnitForm, mode_of, read_words};
-pub use counting::{Counted, read_outcome, write_outcome};
-pub use reading::{ReadAllError, read_all};
+pub use bpfspec_command_line::{Job, LineFault, Mode, UnitForm, mode_of, read_words};
+pub use bpfspec_streams::{
+    Counted, Fault, ReadAllError, Sink, Source, read_all, read_outcome, write_all, write_outcome,
+};
 pub use serving::{Served, serve};
-pub use streams::{Fault, Sink, Source};
-pub use writing::write_all;
 
 #[cfg(test)]
 mod serving_tests;
 #[cfg(test)]
-mod tests;
+mod stumbling;
 #[cfg(test)]
 mod verify_tests;

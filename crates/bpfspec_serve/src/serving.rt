@@ -4,13 +4,12 @@ ghost use Rattle.std.specs.Prelude.{◌≡◌, ◌+◌, ◌-◌, ◌^◌, ◌<�
 ghost use Rattle.std.specs.String.{string_bytes};
 ghost use Rattle.bpfspec_serve.specs.HowServed.{AnswersReader, HowWritten, HowServed};
 ghost use Rattle.bpfspec_serve.specs.Output.{refused_as, Answers};
+ghost use Rattle.bpfspec_streams.specs.Streams.{ConsumesAtMost};
 
 use crate::answering::{MAX_INPUT, outcome};
-use crate::command_line::Mode;
-use crate::reading::{ReadAllError, read_all};
 use crate::refusal::{Failure, Refusal, refusal_line};
-use crate::streams::{Sink, Source};
-use crate::writing::write_all;
+use bpfspec_command_line::Mode;
+use bpfspec_streams::{ReadAllError, Sink, Source, read_all, write_all};
 use std::alloc::{AllocError, Global};
 
 /// How an input was served.
@@ -87,7 +86,8 @@ const MEMORY_LINE: &[u8] = b"refused memory\n";
 pub fn serve<R: Source, W: Sink>(alloc: Global, mode: &Mode, source: &mut R, sink: &mut W) -> Served
     requires reads { R.failed source.old < 2 ^ 64 - 1 }
     requires writes { W.failed sink.old < 2 ^ 64 - 1 }
-    ensures { HowServed (AnswersReader mode.now (R.left source.old)) result
+    ensures taken { ConsumesAtMost (R.left source.old) (R.left source.new) 3145729 }
+    ensures answer { HowServed (AnswersReader mode.now (R.left source.old) (R.left source.new)) result
         (λ n. R.failed source.new ≡ R.failed source.old + n) (λ n. W.failed sink.new ≡ W.failed sink.old + n)
         (W.taken sink.old) (W.taken sink.new) }
 {

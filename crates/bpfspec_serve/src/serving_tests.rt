@@ -2,7 +2,7 @@
 
 ghost use Rattle.std.specs.Prelude.{◌≡◌};
 
-use crate::tests::{Narrow, Stumbling};
+use crate::stumbling::{Narrow, Stumbling};
 use crate::{Mode, Served, Sink, Source, UnitForm, serve};
 use std::alloc::{AllocError, Global};
 use std::test::Fail;

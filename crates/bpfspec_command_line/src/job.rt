@@ -1,0 +1,43 @@
+//! What a command line can ask for.
+
+use thiserror::Error;
+
+/// How a unit is written.
+#[derive(Clone, Copy, Debug, PartialEq, Eq)]
+pub enum UnitForm {
+    /// As assembler text.
+    Assembler,
+    /// As hex digits.
+    Hex,
+}
+
+/// What is done with an input.
+#[derive(Clone, Copy, Debug, PartialEq, Eq)]
+pub enum Mode {
+    /// Tells whether a unit of this form is accepted.
+    Verify { form: UnitForm },
+    /// Runs a unit of this form in order, with this argument.
+    Order { form: UnitForm, arg: u64 },
+    /// Writes a unit of assembler text in hex form.
+    Asm,
+    /// Writes a unit in hex form as assembler text.
+    Disasm,
+}
+
+/// What a command line asks for.
+#[derive(Clone, Copy, Debug, PartialEq, Eq)]
+pub enum Job {
+    /// To read the input in this mode and write the answer.
+    Serve(Mode),
+}
+
+/// Why a command line asks for nothing.
+#[derive(Debug, Drop, PartialEq, Error)]
+pub enum LineFault {
+    /// The words are no command, or ask for help; the text says what can be asked for.
+    #[error("{0}")]
+    Usage(String),
+    /// There was no memory to read the words.
+    #[error("out of memory")]
+    Memory,
+}

@@ -1,0 +1,11 @@
+//! The command line of the program: what its words ask for.
+#![tactic(auto)]
+
+mod job;
+mod words;
+
+pub use job::{Job, LineFault, Mode, UnitForm};
+pub use words::{mode_of, read_words};
+
+#[cfg(test)]
+mod tests;

@@ -1,0 +1,149 @@
+//! The words of a command line, as the job that they ask for.
+
+ghost use Rattle.std.specs.Prelude.{◌≡◌, false, map, IfOk, IfSome};
+ghost use Rattle.clap.specs.Words.{app_of, found_of, kind_of, rows_of, rule_of, subcommand_of, subcommand_rows_of};
+ghost use Rattle.bpfspec_command_line.specs.CommandLine.{AsksFor, AsksForJob, IsArgument, IsForm, IsLocal, arg_rule, bpfspec_app, hex_rule, order_app, verify_app};
+
+use crate::job::{Job, LineFault, Mode, UnitForm};
+use clap::error::ErrorKind;
+use clap::{Arg, ArgAction, ArgMatches, Command};
+use std::alloc::{AllocError, Global};
+
+/// The text of what clap answers in place of matches.
+fn usage_fault(alloc: Global, error: &clap::Error) -> LineFault
+    ensures { kind_of error.now ≡ ErrorKind.OutOfMemory → result ≡ LineFault.Memory }
+{
+    if error.kind() == ErrorKind::OutOfMemory {
+        return LineFault::Memory;
+    }
+    match error.to_string(alloc) {
+        Ok(text) => LineFault::Usage(text),
+        Err(_) => LineFault::Memory,
+    }
+}
+
+/// The usage of the command, where its words name no subcommand.
+fn usage(command: &mut Command<'_>) -> LineFault {
+    match command.render_usage() {
+        Ok(text) => LineFault::Usage(text),
+        Err(_) => LineFault::Memory,
+    }
+}
+
+/// --hex
+fn hex_flag<'a>(alloc: Global) -> Arg<'a>
+    ensures rule { rule_of result ≡ hex_rule }
+    ensures global { result.global ≡ false }
+{
+    Arg::new(alloc, "hex")
+        .long("hex")
+        .action(ArgAction::SetTrue)
+        .help("The unit is in hex form")
+}
+
+/// --arg N
+fn arg_option<'a>(alloc: Global) -> Arg<'a>
+    ensures rule { rule_of result ≡ arg_rule }
+    ensures global { result.global ≡ false }
+{
+    Arg::new(alloc, "arg")
+        .long("arg")
+        .action(ArgAction::Set)
+        .value_name("N")
+        .default_value("0")
+        .help("The program's argument")
+}
+
+fn verify_command<'a>(alloc: Global) -> Result<Command<'a>, AllocError>
+    ensures app { IfOk result (λ command. app_of command ≡ verify_app) }
+    ensures globals { IfOk result IsLocal }
+{
+    Command::new(alloc, "verify")
+        .about("Tells whether a program is accepted")
+        .arg(hex_flag(alloc))
+}
+
+fn order_command<'a>(alloc: Global) -> Result<Command<'a>, AllocError>
+    ensures app { IfOk result (λ command. app_of command ≡ order_app) }
+    ensures globals { IfOk result IsLocal }
+{
+    Command::new(alloc, "order")
+        .about("Runs a program in order")
+        .arg(hex_flag(alloc))?
+        .arg(arg_option(alloc))
+}
+
+fn bpfspec_command<'a>(alloc: Global) -> Result<Command<'a>, AllocError>
+    ensures { IfOk result (λ command. app_of command ≡ bpfspec_app) }
+{
+    let asm = Command::new(alloc, "asm").about("Writes assembler text in hex form");
+    let disasm = Command::new(alloc, "disasm").about("Writes the hex form as assembler text");
+    Command::new(alloc, "bpfspec")
+        .subcommand_required(true)
+        .subcommand(verify_command(alloc)?)?
+        .subcommand(order_command(alloc)?)?
+        .subcommand(asm)?
+        .subcommand(disasm)
+}
+
+/// The form that the arguments ask for.
+fn unit_form(matches: &ArgMatches<'_>) -> UnitForm
+    ensures { IsForm (rows_of (found_of matches.now)) result }
+{
+    if matches.get_flag("hex") {
+        UnitForm::Hex
+    } else {
+        UnitForm::Assembler
+    }
+}
+
+/// The program's argument that the arguments give, or None where it is no number below 2^64.
+fn argument(matches: &ArgMatches<'_>) -> Option<u64>
+    ensures { IfSome result (IsArgument (rows_of (found_of matches.now))) }
+{
+    matches.get_one::<u64>("arg")
+}
+
+/// The mode that the words ask for in which clap found these matches, or None where they name none of
+/// the program's subcommands, or give an argument that is no number below 2^64.
+pub fn mode_of(matches: &ArgMatches<'_>) -> Option<Mode>
+    ensures { IfSome result (AsksFor (subcommand_rows_of matches.now)) }
+{
+    if let Some(verify) = matches.subcommand_matches("verify") {
+        return Some(Mode::Verify {
+            form: unit_form(verify),
+        });
+    }
+    if let Some(order) = matches.subcommand_matches("order") {
+        return Some(Mode::Order {
+            form: unit_form(order),
+            arg: argument(order)?,
+        });
+    }
+    if matches.subcommand_matches("asm").is_some() {
+        return Some(Mode::Asm);
+    }
+    matches.subcommand_matches("disasm")?;
+    Some(Mode::Disasm)
+}
+
+/// Reads the words of a command line, the program's name first.
+///
+/// It fails with `Usage` where they aren't `verify [--hex]`, `order [--hex] [--arg N]`, N from
+/// 0 to 18446744073709551615, `asm` or `disasm`, and where they ask for help; and with `Memory` where there
+/// is no memory.
+pub fn read_words<'a>(alloc: Global, words: &'a [&'a str]) -> Result<Job, LineFault>
+    ensures { IfOk result (AsksForJob (subcommand_of bpfspec_app (map (λ word. word.now) words.now))) }
+{
+    let Ok(mut command) = bpfspec_command(alloc) else {
+        return Err(LineFault::Memory);
+    };
+    let matches = match command.try_get_matches_from_mut(words) {
+        Ok(matches) => matches,
+        Err(error) => return Err(usage_fault(alloc, &error)),
+    };
+    match mode_of(&matches) {
+        Some(mode) => Ok(Job::Serve(mode)),
+        None => Err(usage(&mut command)),
+    }
+}

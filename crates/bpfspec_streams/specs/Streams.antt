@@ -1,0 +1,17 @@
+-- What reads and writes of whole streams do to the bytes that are known of them.
+use Rattle.std.specs.Prelude.{◌≢◌, ℕ, ◌≤◌, List, Option, length, take}
+use Rattle.std.specs.Io.KnownBytes.{Appends, Consumes, IsAtEnd}
+
+-- known bytes grow by a beginning of bs
+abbrev pub AppendsBeginning : Option (List ℕ) → Option (List ℕ) → List ℕ → Type 0
+AppendsBeginning old new bs = (n : ℕ) × (n ≤ length bs) × Appends old new (take n bs)
+
+-- known bytes lose some from the front, at most limit of them
+abbrev pub ConsumesAtMost : Option (List ℕ) → Option (List ℕ) → ℕ → Type 0
+ConsumesAtMost old new limit = (bs : List ℕ) × (length bs ≤ limit) × Consumes old new bs
+
+-- bytes are read to the end, or up to a limit where that comes first
+pub record ReadsToEnd (old new : Option (List ℕ)) (limit : ℕ) (bytes : List ℕ) : Type 0 where
+  pub consumed : Consumes old new bytes
+  pub within : length bytes ≤ limit
+  pub ended : length bytes ≢ limit → IsAtEnd new
