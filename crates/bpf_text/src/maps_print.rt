@@ -7,40 +7,23 @@ ghost use Rattle.bpf_text.specs.MapsText.{lists, value_spelling, map_spelling, m
 
 use std::alloc::{AllocError, Global};
 
-/// Adds a space and a value to a text.
-fn print_value(alloc: Global, out: &mut String, value: u64) -> Result<(), AllocError>
-    ensures { OnOk result (string_bytes out.new ≡ string_bytes out.old ++ value_spelling value) }
-{
-    out.push_str(" ")?;
-    out.push_str(&value.to_string(alloc)?)?;
-    Ok(())
-}
-
 /// Adds values to a text, each behind a space.
-fn print_values(alloc: Global, out: &mut String, values: &[u64]) -> Result<(), AllocError>
+fn print_values(out: &mut String, values: &[u64]) -> Result<(), AllocError>
     ensures { OnOk result (string_bytes out.new ≡ string_bytes out.old ++ flat_map value_spelling values.now) }
 {
     for value in values {
-        print_value(alloc, out, *value)?;
+        write!(out, " {value}")?;
     }
     Ok(())
 }
 
 /// Adds the line of a map to a text.
-fn print_map(
-    alloc: Global,
-    out: &mut String,
-    number: usize,
-    values: &[u64],
-) -> Result<(), AllocError>
+fn print_map(out: &mut String, number: usize, values: &[u64]) -> Result<(), AllocError>
     ensures { OnOk result (string_bytes out.new ≡ string_bytes out.old ++ map_spelling number values.now) }
 {
-    out.push_str("map ")?;
-    out.push_str(&number.to_string(alloc)?)?;
-    out.push_str(":")?;
-    print_values(alloc, out, values)?;
-    out.push_str("\n")?;
-    Ok(())
+    write!(out, "map {number}:")?;
+    print_values(out, values)?;
+    out.push_str("\n")
 }
 
 /// The one spelling of maps as a maps text: a line for each, map 0 first.
@@ -49,7 +32,7 @@ pub fn print_maps(alloc: Global, maps: &[Vec<u64>]) -> Result<String, AllocError
 {
     let mut out = String::new(alloc);
     for (number, values) in maps.iter().enumerate() {
-        print_map(alloc, &mut out, number, values)?;
+        print_map(&mut out, number, values)?;
     }
     Ok(out)
 }

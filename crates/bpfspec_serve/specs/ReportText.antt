@@ -19,17 +19,11 @@ verdict_text (Conflict count least) = codes "conflict " ++ decimal count ++ code
 verdict_text Refused = codes "refused"
 verdict_text InOrder = codes "in order"
 
--- which loop call it was
-abbrev pub call_text : ℕ → LoopReport → List ℕ
-call_text number told = codes "loop " ++ decimal number ++ codes " at " ++ decimal told.slot
-
--- what came of it
-abbrev pub answer_text : LoopReport → List ℕ
-answer_text told = codes ": answer " ++ signed_decimal told.answer ++ codes ", " ++ verdict_text told.verdict
-
 -- the line of a loop call, which has this number
 abbrev pub loop_line : ℕ → LoopReport → List ℕ
-loop_line number told = call_text number told ++ answer_text told ++ codes "\n"
+loop_line number told =
+    codes "loop " ++ decimal number ++ codes " at " ++ decimal told.slot ++ codes ": answer " ++ signed_decimal told.answer ++ codes ", "
+    ++ verdict_text told.verdict ++ codes "\n"
 
 -- the lines of loop calls, the first of which has this number
 abbrev pub loop_lines : ℕ → List LoopReport → List ℕ

@@ -9,33 +9,23 @@ use bpf_verify::Verified;
 use std::alloc::{AllocError, Global};
 
 /// Adds the line of a function, which is at most the program's `callbacks()`.
-fn print_function(
-    alloc: Global,
-    out: &mut String,
-    program: &Verified,
-    function: u32,
-) -> Result<(), AllocError>
+fn print_function(out: &mut String, program: &Verified, function: u32) -> Result<(), AllocError>
     requires { function ≤ length (callback_starts program.now.insns) }
     ensures { OnOk result (string_bytes out.new ≡ string_bytes out.old ++ function_line program.now.insns function) }
 {
-    out.push_str("function ")?;
-    out.push_str(&function.to_string(alloc)?)?;
-    out.push_str(" at ")?;
-    out.push_str(&program.start(function).to_string(alloc)?)?;
-    out.push_str(" count ")?;
-    out.push_str(&program.count(function).to_string(alloc)?)?;
-    out.push_str("\n")?;
-    Ok(())
+    let start = program.start(function);
+    let count = program.count(function);
+    writeln!(out, "function {function} at {start} count {count}")
 }
 
 /// Adds the lines of all functions.
-fn print_functions(alloc: Global, out: &mut String, program: &Verified) -> Result<(), AllocError>
+fn print_functions(out: &mut String, program: &Verified) -> Result<(), AllocError>
     ensures { OnOk result (string_bytes out.new ≡ string_bytes out.old
         ++ function_lines program.now.insns (length (callback_starts program.now.insns) + 1)) }
 {
-    print_function(alloc, out, program, 0)?;
+    print_function(out, program, 0)?;
     for callback in 0..program.callbacks() {
-        print_function(alloc, out, program, callback + 1)?;
+        print_function(out, program, callback + 1)?;
     }
     Ok(())
 }
@@ -45,6 +35,6 @@ pub fn print_accepted(alloc: Global, program: &Verified) -> Result<String, Alloc
     ensures { IfOk result (λ text. string_bytes text ≡ accepted_text program.now.insns) }
 {
     let mut out = String::from_str(alloc, "accepted\n")?;
-    print_functions(alloc, &mut out, program)?;
+    print_functions(&mut out, program)?;
     Ok(out)
 }

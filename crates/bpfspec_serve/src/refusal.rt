@@ -114,56 +114,8 @@ fn section_name(section: Section) -> &'static str
     }
 }
 
-/// Adds a text's fault and where it stands.
-fn print_text_fault(
-    alloc: Global,
-    out: &mut String,
-    fault: bpf_text::Fault,
-    section: Section,
-    line: u32,
-) -> Result<(), AllocError>
-    ensures { OnOk result (string_bytes out.new ≡ string_bytes out.old ++ what_is_refused (Text fault section line)) }
-{
-    out.push_str(text_number(fault))?;
-    out.push_str(" at ")?;
-    out.push_str(section_name(section))?;
-    out.push_str(" line ")?;
-    out.push_str(&line.to_string(alloc)?)?;
-    Ok(())
-}
-
-/// Adds a code's fault and where it stands.
-fn print_code_fault(
-    alloc: Global,
-    out: &mut String,
-    fault: bpf_insn::Fault,
-    slot: usize,
-) -> Result<(), AllocError>
-    ensures { OnOk result (string_bytes out.new ≡ string_bytes out.old ++ what_is_refused (Code fault slot)) }
-{
-    out.push_str(code_number(fault))?;
-    out.push_str(" at slot ")?;
-    out.push_str(&slot.to_string(alloc)?)?;
-    Ok(())
-}
-
-/// Adds a broken rule and where it is broken.
-fn print_rule(
-    alloc: Global,
-    out: &mut String,
-    rule: bpf_verify::Rule,
-    slot: u32,
-) -> Result<(), AllocError>
-    ensures { OnOk result (string_bytes out.new ≡ string_bytes out.old ++ what_is_refused (Refusal.Rule rule slot)) }
-{
-    out.push_str(rule_number(rule))?;
-    out.push_str(" at slot ")?;
-    out.push_str(&slot.to_string(alloc)?)?;
-    Ok(())
-}
-
-/// Adds what is refused.
-fn print_refused(alloc: Global, out: &mut String, refusal: Refusal) -> Result<(), AllocError>
+/// Adds what is refused, and where it stands.
+fn print_refused(out: &mut String, refusal: Refusal) -> Result<(), AllocError>
     ensures { OnOk result (string_bytes out.new ≡ string_bytes out.old ++ what_is_refused refusal) }
 {
     match refusal {
@@ -171,9 +123,13 @@ fn print_refused(alloc: Global, out: &mut String, refusal: Refusal) -> Result<()
             fault,
             section,
             line,
-        } => print_text_fault(alloc, out, fault, section, line),
-        Refusal::Code { fault, slot } => print_code_fault(alloc, out, fault, slot),
-        Refusal::Rule { rule, slot } => print_rule(alloc, out, rule, slot),
+        } => {
+            let number = text_number(fault);
+            let section = section_name(section);
+            write!(out, "{number} at {section} line {line}")
+        }
+        Refusal::Code { fault, slot } => write!(out, "{} at slot {slot}", code_number(fault)),
+        Refusal::Rule { rule, slot } => write!(out, "{} at slot {slot}", rule_number(rule)),
         Refusal::NotThin => out.push_str("V0 at slot 0"),
         Refusal::Sizes => out.push_str("P1"),
     }
@@ -183,9 +139,8 @@ fn print_refused(alloc: Global, out: &mut String, refusal: Refusal) -> Result<()
 pub fn refusal_line(alloc: Global, refusal: Refusal) -> Result<String, AllocError>
     ensures { IfOk result (λ line. string_bytes line ≡ refusal_line refusal) }
 {
-    let mut out = String::new(alloc);
-    out.push_str("refused ")?;
-    print_refused(alloc, &mut out, refusal)?;
+    let mut out = String::from_str(alloc, "refused ")?;
+    print_refused(&mut out, refusal)?;
     out.push_str("\n")?;
     Ok(out)
 }
