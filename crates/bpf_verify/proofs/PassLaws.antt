@@ -6,8 +6,8 @@ use Rattle.bpf_insn.specs.Slots.{slots_of}
 use Rattle.bpf_insn.specs.declared.insn.Insn.{Insn}
 use Rattle.bpf_step_model.specs.Program.{Program, insn_at, slot_count, named_by, function_of}
 use Rattle.bpf_verify_rules.specs.declared.rule.Rule.{Rule}
-use Rattle.bpf_verify_rules.specs.declared.state.State.{State}
-use Rattle.bpf_verify_rules.specs.Abstract.{main_entry}
+use Rattle.bpf_verify_state.specs.declared.state.State.{State}
+use Rattle.bpf_verify_state.specs.Abstract.{main_entry}
 use Rattle.bpf_verify_rules.specs.Rules.{named_at, with_target, targets_in, slot_fault, insn_fault, state_fault, callback_fault, exit_fault, or_else, reached, fault_of}
 use Rattle.bpf_verify_flow.specs.declared.outflow.Outflow.{Outflow}
 use Rattle.bpf_verify_flow.specs.Flow.{flow}

@@ -14,9 +14,9 @@ use crate::layout::{Layout, named_by};
 use bpf_insn::{Insn, Unit, slots};
 use bpf_verify_flow::{Edge, Outflow, flow, moved};
 use bpf_verify_rules::{
-    Rule, State, callback_fault, exit_fault, goes_on, insn_fault, is_code_load, jump_distance,
-    state_fault,
+    Rule, callback_fault, exit_fault, goes_on, insn_fault, is_code_load, jump_distance, state_fault,
 };
+use bpf_verify_state::State;
 use std::alloc::Global;
 
 /// A unit with its layout.

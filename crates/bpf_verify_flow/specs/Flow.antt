@@ -24,16 +24,16 @@ use Rattle.value_range.specs.declared.operation.Operation.TheVariants.{Alu as Al
 use Rattle.value_range_refine.specs.declared.condition.Condition.TheVariants.{Holds}
 use Rattle.value_range.specs.AluRows.{span_of}
 use Rattle.value_range_refine.specs.RefineRows.{refined, opposite}
-use Rattle.bpf_verify_rules.specs.declared.abstract_value.AbstractValue.{AbstractValue}
-use Rattle.bpf_verify_rules.specs.declared.abstract_value.AbstractValue.TheVariants.{Unwritten, Number, Frame, Ctx, Map, Area, AreaOrNull, Code}
+use Rattle.bpf_verify_state.specs.declared.abstract_value.AbstractValue.{AbstractValue}
+use Rattle.bpf_verify_state.specs.declared.abstract_value.AbstractValue.TheVariants.{Unwritten, Number, Frame, Ctx, Map, Area, AreaOrNull, Code}
 use Rattle.bpf_verify_rules.specs.declared.helper.Helper.{Helper}
 use Rattle.bpf_verify_rules.specs.declared.helper.Helper.TheVariants.{Lookup, Loop}
-use Rattle.bpf_verify_rules.specs.declared.state.State.{State}
+use Rattle.bpf_verify_state.specs.declared.state.State.{State}
 use Rattle.bpf_verify_flow.specs.declared.outflow.Edge.{Edge}
 use Rattle.bpf_verify_flow.specs.declared.outflow.Outflow.{Outflow}
 use Rattle.bpf_verify_flow.specs.declared.ways.Ways.{Ways}
-use Rattle.bpf_verify_rules.specs.Abstract.{register, with_register, none_written, written_at, starting_registers}
-use Rattle.bpf_verify_rules.specs.Values.{operand_value, on_number, result_of}
+use Rattle.bpf_verify_state.specs.Abstract.{register, with_register, none_written, written_at, starting_registers}
+use Rattle.bpf_verify_state.specs.Values.{operand_value, on_number, result_of}
 use Rattle.bpf_verify_rules.specs.Helpers.{helper_called}
 
 -- a register gets what is given, if anything is

@@ -3,10 +3,10 @@ use Rattle.std.specs.Prelude.{ℕ, zero, suc, ◌==◌, if◌then◌else◌, Opt
 use Rattle.bpf_insn.specs.declared.insn.Insn.{Insn}
 use Rattle.bpf_step_model.specs.Program.{Program, insn_at}
 use Rattle.bpf_verify_rules.specs.declared.rule.Rule.{Rule}
-use Rattle.bpf_verify_rules.specs.declared.state.State.{State}
+use Rattle.bpf_verify_state.specs.declared.state.State.{State}
 use Rattle.bpf_verify_flow.specs.declared.outflow.Edge.{Edge}
 use Rattle.bpf_verify_flow.specs.declared.outflow.Outflow.{Outflow}
-use Rattle.bpf_verify_rules.specs.Abstract.{joined_states, main_entry}
+use Rattle.bpf_verify_state.specs.Abstract.{joined_states, main_entry}
 use Rattle.bpf_verify_rules.specs.Rules.{fault_of}
 use Rattle.bpf_verify_flow.specs.Flow.{flow}
 

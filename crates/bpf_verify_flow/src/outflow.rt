@@ -1,6 +1,6 @@
 //! The ways out of a slot.
 
-use bpf_verify_rules::State;
+use bpf_verify_state::State;
 
 /// A way to a slot, and what is known on it.
 #[derive(Clone, Copy)]

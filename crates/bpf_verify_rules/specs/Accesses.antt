@@ -5,13 +5,13 @@ use Rattle.bpf_insn.specs.declared.insn.Insn.{Insn}
 use Rattle.bpf_insn.specs.declared.insn.Insn.TheVariants.{Load, LoadSx, StoreImm, Store, Atomic}
 use Rattle.bpf_step_model.specs.Memory.{bytes_of, atomic_bytes}
 use Rattle.value_range_spans.specs.Spans.{Span}
-use Rattle.bpf_verify_rules.specs.declared.abstract_value.AbstractValue.{AbstractValue}
-use Rattle.bpf_verify_rules.specs.declared.abstract_value.AbstractValue.TheVariants.{Frame, Ctx, Area}
-use Rattle.bpf_verify_rules.specs.declared.state.State.{State}
+use Rattle.bpf_verify_state.specs.declared.abstract_value.AbstractValue.{AbstractValue}
+use Rattle.bpf_verify_state.specs.declared.abstract_value.AbstractValue.TheVariants.{Frame, Ctx, Area}
+use Rattle.bpf_verify_state.specs.declared.state.State.{State}
 use Rattle.bpf_verify_rules.specs.declared.access.Access.{Access}
 use Rattle.bpf_verify_rules.specs.declared.access.AccessKind.{AccessKind}
 use Rattle.bpf_verify_rules.specs.declared.access.AccessKind.TheVariants.{Reads, Writes, Changes}
-use Rattle.bpf_verify_rules.specs.Abstract.{all_written}
+use Rattle.bpf_verify_state.specs.Abstract.{all_written}
 
 -- the access of memory that an instruction makes, if it makes one (RFC 9669, section 5)
 abbrev pub access_of : Insn → Option Access

@@ -1,5 +1,3 @@
-pub mod Abstract
-pub mod Values
 pub mod Accesses
 pub mod Helpers
 pub mod Rules

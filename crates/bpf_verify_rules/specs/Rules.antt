@@ -14,16 +14,16 @@ use Rattle.bpf_insn.specs.declared.insn.Insn.{Insn}
 use Rattle.bpf_insn.specs.declared.insn.Insn.TheVariants.{Alu, Neg, Movsx, Endian, Ja, Ja32, Jump, Call, Exit, Load, LoadSx, StoreImm, Store, Atomic, LoadImm}
 use Rattle.bpf_insn.specs.Slots.{slots_of}
 use Rattle.bpf_step_model.specs.Program.{Program, moved, insn_at, named_by, function_of, leads_to}
-use Rattle.bpf_verify_rules.specs.declared.abstract_value.AbstractValue.{AbstractValue}
-use Rattle.bpf_verify_rules.specs.declared.abstract_value.AbstractValue.TheVariants.{Unwritten, Number, Frame, Ctx, Map, Code}
+use Rattle.bpf_verify_state.specs.declared.abstract_value.AbstractValue.{AbstractValue}
+use Rattle.bpf_verify_state.specs.declared.abstract_value.AbstractValue.TheVariants.{Number, Frame, Ctx, Map, Code}
 use Rattle.bpf_verify_rules.specs.declared.access.Access.{Access}
 use Rattle.bpf_verify_rules.specs.declared.helper.Helper.{Helper}
 use Rattle.bpf_verify_rules.specs.declared.helper.Helper.TheVariants.{Lookup, Loop}
 use Rattle.bpf_verify_rules.specs.declared.rule.Rule.{Rule}
 use Rattle.bpf_verify_rules.specs.declared.rule.Rule.TheVariants.{V3, V4, V5, V6, V7, V8, V9, V10, V11, V12, V13, V14, V15, V16, V17, V18, V19, V20, V21, V22, V23, V24, V25}
-use Rattle.bpf_verify_rules.specs.declared.state.State.{State}
-use Rattle.bpf_verify_rules.specs.Abstract.{register}
-use Rattle.bpf_verify_rules.specs.Values.{operand_value, result_of, is_number, compares}
+use Rattle.bpf_verify_state.specs.declared.state.State.{State}
+use Rattle.bpf_verify_state.specs.Abstract.{register}
+use Rattle.bpf_verify_state.specs.Values.{operand_value, result_of, is_number, is_unwritten_value, compares}
 use Rattle.bpf_verify_rules.specs.Accesses.{access_of, is_memory, is_part_of_value, misses_alignment, is_outside, is_unwritten, reads, writes, is_ctx}
 use Rattle.bpf_verify_rules.specs.Helpers.{helper_called}
 
@@ -157,11 +157,6 @@ writes_r10 (LoadSx size dst src offset) = dst == 10
 writes_r10 (Atomic width op dst src offset) = fetches_into_r10 op src
 writes_r10 (LoadImm kind dst imm next_imm) = dst == 10
 writes_r10 _ = false
-
--- whether a register can't be read
-abbrev pub is_unwritten_value : AbstractValue → Bool
-is_unwritten_value Unwritten = true
-is_unwritten_value _ = false
 
 abbrev pub unwritten : State → ℕ → Bool
 unwritten state r = is_unwritten_value (register state r)

@@ -3,9 +3,7 @@
 ghost use Rattle.std.specs.Prelude.{◌≡◌, ◌+ℤ◌, ◌*◌, ◌-◌, ◌≤◌, pos, slice_get};
 ghost use Rattle.bpf_verify_rules.specs.Accesses.{is_memory, is_part_of_value, is_misaligned, is_spread, misses_alignment, is_outside_frame, is_outside_map, is_outside, lacks, caller_lacks, is_unwritten, is_ctx};
 
-use crate::abstract_value::AbstractValue;
-use crate::marks::Marks;
-use crate::state::State;
+use bpf_verify_state::{AbstractValue, Marks, State};
 use value_range::Range;
 
 /// Whether it is the address of memory.

@@ -5,17 +5,16 @@ ghost use Rattle.bpf_verify_rules.specs.declared.helper.Helper.TheVariants.{Look
 ghost use Rattle.bpf_verify_rules.specs.Accesses.{access_of};
 ghost use Rattle.bpf_verify_rules.specs.Rules.{unwritten, unwritten_operand, unwritten_compared, unwritten_arguments, unwritten_operands, reads_unwritten, mistakes_arithmetic, mistakes_comparison, mistakes_compared, mistakes_stored, place_fault, bytes_fault, access_fault, is_key_position, is_key, is_map, is_code, is_ctx_argument, mistakes_loop, helper_fault, call_fault, operand_fault, state_fault, is_bit, end_fault, exit_fault, or_else};
 
-use crate::abstract_value::{AbstractValue, is_number, is_unwritten};
 use crate::access::{Access, access_of, reads, writes};
 use crate::helper::{Helper, helper_of};
 use crate::places::{
     is_ctx, is_memory, is_outside, is_part_of_value, is_unwritten_at, misses_alignment,
 };
-use crate::registers::reg;
 use crate::rule::Rule;
-use crate::state::State;
-use crate::values::{compares, operand_value, result_of};
 use bpf_insn::{AluOp, AtomicOp, Insn, Operand, Reg};
+use bpf_verify_state::{
+    AbstractValue, State, compares, is_number, is_unwritten, operand_value, reg, result_of,
+};
 
 fn unwritten(state: &State, reg: Reg) -> bool
     ensures { result ≡ unwritten state.now reg }

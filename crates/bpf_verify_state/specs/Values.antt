@@ -13,10 +13,10 @@ use Rattle.value_range_spans.specs.Spans.{Span, exact}
 use Rattle.value_range.specs.declared.operation.Operation.{Operation}
 use Rattle.value_range.specs.declared.operation.Operation.TheVariants.{Alu as AluOperation}
 use Rattle.value_range.specs.AluRows.{span_of}
-use Rattle.bpf_verify_rules.specs.declared.abstract_value.AbstractValue.{AbstractValue}
-use Rattle.bpf_verify_rules.specs.declared.abstract_value.AbstractValue.TheVariants.{Unwritten, Number, Frame, Ctx, Area, AreaOrNull}
-use Rattle.bpf_verify_rules.specs.declared.state.State.{State}
-use Rattle.bpf_verify_rules.specs.Abstract.{register}
+use Rattle.bpf_verify_state.specs.declared.abstract_value.AbstractValue.{AbstractValue}
+use Rattle.bpf_verify_state.specs.declared.abstract_value.AbstractValue.TheVariants.{Unwritten, Number, Frame, Ctx, Area, AreaOrNull}
+use Rattle.bpf_verify_state.specs.declared.state.State.{State}
+use Rattle.bpf_verify_state.specs.Abstract.{register}
 
 -- an operand's value: an immediate is sign-extended
 abbrev pub operand_value : State → Operand → AbstractValue
@@ -97,6 +97,11 @@ result_of width op a b = on_numbers width op a b
 abbrev pub is_number : AbstractValue → Bool
 is_number (Number a) = true
 is_number _ = false
+
+-- whether it can't be read
+abbrev pub is_unwritten_value : AbstractValue → Bool
+is_unwritten_value Unwritten = true
+is_unwritten_value _ = false
 
 -- whether a comparison is the null check of an address that may be null
 abbrev pub is_null_check : Width → Compare → Operand → Bool

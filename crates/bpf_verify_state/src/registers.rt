@@ -1,8 +1,8 @@
 //! The eleven registers.
 
 ghost use Rattle.std.specs.Prelude.{◌≡◌, ◌≤◌, slice_index_or, slice_set};
-ghost use Rattle.bpf_verify_rules.specs.declared.abstract_value.AbstractValue.TheVariants.{Unwritten};
-ghost use Rattle.bpf_verify_rules.specs.Abstract.{joined_registers, starting_registers};
+ghost use Rattle.bpf_verify_state.specs.declared.abstract_value.AbstractValue.TheVariants.{Unwritten};
+ghost use Rattle.bpf_verify_state.specs.Abstract.{joined_registers, starting_registers};
 
 use crate::abstract_value::AbstractValue;
 use crate::joining::join_values;
@@ -17,7 +17,7 @@ pub struct Registers {
 
 impl Model for Registers {
     ghost use Rattle.std.specs.Prelude.{◌≡◌, List, length};
-    ghost use Rattle.bpf_verify_rules.specs.declared.abstract_value.AbstractValue.{AbstractValue};
+    ghost use Rattle.bpf_verify_state.specs.declared.abstract_value.AbstractValue.{AbstractValue};
 
     ghost Value = { List AbstractValue };
 

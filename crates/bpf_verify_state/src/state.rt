@@ -1,7 +1,7 @@
 //! What is known before a slot.
 
 ghost use Rattle.std.specs.Prelude.{◌≡◌};
-ghost use Rattle.bpf_verify_rules.specs.Abstract.{register, with_register, joined_callers, joined_states, main_entry};
+ghost use Rattle.bpf_verify_state.specs.Abstract.{register, with_register, joined_callers, joined_states, main_entry};
 
 use crate::abstract_value::AbstractValue;
 use crate::marks::Marks;

@@ -1,6 +1,6 @@
 use Rattle.std.proofs.Common.{Bool, false, ◌&&◌, length, sym, ◌∙◌, ap, arith}
-use Rattle.bpf_verify_rules.proofs.MeetLaws.{met_to-none, length-met_to, met_to-step, met_to-end}
-use Rattle.bpf_verify_rules.proofs.marks.Marks.meet.Goals as goal
+use Rattle.bpf_verify_state.proofs.MeetLaws.{met_to-none, length-met_to, met_to-step, met_to-end}
+use Rattle.bpf_verify_state.proofs.marks.Marks.meet.Goals as goal
 
 pub loop-i-init : goal.loop-i-init
 loop-i-init c = sym (met_to-none (λ (x y : Bool). x && y) c.self.inside.written c.args.others.now)

@@ -3,9 +3,9 @@ use Rattle.std.specs.Prelude.{ℕ, ◌+◌, ◌==◌, ◌&&◌, Bool, true, fals
 use Rattle.std.specs.List.{list_all}
 use Rattle.bpf_insn.specs.declared.insn.Width.TheVariants.{W64}
 use Rattle.value_range_spans.specs.Spans.{top, join}
-use Rattle.bpf_verify_rules.specs.declared.abstract_value.AbstractValue.{AbstractValue}
-use Rattle.bpf_verify_rules.specs.declared.abstract_value.AbstractValue.TheVariants.{Unwritten, Number, Frame, Ctx, Map, Area, AreaOrNull, Code}
-use Rattle.bpf_verify_rules.specs.declared.state.State.{State}
+use Rattle.bpf_verify_state.specs.declared.abstract_value.AbstractValue.{AbstractValue}
+use Rattle.bpf_verify_state.specs.declared.abstract_value.AbstractValue.TheVariants.{Unwritten, Number, Frame, Ctx, Map, Area, AreaOrNull, Code}
+use Rattle.bpf_verify_state.specs.declared.state.State.{State}
 
 -- what is known of a register
 abbrev pub register : State → ℕ → AbstractValue

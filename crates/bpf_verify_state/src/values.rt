@@ -2,8 +2,8 @@
 
 ghost use Rattle.std.specs.Prelude.{◌≡◌, ◌≤◌, IfSome};
 ghost use Rattle.bpf_insn.specs.declared.insn.Width.TheVariants.{W64};
-ghost use Rattle.bpf_verify_rules.specs.declared.abstract_value.AbstractValue.TheVariants.{Number};
-ghost use Rattle.bpf_verify_rules.specs.Values.{operand_value, on_number, on_numbers, copied, moved_position, frame_address, ctx_address, area_sum, added, taken_away, sum_of, difference_of, result_of, is_null_check, compares};
+ghost use Rattle.bpf_verify_state.specs.declared.abstract_value.AbstractValue.TheVariants.{Number};
+ghost use Rattle.bpf_verify_state.specs.Values.{operand_value, on_number, on_numbers, copied, moved_position, frame_address, ctx_address, area_sum, added, taken_away, sum_of, difference_of, result_of, is_null_check, compares};
 
 use crate::abstract_value::{AbstractValue, is_number};
 use crate::state::State;

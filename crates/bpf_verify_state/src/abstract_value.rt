@@ -1,8 +1,7 @@
 //! What is known of a register.
 
 ghost use Rattle.std.specs.Prelude.{◌≡◌};
-ghost use Rattle.bpf_verify_rules.specs.Values.{is_number};
-ghost use Rattle.bpf_verify_rules.specs.Rules.{is_unwritten_value};
+ghost use Rattle.bpf_verify_state.specs.Values.{is_number, is_unwritten_value};
 
 use value_range::Range;
 

@@ -1,7 +1,7 @@
 use Rattle.std.proofs.Common.{length, sym, ◌∙◌, ap, arith}
-use Rattle.bpf_verify_rules.specs.Abstract.{joined}
-use Rattle.bpf_verify_rules.proofs.MeetLaws.{met_to-none, length-met_to, met_to-step, met_to-end}
-use Rattle.bpf_verify_rules.proofs.registers.Registers.meet.Goals as goal
+use Rattle.bpf_verify_state.specs.Abstract.{joined}
+use Rattle.bpf_verify_state.proofs.MeetLaws.{met_to-none, length-met_to, met_to-step, met_to-end}
+use Rattle.bpf_verify_state.proofs.registers.Registers.meet.Goals as goal
 
 pub loop-i-init : goal.loop-i-init
 loop-i-init c = sym (met_to-none joined c.self.inside.values c.args.others.now)

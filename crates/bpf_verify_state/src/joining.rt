@@ -1,8 +1,8 @@
 //! What is known where two ways meet.
 
 ghost use Rattle.std.specs.Prelude.{◌≡◌, ◌==◌, if◌then◌else◌};
-ghost use Rattle.bpf_verify_rules.specs.declared.abstract_value.AbstractValue.TheVariants.{Unwritten, Number, Frame, Ctx, Map, Area, AreaOrNull, Code};
-ghost use Rattle.bpf_verify_rules.specs.Abstract.{joined};
+ghost use Rattle.bpf_verify_state.specs.declared.abstract_value.AbstractValue.TheVariants.{Unwritten, Number, Frame, Ctx, Map, Area, AreaOrNull, Code};
+ghost use Rattle.bpf_verify_state.specs.Abstract.{joined};
 
 use crate::abstract_value::AbstractValue;
 use value_range::{Range, join};

@@ -1,7 +1,7 @@
 //! Which bytes of a frame are written.
 
 ghost use Rattle.std.specs.Prelude.{◌≡◌, ◌+◌, ◌≤◌, ◌&&◌};
-ghost use Rattle.bpf_verify_rules.specs.Abstract.{none_written, all_written, written_at, joined_marks};
+ghost use Rattle.bpf_verify_state.specs.Abstract.{none_written, all_written, written_at, joined_marks};
 
 use std::marker::Model;
 
