@@ -1,5 +1,5 @@
--- A unit is read back from its hex form.
-use Rattle.std.proofs.Common.{◌≡◌, ℕ, zero, suc, ◌+◌, ◌*◌, ◌/◌, ◌%◌, ◌<◌, ◌≤◌, Bool, true, false, ◌&&◌, List, [], ◌∷◌, ◌++◌, length, get_or, Result, Ok, Err, refl, sym, ap, ◌∙◌, append_assoc, append-nil, arith}
+-- A unit is read back from its hex form, so no other unit has it.
+use Rattle.std.proofs.Common.{◌≡◌, ℕ, zero, suc, ◌+◌, ◌*◌, ◌/◌, ◌%◌, ◌<◌, ◌≤◌, Bool, true, false, ◌&&◌, List, [], ◌∷◌, ◌++◌, length, get_or, Ok, Err, refl, sym, ap, ◌∙◌, append_assoc, append-nil, arith}
 use Rattle.std.specs.Prelude.{nat_le, nat_lt}
 use Rattle.std.specs.List.{list_all}
 use Rattle.std.proofs.lemmas.Bool.{le-leb, le-ltb}
@@ -8,22 +8,23 @@ use Rattle.std.proofs.lemmas.List.Sums.{AllPass-from_list_all}
 use Rattle.hex.specs.Hex.{lower_digits, encode_with, encode_lower}
 use Rattle.hex.proofs.HexLemmas.{length-encode_with, decode_of-encode_lower}
 use Rattle.bpf_insn.specs.declared.insn.Insn.{Insn}
-use Rattle.bpf_insn.specs.declared.codec_error.CodecError.{CodecError}
 use Rattle.bpf_insn.specs.Spelling.{program_spelling}
+use Rattle.bpf_insn.proofs.Programs.{one_program}
 use Rattle.bpf_text_lines.specs.Lines.{lines_of, contents_from, contents_of}
 use Rattle.bpf_text_lines.specs.Words.{words_of}
 use Rattle.bpf_text_fields.specs.declared.error.Fault.TheVariants as faults
 use Rattle.bpf_text_fields.specs.declared.error.TextError.TheVariants as errors
 use Rattle.bpf_text_fields.specs.Refusals.{at_line}
 use Rattle.bpf_text_fields.specs.Head.{are_sizes}
-use Rattle.bpf_text_insns.specs.UnitText.{hex_lines, head_spelling, where_spelled, unit_hex}
-use Rattle.bpf_text_operands.proofs.ValueLaws.{both_hold, chosen, passed}
+use Rattle.bpf_text_insns.specs.UnitText.{hex_lines, head_spelling, unit_hex}
+use Rattle.bpf_text_operands.proofs.ValueLaws.{both_hold, chosen, passed, same_ok}
 use Rattle.bpf_text_units.specs.UnitReading.{slots_in}
 use Rattle.bpf_text_units.specs.UnitLaw.{AreParts}
 use Rattle.bpf_text_units.proofs.SolidWords.{is_solid, solids_in_line, ends_word, Line}
 use Rattle.bpf_text_units.proofs.PrintedLines.{contents-line}
+use Rattle.bpf_text_units.proofs.UnitBack.{printed}
 use Rattle.bpf_text_units.proofs.PrintedHead.{word_first, head_line, head_back, head_is_line, head_short}
-use Rattle.bpf_text.specs.HexText.{these_parts, as_bytes, bytes_of, bytes_behind, hex_parts_of, hex_text}
+use Rattle.bpf_text.specs.HexText.{HexParts, these_parts, as_bytes, bytes_of, bytes_behind, hex_parts_of, hex_text}
 use Rattle.bpf_text.proofs.HexLaws.{bytes_behind-line, bytes_behind-end, bytes_read}
 use Rattle.bpf_text.proofs.SpelledBytes.{Bytes, bytes_at_index, SlotBytes, spelled_bytes}
 
@@ -175,14 +176,18 @@ read_whole sizes bytes k e b few =
     passed (nat_lt 1048576 (length (whole sizes bytes))) (Err (errors.Refused faults.TooLong 0)) (hex_parts_of (contents_of (whole sizes bytes))) (le-ltb _ _ (whole_short sizes bytes k e b few))
     ∙ whole_back sizes bytes k e b few
 
-printed_is : (sizes bytes text : List ℕ) (r : Result (List ℕ) CodecError) → r ≡ Ok bytes → where_spelled r (λ bs. whole sizes bs) ≡ Ok text → whole sizes bytes ≡ text
-printed_is sizes bytes text (Ok other) same e =
-    let one : other ≡ bytes = cc in
-    let two : whole sizes other ≡ text = cc in
-    ap (whole sizes) (sym one) ∙ two
-printed_is sizes bytes text (Err error) same e = absurd cc
-
 pub hex_back : (sizes : List ℕ) (insns : List Insn) (bytes text : List ℕ) → AreParts sizes insns → program_spelling insns ≡ Ok bytes → unit_hex sizes insns ≡ Ok text → hex_text text ≡ Ok (these_parts sizes bytes)
-hex_back sizes insns bytes text u spelled printed =
-    ap hex_text (sym (printed_is sizes bytes text (program_spelling insns) spelled printed))
+hex_back sizes insns bytes text u spelled hex =
+    let p = printed (whole sizes) (program_spelling insns) text hex in
+    let same : bytes ≡ p.bytes = same_ok bytes p.bytes (program_spelling insns) spelled p.are_spelled in
+    ap hex_text (sym (ap (whole sizes) same ∙ p.is_text))
     ∙ read_whole sizes bytes (slots_in insns) u.sizes_stand (spelled_bytes 0 insns bytes u.insns_fit spelled) u.in_limit
+
+pub one_unit : (sizes others : List ℕ) (insns also : List Insn) (text : List ℕ) → AreParts sizes insns → AreParts others also → unit_hex sizes insns ≡ Ok text → unit_hex others also ≡ Ok text →
+    (sizes ≡ others) × (insns ≡ also)
+one_unit sizes others insns also text u v e h =
+    let p = printed (whole sizes) (program_spelling insns) text e in
+    let q = printed (whole others) (program_spelling also) text h in
+    let same = same_ok (these_parts sizes p.bytes) (these_parts others q.bytes) (hex_text text) (hex_back sizes insns p.bytes text u p.are_spelled e) (hex_back others also q.bytes text v q.are_spelled h) in
+    let bytes : q.bytes ≡ p.bytes = sym (ap (λ (parts : HexParts). parts.bytes) same) in
+    (ap (λ (parts : HexParts). parts.sizes) same, one_program insns also p.bytes u.insns_fit v.insns_fit p.are_spelled (q.are_spelled ∙ ap (λ (bs : List ℕ). Ok bs) bytes))

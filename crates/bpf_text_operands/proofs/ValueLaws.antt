@@ -1,5 +1,5 @@
 -- Each operand is read back from its spelling.
-use Rattle.std.proofs.Common.{◌≡◌, ℕ, suc, ℤ, pos, negsuc, ◌+◌, ◌-◌, ◌<◌, ◌≤◌, ◌^◌, Bool, true, false, cond, ◌&&◌, ◌||◌, ◌==◌, List, [], ◌∷◌, ◌++◌, length, take, drop, get_or, Result, Ok, Err, Option, refl, ap, ◌∙◌, arith}
+use Rattle.std.proofs.Common.{◌≡◌, ℕ, suc, ℤ, pos, negsuc, ◌+◌, ◌-◌, ◌<◌, ◌≤◌, ◌^◌, Bool, true, false, cond, ◌&&◌, ◌||◌, ◌==◌, List, [], ◌∷◌, ◌++◌, length, take, drop, get_or, Result, Ok, Err, Option, refl, sym, ap, ◌∙◌, arith}
 use Rattle.std.specs.Prelude.{nat_le, nat_lt, FitsSigned}
 use Rattle.std.specs.Char.{is_ascii_digit}
 use Rattle.std.specs.Fmt.{decimal, signed_decimal}
@@ -71,6 +71,11 @@ chosen_by_both false b x y e h = absurd cc
 pub passed : {A : Type 0} (a : Bool) (x y : A) → a ≡ false → cond a x y ≡ y
 passed true x y e = absurd cc
 passed false x y e = refl
+
+-- a result is Ok of one value
+pub same_ok : {A E : Type 0} (a b : A) (r : Result A E) → r ≡ Ok a → r ≡ Ok b → a ≡ b
+same_ok a b (Ok c) e h = (let left : c ≡ a = cc in let right : c ≡ b = cc in sym left ∙ right)
+same_ok a b (Err fault) e h = absurd cc
 
 -- ---- registers
 
