@@ -1,9 +1,9 @@
 -- A unit is read back from its hex form, so no other unit has it.
-use Rattle.std.proofs.Common.{◌≡◌, ℕ, zero, suc, ◌+◌, ◌*◌, ◌/◌, ◌%◌, ◌<◌, ◌≤◌, Bool, true, false, ◌&&◌, List, [], ◌∷◌, ◌++◌, length, get_or, Ok, Err, refl, sym, ap, ◌∙◌, append_assoc, append-nil, arith}
+use Rattle.std.proofs.Common.{◌≡◌, ℕ, zero, suc, ◌+◌, ◌*◌, ◌/◌, ◌%◌, ◌<◌, ◌≤◌, true, List, [], ◌∷◌, ◌++◌, length, take, drop, get_or, Ok, Err, refl, sym, ap, ◌∙◌, subst, append_assoc, append-nil, arith}
 use Rattle.std.specs.Prelude.{nat_le, nat_lt}
 use Rattle.std.specs.List.{list_all}
-use Rattle.std.proofs.lemmas.Bool.{le-leb, le-ltb}
-use Rattle.std.proofs.lemmas.List.{length-append}
+use Rattle.std.proofs.lemmas.Bool.{le-leb, le-ltb, and_parts, and_from, cond-true, cond-false}
+use Rattle.std.proofs.lemmas.List.{length-append, length-take-le, take-append-drop}
 use Rattle.std.proofs.lemmas.List.Sums.{AllPass-from_list_all}
 use Rattle.hex.specs.Hex.{lower_digits, encode_with, encode_lower}
 use Rattle.hex.proofs.HexLemmas.{length-encode_with, decode_of-encode_lower}
@@ -17,7 +17,8 @@ use Rattle.bpf_text_fields.specs.declared.error.TextError.TheVariants as errors
 use Rattle.bpf_text_fields.specs.Refusals.{at_line}
 use Rattle.bpf_text_fields.specs.Head.{are_sizes}
 use Rattle.bpf_text_insns.specs.UnitText.{hex_lines, head_spelling, unit_hex}
-use Rattle.bpf_text_operands.proofs.ValueLaws.{both_hold, chosen, passed, same_ok}
+use Rattle.bpf_text_insns.proofs.HexLines.{hex_lines-slot}
+use Rattle.bpf_text_operands.proofs.ValueLaws.{same_ok}
 use Rattle.bpf_text_units.specs.UnitReading.{slots_in}
 use Rattle.bpf_text_units.specs.UnitLaw.{AreParts}
 use Rattle.bpf_text_units.proofs.SolidWords.{is_solid, solids_in_line, ends_word, Line}
@@ -26,7 +27,7 @@ use Rattle.bpf_text_units.proofs.UnitBack.{printed}
 use Rattle.bpf_text_units.proofs.PrintedHead.{word_first, head_line, head_back, head_is_line, head_short}
 use Rattle.bpf_text.specs.HexText.{HexParts, these_parts, as_bytes, bytes_of, bytes_behind, hex_parts_of, hex_text}
 use Rattle.bpf_text.proofs.HexLaws.{bytes_behind-line, bytes_behind-end, bytes_read}
-use Rattle.bpf_text.proofs.SpelledBytes.{Bytes, bytes_at_index, SlotBytes, spelled_bytes}
+use Rattle.bpf_text.proofs.SpelledBytes.{Bytes, bytes-parts, bytes_at_index, SlotBytes, spelled_bytes}
 
 -- ---- a line of digits
 
@@ -38,20 +39,13 @@ unfolding encode_with
 encode_solid [] h = refl
 encode_solid (b ∷ rest) h =
     let fits = h.0 in
-    both_hold (is_solid (get_or lower_digits (b / 16) 0)) _ (digit_solid (b / 16) (omega (arith, fits)))
-    (both_hold (is_solid (get_or lower_digits (b % 16) 0)) (list_all is_solid (encode_lower rest)) (digit_solid (b % 16) (omega arith)) (encode_solid rest h.1))
-
-both_first : (b : ℕ) (bs : List ℕ) → list_all is_solid (b ∷ bs) ≡ true → is_solid b ≡ true
-both_first b bs e = go (is_solid b) (list_all is_solid bs) e
-  where
-    go : (a c : Bool) → (a && c) ≡ true → a ≡ true
-    go true c e = refl
-    go false c e = absurd cc
+    and_from (is_solid (get_or lower_digits (b / 16) 0)) _ (digit_solid (b / 16) (omega (arith, fits)))
+    (and_from (is_solid (get_or lower_digits (b % 16) 0)) (list_all is_solid (encode_lower rest)) (digit_solid (b % 16) (omega arith)) (encode_solid rest h.1))
 
 -- a word alone is a line
 word_line : (w : List ℕ) → 0 < length w → list_all is_solid w ≡ true → Line w
 word_line [] some e = absurd (omega arith)
-word_line (b ∷ bs) some e = record { inner = solids_in_line (b ∷ bs) e; begins = (b, bs, refl, both_first b bs e); ends = ends_word (b ∷ bs) some e }
+word_line (b ∷ bs) some e = record { inner = solids_in_line (b ∷ bs) e; begins = (b, bs, refl, (and_parts (is_solid b) (list_all is_solid bs) e).0); ends = ends_word (b ∷ bs) some e }
 
 -- the digits of a slot
 record OneSlot (slot : List ℕ) : Type 0 where
@@ -74,7 +68,7 @@ digits_read n before slot s le =
     let long = s.long in
     ap (λ (ws : List (List ℕ)). at_line n (bytes_of before ws)) (digits_word slot s)
     ∙ ap (λ r. at_line n (as_bytes before r)) (decode_of-encode_lower slot (bytes_at_index slot s.are))
-    ∙ ap (at_line n) (chosen (nat_le (before + length slot) 32768) (Ok slot) (Err faults.TooLong) (le-leb _ _ (omega (arith, le, long))))
+    ∙ ap (at_line n) (cond-true (nat_le (before + length slot) 32768) (Ok slot) (Err faults.TooLong) (le-leb _ _ (omega (arith, le, long))))
 
 -- ---- all lines of digits
 
@@ -88,26 +82,17 @@ record Cut (bytes : List ℕ) : Type 0 where
   lines : hex_lines bytes ≡ (encode_lower slot ++ 10 ∷ []) ++ hex_lines rest
 
 cut : (bytes : List ℕ) → Bytes bytes → 8 ≤ length bytes → Cut bytes
-unfolding hex_lines
-cut (a ∷ b ∷ c ∷ d ∷ e ∷ f ∷ g ∷ h ∷ rest) are le = record {
-  slot = a ∷ b ∷ c ∷ d ∷ e ∷ f ∷ g ∷ h ∷ [];
-  rest = rest;
-  whole = refl;
-  first = record {
-    are = (are.0, (are.1.0, (are.1.1.0, (are.1.1.1.0, (are.1.1.1.1.0, (are.1.1.1.1.1.0, (are.1.1.1.1.1.1.0, (are.1.1.1.1.1.1.1.0, tt))))))));
-    long = refl;
-  };
-  others = are.1.1.1.1.1.1.1.1;
-  lines = refl;
-}
-cut [] are le = absurd (omega arith)
-cut (a ∷ []) are le = absurd (omega arith)
-cut (a ∷ b ∷ []) are le = absurd (omega arith)
-cut (a ∷ b ∷ c ∷ []) are le = absurd (omega arith)
-cut (a ∷ b ∷ c ∷ d ∷ []) are le = absurd (omega arith)
-cut (a ∷ b ∷ c ∷ d ∷ e ∷ []) are le = absurd (omega arith)
-cut (a ∷ b ∷ c ∷ d ∷ e ∷ f ∷ []) are le = absurd (omega arith)
-cut (a ∷ b ∷ c ∷ d ∷ e ∷ f ∷ g ∷ []) are le = absurd (omega arith)
+cut bytes are le =
+    let whole = sym (take-append-drop 8 bytes) in
+    let parts = bytes-parts (take 8 bytes) (drop 8 bytes) (subst Bytes whole are) in
+    record {
+      slot = take 8 bytes;
+      rest = drop 8 bytes;
+      whole = whole;
+      first = record { are = parts.0; long = length-take-le 8 bytes le };
+      others = parts.1;
+      lines = hex_lines-slot bytes le;
+    }
 
 no_lines : (bytes : List ℕ) → length bytes ≡ 0 → (hex_lines bytes ≡ []) × (bytes ≡ [])
 unfolding hex_lines
@@ -173,7 +158,7 @@ whole_back sizes bytes k e b few =
 
 read_whole : (sizes bytes : List ℕ) (k : ℕ) → are_sizes sizes ≡ true → SlotBytes k bytes → k ≤ 4096 → hex_text (whole sizes bytes) ≡ Ok (these_parts sizes bytes)
 read_whole sizes bytes k e b few =
-    passed (nat_lt 1048576 (length (whole sizes bytes))) (Err (errors.Refused faults.TooLong 0)) (hex_parts_of (contents_of (whole sizes bytes))) (le-ltb _ _ (whole_short sizes bytes k e b few))
+    cond-false (nat_lt 1048576 (length (whole sizes bytes))) (Err (errors.Refused faults.TooLong 0)) (hex_parts_of (contents_of (whole sizes bytes))) (le-ltb _ _ (whole_short sizes bytes k e b few))
     ∙ whole_back sizes bytes k e b few
 
 pub hex_back : (sizes : List ℕ) (insns : List Insn) (bytes text : List ℕ) → AreParts sizes insns → program_spelling insns ≡ Ok bytes → unit_hex sizes insns ≡ Ok text → hex_text text ≡ Ok (these_parts sizes bytes)
