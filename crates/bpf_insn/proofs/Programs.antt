@@ -117,12 +117,12 @@ reading_found bytes p fits e =
 
 -- ---- what is spelled so is read
 
-joined_ok : (r later : Result (List ℕ) CodecError) (bytes : List ℕ) → joined r later ≡ Ok bytes → (a : List ℕ) × (b : List ℕ) × (r ≡ Ok a) × (later ≡ Ok b) × (bytes ≡ a ++ b)
+pub joined_ok : (r later : Result (List ℕ) CodecError) (bytes : List ℕ) → joined r later ≡ Ok bytes → (a : List ℕ) × (b : List ℕ) × (r ≡ Ok a) × (later ≡ Ok b) × (bytes ≡ a ++ b)
 joined_ok (Err e) later bytes h = absurd cc
 joined_ok (Ok a) (Err e) bytes h = absurd cc
 joined_ok (Ok a) (Ok b) bytes h = (a, b, refl, refl, sym (ok_is (a ++ b) bytes h))
 
-bytes_ok : (n : ℕ) (r : Result (List Slot) Fault) (a : List ℕ) → bytes_at n r ≡ Ok a → (ss : List Slot) × (r ≡ Ok ss) × (a ≡ slots_bytes ss)
+pub bytes_ok : (n : ℕ) (r : Result (List Slot) Fault) (a : List ℕ) → bytes_at n r ≡ Ok a → (ss : List Slot) × (r ≡ Ok ss) × (a ≡ slots_bytes ss)
 bytes_ok n (Err e) a h = absurd cc
 bytes_ok n (Ok ss) a h = (ss, refl, sym (ok_is (slots_bytes ss) a h))
 

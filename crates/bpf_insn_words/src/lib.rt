@@ -15,6 +15,7 @@ pub use arithmetic::{alu_word, neg_word};
 pub use byte_orders::endian_word;
 pub use compares::compare_words;
 pub use moves::movsx_word;
+pub use widths::shift_amount;
 
 #[cfg(test)]
 mod tests;

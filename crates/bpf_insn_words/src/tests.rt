@@ -37,6 +37,7 @@ fn arithmetic_of_64_bits(rt: HostRuntime) -> Result<(), Fail> {
     assert_eq!(rt; alu_word(width, AluOp::Arsh, LEAST, 63), MINUS_1);
     assert_eq!(rt; alu_word(width, AluOp::Mov, 1, 2), 2);
     assert_eq!(rt; neg_word(width, 7), MINUS_7);
+    assert_eq!(rt; shift_amount(width, 65), 1);
     Ok(())
 }
 
@@ -58,6 +59,8 @@ fn arithmetic_of_32_bits(rt: HostRuntime) -> Result<(), Fail> {
     assert_eq!(rt; alu_word(width, AluOp::Arsh, HALF_LEAST, 31), HALF_MINUS_1);
     assert_eq!(rt; alu_word(width, AluOp::Mov, 0, MINUS_7), HALF_MINUS_7);
     assert_eq!(rt; neg_word(width, 1), HALF_MINUS_1);
+    assert_eq!(rt; shift_amount(width, 65), 1);
+    assert_eq!(rt; shift_amount(width, 63), 31);
     Ok(())
 }
 

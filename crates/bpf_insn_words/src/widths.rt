@@ -25,14 +25,14 @@ pub fn greatest(width: Width) -> u64
     }
 }
 
-/// By how many bits a shift moves: its amount modulo the number of bits.
-pub fn shift_amount(width: Width, b: u64) -> u64
-    ensures equal { result ≡ shift width b }
+/// By how many bits a shift moves: its amount modulo the number of bits (RFC 9669, section 4.1).
+pub fn shift_amount(width: Width, amount: u64) -> u32
+    ensures equal { result ≡ shift width amount }
     ensures below { result < 64 }
 {
     match width {
-        Width::W32 => b % 32,
-        Width::W64 => b % 64,
+        Width::W32 => (amount % 32) as u32,
+        Width::W64 => (amount % 64) as u32,
     }
 }
 

@@ -1,43 +1,13 @@
--- Reading events one after the other, as a loop does.
-use Rattle.std.proofs.Common.{◌≡◌, ℕ, List, [], ◌∷◌, ◌++◌, Result, Ok, Err, refl, sym, ap, ◌∙◌, subst, append_assoc}
-use Rattle.std.proofs.lemmas.List.{append-nil}
+-- Reading lines of events one after the other, as a loop does.
+use Rattle.std.proofs.Common.{◌≡◌, ℕ, List, [], ◌∷◌, ◌++◌, Result, Ok, Err, refl, sym, ap, ◌∙◌, subst}
 use Rattle.bpf_text_lines.specs.Words.{words_of}
-use Rattle.bpf_text_fields.specs.declared.error.Fault.{Fault}
 use Rattle.bpf_text_fields.specs.declared.error.Fault.TheVariants as faults
 use Rattle.bpf_text_fields.specs.declared.error.TextError.{TextError}
 use Rattle.bpf_text_fields.specs.declared.error.TextError.TheVariants as errors
 use Rattle.bpf_text_fields.specs.Refusals.{at_line, ◌>>=◌, Fails}
 use Rattle.bpf_text.specs.declared.event.EventWord.{EventWord}
-use Rattle.bpf_text.specs.EventsText.{with_event, events_of, bounds_of, events_behind, schedule_of}
-use Rattle.bpf_text.proofs.MapLaws.{bind_fails}
-
--- what was read before, and what is still read
-abbrev pub with_front : List EventWord → Result (List EventWord) Fault → Result (List EventWord) Fault
-with_front front (Ok es) = Ok (front ++ es)
-with_front front (Err fault) = Err fault
-
-regroup : (front : List EventWord) (e : EventWord) (others : Result (List EventWord) Fault) → with_front front (with_event (Ok e) others) ≡ with_front (front ++ e ∷ []) others
-regroup front e (Ok es) = ap (λ (list : List EventWord). Ok list) (simp append_assoc)
-regroup front e (Err fault) = refl
-
-pub goes_on : (line : ℕ) (front : List EventWord) (e : EventWord) (first : Result EventWord Fault) (others total : Result (List EventWord) Fault) → at_line line first ≡ Ok e →
-    with_front front (with_event first others) ≡ total → with_front (front ++ e ∷ []) others ≡ total
-goes_on line front e (Ok m) others total read so_far =
-    let same : m ≡ e = cc in
-    sym (regroup front e others) ∙ ap (λ (k : EventWord). with_front front (with_event (Ok k) others)) (sym same) ∙ so_far
-goes_on line front e (Err fault) others total read so_far = absurd cc
-
-pub ends : (e : TextError) (line : ℕ) (front : List EventWord) (first : Result EventWord Fault) (others total : Result (List EventWord) Fault) → Fails e (at_line line first) →
-    with_front front (with_event first others) ≡ total → Fails e (at_line line total)
-ends errors.Memory line front first others total fails so_far = tt
-ends (errors.Refused fault at) line front (Ok n) others total fails so_far = absurd cc
-ends (errors.Refused fault at) line front (Err other) others total fails so_far =
-    let refusal : total ≡ Err other = sym so_far in
-    let same : errors.Refused other line ≡ errors.Refused fault at = cc in
-    ap (at_line line) refusal ∙ ap (λ (x : TextError). Err x) same
-
-pub is_done : (line : ℕ) (front : List EventWord) (total : Result (List EventWord) Fault) → with_front front (Ok []) ≡ total → at_line line total ≡ Ok front
-is_done line front total so_far = ap (at_line line) (sym so_far) ∙ ap (λ (list : List EventWord). Ok list) (append-nil front)
+use Rattle.bpf_text_fields.proofs.RefusalLaws.{bind_fails}
+use Rattle.bpf_text.specs.EventsText.{events_of, bounds_of, events_behind, schedule_of}
 
 -- ---- lines
 

@@ -1,31 +1,33 @@
--- A unit is read back from its hex form.
-use Rattle.std.proofs.Common.{◌≡◌, ℕ, zero, suc, ◌+◌, ◌*◌, ◌/◌, ◌%◌, ◌<◌, ◌≤◌, Bool, true, false, ◌&&◌, List, [], ◌∷◌, ◌++◌, length, get_or, Result, Ok, Err, refl, sym, ap, ◌∙◌, append_assoc, append-nil, arith}
+-- A unit is read back from its hex form, so no other unit has it.
+use Rattle.std.proofs.Common.{◌≡◌, ℕ, zero, suc, ◌+◌, ◌*◌, ◌/◌, ◌%◌, ◌<◌, ◌≤◌, true, List, [], ◌∷◌, ◌++◌, length, take, drop, get_or, Ok, Err, refl, sym, ap, ◌∙◌, subst, append_assoc, append-nil, arith}
 use Rattle.std.specs.Prelude.{nat_le, nat_lt}
 use Rattle.std.specs.List.{list_all}
-use Rattle.std.proofs.lemmas.Bool.{le-leb, le-ltb}
-use Rattle.std.proofs.lemmas.List.{length-append}
+use Rattle.std.proofs.lemmas.Bool.{le-leb, le-ltb, and_parts, and_from, cond-true, cond-false}
+use Rattle.std.proofs.lemmas.List.{length-append, length-take-le, take-append-drop}
 use Rattle.std.proofs.lemmas.List.Sums.{AllPass-from_list_all}
 use Rattle.hex.specs.Hex.{lower_digits, encode_with, encode_lower}
 use Rattle.hex.proofs.HexLemmas.{length-encode_with, decode_of-encode_lower}
 use Rattle.bpf_insn.specs.declared.insn.Insn.{Insn}
-use Rattle.bpf_insn.specs.declared.codec_error.CodecError.{CodecError}
 use Rattle.bpf_insn.specs.Spelling.{program_spelling}
+use Rattle.bpf_insn.proofs.Programs.{one_program}
 use Rattle.bpf_text_lines.specs.Lines.{lines_of, contents_from, contents_of}
 use Rattle.bpf_text_lines.specs.Words.{words_of}
 use Rattle.bpf_text_fields.specs.declared.error.Fault.TheVariants as faults
 use Rattle.bpf_text_fields.specs.declared.error.TextError.TheVariants as errors
 use Rattle.bpf_text_fields.specs.Refusals.{at_line}
 use Rattle.bpf_text_fields.specs.Head.{are_sizes}
-use Rattle.bpf_text_insns.specs.UnitText.{hex_lines, head_spelling, where_spelled, unit_hex}
-use Rattle.bpf_text_operands.proofs.ValueLaws.{both_hold, chosen, passed}
+use Rattle.bpf_text_insns.specs.UnitText.{hex_lines, head_spelling, unit_hex}
+use Rattle.bpf_text_insns.proofs.HexLines.{hex_lines-slot}
+use Rattle.bpf_text_operands.proofs.ValueLaws.{same_ok}
 use Rattle.bpf_text_units.specs.UnitReading.{slots_in}
 use Rattle.bpf_text_units.specs.UnitLaw.{AreParts}
 use Rattle.bpf_text_units.proofs.SolidWords.{is_solid, solids_in_line, ends_word, Line}
 use Rattle.bpf_text_units.proofs.PrintedLines.{contents-line}
+use Rattle.bpf_text_units.proofs.UnitBack.{printed}
 use Rattle.bpf_text_units.proofs.PrintedHead.{word_first, head_line, head_back, head_is_line, head_short}
-use Rattle.bpf_text.specs.HexText.{these_parts, as_bytes, bytes_of, bytes_behind, hex_parts_of, hex_text}
+use Rattle.bpf_text.specs.HexText.{HexParts, these_parts, as_bytes, bytes_of, bytes_behind, hex_parts_of, hex_text}
 use Rattle.bpf_text.proofs.HexLaws.{bytes_behind-line, bytes_behind-end, bytes_read}
-use Rattle.bpf_text.proofs.SpelledBytes.{Bytes, bytes_at_index, SlotBytes, spelled_bytes}
+use Rattle.bpf_text.proofs.SpelledBytes.{Bytes, bytes-parts, bytes_at_index, SlotBytes, spelled_bytes}
 
 -- ---- a line of digits
 
@@ -37,20 +39,13 @@ unfolding encode_with
 encode_solid [] h = refl
 encode_solid (b ∷ rest) h =
     let fits = h.0 in
-    both_hold (is_solid (get_or lower_digits (b / 16) 0)) _ (digit_solid (b / 16) (omega (arith, fits)))
-    (both_hold (is_solid (get_or lower_digits (b % 16) 0)) (list_all is_solid (encode_lower rest)) (digit_solid (b % 16) (omega arith)) (encode_solid rest h.1))
-
-both_first : (b : ℕ) (bs : List ℕ) → list_all is_solid (b ∷ bs) ≡ true → is_solid b ≡ true
-both_first b bs e = go (is_solid b) (list_all is_solid bs) e
-  where
-    go : (a c : Bool) → (a && c) ≡ true → a ≡ true
-    go true c e = refl
-    go false c e = absurd cc
+    and_from (is_solid (get_or lower_digits (b / 16) 0)) _ (digit_solid (b / 16) (omega (arith, fits)))
+    (and_from (is_solid (get_or lower_digits (b % 16) 0)) (list_all is_solid (encode_lower rest)) (digit_solid (b % 16) (omega arith)) (encode_solid rest h.1))
 
 -- a word alone is a line
 word_line : (w : List ℕ) → 0 < length w → list_all is_solid w ≡ true → Line w
 word_line [] some e = absurd (omega arith)
-word_line (b ∷ bs) some e = record { inner = solids_in_line (b ∷ bs) e; begins = (b, bs, refl, both_first b bs e); ends = ends_word (b ∷ bs) some e }
+word_line (b ∷ bs) some e = record { inner = solids_in_line (b ∷ bs) e; begins = (b, bs, refl, (and_parts (is_solid b) (list_all is_solid bs) e).0); ends = ends_word (b ∷ bs) some e }
 
 -- the digits of a slot
 record OneSlot (slot : List ℕ) : Type 0 where
@@ -73,7 +68,7 @@ digits_read n before slot s le =
     let long = s.long in
     ap (λ (ws : List (List ℕ)). at_line n (bytes_of before ws)) (digits_word slot s)
     ∙ ap (λ r. at_line n (as_bytes before r)) (decode_of-encode_lower slot (bytes_at_index slot s.are))
-    ∙ ap (at_line n) (chosen (nat_le (before + length slot) 32768) (Ok slot) (Err faults.TooLong) (le-leb _ _ (omega (arith, le, long))))
+    ∙ ap (at_line n) (cond-true (nat_le (before + length slot) 32768) (Ok slot) (Err faults.TooLong) (le-leb _ _ (omega (arith, le, long))))
 
 -- ---- all lines of digits
 
@@ -87,26 +82,17 @@ record Cut (bytes : List ℕ) : Type 0 where
   lines : hex_lines bytes ≡ (encode_lower slot ++ 10 ∷ []) ++ hex_lines rest
 
 cut : (bytes : List ℕ) → Bytes bytes → 8 ≤ length bytes → Cut bytes
-unfolding hex_lines
-cut (a ∷ b ∷ c ∷ d ∷ e ∷ f ∷ g ∷ h ∷ rest) are le = record {
-  slot = a ∷ b ∷ c ∷ d ∷ e ∷ f ∷ g ∷ h ∷ [];
-  rest = rest;
-  whole = refl;
-  first = record {
-    are = (are.0, (are.1.0, (are.1.1.0, (are.1.1.1.0, (are.1.1.1.1.0, (are.1.1.1.1.1.0, (are.1.1.1.1.1.1.0, (are.1.1.1.1.1.1.1.0, tt))))))));
-    long = refl;
-  };
-  others = are.1.1.1.1.1.1.1.1;
-  lines = refl;
-}
-cut [] are le = absurd (omega arith)
-cut (a ∷ []) are le = absurd (omega arith)
-cut (a ∷ b ∷ []) are le = absurd (omega arith)
-cut (a ∷ b ∷ c ∷ []) are le = absurd (omega arith)
-cut (a ∷ b ∷ c ∷ d ∷ []) are le = absurd (omega arith)
-cut (a ∷ b ∷ c ∷ d ∷ e ∷ []) are le = absurd (omega arith)
-cut (a ∷ b ∷ c ∷ d ∷ e ∷ f ∷ []) are le = absurd (omega arith)
-cut (a ∷ b ∷ c ∷ d ∷ e ∷ f ∷ g ∷ []) are le = absurd (omega arith)
+cut bytes are le =
+    let whole = sym (take-append-drop 8 bytes) in
+    let parts = bytes-parts (take 8 bytes) (drop 8 bytes) (subst Bytes whole are) in
+    record {
+      slot = take 8 bytes;
+      rest = drop 8 bytes;
+      whole = whole;
+      first = record { are = parts.0; long = length-take-le 8 bytes le };
+      others = parts.1;
+      lines = hex_lines-slot bytes le;
+    }
 
 no_lines : (bytes : List ℕ) → length bytes ≡ 0 → (hex_lines bytes ≡ []) × (bytes ≡ [])
 unfolding hex_lines
@@ -172,17 +158,21 @@ whole_back sizes bytes k e b few =
 
 read_whole : (sizes bytes : List ℕ) (k : ℕ) → are_sizes sizes ≡ true → SlotBytes k bytes → k ≤ 4096 → hex_text (whole sizes bytes) ≡ Ok (these_parts sizes bytes)
 read_whole sizes bytes k e b few =
-    passed (nat_lt 1048576 (length (whole sizes bytes))) (Err (errors.Refused faults.TooLong 0)) (hex_parts_of (contents_of (whole sizes bytes))) (le-ltb _ _ (whole_short sizes bytes k e b few))
+    cond-false (nat_lt 1048576 (length (whole sizes bytes))) (Err (errors.Refused faults.TooLong 0)) (hex_parts_of (contents_of (whole sizes bytes))) (le-ltb _ _ (whole_short sizes bytes k e b few))
     ∙ whole_back sizes bytes k e b few
 
-printed_is : (sizes bytes text : List ℕ) (r : Result (List ℕ) CodecError) → r ≡ Ok bytes → where_spelled r (λ bs. whole sizes bs) ≡ Ok text → whole sizes bytes ≡ text
-printed_is sizes bytes text (Ok other) same e =
-    let one : other ≡ bytes = cc in
-    let two : whole sizes other ≡ text = cc in
-    ap (whole sizes) (sym one) ∙ two
-printed_is sizes bytes text (Err error) same e = absurd cc
-
 pub hex_back : (sizes : List ℕ) (insns : List Insn) (bytes text : List ℕ) → AreParts sizes insns → program_spelling insns ≡ Ok bytes → unit_hex sizes insns ≡ Ok text → hex_text text ≡ Ok (these_parts sizes bytes)
-hex_back sizes insns bytes text u spelled printed =
-    ap hex_text (sym (printed_is sizes bytes text (program_spelling insns) spelled printed))
+hex_back sizes insns bytes text u spelled hex =
+    let p = printed (whole sizes) (program_spelling insns) text hex in
+    let same : bytes ≡ p.bytes = same_ok bytes p.bytes (program_spelling insns) spelled p.are_spelled in
+    ap hex_text (sym (ap (whole sizes) same ∙ p.is_text))
     ∙ read_whole sizes bytes (slots_in insns) u.sizes_stand (spelled_bytes 0 insns bytes u.insns_fit spelled) u.in_limit
+
+pub one_unit : (sizes others : List ℕ) (insns also : List Insn) (text : List ℕ) → AreParts sizes insns → AreParts others also → unit_hex sizes insns ≡ Ok text → unit_hex others also ≡ Ok text →
+    (sizes ≡ others) × (insns ≡ also)
+one_unit sizes others insns also text u v e h =
+    let p = printed (whole sizes) (program_spelling insns) text e in
+    let q = printed (whole others) (program_spelling also) text h in
+    let same = same_ok (these_parts sizes p.bytes) (these_parts others q.bytes) (hex_text text) (hex_back sizes insns p.bytes text u p.are_spelled e) (hex_back others also q.bytes text v q.are_spelled h) in
+    let bytes : q.bytes ≡ p.bytes = sym (ap (λ (parts : HexParts). parts.bytes) same) in
+    (ap (λ (parts : HexParts). parts.sizes) same, one_program insns also p.bytes u.insns_fit v.insns_fit p.are_spelled (q.are_spelled ∙ ap (λ (bs : List ℕ). Ok bs) bytes))

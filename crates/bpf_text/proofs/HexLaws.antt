@@ -5,9 +5,9 @@ use Rattle.bpf_text_fields.specs.declared.error.Fault.TheVariants as faults
 use Rattle.bpf_text_fields.specs.declared.error.TextError.{TextError}
 use Rattle.bpf_text_fields.specs.declared.error.TextError.TheVariants as errors
 use Rattle.bpf_text_fields.specs.Refusals.{at_line, ◌>>=◌, Fails}
+use Rattle.bpf_text_fields.proofs.RefusalLaws.{bind_fails}
 use Rattle.bpf_text.specs.HexText.{HexParts, bytes_of, bytes_behind, hex_parts_of}
 use Rattle.bpf_text_fields.specs.Head.{head_of}
-use Rattle.bpf_text.proofs.MapLaws.{bind_fails}
 
 pub bytes_behind-line : (before : List ℕ) (count : ℕ) (line : ℕ × List ℕ) (lines : List (ℕ × List ℕ)) (more : List ℕ) → count ≡ length before →
     at_line line.0 (bytes_of count (words_of line.1)) ≡ Ok more → bytes_behind before (line ∷ lines) ≡ bytes_behind (before ++ more) lines

@@ -5,18 +5,13 @@ use Rattle.bpf_text_fields.specs.declared.error.Fault.TheVariants as faults
 use Rattle.bpf_text_fields.specs.declared.error.TextError.{TextError}
 use Rattle.bpf_text_fields.specs.declared.error.TextError.TheVariants as errors
 use Rattle.bpf_text_fields.specs.Refusals.{at_line, ◌>>=◌, Fails}
+use Rattle.bpf_text_fields.proofs.RefusalLaws.{bind_fails}
 use Rattle.bpf_text.specs.MapsText.{some_maps, values_of, count_of, maps_behind}
 
 -- one more map, with its values
 pub count_of-push : (maps : List (List ℕ)) (values : List ℕ) → count_of (maps ++ values ∷ []) ≡ count_of maps + length values
 count_of-push [] values = omega arith
 count_of-push (first ∷ maps) values = let h = count_of-push maps values in omega (arith, h)
-
--- a refusal stays one, whatever follows it
-pub bind_fails : {A B : Type 0} (e : TextError) (r : Result A TextError) (f : A → Result B TextError) → Fails e r → Fails e (r >>= f)
-bind_fails errors.Memory r f fails = tt
-bind_fails (errors.Refused fault line) (Ok x) f fails = absurd cc
-bind_fails (errors.Refused fault line) (Err other) f fails = cc
 
 pub maps_behind-line : (before : List (List ℕ)) (number held : ℕ) (line : ℕ × List ℕ) (lines : List (ℕ × List ℕ)) (values : List ℕ) → number ≡ length before → held ≡ count_of before →
     at_line line.0 (values_of number held (words_of line.1)) ≡ Ok values →

@@ -1,5 +1,5 @@
 -- What instructions spell is bytes, 8 a slot.
-use Rattle.std.proofs.Common.{◌≡◌, ℕ, zero, suc, ◌+◌, ◌*◌, ◌<◌, ◌≤◌, List, [], ◌∷◌, ◌++◌, length, get_or, Result, Ok, Err, refl, subst, arith}
+use Rattle.std.proofs.Common.{◌≡◌, ℕ, zero, suc, ◌+◌, ◌*◌, ◌<◌, ◌≤◌, List, [], ◌∷◌, ◌++◌, length, get_or, Result, Ok, sym, subst, arith}
 use Rattle.std.specs.Prelude.{IfOk, ℤ, pos, negsuc, Bool, true, false}
 use Rattle.std.specs.Int.{w16, w32, to_le_bytes, cast_unsigned}
 use Rattle.std.proofs.lemmas.List.{length-append}
@@ -21,15 +21,15 @@ use Rattle.bpf_insn.specs.declared.form.Form.{Form}
 use Rattle.bpf_insn.specs.declared.form.Form.TheVariants as form
 use Rattle.bpf_insn.specs.declared.slot.Slot.{Slot}
 use Rattle.bpf_insn.specs.declared.codec_error.Fault.{Fault}
-use Rattle.bpf_insn.specs.declared.codec_error.CodecError.{CodecError}
 use Rattle.bpf_insn.specs.Opcode.{alu_class, jump_class, alu_code, jump_code, size_bits, opcode}
 use Rattle.bpf_insn.specs.Slots.{slots_of}
 use Rattle.bpf_insn.specs.SlotBytes.{slot_bytes, slots_bytes}
-use Rattle.bpf_insn.specs.Spelling.{code_of, has_next, two, spelling, bytes_at, joined, spelling_from}
+use Rattle.bpf_insn.specs.Spelling.{code_of, has_next, two, spelling, bytes_at, spelling_from}
 use Rattle.bpf_insn.specs.Values.{AreInsns}
 use Rattle.bpf_insn.proofs.Bytes.{HasBytes, HaveBytes}
 use Rattle.bpf_insn.proofs.HasBytes.{spelling_has}
 use Rattle.bpf_insn.proofs.Lengths.{spelled_len}
+use Rattle.bpf_insn.proofs.Programs.{of_ok, joined_ok, bytes_ok}
 use Rattle.bpf_text_units.specs.UnitReading.{slots_in}
 
 -- ---- opcodes
@@ -143,6 +143,11 @@ bytes-append : (xs ys : List ℕ) → Bytes xs → Bytes ys → Bytes (xs ++ ys)
 bytes-append [] ys a b = b
 bytes-append (x ∷ xs) ys a b = (a.0, bytes-append xs ys a.1 b)
 
+-- of bytes, those before and those behind a place
+pub bytes-parts : (xs ys : List ℕ) → Bytes (xs ++ ys) → Bytes xs × Bytes ys
+bytes-parts [] ys h = (tt, h)
+bytes-parts (x ∷ xs) ys h = (let parts = bytes-parts xs ys h.1 in ((h.0, parts.0), parts.1))
+
 pub bytes_at_index : (bs : List ℕ) → Bytes bs → (i : ℕ) → get_or bs i 0 < 256
 bytes_at_index [] h i = omega arith
 bytes_at_index (b ∷ bs) h zero = h.0
@@ -165,13 +170,9 @@ slots_are [] small has = tt
 slots_are (s ∷ ss) small has = bytes-append (slot_bytes s) (slots_bytes ss) (slot_are s small.0 has.0) (slots_are ss small.1 has.1)
 
 at_are : (n : ℕ) (r : Result (List Slot) Fault) (bytes : List ℕ) → IfOk r Small → IfOk r HaveBytes → bytes_at n r ≡ Ok bytes → Bytes bytes
-at_are n (Ok ss) bytes small has e = (let same : slots_bytes ss ≡ bytes = cc in subst Bytes same (slots_are ss small has))
-at_are n (Err fault) bytes small has e = absurd cc
-
-joined_parts : (first later : Result (List ℕ) CodecError) (bytes : List ℕ) → joined first later ≡ Ok bytes → (a : List ℕ) × (b : List ℕ) × (first ≡ Ok a) × (later ≡ Ok b) × (a ++ b ≡ bytes)
-joined_parts (Err e) later bytes h = absurd cc
-joined_parts (Ok a) (Err e) bytes h = absurd cc
-joined_parts (Ok a) (Ok b) bytes h = (a, b, refl, refl, cc)
+at_are n r bytes small has e =
+    let slots = bytes_ok n r bytes e in
+    subst Bytes (sym slots.2) (slots_are slots.0 (of_ok Small r slots.0 slots.1 small) (of_ok HaveBytes r slots.0 slots.1 has))
 
 -- bytes of this many slots
 pub record SlotBytes (n : ℕ) (bytes : List ℕ) : Type 0 where
@@ -181,10 +182,10 @@ pub record SlotBytes (n : ℕ) (bytes : List ℕ) : Type 0 where
 pub spelled_bytes : (n : ℕ) (insns : List Insn) (bytes : List ℕ) → AreInsns insns → spelling_from n insns ≡ Ok bytes → SlotBytes (slots_in insns) bytes
 spelled_bytes n [] bytes fit e = (let same : [] ≡ bytes = cc in subst (SlotBytes 0) same (record { are = tt; long = omega arith }))
 spelled_bytes n (i ∷ is) bytes fit e =
-    let cut = joined_parts (bytes_at n (spelling i)) (spelling_from (n + slots_of i) is) bytes e in
+    let cut = joined_ok (bytes_at n (spelling i)) (spelling_from (n + slots_of i) is) bytes e in
     let here = at_are n (spelling i) cut.0 (spelling_small i) (spelling_has i fit.0) cut.2 in
     let len = spelled_len n i cut.0 cut.2 in
     let later = spelled_bytes (n + slots_of i) is cut.1 fit.1 cut.3 in
     let others = later.long in
     let total : length (cut.0 ++ cut.1) ≡ length cut.0 + length cut.1 = length-append cut.0 cut.1 in
-    subst (SlotBytes (slots_in (i ∷ is))) cut.4 (record { are = bytes-append cut.0 cut.1 here later.are; long = omega (arith, len, others, total) })
+    subst (SlotBytes (slots_in (i ∷ is))) (sym cut.4) (record { are = bytes-append cut.0 cut.1 here later.are; long = omega (arith, len, others, total) })

@@ -9,7 +9,7 @@ use Rattle.bpf_text_fields.specs.declared.error.Fault.{Fault}
 use Rattle.bpf_text_fields.specs.declared.error.Fault.TheVariants as faults
 use Rattle.bpf_text_fields.specs.declared.error.TextError.{TextError}
 use Rattle.bpf_text_fields.specs.declared.error.TextError.TheVariants as errors
-use Rattle.bpf_text_fields.specs.Refusals.{at_line, ◌>>=◌}
+use Rattle.bpf_text_fields.specs.Refusals.{at_line, with_first, ◌>>=◌}
 use Rattle.bpf_text_fields.specs.Fields.{fields_of, field_of}
 use Rattle.bpf_text.specs.declared.event.EventKind.{EventKind}
 use Rattle.bpf_text.specs.declared.event.EventKind.TheVariants as kind
@@ -39,16 +39,10 @@ event (Some k) (Ok worker) = Ok (record { kind = k; worker = worker })
 abbrev pub event_at : List ℕ → Result EventWord Fault
 event_at word = event (kind_at (slice_index word 0)) (field_of 255 (drop 1 word))
 
--- an event before further ones, or the first fault
-abbrev pub with_event : Result EventWord Fault → Result (List EventWord) Fault → Result (List EventWord) Fault
-with_event (Ok e) (Ok es) = Ok (e ∷ es)
-with_event (Ok e) (Err fault) = Err fault
-with_event (Err fault) others = Err fault
-
 -- the events of words
 abbrev pub events_in : List (List ℕ) → Result (List EventWord) Fault
 events_in [] = Ok []
-events_in (word ∷ words) = with_event (event_at word) (events_in words)
+events_in (word ∷ words) = with_first (event_at word) (events_in words)
 
 -- the same, where a word that is no event comes before a worker outside its field
 abbrev pub events_of : List (List ℕ) → Result (List EventWord) Fault

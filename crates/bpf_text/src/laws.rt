@@ -12,3 +12,9 @@ pub fn hex_is_read_back()
     ensures { (sizes : List ℕ) (insns : List Insn) (bytes text : List ℕ) → AreParts sizes insns
         → program_spelling insns ≡ Ok bytes → unit_hex sizes insns ≡ Ok text → hex_text text ≡ Ok (these_parts sizes bytes) }
 {}
+
+/// No two units have one hex form: it gives sizes and bytes, and bytes spell one program at most.
+pub fn hex_of_one_unit()
+    ensures { (sizes others : List ℕ) (insns also : List Insn) (text : List ℕ) → AreParts sizes insns → AreParts others also
+        → unit_hex sizes insns ≡ Ok text → unit_hex others also ≡ Ok text → (sizes ≡ others) × (insns ≡ also) }
+{}

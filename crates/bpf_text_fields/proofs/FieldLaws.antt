@@ -1,5 +1,5 @@
--- Reading numbers one after the other, as a loop does.
-use Rattle.std.proofs.Common.{◌≡◌, ℕ, zero, suc, ◌<◌, ◌≤◌, Bool, true, false, cond, List, [], ◌∷◌, ◌++◌, length, get_or, Result, Ok, Err, refl, sym, ap, ◌∙◌, append_assoc, arith}
+-- The numbers of a line are of their field.
+use Rattle.std.proofs.Common.{◌≡◌, ℕ, zero, suc, ◌<◌, ◌≤◌, Bool, true, false, cond, List, [], ◌∷◌, length, get_or, Result, Ok, Err, refl, ap, arith}
 use Rattle.std.specs.Prelude.{nat_le, IfOk}
 use Rattle.std.specs.List.{list_all}
 use Rattle.std.proofs.lemmas.Bool.{leb-true}
@@ -8,40 +8,8 @@ use Rattle.bpf_text_lines.specs.declared.numbers.NumberError.TheVariants as numb
 use Rattle.bpf_text_lines.specs.Numbers.{is_numeral, is_negative, is_number, value_of, number_in}
 use Rattle.bpf_text_fields.specs.declared.error.Fault.TheVariants as faults
 use Rattle.bpf_text_fields.specs.Fields.{as_field, field_of, numbers_in, fields_of}
-use Rattle.std.proofs.lemmas.List.{append-nil}
 use Rattle.bpf_text_fields.specs.declared.error.Fault.{Fault}
-use Rattle.bpf_text_fields.specs.declared.error.TextError.{TextError}
-use Rattle.bpf_text_fields.specs.declared.error.TextError.TheVariants as errors
-use Rattle.bpf_text_fields.specs.Refusals.{at_line, Fails}
-use Rattle.bpf_text_fields.specs.Fields.{with_field}
-
--- what was read before, and what is still read
-abbrev pub with_front : List ℕ → Result (List ℕ) Fault → Result (List ℕ) Fault
-with_front front (Ok ns) = Ok (front ++ ns)
-with_front front (Err fault) = Err fault
-
-regroup : (front : List ℕ) (n : ℕ) (others : Result (List ℕ) Fault) → with_front front (with_field (Ok n) others) ≡ with_front (front ++ n ∷ []) others
-regroup front n (Ok ns) = ap (λ (list : List ℕ). Ok list) (simp append_assoc)
-regroup front n (Err fault) = refl
-
-pub goes_on : (line : ℕ) (front : List ℕ) (n : ℕ) (field : Result ℕ Fault) (others total : Result (List ℕ) Fault) → at_line line field ≡ Ok n →
-    with_front front (with_field field others) ≡ total → with_front (front ++ n ∷ []) others ≡ total
-goes_on line front n (Ok m) others total read so_far =
-    let same : m ≡ n = cc in
-    sym (regroup front n others) ∙ ap (λ (k : ℕ). with_front front (with_field (Ok k) others)) (sym same) ∙ so_far
-goes_on line front n (Err fault) others total read so_far = absurd cc
-
-pub ends : (e : TextError) (line : ℕ) (front : List ℕ) (field : Result ℕ Fault) (others total : Result (List ℕ) Fault) → Fails e (at_line line field) →
-    with_front front (with_field field others) ≡ total → Fails e (at_line line total)
-ends errors.Memory line front field others total fails so_far = tt
-ends (errors.Refused fault at) line front (Ok n) others total fails so_far = absurd cc
-ends (errors.Refused fault at) line front (Err other) others total fails so_far =
-    let refusal : total ≡ Err other = sym so_far in
-    let same : errors.Refused other line ≡ errors.Refused fault at = cc in
-    ap (at_line line) refusal ∙ ap (λ (x : TextError). Err x) same
-
-pub is_done : (line : ℕ) (front : List ℕ) (total : Result (List ℕ) Fault) → with_front front (Ok []) ≡ total → at_line line total ≡ Ok front
-is_done line front total so_far = ap (at_line line) (sym so_far) ∙ ap (λ (list : List ℕ). Ok list) (append-nil front)
+use Rattle.bpf_text_fields.specs.Refusals.{at_line, with_first}
 
 -- ---- what is read lies in its field
 
@@ -60,7 +28,7 @@ number_small limit word = chosen_small limit (is_numeral word) (nat_le (value_of
 
 front_small : (limit : ℕ) (first : Result ℕ Fault) (others : Result (List ℕ) Fault) (ns : List ℕ) →
     ((n : ℕ) → first ≡ Ok n → n ≤ limit) → ((ms : List ℕ) → others ≡ Ok ms → (k d : ℕ) → k < length ms → get_or ms k d ≤ limit) →
-    with_field first others ≡ Ok ns → (k d : ℕ) → k < length ns → get_or ns k d ≤ limit
+    with_first first others ≡ Ok ns → (k d : ℕ) → k < length ns → get_or ns k d ≤ limit
 front_small limit (Ok n) (Ok ms) [] one more e k d lt = absurd cc
 front_small limit (Ok n) (Ok ms) (m ∷ rest) one more e zero d lt = let same : n ≡ m = cc in rw (← same) (one n refl)
 front_small limit (Ok n) (Ok ms) (m ∷ rest) one more e (suc k) d lt = let same : ms ≡ rest = cc in rw (← same) (more ms refl k d (rw same (omega arith)))

@@ -6,6 +6,7 @@ use Rattle.bpf_text_lines.specs.declared.numbers.NumberError.TheVariants as numb
 use Rattle.bpf_text_lines.specs.Numbers.{is_number, number_in}
 use Rattle.bpf_text_fields.specs.declared.error.Fault.{Fault}
 use Rattle.bpf_text_fields.specs.declared.error.Fault.TheVariants as faults
+use Rattle.bpf_text_fields.specs.Refusals.{with_first}
 
 -- what is wrong with a word that is no number of its field
 abbrev pub fault_of : NumberError → Fault
@@ -20,16 +21,10 @@ as_field (Err error) = Err (fault_of error)
 abbrev pub field_of : ℕ → List ℕ → Result ℕ Fault
 field_of limit word = as_field (number_in limit word)
 
--- a number before further ones, or the first fault
-abbrev pub with_field : Result ℕ Fault → Result (List ℕ) Fault → Result (List ℕ) Fault
-with_field (Ok n) (Ok ns) = Ok (n ∷ ns)
-with_field (Ok n) (Err fault) = Err fault
-with_field (Err fault) others = Err fault
-
 -- the numbers of words, each in a field of 0 to limit
 abbrev pub numbers_in : ℕ → List (List ℕ) → Result (List ℕ) Fault
 numbers_in limit [] = Ok []
-numbers_in limit (word ∷ words) = with_field (field_of limit word) (numbers_in limit words)
+numbers_in limit (word ∷ words) = with_first (field_of limit word) (numbers_in limit words)
 
 -- the same, where a word that is no number comes before one outside its field
 abbrev pub fields_of : ℕ → List (List ℕ) → Result (List ℕ) Fault

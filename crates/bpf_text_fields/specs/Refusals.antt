@@ -1,5 +1,5 @@
 -- Answers of readers: a value, or a refusal.
-use Rattle.std.specs.Prelude.{◌≡◌, ℕ, Result, Ok, Err}
+use Rattle.std.specs.Prelude.{◌≡◌, ℕ, List, ◌∷◌, Result, Ok, Err}
 use Rattle.bpf_text_fields.specs.declared.error.Fault.{Fault}
 use Rattle.bpf_text_fields.specs.declared.error.TextError.{TextError}
 use Rattle.bpf_text_fields.specs.declared.error.TextError.TheVariants as errors
@@ -8,6 +8,12 @@ use Rattle.bpf_text_fields.specs.declared.error.TextError.TheVariants as errors
 abbrev pub at_line : {X : Type 0} → ℕ → Result X Fault → Result X TextError
 at_line line (Ok x) = Ok x
 at_line line (Err fault) = Err (errors.Refused fault line)
+
+-- a value before further ones, or the first fault
+abbrev pub with_first : {X : Type 0} → Result X Fault → Result (List X) Fault → Result (List X) Fault
+with_first (Ok x) (Ok xs) = Ok (x ∷ xs)
+with_first (Ok x) (Err fault) = Err fault
+with_first (Err fault) others = Err fault
 
 -- what follows a value, or the first refusal
 infixl 10 ◌>>=◌

@@ -27,7 +27,7 @@ position_found p xs n e =
 pub position_missing : (p : ℕ → Bool) (xs : List ℕ) → None ≡ position p xs → length xs ≤ position_or_len p xs
 position_missing p xs e = ltb-false _ _ (chosen_none (nat_lt (position_or_len p xs) (length xs)) (position_or_len p xs) e)
 
-next_of : (k : ℕ) → 1 + k ≡ suc k
+pub next_of : (k : ℕ) → 1 + k ≡ suc k
 next_of k = omega arith
 
 -- all that is left behind n elements

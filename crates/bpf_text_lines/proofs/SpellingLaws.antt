@@ -1,10 +1,10 @@
 -- A number has one spelling: its decimal digits.
-use Rattle.std.proofs.Common.{◌≡◌, ℕ, zero, suc, ◌<◌, ◌≤◌, ◌^◌, Bool, true, false, cond, ◌&&◌, ◌||◌, ◌==◌, List, [], ◌∷◌, length, get_or, Result, Ok, Err, refl, sym, ap, ◌∙◌, arith, rules}
+use Rattle.std.proofs.Common.{◌≡◌, ℕ, zero, suc, ◌<◌, ◌≤◌, ◌^◌, Bool, true, false, cond, ◌||◌, ◌==◌, List, [], ◌∷◌, length, get_or, Result, Ok, Err, refl, sym, ap, ◌∙◌, arith, rules}
 use Rattle.std.specs.Prelude.{nat_le, nat_lt, IfOk}
 use Rattle.std.specs.Char.{is_ascii_digit}
 use Rattle.std.specs.Fmt.{decimal}
 use Rattle.std.specs.List.{list_all}
-use Rattle.std.proofs.lemmas.Bool.{leb-true, ltb-true, eqb-true, lt-ltb, le-leb}
+use Rattle.std.proofs.lemmas.Bool.{leb-true, ltb-true, eqb-true, lt-ltb, le-leb, and_parts, and_from, or_right}
 use Rattle.std.proofs.lemmas.Fmt.{digits_decimal, digits_value-decimal, decimal-digits_value, first_decimal, decimal_digit}
 use Rattle.std.proofs.lemmas.Str.Parse.{IsNumeralModel, numerals_by_fold}
 use Rattle.bpf_text_lines.specs.declared.numbers.NumberError.{NumberError}
@@ -13,10 +13,6 @@ use Rattle.bpf_text_lines.specs.Numbers.{is_numeral, is_negative, value_after, v
 
 own : IsNumeralModel (λ ds. list_all is_ascii_digit ds ≡ true) value_of
 own = numerals_by_fold _ (search rules) value_after (search rules)
-
-both : (a b : Bool) → (a && b) ≡ true → (a ≡ true) × (b ≡ true)
-both true b e = (refl, e)
-both false b e = absurd cc
 
 answers : (numeral small negative : Bool) (v n : ℕ) → cond numeral (cond small (Ok v) (Err Field)) (cond negative (Err Field) (Err Form)) ≡ Ok n → (numeral ≡ true) × (small ≡ true) × (v ≡ n)
 answers true true negative v n e = (refl, refl, cc)
@@ -28,7 +24,7 @@ one_digit : (a : Bool) (word : List ℕ) → (length word == 1) ≡ a → (a || 
 one_digit true word same h zero_first = eqb-true _ _ same
 one_digit false word same h zero_first = (let above : 48 < get_or word 0 0 = ltb-true _ _ h in absurd (omega arith))
 
-is_filled : (word : List ℕ) → ((length word == 1) || nat_lt 48 (get_or word 0 0)) ≡ true → 0 < length word
+pub is_filled : (word : List ℕ) → ((length word == 1) || nat_lt 48 (get_or word 0 0)) ≡ true → 0 < length word
 is_filled [] h = absurd cc
 is_filled (b ∷ bs) h = omega arith
 
@@ -36,7 +32,7 @@ is_filled (b ∷ bs) h = omega arith
 pub spelled : (limit : ℕ) (word : List ℕ) (n : ℕ) → limit < 2 ^ 64 → number_in limit word ≡ Ok n → (word ≡ decimal n) × (n ≤ limit)
 spelled limit word n fits e =
     let a = answers (is_numeral word) (nat_le (value_of word) limit) (is_negative word) (value_of word) n e in
-    let parts = both (list_all is_ascii_digit word) ((length word == 1) || nat_lt 48 (get_or word 0 0)) a.0 in
+    let parts = and_parts (list_all is_ascii_digit word) ((length word == 1) || nat_lt 48 (get_or word 0 0)) a.0 in
     let small : value_of word ≤ limit = leb-true _ _ a.1 in
     let below : value_of word < 2 ^ 64 = omega arith in
     let back = decimal-digits_value own word parts.0 (is_filled word parts.1) (one_digit (length word == 1) word refl parts.1) below in
@@ -46,34 +42,26 @@ pub spelled_if : (limit : ℕ) (word : List ℕ) (r : Result ℕ NumberError) �
 spelled_if limit word (Ok n) fits e = spelled limit word n fits (sym e)
 spelled_if limit word (Err error) fits e = tt
 
-or_true : (a b : Bool) → b ≡ true → (a || b) ≡ true
-or_true true b e = refl
-or_true false b e = e
-
-and_true : (a b : Bool) → a ≡ true → b ≡ true → (a && b) ≡ true
-and_true true b e h = h
-and_true false b e h = absurd cc
-
 no_zero_in_front : (n : ℕ) → n < 2 ^ 64 → ((length (decimal n) == 1) || nat_lt 48 (get_or (decimal n) 0 0)) ≡ true
 no_zero_in_front zero fits = rw (decimal_digit 0 (omega arith)) refl
-no_zero_in_front (suc n) fits = or_true (length (decimal (suc n)) == 1) _ (lt-ltb _ _ (first_decimal (suc n) (omega arith) fits))
+no_zero_in_front (suc n) fits = or_right (length (decimal (suc n)) == 1) _ (lt-ltb _ _ (first_decimal (suc n) (omega arith) fits))
 
 is_numeral-decimal : (n : ℕ) → n < 2 ^ 64 → is_numeral (decimal n) ≡ true
-is_numeral-decimal n fits = and_true (list_all is_ascii_digit (decimal n)) _ (digits_decimal own n fits) (no_zero_in_front n fits)
+is_numeral-decimal n fits = and_from (list_all is_ascii_digit (decimal n)) _ (digits_decimal own n fits) (no_zero_in_front n fits)
 
 chosen : (numeral small : Bool) (others : Result ℕ NumberError) (v n : ℕ) → numeral ≡ true → small ≡ true → v ≡ n → cond numeral (cond small (Ok v) (Err Field)) others ≡ Ok n
 chosen true true others v n e h same = ap (λ (m : ℕ). Ok m) same
 chosen true false others v n e h same = absurd cc
 chosen false small others v n e h same = absurd cc
 
-at_decimal : (limit n : ℕ) → limit < 2 ^ 64 → n ≤ limit → number_in limit (decimal n) ≡ Ok n
-at_decimal limit n fits le =
+-- the decimal digits of a number within the limit are read as it
+pub in_field : (limit n : ℕ) → limit < 2 ^ 64 → n ≤ limit → number_in limit (decimal n) ≡ Ok n
+in_field limit n fits le =
     let below : n < 2 ^ 64 = omega arith in
     let value : value_of (decimal n) ≡ n = digits_value-decimal own n below in
     let small : value_of (decimal n) ≤ limit = omega arith in
     chosen (is_numeral (decimal n)) (nat_le (value_of (decimal n)) limit) (cond (is_negative (decimal n)) (Err Field) (Err Form)) (value_of (decimal n)) n
     (is_numeral-decimal n below) (le-leb _ _ small) value
 
--- the decimal digits of a number within the limit are read as it
 pub read_back : (limit : ℕ) (word : List ℕ) (n : ℕ) → limit < 2 ^ 64 → n ≤ limit → word ≡ decimal n → number_in limit word ≡ Ok n
-read_back limit word n fits le same = ap (number_in limit) same ∙ at_decimal limit n fits le
+read_back limit word n fits le same = ap (number_in limit) same ∙ in_field limit n fits le

@@ -3,13 +3,10 @@ use Rattle.std.proofs.Common.{◌≡◌, ℕ, suc, ◌+◌, ◌<◌, Bool, true,
 use Rattle.std.specs.Prelude.{position}
 use Rattle.std.specs.List.{position_or_len}
 use Rattle.std.proofs.Math.ListN.{drop_of_length-le}
-use Rattle.bpf_text_lines.proofs.LineLaws.{position_found, position_missing}
+use Rattle.bpf_text_lines.proofs.LineLaws.{position_found, position_missing, next_of}
 use Rattle.std.proofs.lemmas.List.{take_all}
 use Rattle.bpf_text_lines.specs.Lines.{with_front, is_blank, trim_start}
 use Rattle.bpf_text_lines.specs.Words.{ends_word, words_of}
-
-next_of : (k : ℕ) → 1 + k ≡ suc k
-next_of k = omega arith
 
 blank_step : (t : Bool) (b : ℕ) (bs : List ℕ) → words_of (trim_start bs) ≡ words_of bs →
     (t ≡ false → words_of (b ∷ bs) ≡ cond (ends_word bs) ((b ∷ []) ∷ words_of bs) (with_front b (words_of bs))) →

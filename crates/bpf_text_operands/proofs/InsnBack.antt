@@ -1,5 +1,5 @@
 -- Each instruction that has bytes is read back from its line.
-use Rattle.std.proofs.Common.{◌≡◌, ℕ, suc, zero, ℤ, pos, negsuc, List, Option, Some, None, Result, Ok, Err, refl, sym, ap, ap₂, ◌∙◌}
+use Rattle.std.proofs.Common.{◌≡◌, ℕ, suc, zero, ℤ, pos, negsuc, List, Option, Some, None, Ok, refl, ap, ap₂, ◌∙◌}
 use Rattle.bpf_insn.specs.declared.insn.Width.TheVariants as width
 use Rattle.bpf_insn.specs.declared.insn.Size.TheVariants as size
 use Rattle.bpf_insn.specs.declared.insn.MovsxBits.TheVariants as movsx
@@ -11,7 +11,6 @@ use Rattle.bpf_insn.specs.declared.insn.Insn.TheVariants as insn
 use Rattle.bpf_insn.specs.declared.slot.Slot.{Slot}
 use Rattle.bpf_insn.specs.Spelling.{spelling}
 use Rattle.bpf_insn.specs.Values.{InsnFits}
-use Rattle.bpf_text_fields.specs.declared.error.Fault.{Fault}
 use Rattle.bpf_text_insns.specs.declared.mnemonic.Mnemonic.TheVariants as mnemonic
 use Rattle.bpf_text_insns.specs.declared.value.Value.TheVariants as value
 use Rattle.bpf_text_insns.specs.Statement.{wide}
@@ -19,6 +18,7 @@ use Rattle.bpf_text_insns.specs.UnitText.{insn_spelling}
 use Rattle.bpf_text_operands.specs.declared.kind.Kind.TheVariants as kind
 use Rattle.bpf_text_operands.specs.Statements.{with_operands, insn_at}
 use Rattle.bpf_text_operands.proofs.MnemonicLaws.{exit_back}
+use Rattle.bpf_text_operands.proofs.ValueLaws.{same_ok}
 use Rattle.bpf_text_operands.proofs.LineBack.{line_one, line_two, line_three, reg_reads, imm_reads, near_reads, far_reads, address_reads, imm_operand, reg_operand, wide_reads}
 use Rattle.bpf_text_operands.proofs.WideLaws.{wide_low, wide_high, wide_fits}
 
@@ -81,10 +81,6 @@ module _ (find : List ℕ → Option ℕ) (slot : ℕ) where
   insn_back (insn.Store s dst src offset) ss fits e = line_two find slot (mnemonic.Store s) kind.Address kind.Reg (value.Address dst offset) (value.Reg src) _ tt refl (address_reads find slot dst offset fits.0 fits.2) (reg_reads find slot src fits.1) refl
   insn_back (insn.Atomic w o dst src offset) ss fits e = line_two find slot (mnemonic.Atomic w o) kind.Address kind.Reg (value.Address dst offset) (value.Reg src) _ tt refl (address_reads find slot dst offset fits.0 fits.2) (reg_reads find slot src fits.1) refl
   insn_back (insn.LoadImm k dst imm next) ss fits e = load_back k dst imm next ss fits e
-
-same_ok : (i j : Insn) (r : Result Insn Fault) → r ≡ Ok i → r ≡ Ok j → i ≡ j
-same_ok i j (Ok k) a b = (let left : k ≡ i = cc in let right : k ≡ j = cc in sym left ∙ right)
-same_ok i j (Err fault) a b = absurd cc
 
 pub one_insn : (i j : Insn) (a b : List Slot) → InsnFits i → InsnFits j → spelling i ≡ Ok a → spelling j ≡ Ok b → insn_spelling i ≡ insn_spelling j → i ≡ j
 one_insn i j a b fits others spelled also same =

@@ -3,9 +3,10 @@ use Rattle.std.proofs.Common.{◌≡◌, ℕ, suc, ℤ, pos, negsuc, ◌<◌, �
 use Rattle.std.specs.Prelude.{FitsSigned, nat_lt}
 use Rattle.std.specs.Char.{is_ascii_digit}
 use Rattle.std.specs.List.{list_all}
-use Rattle.std.proofs.lemmas.Bool.{ne_eqb, lt-ltb, leb-true}
+use Rattle.std.proofs.lemmas.Bool.{ne_eqb, lt-ltb, leb-true, and_parts, and_from, cond-true, cond-false}
 use Rattle.std.specs.Fmt.{decimal, signed_decimal}
 use Rattle.std.specs.Int.{w16, w32}
+use Rattle.bpf_text_lines.proofs.SpellingLaws.{in_field}
 use Rattle.bpf_text_lines.specs.Lines.{trim_start, trim}
 use Rattle.bpf_text_fields.specs.Fields.{as_field}
 use Rattle.bpf_text_insns.specs.declared.mnemonic.Mnemonic.{Mnemonic}
@@ -23,8 +24,8 @@ use Rattle.bpf_text_operands.specs.SignedNumbers.{is_register}
 use Rattle.bpf_text_operands.specs.Operands.{kinds_of, pair, as_reg, as_imm, as_wide, as_distance, as_far_distance, value_at, cut_comma, one, two, three, both_at, three_at, operands_at}
 use Rattle.bpf_text_operands.specs.Statements.{statement_at, insn_of, some_insn, built, with_operands, insn_at}
 use Rattle.bpf_text_operands.proofs.MnemonicLaws.{HasWord, mnemonic_back}
-use Rattle.bpf_text_operands.proofs.PlainLaws.{both, Plain, plain-append, plain-digits, plain-no_comma, trim_start-text, trim_start-plain, trim-plain, cut_back}
-use Rattle.bpf_text_operands.proofs.ValueLaws.{chosen, passed, both_hold, in_field, InBound, decimal_digits, register_decimal, signed_back, distance_back, address_back}
+use Rattle.bpf_text_operands.proofs.PlainLaws.{Plain, plain-append, plain-digits, plain-no_comma, trim_start-text, trim_start-plain, trim-plain, cut_back}
+use Rattle.bpf_text_operands.proofs.ValueLaws.{InBound, decimal_digits, register_decimal, signed_back, distance_back, address_back, near_bound, far_bound}
 
 module _ (find : List ℕ → Option ℕ) (slot : ℕ) where
   -- a word that is read as an operand of a kind, and has no blank and no comma
@@ -128,14 +129,6 @@ module _ (find : List ℕ → Option ℕ) (slot : ℕ) where
   filled_distance (pos n) = omega arith
   filled_distance (negsuc n) = omega arith
 
-  pub near_bound : (z : ℤ) → FitsSigned w16 z → InBound (2 ^ 15) z
-  near_bound (pos n) fits = fits.sfits
-  near_bound (negsuc n) fits = fits.sfits
-
-  pub far_bound : (z : ℤ) → FitsSigned w32 z → InBound (2 ^ 31) z
-  far_bound (pos n) fits = fits.sfits
-  far_bound (negsuc n) fits = fits.sfits
-
   pub reg_reads : (r : ℕ) → r ≤ 10 → Reads kind.Reg (value_spelling (value.Reg r)) (value.Reg r)
   reg_reads r le = record { plain = plain_register r le; filled = omega arith; read = ap as_reg (register_decimal r le) }
 
@@ -156,7 +149,7 @@ module _ (find : List ℕ → Option ℕ) (slot : ℕ) where
   }
 
   digit_high : (b : ℕ) → is_ascii_digit b ≡ true → b ≤ 57
-  digit_high b e = let h = both _ _ e in leb-true b 57 h.1
+  digit_high b e = let h = and_parts _ _ e in leb-true b 57 h.1
 
   no_register : (word : List ℕ) → get_or word 0 0 < 114 → is_register word ≡ false
   no_register word lt =
@@ -165,7 +158,7 @@ module _ (find : List ℕ → Option ℕ) (slot : ℕ) where
 
   first_high : (word : List ℕ) → list_all is_ascii_digit word ≡ true → get_or word 0 0 < 114
   first_high [] e = omega arith
-  first_high (b ∷ bs) e = let h = digit_high b (both (is_ascii_digit b) (list_all is_ascii_digit bs) e).0 in omega (arith, h)
+  first_high (b ∷ bs) e = let h = digit_high b (and_parts (is_ascii_digit b) (list_all is_ascii_digit bs) e).0 in omega (arith, h)
 
   number_no_register : (z : ℤ) → InBound (2 ^ 31) z → is_register (signed_decimal z) ≡ false
   number_no_register (pos n) lt = no_register (decimal n) (first_high (decimal n) (decimal_digits n (below (2 ^ 31) n (omega arith) lt)).digits)
@@ -175,11 +168,11 @@ module _ (find : List ℕ → Option ℕ) (slot : ℕ) where
   imm_operand z fits = record {
     plain = plain_signed (2 ^ 31) z (omega arith) (far_bound z fits);
     filled = filled_signed z fits;
-    read = passed (is_register (signed_decimal z)) _ _ (number_no_register z (far_bound z fits)) ∙ ap as_imm (signed_back z fits);
+    read = cond-false (is_register (signed_decimal z)) _ _ (number_no_register z (far_bound z fits)) ∙ ap as_imm (signed_back z fits);
   }
 
   register_word : (word : List ℕ) → 0 < length word → list_all is_ascii_digit word ≡ true → is_register (114 ∷ word) ≡ true
-  register_word word some digits = both_hold (nat_lt 1 (length (114 ∷ word))) _ (lt-ltb 1 (length (114 ∷ word)) (omega arith)) digits
+  register_word word some digits = and_from (nat_lt 1 (length (114 ∷ word))) _ (lt-ltb 1 (length (114 ∷ word)) (omega arith)) digits
 
   pub reg_operand : (r : ℕ) → r ≤ 10 → Reads kind.RegOrImm (value_spelling (value.Reg r)) (value.Reg r)
   reg_operand r le =
@@ -187,7 +180,7 @@ module _ (find : List ℕ → Option ℕ) (slot : ℕ) where
       record {
         plain = plain_register r le;
         filled = omega arith;
-        read = chosen (is_register (114 ∷ decimal r)) _ _ (register_word (decimal r) d.filled d.digits) ∙ ap as_reg (register_decimal r le);
+        read = cond-true (is_register (114 ∷ decimal r)) _ _ (register_word (decimal r) d.filled d.digits) ∙ ap as_reg (register_decimal r le);
       }
 
   pub wide_reads : (n : ℕ) → n < 2 ^ 64 → Reads kind.Wide (value_spelling (value.Wide n)) (value.Wide n)

@@ -1,9 +1,9 @@
 -- Operands have no blanks and no commas in them, so lines are cut where they were joined.
-use Rattle.std.proofs.Common.{◌≡◌, ℕ, ◌+◌, ◌<◌, ◌≤◌, Bool, true, false, cond, ◌&&◌, ◌==◌, List, [], ◌∷◌, ◌++◌, length, drop, Some, None, refl, ap, ◌∙◌, arith}
+use Rattle.std.proofs.Common.{◌≡◌, ℕ, ◌+◌, ◌<◌, ◌≤◌, true, false, cond, ◌==◌, List, [], ◌∷◌, ◌++◌, length, drop, Some, None, refl, ap, ◌∙◌, arith}
 use Rattle.std.specs.Prelude.{position, nat_lt}
 use Rattle.std.specs.Char.{is_ascii_digit}
 use Rattle.std.specs.List.{position_or_len, list_all}
-use Rattle.std.proofs.lemmas.Bool.{ne_eqb, lt-ltb, leb-true}
+use Rattle.std.proofs.lemmas.Bool.{ne_eqb, lt-ltb, leb-true, and_parts}
 use Rattle.std.proofs.lemmas.List.{length-append}
 use Rattle.std.proofs.Math.Seq.{take-append_seam, drop-append-add}
 use Rattle.bpf_text_lines.specs.Lines.{is_blank, trim_start, before_kept, trim_end, trim}
@@ -71,16 +71,12 @@ cut_back v rest p =
 
 -- ---- digits
 
-pub both : (a b : Bool) → (a && b) ≡ true → (a ≡ true) × (b ≡ true)
-both true b e = (refl, e)
-both false b e = absurd cc
-
 pub digit_low : (b : ℕ) → is_ascii_digit b ≡ true → 48 ≤ b
-digit_low b e = let h = both _ _ e in leb-true 48 b h.0
+digit_low b e = let h = and_parts _ _ e in leb-true 48 b h.0
 
 pub plain-digits : (bs : List ℕ) → list_all is_ascii_digit bs ≡ true → Plain bs
 plain-digits [] e = tt
 plain-digits (b ∷ bs) e =
-    let h = both (is_ascii_digit b) (list_all is_ascii_digit bs) e in
+    let h = and_parts (is_ascii_digit b) (list_all is_ascii_digit bs) e in
     let low = digit_low b h.0 in
     (omega (arith, low), (λ same. absurd (omega (arith, low, same))), plain-digits bs h.1)

@@ -1,18 +1,18 @@
 -- Each operand is read back from its spelling.
-use Rattle.std.proofs.Common.{◌≡◌, ℕ, suc, ℤ, pos, negsuc, ◌+◌, ◌-◌, ◌<◌, ◌≤◌, ◌^◌, Bool, true, false, cond, ◌&&◌, ◌||◌, ◌==◌, List, [], ◌∷◌, ◌++◌, length, take, drop, get_or, Result, Ok, Err, Option, refl, ap, ◌∙◌, arith}
+use Rattle.std.proofs.Common.{◌≡◌, ℕ, suc, ℤ, pos, negsuc, ◌+◌, ◌-◌, ◌<◌, ◌≤◌, ◌^◌, Bool, true, false, cond, ◌&&◌, ◌==◌, List, [], ◌∷◌, ◌++◌, length, take, drop, get_or, Result, Ok, Err, Option, refl, sym, ap, ◌∙◌, arith}
 use Rattle.std.specs.Prelude.{nat_le, nat_lt, FitsSigned}
 use Rattle.std.specs.Char.{is_ascii_digit}
 use Rattle.std.specs.Fmt.{decimal, signed_decimal}
-use Rattle.std.specs.Int.{w32}
+use Rattle.std.specs.Int.{w16, w32}
 use Rattle.std.specs.List.{list_all, position_or_len}
-use Rattle.std.proofs.lemmas.Bool.{ne_eqb, lt-ltb}
+use Rattle.std.proofs.lemmas.Bool.{ne_eqb, lt-ltb, and_parts, and_from, cond-true, cond-false}
 use Rattle.std.proofs.lemmas.Fmt.{first_decimal}
 use Rattle.std.proofs.lemmas.List.{length-append}
 use Rattle.std.proofs.Math.Seq.{take-append_seam, drop-append_seam, get_or-append_seam}
 use Rattle.bpf_text_lines.specs.declared.numbers.NumberError.TheVariants as numbers
 use Rattle.bpf_text_lines.specs.Names.{continues_name, is_name}
 use Rattle.bpf_text_lines.specs.Numbers.{is_numeral, is_negative, number_in, value_of}
-use Rattle.bpf_text_lines.proofs.SpellingLaws.{read_back}
+use Rattle.bpf_text_lines.proofs.SpellingLaws.{is_filled, in_field}
 use Rattle.bpf_text_fields.specs.declared.error.Fault.{Fault}
 use Rattle.bpf_text_fields.specs.declared.error.Fault.TheVariants as faults
 use Rattle.bpf_text_insns.specs.declared.value.Value.{Value}
@@ -20,7 +20,7 @@ use Rattle.bpf_text_insns.specs.declared.value.Value.TheVariants as value
 use Rattle.bpf_text_insns.specs.UnitText.{distance_spelling, value_spelling}
 use Rattle.bpf_text_operands.specs.SignedNumbers.{as_register, register_at, ahead, back, signed_at, offset_at, distance_at}
 use Rattle.bpf_text_operands.specs.Operands.{pair, as_address, is_sign, is_bracketed, inside, base_of, offset_of, address_at}
-use Rattle.bpf_text_operands.proofs.PlainLaws.{both, digit_low}
+use Rattle.bpf_text_operands.proofs.PlainLaws.{digit_low}
 
 -- what the digits of a number are
 pub record Digits (word : List ℕ) : Type 0 where
@@ -34,25 +34,17 @@ is_answer true small negative v n e = refl
 is_answer false small true v n e = absurd cc
 is_answer false small false v n e = absurd cc
 
-filled_from : (word : List ℕ) → ((length word == 1) || nat_lt 48 (get_or word 0 0)) ≡ true → 0 < length word
-filled_from [] h = absurd cc
-filled_from (b ∷ bs) h = omega arith
-
 first_from : (word : List ℕ) → 0 < length word → list_all is_ascii_digit word ≡ true → 48 ≤ get_or word 0 0
 first_from [] some e = absurd (omega arith)
-first_from (b ∷ bs) some e = digit_low b (both (is_ascii_digit b) (list_all is_ascii_digit bs) e).0
+first_from (b ∷ bs) some e = digit_low b (and_parts (is_ascii_digit b) (list_all is_ascii_digit bs) e).0
 
 pub decimal_digits : (n : ℕ) → n < 2 ^ 64 → Digits (decimal n)
 decimal_digits n fits =
-    let read : number_in (2 ^ 64 - 1) (decimal n) ≡ Ok n = read_back (2 ^ 64 - 1) (decimal n) n (omega arith) (omega arith) refl in
+    let read : number_in (2 ^ 64 - 1) (decimal n) ≡ Ok n = in_field (2 ^ 64 - 1) n (omega arith) (omega arith) in
     let numeral = is_answer (is_numeral (decimal n)) (nat_le (value_of (decimal n)) (2 ^ 64 - 1)) (is_negative (decimal n)) (value_of (decimal n)) n read in
-    let parts = both (list_all is_ascii_digit (decimal n)) _ numeral in
-    let filled = filled_from (decimal n) parts.1 in
+    let parts = and_parts (list_all is_ascii_digit (decimal n)) _ numeral in
+    let filled = is_filled (decimal n) parts.1 in
     record { numeral = numeral; digits = parts.0; filled = filled; first = first_from (decimal n) filled parts.0 }
-
--- a number in a field
-pub in_field : (limit n : ℕ) → limit < 2 ^ 64 → n ≤ limit → number_in limit (decimal n) ≡ Ok n
-in_field limit n fits le = read_back limit (decimal n) n fits le refl
 
 -- digits have no sign
 no_minus : (word : List ℕ) → 48 ≤ get_or word 0 0 → is_negative word ≡ false
@@ -60,24 +52,17 @@ no_minus word low =
     let other : (get_or word 0 0 == 45) ≡ false = ne_eqb (get_or word 0 0) 45 (λ e. absurd (omega (arith, e, low))) in
     rw other refl
 
-pub chosen : {A : Type 0} (a : Bool) (x y : A) → a ≡ true → cond a x y ≡ x
-chosen true x y e = refl
-chosen false x y e = absurd cc
-
-chosen_by_both : {A : Type 0} (a b : Bool) (x y : A) → a ≡ true → b ≡ true → cond (a && b) x y ≡ x
-chosen_by_both true b x y e h = chosen b x y h
-chosen_by_both false b x y e h = absurd cc
-
-pub passed : {A : Type 0} (a : Bool) (x y : A) → a ≡ false → cond a x y ≡ y
-passed true x y e = absurd cc
-passed false x y e = refl
+-- a result is Ok of one value
+pub same_ok : {A E : Type 0} (a b : A) (r : Result A E) → r ≡ Ok a → r ≡ Ok b → a ≡ b
+same_ok a b (Ok c) e h = (let left : c ≡ a = cc in let right : c ≡ b = cc in sym left ∙ right)
+same_ok a b (Err fault) e h = absurd cc
 
 -- ---- registers
 
 pub register_back : (word : List ℕ) (r : ℕ) → list_all is_ascii_digit word ≡ true → 0 < length word → number_in 10 word ≡ Ok r → register_at (114 ∷ word) ≡ Ok r
 register_back word r digits filled read =
     let long : nat_lt 1 (length (114 ∷ word)) ≡ true = lt-ltb 1 (length (114 ∷ word)) (omega arith) in
-    chosen_by_both (nat_lt 1 (length (114 ∷ word))) (list_all is_ascii_digit word) (as_register (number_in 10 word)) (Err faults.Form) long digits ∙ ap as_register read
+    cond-true (nat_lt 1 (length (114 ∷ word)) && list_all is_ascii_digit word) (as_register (number_in 10 word)) (Err faults.Form) (and_from _ _ long digits) ∙ ap as_register read
 
 pub register_decimal : (r : ℕ) → r ≤ 10 → register_at (114 ∷ decimal r) ≡ Ok r
 register_decimal r le = let d = decimal_digits r (omega arith) in register_back (decimal r) r d.digits d.filled (in_field 10 r (omega arith) le)
@@ -89,13 +74,13 @@ minus_back bound n small le x =
     let fits : suc n < 2 ^ 64 = omega arith in
     let d = decimal_digits (suc n) fits in
     let first : nat_lt 48 (get_or (decimal (suc n)) 0 0) ≡ true = lt-ltb _ _ (first_decimal (suc n) (omega arith) fits) in
-    chosen_by_both (nat_lt 48 (get_or (decimal (suc n)) 0 0)) (is_numeral (decimal (suc n))) (back (number_in bound (decimal (suc n)))) x first d.numeral
+    cond-true (nat_lt 48 (get_or (decimal (suc n)) 0 0) && is_numeral (decimal (suc n))) (back (number_in bound (decimal (suc n)))) x (and_from _ _ first d.numeral)
     ∙ ap back (in_field bound (suc n) small le)
 
 pub signed_back : (z : ℤ) → FitsSigned w32 z → signed_at (2 ^ 31) (signed_decimal z) ≡ Ok z
 signed_back (pos n) fits =
     let d = decimal_digits n (omega (arith, fits.sfits)) in
-    passed (is_negative (decimal n)) (back (number_in (2 ^ 31) (drop 1 (decimal n)))) (ahead (number_in (2 ^ 31 - 1) (decimal n))) (no_minus (decimal n) d.first)
+    cond-false (is_negative (decimal n)) (back (number_in (2 ^ 31) (drop 1 (decimal n)))) (ahead (number_in (2 ^ 31 - 1) (decimal n))) (no_minus (decimal n) d.first)
     ∙ ap ahead (in_field (2 ^ 31 - 1) n (omega arith) (omega (arith, fits.sfits)))
 signed_back (negsuc n) fits = minus_back (2 ^ 31) n (omega arith) (omega (arith, fits.sfits)) _
 
@@ -104,10 +89,18 @@ abbrev pub InBound : ℕ → ℤ → Type 0
 InBound bound (pos n) = n < bound
 InBound bound (negsuc n) = n < bound
 
+pub near_bound : (z : ℤ) → FitsSigned w16 z → InBound (2 ^ 15) z
+near_bound (pos n) fits = fits.sfits
+near_bound (negsuc n) fits = fits.sfits
+
+pub far_bound : (z : ℤ) → FitsSigned w32 z → InBound (2 ^ 31) z
+far_bound (pos n) fits = fits.sfits
+far_bound (negsuc n) fits = fits.sfits
+
 pub offset_back : (bound : ℕ) (z : ℤ) → bound < 2 ^ 64 → InBound bound z → offset_at bound (distance_spelling z) ≡ Ok z
 offset_back bound (pos n) small lt =
     let d = decimal_digits n (omega arith) in
-    chosen (is_numeral (decimal n)) (ahead (number_in (bound - 1) (decimal n))) (Err faults.Form) d.numeral ∙ ap ahead (in_field (bound - 1) n (omega arith) (omega arith))
+    cond-true (is_numeral (decimal n)) (ahead (number_in (bound - 1) (decimal n))) (Err faults.Form) d.numeral ∙ ap ahead (in_field (bound - 1) n (omega arith) (omega arith))
 offset_back bound (negsuc n) small lt = minus_back bound n small (omega arith) _
 
 no_name : (a b c d : Bool) → c ≡ false → (a && (b && (c && d))) ≡ false
@@ -116,14 +109,10 @@ no_name true false c d e = refl
 no_name false b c d e = refl
 
 pub distance_back : (find : List ℕ → Option ℕ) (bound slot : ℕ) (z : ℤ) → bound < 2 ^ 64 → InBound bound z → distance_at find bound slot (distance_spelling z) ≡ Ok z
-distance_back find bound slot (pos n) small lt = passed (is_name (43 ∷ decimal n)) _ _ (no_name _ _ _ (list_all continues_name (decimal n)) refl) ∙ offset_back bound (pos n) small lt
-distance_back find bound slot (negsuc n) small lt = passed (is_name (45 ∷ decimal (suc n))) _ _ (no_name _ _ _ (list_all continues_name (decimal (suc n))) refl) ∙ offset_back bound (negsuc n) small lt
+distance_back find bound slot (pos n) small lt = cond-false (is_name (43 ∷ decimal n)) _ _ (no_name _ _ _ (list_all continues_name (decimal n)) refl) ∙ offset_back bound (pos n) small lt
+distance_back find bound slot (negsuc n) small lt = cond-false (is_name (45 ∷ decimal (suc n))) _ _ (no_name _ _ _ (list_all continues_name (decimal (suc n))) refl) ∙ offset_back bound (negsuc n) small lt
 
 -- ---- memory
-
-pub both_hold : (a b : Bool) → a ≡ true → b ≡ true → (a && b) ≡ true
-both_hold true b e h = h
-both_hold false b e h = absurd cc
 
 no_sign : (b : ℕ) → 48 ≤ b → is_sign b ≡ false
 no_sign b low =
@@ -134,7 +123,7 @@ no_sign b low =
 sign_behind : (digits rest : List ℕ) (s : ℕ) → list_all is_ascii_digit digits ≡ true → is_sign s ≡ true → position_or_len is_sign (digits ++ s ∷ rest) ≡ length digits
 sign_behind [] rest s e sign = rw sign refl
 sign_behind (b ∷ bs) rest s e sign =
-    let h = both (is_ascii_digit b) (list_all is_ascii_digit bs) e in
+    let h = and_parts (is_ascii_digit b) (list_all is_ascii_digit bs) e in
     let behind = sign_behind bs rest s h.1 sign in
     rw (no_sign b (digit_low b h.0)) (omega (arith, behind))
 
@@ -147,7 +136,7 @@ bracketed text =
     let some : nat_lt 1 (length (91 ∷ (text ++ 93 ∷ []))) ≡ true = lt-ltb 1 (length (91 ∷ (text ++ 93 ∷ []))) (omega (arith, long)) in
     let at : length (91 ∷ (text ++ 93 ∷ [])) - 1 ≡ suc (length text) = omega (arith, long) in
     let last : get_or (91 ∷ (text ++ 93 ∷ [])) (length (91 ∷ (text ++ 93 ∷ [])) - 1) 0 ≡ 93 = ap (λ n. get_or (91 ∷ (text ++ 93 ∷ [])) n 0) at ∙ get_or-append_seam text 93 [] 0 in
-    both_hold _ _ some (ap (λ b. b == 93) last)
+    and_from _ _ some (ap (λ b. b == 93) last)
 
 inside_is : (text : List ℕ) → inside (91 ∷ (text ++ 93 ∷ [])) ≡ text
 inside_is text =
@@ -171,7 +160,7 @@ memory_back digits rest s r z e sign reg off =
 -- text between brackets, as it is printed
 address_from : (text : List ℕ) (v : Value) → memory text ≡ Ok v → address_at (91 ∷ (text ++ 93 ∷ [])) ≡ Ok v
 address_from text v read =
-    chosen (is_bracketed (91 ∷ (text ++ 93 ∷ []))) (memory (inside (91 ∷ (text ++ 93 ∷ [])))) (Err faults.Form) (bracketed text) ∙ ap memory (inside_is text) ∙ read
+    cond-true (is_bracketed (91 ∷ (text ++ 93 ∷ []))) (memory (inside (91 ∷ (text ++ 93 ∷ [])))) (Err faults.Form) (bracketed text) ∙ ap memory (inside_is text) ∙ read
 
 pub address_back : (r : ℕ) (z : ℤ) → r ≤ 10 → InBound (2 ^ 15) z → address_at (value_spelling (value.Address r z)) ≡ Ok (value.Address r z)
 address_back r (pos n) le lt =

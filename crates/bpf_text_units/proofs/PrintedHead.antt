@@ -1,18 +1,19 @@
 -- The first line of a unit is read back as its sizes.
-use Rattle.std.proofs.Common.{◌≡◌, ℕ, suc, ◌+◌, ◌-◌, ◌*◌, ◌^◌, ◌<◌, ◌≤◌, Bool, true, false, ◌&&◌, ◌||◌, cond, List, [], ◌∷◌, ◌++◌, map, length, codes, flat_map, Ok, Err, refl, sym, ap, ◌∙◌, append_assoc, append-nil, subst, arith, bytes_eq, decimal}
+use Rattle.std.proofs.Common.{◌≡◌, ℕ, suc, ◌+◌, ◌-◌, ◌*◌, ◌^◌, ◌<◌, ◌≤◌, true, ◌&&◌, cond, List, [], ◌∷◌, ◌++◌, map, length, codes, flat_map, Ok, Err, refl, sym, ap, ◌∙◌, append_assoc, append-nil, subst, arith, bytes_eq, decimal}
 use Rattle.std.specs.Prelude.{nat_le}
 use Rattle.std.specs.List.{list_all}
-use Rattle.std.proofs.lemmas.Bool.{leb-true}
+use Rattle.std.proofs.lemmas.Bool.{leb-true, and_parts, and_from, cond-true, cond-false, or_left}
 use Rattle.std.proofs.lemmas.List.{length-append}
+use Rattle.bpf_text_lines.proofs.SpellingLaws.{in_field}
+use Rattle.bpf_text_fields.specs.Refusals.{with_first}
 use Rattle.bpf_text_lines.specs.Lines.{with_front, is_blank}
 use Rattle.bpf_text_lines.specs.Words.{ends_word, words_of}
 use Rattle.bpf_text_lines.specs.Numbers.{is_number, is_numeral, is_negative}
 use Rattle.bpf_text_fields.specs.declared.error.Fault.TheVariants as faults
-use Rattle.bpf_text_fields.specs.Fields.{as_field, with_field, numbers_in, fields_of}
+use Rattle.bpf_text_fields.specs.Fields.{as_field, numbers_in, fields_of}
 use Rattle.bpf_text_fields.specs.Head.{total, are_sizes, as_sizes, head_of}
 use Rattle.bpf_text_insns.specs.UnitText.{size_spelling}
-use Rattle.bpf_text_operands.proofs.PlainLaws.{both}
-use Rattle.bpf_text_operands.proofs.ValueLaws.{both_hold, chosen, passed, decimal_digits, in_field}
+use Rattle.bpf_text_operands.proofs.ValueLaws.{decimal_digits}
 use Rattle.bpf_text_units.proofs.SolidWords.{in_line, is_solid, solids_in_line, all_append, Ends, ends_behind, ends_word as ends_solid, Line}
 use Rattle.bpf_text_units.proofs.PrintedInsns.{decimal_solid, decimal_short}
 use Rattle.bpf_text_units.proofs.PrintedLines.{solid_no_blank}
@@ -20,18 +21,18 @@ use Rattle.bpf_text_units.proofs.PrintedLines.{solid_no_blank}
 -- a word before the end of a line or a blank
 word_before : (b : ℕ) (bs rest : List ℕ) → is_solid b ≡ true → list_all is_solid bs ≡ true → ends_word rest ≡ true → words_of ((b ∷ bs) ++ rest) ≡ (b ∷ bs) ∷ words_of rest
 word_before b [] rest e all ends =
-    passed (is_blank b) (words_of rest) (cond (ends_word rest) ((b ∷ []) ∷ words_of rest) (with_front b (words_of rest))) (solid_no_blank b e)
-    ∙ chosen (ends_word rest) ((b ∷ []) ∷ words_of rest) (with_front b (words_of rest)) ends
+    cond-false (is_blank b) (words_of rest) (cond (ends_word rest) ((b ∷ []) ∷ words_of rest) (with_front b (words_of rest))) (solid_no_blank b e)
+    ∙ cond-true (ends_word rest) ((b ∷ []) ∷ words_of rest) (with_front b (words_of rest)) ends
 word_before b (c ∷ cs) rest e all ends =
-    let h = both (is_solid c) (list_all is_solid cs) all in
+    let h = and_parts (is_solid c) (list_all is_solid cs) all in
     let behind = (c ∷ cs) ++ rest in
-    passed (is_blank b) (words_of behind) (cond (ends_word behind) ((b ∷ []) ∷ words_of behind) (with_front b (words_of behind))) (solid_no_blank b e)
-    ∙ passed (ends_word behind) ((b ∷ []) ∷ words_of behind) (with_front b (words_of behind)) (solid_no_blank c h.0)
+    cond-false (is_blank b) (words_of behind) (cond (ends_word behind) ((b ∷ []) ∷ words_of behind) (with_front b (words_of behind))) (solid_no_blank b e)
+    ∙ cond-false (ends_word behind) ((b ∷ []) ∷ words_of behind) (with_front b (words_of behind)) (solid_no_blank c h.0)
     ∙ ap (with_front b) (word_before c cs rest h.0 h.1 ends)
 
 pub word_first : (w rest : List ℕ) → 0 < length w → list_all is_solid w ≡ true → ends_word rest ≡ true → words_of (w ++ rest) ≡ w ∷ words_of rest
 word_first [] rest some all ends = absurd (omega arith)
-word_first (b ∷ bs) rest some all ends = (let h = both (is_solid b) (list_all is_solid bs) all in word_before b bs rest h.0 h.1 ends)
+word_first (b ∷ bs) rest some all ends = (let h = and_parts (is_solid b) (list_all is_solid bs) all in word_before b bs rest h.0 h.1 ends)
 
 -- a size of a unit is one of 64 bits
 fits_64 : (size others : ℕ) → size + others ≤ 65536 → size < 2 ^ 64
@@ -51,24 +52,20 @@ words_of-sizes (size ∷ sizes) le =
     word_first (decimal size) (flat_map size_spelling sizes) (decimal_digits size fits).filled (decimal_solid size fits) (sizes_end sizes)
     ∙ ap (λ (ws : List (List ℕ)). decimal size ∷ ws) (words_of-sizes sizes (behind size (total sizes) le))
 
-or_left : (a b : Bool) → a ≡ true → (a || b) ≡ true
-or_left true b e = refl
-or_left false b e = absurd cc
-
 are_numbers : (sizes : List ℕ) → total sizes ≤ 65536 → list_all is_number (map decimal sizes) ≡ true
 are_numbers [] le = refl
 are_numbers (size ∷ sizes) le =
-    both_hold (is_number (decimal size)) (list_all is_number (map decimal sizes))
+    and_from (is_number (decimal size)) (list_all is_number (map decimal sizes))
     (or_left (is_numeral (decimal size)) (is_negative (decimal size)) (decimal_digits size (fits_64 size (total sizes) le)).numeral) (are_numbers sizes (behind size (total sizes) le))
 
 numbers_back : (sizes : List ℕ) → total sizes ≤ 65536 → numbers_in (2 ^ 32 - 1) (map decimal sizes) ≡ Ok sizes
 numbers_back [] le = refl
 numbers_back (size ∷ sizes) le =
-    ap (λ r. with_field (as_field r) (numbers_in (2 ^ 32 - 1) (map decimal sizes))) (in_field (2 ^ 32 - 1) size (omega arith) (omega (arith, le)))
-    ∙ ap (with_field (Ok size)) (numbers_back sizes (behind size (total sizes) le))
+    ap (λ r. with_first (as_field r) (numbers_in (2 ^ 32 - 1) (map decimal sizes))) (in_field (2 ^ 32 - 1) size (omega arith) (omega (arith, le)))
+    ∙ ap (with_first (Ok size)) (numbers_back sizes (behind size (total sizes) le))
 
 fields_back : (sizes : List ℕ) → total sizes ≤ 65536 → fields_of (2 ^ 32 - 1) (map decimal sizes) ≡ Ok sizes
-fields_back sizes le = chosen (list_all is_number (map decimal sizes)) (numbers_in (2 ^ 32 - 1) (map decimal sizes)) (Err faults.Form) (are_numbers sizes le) ∙ numbers_back sizes le
+fields_back sizes le = cond-true (list_all is_number (map decimal sizes)) (numbers_in (2 ^ 32 - 1) (map decimal sizes)) (Err faults.Form) (are_numbers sizes le) ∙ numbers_back sizes le
 
 -- ---- what sizes stand under
 
@@ -78,9 +75,9 @@ pub record Stand (sizes : List ℕ) : Type 0 where
 
 pub stand : (sizes : List ℕ) → are_sizes sizes ≡ true → Stand sizes
 stand sizes e =
-    let some = both (nat_le 1 (length sizes)) (nat_le (length sizes) 16 && (list_all (nat_le 1) sizes && nat_le (total sizes) 65536)) e in
-    let few = both (nat_le (length sizes) 16) (list_all (nat_le 1) sizes && nat_le (total sizes) 65536) some.1 in
-    let small = both (list_all (nat_le 1) sizes) (nat_le (total sizes) 65536) few.1 in
+    let some = and_parts (nat_le 1 (length sizes)) (nat_le (length sizes) 16 && (list_all (nat_le 1) sizes && nat_le (total sizes) 65536)) e in
+    let few = and_parts (nat_le (length sizes) 16) (list_all (nat_le 1) sizes && nat_le (total sizes) 65536) some.1 in
+    let small = and_parts (list_all (nat_le 1) sizes) (nat_le (total sizes) 65536) few.1 in
     record { few = leb-true _ _ few.0; small = leb-true _ _ small.1 }
 
 -- the first line without its newline
@@ -92,9 +89,9 @@ pub head_back : (sizes : List ℕ) → are_sizes sizes ≡ true → head_of (wor
 head_back sizes e =
     let s = stand sizes e in
     ap head_of (word_first (codes "maps") (flat_map size_spelling sizes) (omega arith) refl (sizes_end sizes) ∙ ap (λ (ws : List (List ℕ)). codes "maps" ∷ ws) (words_of-sizes sizes s.small))
-    ∙ chosen (bytes_eq (codes "maps") (codes "maps")) (as_sizes (fields_of (2 ^ 32 - 1) (map decimal sizes))) (Err faults.Form) refl
+    ∙ cond-true (bytes_eq (codes "maps") (codes "maps")) (as_sizes (fields_of (2 ^ 32 - 1) (map decimal sizes))) (Err faults.Form) refl
     ∙ ap as_sizes (fields_back sizes s.small)
-    ∙ chosen (are_sizes sizes) (Ok sizes) (Err faults.Limits) e
+    ∙ cond-true (are_sizes sizes) (Ok sizes) (Err faults.Limits) e
 
 sizes_inner : (sizes : List ℕ) → total sizes ≤ 65536 → list_all in_line (flat_map size_spelling sizes) ≡ true
 sizes_inner [] le = refl

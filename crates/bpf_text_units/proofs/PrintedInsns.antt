@@ -4,11 +4,12 @@ use Rattle.std.specs.Fmt.{decimal, signed_decimal}
 use Rattle.std.specs.List.{list_all}
 use Rattle.std.proofs.lemmas.List.{length-append}
 use Rattle.std.proofs.lemmas.Fmt.{length-decimal-le}
+use Rattle.std.proofs.lemmas.Bool.{and_from}
 use Rattle.bpf_insn.specs.declared.insn.ImmKind.{ImmKind}
 use Rattle.bpf_insn.specs.declared.insn.ImmKind.TheVariants as kind
 use Rattle.bpf_text_insns.specs.MnemonicWords.{mnemonic_word}
 use Rattle.std.specs.Prelude.{FitsSigned}
-use Rattle.std.specs.Int.{w16, w32}
+use Rattle.std.specs.Int.{w16}
 use Rattle.bpf_insn.specs.declared.insn.Operand.{Operand}
 use Rattle.bpf_insn.specs.declared.insn.Operand.TheVariants as operand
 use Rattle.bpf_insn.specs.declared.insn.Insn.{Insn}
@@ -20,7 +21,7 @@ use Rattle.bpf_text_insns.specs.declared.value.Operands.{Operands}
 use Rattle.bpf_text_insns.specs.declared.value.Operands.TheVariants as operands
 use Rattle.bpf_text_insns.specs.Statement.{mnemonic_of, operand_value, two_slot_operands, operands_of}
 use Rattle.bpf_text_insns.specs.UnitText.{distance_spelling, value_spelling, operands_spelling, insn_spelling}
-use Rattle.bpf_text_operands.proofs.ValueLaws.{both_hold, InBound, decimal_digits}
+use Rattle.bpf_text_operands.proofs.ValueLaws.{InBound, decimal_digits, far_bound}
 use Rattle.bpf_text_operands.proofs.WideLaws.{wide_fits}
 use Rattle.bpf_text_units.proofs.SolidWords.{in_line, is_solid, solids_in_line, all_append, Ends, ends_behind, ends_word, Line, Front, digits_solid}
 use Rattle.bpf_text_units.proofs.MnemonicFronts.{mnemonic_front}
@@ -44,7 +45,7 @@ decimal_word n fits = (let short = decimal_short n fits in record { solid = deci
 marked_word : (b n : ℕ) → is_solid b ≡ true → n < 2 ^ 64 → Word (b ∷ decimal n)
 marked_word b n e fits =
     let short = decimal_short n fits in
-    record { solid = both_hold (is_solid b) (list_all is_solid (decimal n)) e (decimal_solid n fits); filled = omega arith; short = omega (arith, short) }
+    record { solid = and_from (is_solid b) (list_all is_solid (decimal n)) e (decimal_solid n fits); filled = omega arith; short = omega (arith, short) }
 
 signed_word : (z : ℤ) → InBound (2 ^ 31) z → Word (signed_decimal z)
 signed_word (pos n) lt = decimal_word n (omega arith)
@@ -140,22 +141,18 @@ near : (z : ℤ) → FitsSigned w16 z → InBound (2 ^ 31) z
 near (pos n) fits = omega (arith, fits.sfits)
 near (negsuc n) fits = omega (arith, fits.sfits)
 
-far : (z : ℤ) → FitsSigned w32 z → InBound (2 ^ 31) z
-far (pos n) fits = fits.sfits
-far (negsuc n) fits = fits.sfits
-
 operand_fits : (o : Operand) → OperandFits o → ValueFits (operand_value o)
-operand_fits (operand.Imm z) fits = far z fits
+operand_fits (operand.Imm z) fits = far_bound z fits
 operand_fits (operand.Reg r) fits = fits
 
 load_fits : (k : ImmKind) (dst : ℕ) (imm next : ℤ) → InsnFits (insn.LoadImm k dst imm next) → OperandsFit (two_slot_operands k dst imm next)
 load_fits kind.Number dst imm next fits = (fits.0, wide_fits imm next fits.1 fits.2)
-load_fits kind.MapFd dst imm next fits = (fits.0, far imm fits.1)
-load_fits kind.MapFdValue dst imm next fits = (fits.0, far imm fits.1, far next fits.2)
-load_fits kind.Variable dst imm next fits = (fits.0, far imm fits.1)
-load_fits kind.Code dst imm next fits = (fits.0, far imm fits.1)
-load_fits kind.Map dst imm next fits = (fits.0, far imm fits.1)
-load_fits kind.MapValue dst imm next fits = (fits.0, far imm fits.1, far next fits.2)
+load_fits kind.MapFd dst imm next fits = (fits.0, far_bound imm fits.1)
+load_fits kind.MapFdValue dst imm next fits = (fits.0, far_bound imm fits.1, far_bound next fits.2)
+load_fits kind.Variable dst imm next fits = (fits.0, far_bound imm fits.1)
+load_fits kind.Code dst imm next fits = (fits.0, far_bound imm fits.1)
+load_fits kind.Map dst imm next fits = (fits.0, far_bound imm fits.1)
+load_fits kind.MapValue dst imm next fits = (fits.0, far_bound imm fits.1, far_bound next fits.2)
 
 operands_fit : (i : Insn) → InsnFits i → OperandsFit (operands_of i)
 operands_fit (insn.Alu w o dst src) fits = (fits.0, operand_fits src fits.1)
@@ -163,13 +160,13 @@ operands_fit (insn.Neg w dst) fits = fits
 operands_fit (insn.Movsx w bits dst src) fits = fits
 operands_fit (insn.Endian o bits dst) fits = fits
 operands_fit (insn.Ja offset) fits = near offset fits
-operands_fit (insn.Ja32 imm) fits = far imm fits
+operands_fit (insn.Ja32 imm) fits = far_bound imm fits
 operands_fit (insn.Jump w c dst src offset) fits = (fits.0, operand_fits src fits.1, near offset fits.2)
-operands_fit (insn.Call c imm) fits = far imm fits
+operands_fit (insn.Call c imm) fits = far_bound imm fits
 operands_fit insn.Exit fits = tt
 operands_fit (insn.Load s dst src offset) fits = (fits.0, (fits.1, near offset fits.2))
 operands_fit (insn.LoadSx s dst src offset) fits = (fits.0, (fits.1, near offset fits.2))
-operands_fit (insn.StoreImm s dst offset imm) fits = ((fits.0, near offset fits.1), far imm fits.2)
+operands_fit (insn.StoreImm s dst offset imm) fits = ((fits.0, near offset fits.1), far_bound imm fits.2)
 operands_fit (insn.Store s dst src offset) fits = ((fits.0, near offset fits.2), fits.1)
 operands_fit (insn.Atomic w o dst src offset) fits = ((fits.0, near offset fits.2), fits.1)
 operands_fit (insn.LoadImm k dst imm next) fits = load_fits k dst imm next fits

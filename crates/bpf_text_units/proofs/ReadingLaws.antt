@@ -7,6 +7,7 @@ use Rattle.bpf_text_fields.specs.declared.error.TextError.{TextError}
 use Rattle.bpf_text_fields.specs.declared.error.TextError.TheVariants as errors
 use Rattle.bpf_text_fields.specs.Refusals.{at_line, ◌>>=◌, Fails}
 use Rattle.bpf_text_fields.specs.Head.{head_of}
+use Rattle.bpf_text_fields.proofs.RefusalLaws.{bind_fails}
 use Rattle.bpf_text_operands.specs.declared.labels.Label.{Label}
 use Rattle.bpf_text_operands.specs.LabelTable.{or_this}
 use Rattle.bpf_text_units.specs.UnitReading.{line_slots, line_label, labels_from, line_at, slots_in, insns_behind, UnitParts, unit_of}
@@ -42,12 +43,6 @@ labels_end before whole slot all name none so_far =
 pub slots_in-append : (before more : List Insn) → slots_in (before ++ more) ≡ slots_in before + slots_in more
 slots_in-append [] more = omega arith
 slots_in-append (i ∷ is) more = let h = slots_in-append is more in omega (arith, h)
-
--- a refusal stays one, whatever follows it
-bind_fails : {A B : Type 0} (e : TextError) (r : Result A TextError) (f : A → Result B TextError) → Fails e r → Fails e (r >>= f)
-bind_fails errors.Memory r f fails = tt
-bind_fails (errors.Refused fault line) (Ok x) f fails = absurd cc
-bind_fails (errors.Refused fault line) (Err other) f fails = cc
 
 pub insns_behind-line : (labels : List ℕ → Option Label) (before : List Insn) (slot : ℕ) (line : ℕ × List ℕ) (lines : List (ℕ × List ℕ)) (more : List Insn) → slot ≡ slots_in before →
     at_line line.0 (line_at labels slot line.0 line.1) ≡ Ok more → insns_behind labels before (line ∷ lines) ≡ insns_behind labels (before ++ more) lines

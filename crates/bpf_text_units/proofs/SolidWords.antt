@@ -3,10 +3,8 @@ use Rattle.std.proofs.Common.{◌≡◌, ℕ, ◌<◌, ◌≤◌, Bool, true, fa
 use Rattle.std.specs.Prelude.{nat_le}
 use Rattle.std.specs.Char.{is_ascii_digit}
 use Rattle.std.specs.List.{list_all}
-use Rattle.std.proofs.lemmas.Bool.{ne_eqb, le-leb, leb-true}
+use Rattle.std.proofs.lemmas.Bool.{ne_eqb, le-leb, leb-true, and_parts, and_from}
 use Rattle.std.proofs.lemmas.List.Folds.{list_all-append}
-use Rattle.bpf_text_operands.proofs.PlainLaws.{both}
-use Rattle.bpf_text_operands.proofs.ValueLaws.{both_hold}
 
 -- a byte of a line: 32 or above, and no semicolon
 abbrev pub in_line : ℕ → Bool
@@ -18,17 +16,17 @@ is_solid b = nat_le 33 b && (not (b == 58) && not (b == 59))
 
 pub solid_in_line : (b : ℕ) → is_solid b ≡ true → in_line b ≡ true
 solid_in_line b e =
-    let h = both (nat_le 33 b) _ e in
-    let rest = both (not (b == 58)) (not (b == 59)) h.1 in
+    let h = and_parts (nat_le 33 b) _ e in
+    let rest = and_parts (not (b == 58)) (not (b == 59)) h.1 in
     let low : 33 ≤ b = leb-true 33 b h.0 in
-    both_hold (nat_le 32 b) (not (b == 59)) (le-leb 32 b (omega (arith, low))) rest.1
+    and_from (nat_le 32 b) (not (b == 59)) (le-leb 32 b (omega (arith, low))) rest.1
 
 pub solids_in_line : (w : List ℕ) → list_all is_solid w ≡ true → list_all in_line w ≡ true
 solids_in_line [] e = refl
-solids_in_line (b ∷ bs) e = (let h = both (is_solid b) (list_all is_solid bs) e in both_hold (in_line b) (list_all in_line bs) (solid_in_line b h.0) (solids_in_line bs h.1))
+solids_in_line (b ∷ bs) e = (let h = and_parts (is_solid b) (list_all is_solid bs) e in and_from (in_line b) (list_all in_line bs) (solid_in_line b h.0) (solids_in_line bs h.1))
 
 pub all_append : (p : ℕ → Bool) (xs ys : List ℕ) → list_all p xs ≡ true → list_all p ys ≡ true → list_all p (xs ++ ys) ≡ true
-all_append p xs ys e h = list_all-append p xs ys ∙ both_hold (list_all p xs) (list_all p ys) e h
+all_append p xs ys e h = list_all-append p xs ys ∙ and_from (list_all p xs) (list_all p ys) e h
 
 -- the last byte of a text is one of a word
 pub record Ends (text : List ℕ) : Type 0 where
@@ -42,8 +40,8 @@ ends_behind xs ys e = record { front = xs ++ e.front; last = e.last; whole = ap 
 
 pub ends_word : (w : List ℕ) → 0 < length w → list_all is_solid w ≡ true → Ends w
 ends_word [] some e = absurd (omega arith)
-ends_word (b ∷ []) some e = record { front = []; last = b; whole = refl; solid = (both (is_solid b) true e).0 }
-ends_word (b ∷ c ∷ cs) some e = ends_behind (b ∷ []) (c ∷ cs) (ends_word (c ∷ cs) (omega arith) (both (is_solid b) (list_all is_solid (c ∷ cs)) e).1)
+ends_word (b ∷ []) some e = record { front = []; last = b; whole = refl; solid = (and_parts (is_solid b) true e).0 }
+ends_word (b ∷ c ∷ cs) some e = ends_behind (b ∷ []) (c ∷ cs) (ends_word (c ∷ cs) (omega arith) (and_parts (is_solid b) (list_all is_solid (c ∷ cs)) e).1)
 
 -- a line as it is printed
 pub record Line (text : List ℕ) : Type 0 where
@@ -63,10 +61,10 @@ front_of b bs e all short = record { inner = all; begins = (b, bs, refl, e); sho
 pub digits_solid : (w : List ℕ) → list_all is_ascii_digit w ≡ true → list_all is_solid w ≡ true
 digits_solid [] e = refl
 digits_solid (b ∷ bs) e =
-    let h = both (is_ascii_digit b) (list_all is_ascii_digit bs) e in
-    let d = both (nat_le 48 b) (nat_le b 57) h.0 in
+    let h = and_parts (is_ascii_digit b) (list_all is_ascii_digit bs) e in
+    let d = and_parts (nat_le 48 b) (nat_le b 57) h.0 in
     let low : 48 ≤ b = leb-true 48 b d.0 in
     let high : b ≤ 57 = leb-true b 57 d.1 in
     let colon : (b == 58) ≡ false = ne_eqb b 58 (λ same. absurd (omega (arith, same, high))) in
     let semicolon : (b == 59) ≡ false = ne_eqb b 59 (λ same. absurd (omega (arith, same, high))) in
-    both_hold (is_solid b) (list_all is_solid bs) (both_hold (nat_le 33 b) _ (le-leb 33 b (omega (arith, low))) (both_hold (not (b == 58)) (not (b == 59)) (ap not colon) (ap not semicolon))) (digits_solid bs h.1)
+    and_from (is_solid b) (list_all is_solid bs) (and_from (nat_le 33 b) _ (le-leb 33 b (omega (arith, low))) (and_from (not (b == 58)) (not (b == 59)) (ap not colon) (ap not semicolon))) (digits_solid bs h.1)

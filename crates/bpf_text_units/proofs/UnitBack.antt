@@ -1,19 +1,18 @@
 -- A unit is read back from its canonical text.
 use Rattle.std.proofs.Common.{◌≡◌, ℕ, ◌+◌, ◌*◌, ◌≤◌, List, [], ◌∷◌, ◌++◌, length, flat_map, Option, Result, Ok, Err, refl, sym, ap, ◌∙◌, append_assoc, append-nil, arith}
 use Rattle.std.specs.Prelude.{nat_le, nat_lt}
-use Rattle.std.proofs.lemmas.Bool.{le-leb, le-ltb}
+use Rattle.std.proofs.lemmas.Bool.{le-leb, le-ltb, cond-true, cond-false}
 use Rattle.std.proofs.lemmas.List.{length-append}
 use Rattle.bpf_insn.specs.declared.insn.Insn.{Insn}
 use Rattle.bpf_insn.specs.declared.insn.Insn.TheVariants as insn
 use Rattle.bpf_insn.specs.declared.slot.Slot.{Slot}
-use Rattle.bpf_insn.specs.declared.codec_error.Fault.{Fault as CodecFault}
 use Rattle.bpf_insn.specs.declared.codec_error.CodecError.{CodecError}
 use Rattle.bpf_insn.specs.Slots.{slots_of}
-use Rattle.bpf_insn.specs.Spelling.{spelling, bytes_at, joined, spelling_from, program_spelling}
+use Rattle.bpf_insn.specs.Spelling.{spelling, bytes_at, spelling_from, program_spelling}
 use Rattle.bpf_insn.specs.Values.{InsnFits, AreInsns}
+use Rattle.bpf_insn.proofs.Programs.{joined_ok, bytes_ok}
 use Rattle.bpf_text_lines.specs.Lines.{lines_of, contents_from, contents_of}
 use Rattle.bpf_text_fields.specs.declared.error.Fault.TheVariants as faults
-use Rattle.bpf_text_fields.specs.declared.error.TextError.{TextError}
 use Rattle.bpf_text_fields.specs.declared.error.TextError.TheVariants as errors
 use Rattle.bpf_text_fields.specs.Refusals.{at_line}
 use Rattle.bpf_text_insns.specs.UnitText.{insn_spelling, insn_line, head_spelling, where_spelled}
@@ -22,7 +21,7 @@ use Rattle.bpf_text_operands.specs.declared.labels.Label.{Label}
 use Rattle.bpf_text_operands.specs.LabelTable.{slot_in}
 use Rattle.bpf_text_operands.specs.Statements.{insn_at}
 use Rattle.bpf_text_operands.proofs.InsnBack.{insn_back}
-use Rattle.bpf_text_operands.proofs.ValueLaws.{chosen, passed}
+use Rattle.bpf_text_operands.proofs.ValueLaws.{same_ok}
 use Rattle.bpf_text_units.specs.UnitReading.{name_of, is_label, labels_from, label_at, in_limit, line_at, slots_in, insns_behind, UnitParts, unit_of, unit_text}
 use Rattle.bpf_text_units.specs.UnitLaw.{these_parts, AreParts}
 use Rattle.bpf_text_units.proofs.ReadingLaws.{slots_in-append, insns_behind-line, insns_behind-end, insns_read}
@@ -37,20 +36,12 @@ abbrev Spelled : List Insn → Type 0
 Spelled [] = Unit {0}
 Spelled (i ∷ is) = ((ss : List Slot) × (spelling i ≡ Ok ss)) × Spelled is
 
-joined_ok : (first later : Result (List ℕ) CodecError) (bytes : List ℕ) → joined first later ≡ Ok bytes → ((a : List ℕ) × (first ≡ Ok a)) × ((b : List ℕ) × (later ≡ Ok b))
-joined_ok (Err e) later bytes h = absurd cc
-joined_ok (Ok a) (Err e) bytes h = absurd cc
-joined_ok (Ok a) (Ok b) bytes h = ((a, refl), (b, refl))
-
-bytes_ok : (n : ℕ) (r : Result (List Slot) CodecFault) (bytes : List ℕ) → bytes_at n r ≡ Ok bytes → (ss : List Slot) × (r ≡ Ok ss)
-bytes_ok n (Ok ss) bytes e = (ss, refl)
-bytes_ok n (Err fault) bytes e = absurd cc
-
 spelled_from : (n : ℕ) (insns : List Insn) (bytes : List ℕ) → spelling_from n insns ≡ Ok bytes → Spelled insns
 spelled_from n [] bytes e = tt
 spelled_from n (i ∷ is) bytes e =
     let cut = joined_ok (bytes_at n (spelling i)) (spelling_from (n + slots_of i) is) bytes e in
-    (bytes_ok n (spelling i) cut.0.0 cut.0.1, spelled_from (n + slots_of i) is cut.1.0 cut.1.1)
+    let here = bytes_ok n (spelling i) cut.0 cut.2 in
+    ((here.0, here.1), spelled_from (n + slots_of i) is cut.1 cut.3)
 
 -- ---- the lines of instructions
 
@@ -71,9 +62,9 @@ line_read labels slot n i ss fits e le =
     let line = insn_spelling i in
     let find : List ℕ → Option ℕ = λ name. slot_in (labels name) in
     ap (at_line n)
-    (passed (is_label line) (label_at n (labels (name_of line))) (in_limit slot (insn_at find slot line)) (no_label line (insn_is_line i fits).line)
+    (cond-false (is_label line) (label_at n (labels (name_of line))) (in_limit slot (insn_at find slot line)) (no_label line (insn_is_line i fits).line)
     ∙ ap (in_limit slot) (insn_back find slot i ss fits e)
-    ∙ chosen (nat_le (slot + slots_of i) 4096) (Ok (i ∷ [])) (Err faults.TooLong) (le-leb _ _ le))
+    ∙ cond-true (nat_le (slot + slots_of i) 4096) (Ok (i ∷ [])) (Err faults.TooLong) (le-leb _ _ le))
 
 insns_back : (labels : List ℕ → Option Label) (before insns : List Insn) (n : ℕ) → AreInsns insns → Spelled insns → slots_in before + slots_in insns ≤ 4096 →
     insns_behind labels before (numbered n insns) ≡ Ok (before ++ insns)
@@ -136,24 +127,26 @@ whole_back sizes insns u spelled =
     (λ name. refl)
     (insns_back (labels_from 0 lines) [] insns 2 u.insns_fit spelled (omega (arith, few)))
 
-printed_is : (sizes : List ℕ) (insns : List Insn) (r : Result (List ℕ) CodecError) (text : List ℕ) → where_spelled r (λ bytes. whole sizes insns) ≡ Ok text → (whole sizes insns ≡ text) × ((bytes : List ℕ) × (r ≡ Ok bytes))
-printed_is sizes insns (Ok bytes) text e = (cc, (bytes, refl))
-printed_is sizes insns (Err error) text e = absurd cc
+-- a text that stands is that of bytes
+pub record Printed (text_of : List ℕ → List ℕ) (spelled : Result (List ℕ) CodecError) (text : List ℕ) : Type 0 where
+  pub bytes : List ℕ
+  pub are_spelled : spelled ≡ Ok bytes
+  pub is_text : text_of bytes ≡ text
+
+pub printed : (text_of : List ℕ → List ℕ) (spelled : Result (List ℕ) CodecError) (text : List ℕ) → where_spelled spelled text_of ≡ Ok text → Printed text_of spelled text
+printed text_of (Ok bytes) text e = record { bytes = bytes; are_spelled = refl; is_text = cc }
+printed text_of (Err error) text e = absurd cc
 
 pub unit_back : (sizes : List ℕ) (insns : List Insn) (text : List ℕ) → AreParts sizes insns → printed_text sizes insns ≡ Ok text → unit_text text ≡ Ok (these_parts sizes insns)
 unit_back sizes insns text u e =
-    let p = printed_is sizes insns (program_spelling insns) text e in
+    let p = printed (λ bytes. whole sizes insns) (program_spelling insns) text e in
     let short = whole_short sizes insns u in
-    ap unit_text (sym p.0)
-    ∙ passed (nat_lt 1048576 (length (whole sizes insns))) (Err (errors.Refused faults.TooLong 0)) (unit_of (contents_of (whole sizes insns))) (le-ltb _ _ short)
-    ∙ whole_back sizes insns u (spelled_from 0 insns p.1.0 p.1.1)
-
-same_parts : (sizes others : List ℕ) (insns also : List Insn) (r : Result UnitParts TextError) → r ≡ Ok (these_parts sizes insns) → r ≡ Ok (these_parts others also) → these_parts sizes insns ≡ these_parts others also
-same_parts sizes others insns also (Ok p) a b = (let left : p ≡ these_parts sizes insns = cc in let right : p ≡ these_parts others also = cc in sym left ∙ right)
-same_parts sizes others insns also (Err e) a b = absurd cc
+    ap unit_text (sym p.is_text)
+    ∙ cond-false (nat_lt 1048576 (length (whole sizes insns))) (Err (errors.Refused faults.TooLong 0)) (unit_of (contents_of (whole sizes insns))) (le-ltb _ _ short)
+    ∙ whole_back sizes insns u (spelled_from 0 insns p.bytes p.are_spelled)
 
 pub one_unit : (sizes others : List ℕ) (insns also : List Insn) (text : List ℕ) → AreParts sizes insns → AreParts others also → printed_text sizes insns ≡ Ok text → printed_text others also ≡ Ok text →
     (sizes ≡ others) × (insns ≡ also)
 one_unit sizes others insns also text u v e h =
-    let same = same_parts sizes others insns also (unit_text text) (unit_back sizes insns text u e) (unit_back others also text v h) in
+    let same = same_ok (these_parts sizes insns) (these_parts others also) (unit_text text) (unit_back sizes insns text u e) (unit_back others also text v h) in
     (ap (λ (p : UnitParts). p.sizes) same, ap (λ (p : UnitParts). p.insns) same)

@@ -15,13 +15,14 @@ use Rattle.bpf_insn.specs.declared.insn.MovsxBits.{MovsxBits}
 use Rattle.bpf_insn.specs.declared.insn.MovsxBits.TheVariants.{B8, B16 as Low16, B32 as Low32}
 use Rattle.bpf_insn_words.specs.Words.{modulus, computed, alu, negated, moved_signed, sign_extended, in_order, low_modulus, endian_modulus}
 use Rattle.bpf_insn_words.specs.WordBounds.{ResultsFit}
+use Rattle.bpf_insn_words.proofs.WordLaws.{modulus-positive}
 use Rattle.value_range_spans.specs.Spans.{Span, IsSpan, Contains, is_exact, exact, top, norm}
 use Rattle.value_range_spans.proofs.Multiples.{multiple-zero, zero-multiple}
-use Rattle.value_range_spans.proofs.SpanLaws.{exact-contains, exact-number, top-contains, number-word}
+use Rattle.value_range_spans.proofs.SpanLaws.{contains_by_test, exact-contains, exact-number, top-contains, number-word}
 use Rattle.value_range.specs.declared.operation.Operation.{Operation}
 use Rattle.value_range.specs.declared.operation.Operation.TheVariants.{Alu, Neg, Movsx, Endian}
 use Rattle.value_range.specs.AluRows.{meant, low32, operand_of, operand, negative, extended, top_bits, little, ordered, alu_row, row, alu_reads_exact, reads_exact, of_operands, span_of}
-use Rattle.value_range.proofs.RowContains.{by_test, modulus-positive, difference-contains, alu_row-contains}
+use Rattle.value_range.proofs.RowContains.{difference-contains, alu_row-contains}
 
 -- the part of a word that an operation takes
 abbrev pub taken_of : Operation → Width → ℕ → ℕ
@@ -34,12 +35,12 @@ taken_of (Endian order bits) width x = x
 low32-contains : (s : Span) (x : ℕ) → Contains s x → Contains (low32 s) (x % 2 ^ 32)
 unfolding low32
 low32-contains s x c =
-    by_test (x % 2 ^ 32) s (if is_exact s then exact (s.lo % 2 ^ 32) else top W32) (nat_lt s.hi (2 ^ 32))
+    contains_by_test (x % 2 ^ 32) s (if is_exact s then exact (s.lo % 2 ^ 32) else top W32) (nat_lt s.hi (2 ^ 32))
     (λ e.
     let small : x < 2 ^ 32 = omega (arith, ltb-true s.hi (2 ^ 32) e, c.below) in
     subst (λ (n : ℕ). Contains s n) (sym (mod-eq_of_lt small)) c)
     (λ e.
-    by_test (x % 2 ^ 32) (exact (s.lo % 2 ^ 32)) (top W32) (is_exact s)
+    contains_by_test (x % 2 ^ 32) (exact (s.lo % 2 ^ 32)) (top W32) (is_exact s)
     (λ known.
     subst (λ (n : ℕ). Contains (exact (s.lo % 2 ^ 32)) (n % 2 ^ 32)) (sym (exact-number s x known c))
     (exact-contains (s.lo % 2 ^ 32)))
@@ -120,7 +121,7 @@ unfolding extended moved_signed
 extended-contains width bits b y fits d =
     let low = low_modulus bits in
     let m = modulus width in
-    by_test (sign_extended low m (y % low)) b (top width) (nat_lt b.hi (low / 2))
+    contains_by_test (sign_extended low m (y % low)) b (top width) (nat_lt b.hi (low / 2))
     (λ e.
     let small : 2 * y < low = omega (arith, ltb-true b.hi (low / 2) e, d.below) in
     let inside : y < low = omega arith in
@@ -136,7 +137,7 @@ little-contains : (bits : EndianBits) (a : Span) (x : ℕ) → x % endian_modulu
 unfolding little
 little-contains bits a x fits c =
     let m = endian_modulus bits in
-    by_test (x % m) a (top_bits bits) (nat_lt a.hi m)
+    contains_by_test (x % m) a (top_bits bits) (nat_lt a.hi m)
     (λ e.
     let small : x < m = omega (arith, ltb-true a.hi m e, c.below) in
     subst (λ (n : ℕ). Contains a n) (sym (mod-eq_of_lt small)) c)
@@ -178,7 +179,7 @@ of_operands-contains : ResultsFit → (operation : Operation) (width : Width) (a
 unfolding of_operands
 of_operands-contains fit operation width a b x y i j c d =
     subst (λ (n : ℕ). Contains (of_operands operation width a b) n) (taken-meant operation width x y)
-    (by_test (meant operation width (taken_of operation width x) (taken_of operation width y)) (exact (meant operation width a.lo b.lo))
+    (contains_by_test (meant operation width (taken_of operation width x) (taken_of operation width y)) (exact (meant operation width a.lo b.lo))
     (row operation width a b) (reads_exact operation a b)
     (λ known.
     subst (λ (n : ℕ). Contains (exact (meant operation width a.lo b.lo)) n)

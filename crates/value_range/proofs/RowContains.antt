@@ -10,16 +10,12 @@ use Rattle.bpf_insn.specs.declared.insn.Width.TheVariants.{W32, W64}
 use Rattle.bpf_insn.specs.declared.insn.AluOp.{AluOp}
 use Rattle.bpf_insn.specs.declared.insn.AluOp.TheVariants.{Add, Sub, Mul, Div, Sdiv, Or, And, Lsh, Rsh, Mod, Smod, Xor, Mov, Arsh}
 use Rattle.bpf_insn_words.specs.Words.{modulus, shift, quotient, remainder, arithmetic_shift, computed}
+use Rattle.bpf_insn_words.proofs.WordLaws.{modulus-positive}
 use Rattle.value_range_spans.specs.Spans.{Span, IsSpan, Contains, is_exact, exact, top, norm}
 use Rattle.value_range_spans.proofs.Multiples.{coarser, multiple-zero, multiple-add, multiple-sub, multiple-mul, multiple-wrap, pow-multiple}
-use Rattle.value_range_spans.proofs.SpanLaws.{norm-contains, exact-contains, exact-number, top-contains}
+use Rattle.value_range_spans.proofs.SpanLaws.{contains_by_test, norm-contains, exact-contains, exact-number, top-contains}
 use Rattle.value_range.specs.AluRows.{filled, added, subtracted, multiplied, divided, left_over, with_bits, common_bits, other_bits, shifted_left_by, shifted_left, shifted_right, shifted_signed, alu_row}
 use Rattle.value_range.proofs.RowLaws.{norm-between, min-first, min-second, sum-between, difference-between, product-between, quotient-between, or-between, xor-between, and-between, left-between, right-between}
-
--- every width has numbers
-pub modulus-positive : (width : Width) → 0 < modulus width
-modulus-positive W32 = omega arith
-modulus-positive W64 = omega arith
 
 -- a multiple keeps its trailing zeros modulo the width
 wrapped-multiple : (width : Width) (z n : ℕ) → n % 2 ^ z ≡ 0 → n % modulus width % 2 ^ z ≡ 0
@@ -36,19 +32,13 @@ wrapped-contains width z n h =
 pub small-contains : (s : Span) (m n : ℕ) → n < m → Contains s n → Contains s (n % m)
 small-contains s m n h c = subst (λ (k : ℕ). Contains s k) (sym (mod-eq_of_lt h)) c
 
--- whichever is chosen, by what the test tells
-pub by_test : (x : ℕ) (s t : Span) (b : Bool) → (b ≡ true → Contains s x) → (b ≡ false → Contains t x) →
-    Contains (if b then s else t) x
-by_test x s t true p q = p refl
-by_test x s t false p q = q refl
-
 pub added-contains : (width : Width) (a b : Span) (x y : ℕ) → Contains a x → Contains b y →
     Contains (added width a b) ((x + y) % modulus width)
 unfolding added
 added-contains width a b x y c d =
     let z = min a.zeros b.zeros in
     let between = sum-between a b x y c d in
-    by_test ((x + y) % modulus width) (norm (a.lo + b.lo) (a.hi + b.hi) z) (norm 0 (modulus width - 1) z)
+    contains_by_test ((x + y) % modulus width) (norm (a.lo + b.lo) (a.hi + b.hi) z) (norm 0 (modulus width - 1) z)
     (nat_lt (a.hi + b.hi) (modulus width))
     (λ e.
     small-contains (norm (a.lo + b.lo) (a.hi + b.hi) z) (modulus width) (x + y)
@@ -91,7 +81,7 @@ unfolding subtracted
 subtracted-contains width a b x y h k c d =
     let z = min a.zeros b.zeros in
     let m = modulus width in
-    by_test ((x + (m - y)) % m) (norm (a.lo - b.hi) (a.hi - b.lo) z) (norm 0 (m - 1) z) (nat_le b.hi a.lo)
+    contains_by_test ((x + (m - y)) % m) (norm (a.lo - b.hi) (a.hi - b.lo) z) (norm 0 (m - 1) z) (nat_le b.hi a.lo)
     (λ e.
     subst (λ (n : ℕ). Contains (norm (a.lo - b.hi) (a.hi - b.lo) z) n)
     (plain-difference m x y h (omega (arith, leb-true b.hi a.lo e, c.above, d.below)))
@@ -105,7 +95,7 @@ unfolding multiplied
 multiplied-contains width a b x y c d =
     let z = min (a.zeros + b.zeros) 64 in
     let between = product-between a b x y c d in
-    by_test ((x * y) % modulus width) (norm (a.lo * b.lo) (a.hi * b.hi) z) (norm 0 (modulus width - 1) z)
+    contains_by_test ((x * y) % modulus width) (norm (a.lo * b.lo) (a.hi * b.hi) z) (norm 0 (modulus width - 1) z)
     (nat_lt (a.hi * b.hi) (modulus width))
     (λ e.
     small-contains (norm (a.lo * b.lo) (a.hi * b.hi) z) (modulus width) (x * y)
@@ -141,10 +131,10 @@ at-positive p q y e = sym (cond-false (y == 0) p q (ne_eqb y 0 e))
 pub divided-contains : (a b : Span) (x y : ℕ) → Contains a x → Contains b y → Contains (divided a b) (quotient x y)
 unfolding divided
 divided-contains a b x y c d =
-    by_test (quotient x y) (if b.lo == 0 then exact 0 else norm (a.lo / b.lo) (a.hi / b.lo) 0) (norm 0 a.hi 0) (is_exact b)
+    contains_by_test (quotient x y) (if b.lo == 0 then exact 0 else norm (a.lo / b.lo) (a.hi / b.lo) 0) (norm 0 a.hi 0) (is_exact b)
     (λ known.
     let same : y ≡ b.lo = exact-number b y known d in
-    by_test (quotient x y) (exact 0) (norm (a.lo / b.lo) (a.hi / b.lo) 0) (b.lo == 0)
+    contains_by_test (quotient x y) (exact 0) (norm (a.lo / b.lo) (a.hi / b.lo) 0) (b.lo == 0)
     (λ e.
     subst (λ (n : ℕ). Contains (exact 0) n) (at-zero 0 (x / y) y (same ∙ eqb-true b.lo 0 e)) (exact-contains 0))
     (λ e.
@@ -157,17 +147,17 @@ divided-contains a b x y c d =
 pub left_over-contains : (a b : Span) (x y : ℕ) → Contains a x → Contains b y → Contains (left_over a b) (remainder x y)
 unfolding left_over
 left_over-contains a b x y c d =
-    by_test (remainder x y)
+    contains_by_test (remainder x y)
     (if b.lo == 0 then a else if nat_lt a.hi b.lo then a else norm 0 (b.lo - 1) 0) (norm 0 a.hi 0) (is_exact b)
     (λ known.
     let same : y ≡ b.lo = exact-number b y known d in
-    by_test (remainder x y) a (if nat_lt a.hi b.lo then a else norm 0 (b.lo - 1) 0) (b.lo == 0)
+    contains_by_test (remainder x y) a (if nat_lt a.hi b.lo then a else norm 0 (b.lo - 1) 0) (b.lo == 0)
     (λ e. subst (λ (n : ℕ). Contains a n) (at-zero x (x % y) y (same ∙ eqb-true b.lo 0 e)) c)
     (λ e.
     let other : b.lo ≡ 0 → ⊥ = eqb-false b.lo 0 e in
     let is_rest : x % b.lo ≡ remainder x y =
     ap (λ (n : ℕ). x % n) (sym same) ∙ at-positive x (x % y) y (λ f. other (sym same ∙ f)) in
-    by_test (remainder x y) a (norm 0 (b.lo - 1) 0) (nat_lt a.hi b.lo)
+    contains_by_test (remainder x y) a (norm 0 (b.lo - 1) 0) (nat_lt a.hi b.lo)
     (λ l.
     let small : x < b.lo = omega (arith, ltb-true a.hi b.lo l, c.below) in
     subst (λ (n : ℕ). Contains a n) (sym (mod-eq_of_lt small) ∙ is_rest) c)
@@ -197,7 +187,7 @@ unfolding shifted_left_by
 shifted_left_by-contains width a s x c =
     let z = min (a.zeros + s) 64 in
     let between = left-between a s x c in
-    by_test ((x * 2 ^ s) % modulus width) (norm (a.lo * 2 ^ s) (a.hi * 2 ^ s) z) (norm 0 (modulus width - 1) z)
+    contains_by_test ((x * 2 ^ s) % modulus width) (norm (a.lo * 2 ^ s) (a.hi * 2 ^ s) z) (norm 0 (modulus width - 1) z)
     (nat_lt (a.hi * 2 ^ s) (modulus width))
     (λ e.
     small-contains (norm (a.lo * 2 ^ s) (a.hi * 2 ^ s) z) (modulus width) (x * 2 ^ s)
@@ -209,7 +199,7 @@ pub shifted_left-contains : (width : Width) (a b : Span) (x y : ℕ) → Contain
     Contains (shifted_left width a b) ((x * 2 ^ shift width y) % modulus width)
 unfolding shifted_left
 shifted_left-contains width a b x y c d =
-    by_test ((x * 2 ^ shift width y) % modulus width) (shifted_left_by width a (shift width b.lo)) (norm 0 (modulus width - 1) a.zeros)
+    contains_by_test ((x * 2 ^ shift width y) % modulus width) (shifted_left_by width a (shift width b.lo)) (norm 0 (modulus width - 1) a.zeros)
     (is_exact b)
     (λ known.
     subst (λ (n : ℕ). Contains (shifted_left_by width a (shift width b.lo)) ((x * 2 ^ shift width n) % modulus width))
@@ -224,7 +214,7 @@ pub shifted_right-contains : (width : Width) (a b : Span) (x y : ℕ) → Contai
 unfolding shifted_right
 shifted_right-contains width a b x y c d =
     let s = shift width b.lo in
-    by_test (x / 2 ^ shift width y) (norm (a.lo / 2 ^ s) (a.hi / 2 ^ s) (a.zeros - s)) (norm 0 a.hi 0) (is_exact b)
+    contains_by_test (x / 2 ^ shift width y) (norm (a.lo / 2 ^ s) (a.hi / 2 ^ s) (a.zeros - s)) (norm 0 a.hi 0) (is_exact b)
     (λ known.
     subst (λ (n : ℕ). Contains (norm (a.lo / 2 ^ s) (a.hi / 2 ^ s) (a.zeros - s)) (x / 2 ^ shift width n))
     (sym (exact-number b y known d))
@@ -237,7 +227,7 @@ unfolding shifted_signed
 shifted_signed-contains width a b x y fits c d =
     let m = modulus width in
     let s = shift width y in
-    by_test (arithmetic_shift m x s) (shifted_right width a b) (top width) (nat_lt a.hi (m / 2))
+    contains_by_test (arithmetic_shift m x s) (shifted_right width a b) (top width) (nat_lt a.hi (m / 2))
     (λ e.
     let small : 2 * x < m = omega (arith, ltb-true a.hi (m / 2) e, c.below) in
     subst (λ (n : ℕ). Contains (shifted_right width a b) n)

@@ -8,8 +8,8 @@ use Rattle.std.proofs.lemmas.Nat.Bits.{ones_shr}
 use Rattle.std.proofs.Math.Pow.{pow_mono}
 use Rattle.std.proofs.lemmas.Bool.{cases_lt, cond-true, lt-ltb}
 use Rattle.bpf_insn.specs.declared.insn.Width.{Width}
-use Rattle.bpf_insn.specs.declared.insn.Width.TheVariants.{W32, W64}
 use Rattle.bpf_insn_words.specs.Words.{modulus}
+use Rattle.bpf_insn_words.proofs.WordLaws.{modulus-most}
 use Rattle.value_range_spans.specs.Spans.{Span, IsSpan, Contains, rounded_up, norm}
 use Rattle.value_range_spans.proofs.Multiples.{coarser, zero-multiple, multiple-zero, multiple-add, multiple-sub, multiple-mul, pow-multiple, up-most}
 use Rattle.value_range_spans.proofs.SpanLaws.{norm-contains, lo-in, max-one}
@@ -223,12 +223,12 @@ shl-word : (x y s : ℕ) → x ≤ y → y * 2 ^ s < 2 ^ 64 → x * 2 ^ s % 2 ^ 
 shl-word x y s h word = mod-eq_of_lt (omega (arith, mul-le x (2 ^ s) y (2 ^ s) h (omega arith)))
 
 -- so the bounds are the shifted ones
-pub left-greatest : (a : Span) (s n hi : ℕ) → IsSpan a → s < 64 → n ≡ a.hi → hi ≡ n * 2 ^ s % 2 ^ 128 → hi ≡ a.hi * 2 ^ s
-left-greatest a s n hi i few is_n is_hi = is_hi ∙ ap (λ (x : ℕ). x * 2 ^ s % 2 ^ 128) is_n ∙ shl-wide a.hi s i.word few
-
-pub left-least : (a : Span) (s n hi : ℕ) → IsSpan a → n ≡ a.lo → hi ≡ a.hi * 2 ^ s → hi < 2 ^ 64 → n * 2 ^ s % 2 ^ 64 ≡ a.lo * 2 ^ s
-left-least a s n hi i is_n is_hi word =
-    ap (λ (x : ℕ). x * 2 ^ s % 2 ^ 64) is_n ∙ shl-word a.lo a.hi s i.ordered (omega arith)
+pub left-bounds : (width : Width) (a : Span) (s l h hi : ℕ) → IsSpan a → s < 64 → l ≡ a.lo → h ≡ a.hi →
+    hi ≡ h * 2 ^ s % 2 ^ 128 → hi < modulus width → (l * 2 ^ s % 2 ^ 64 ≡ a.lo * 2 ^ s) × (hi ≡ a.hi * 2 ^ s)
+left-bounds width a s l h hi i few is_l is_h is_hi within =
+    let greatest : hi ≡ a.hi * 2 ^ s = is_hi ∙ ap (λ (x : ℕ). x * 2 ^ s % 2 ^ 128) is_h ∙ shl-wide a.hi s i.word few in
+    let word : a.hi * 2 ^ s < 2 ^ 64 = omega (arith, greatest, within, modulus-most width) in
+    (ap (λ (x : ℕ). x * 2 ^ s % 2 ^ 64) is_l ∙ shl-word a.lo a.hi s i.ordered word, greatest)
 
 -- the row of a known amount
 pub left-row : (width : Width) (a : Span) (s hi : ℕ) → hi ≡ a.hi * 2 ^ s → hi < modulus width →
@@ -261,8 +261,3 @@ filled-most x word = omega (arith, below-filled x x word (omega arith))
 
 pub filled-zero : (x : ℕ) → x ≡ 0 → 0 ≡ filled x
 filled-zero x e = sym (omega (arith, filled-least x 0 (omega arith) (omega arith)))
-
--- numbers of a width are words
-pub modulus-most : (width : Width) → modulus width ≤ 2 ^ 64
-modulus-most W32 = omega arith
-modulus-most W64 = omega arith

@@ -1,5 +1,5 @@
 -- Each row leaves a span.
-use Rattle.std.proofs.Common.{◌≡◌, ℕ, ◌+◌, ◌-◌, ◌*◌, ◌/◌, ◌%◌, ◌^◌, ◌<◌, ◌≤◌, min, max, Bool, true, false, refl, arith}
+use Rattle.std.proofs.Common.{◌≡◌, ℕ, ◌+◌, ◌-◌, ◌*◌, ◌/◌, ◌%◌, ◌^◌, ◌<◌, ◌≤◌, min, max, refl, arith}
 use Rattle.std.specs.Prelude.{◌==◌, nat_lt, nat_le, if◌then◌else◌, bit_or}
 use Rattle.std.proofs.Math.Nat.{div-le_self, min-le_left, min-le_right, max-le}
 use Rattle.std.proofs.lemmas.Nat.{shr_le}
@@ -14,17 +14,13 @@ use Rattle.bpf_insn.specs.declared.insn.EndianBits.{EndianBits}
 use Rattle.bpf_insn.specs.declared.insn.EndianBits.TheVariants.{B16, B32, B64}
 use Rattle.bpf_insn_words.specs.Words.{modulus, shift, low_modulus, endian_modulus}
 use Rattle.bpf_insn_words.specs.WordBounds.{ResultsFit}
+use Rattle.bpf_insn_words.proofs.WordLaws.{modulus-most}
 use Rattle.value_range_spans.specs.Spans.{Span, IsSpan, is_exact, exact, top, norm}
-use Rattle.value_range_spans.proofs.SpanLaws.{exact-span, norm-span, top-span}
+use Rattle.value_range_spans.proofs.SpanLaws.{is_by_test, exact-span, norm-span, top-span}
 use Rattle.value_range.specs.declared.operation.Operation.{Operation}
 use Rattle.value_range.specs.declared.operation.Operation.TheVariants.{Alu, Neg, Movsx, Endian}
 use Rattle.value_range.specs.AluRows.{meant, low32, operand_of, operand, filled, added, subtracted, multiplied, divided_by, divided, left_over_by, left_over, with_bits, common_bits, other_bits, shifted_left_by, shifted_left, shifted_right_by, shifted_right, shifted_signed, negative, extended, top_bits, little, ordered, alu_row, row, reads_exact, of_operands, span_of}
-use Rattle.value_range.proofs.RowLaws.{modulus-most, zero_some, added_some, subtracted_some, multiplied_some, divided_some, with_bits_some, shifted_left_some, shifted_right_some, or-word, filled-least}
-
--- whichever is chosen, by what the test tells
-span_by_test : (s t : Span) (b : Bool) → (b ≡ true → IsSpan s) → (b ≡ false → IsSpan t) → IsSpan (if b then s else t)
-span_by_test s t true h k = h refl
-span_by_test s t false h k = k refl
+use Rattle.value_range.proofs.RowLaws.{zero_some, added_some, subtracted_some, multiplied_some, divided_some, with_bits_some, shifted_left_some, shifted_right_some, or-word, filled-least}
 
 -- those with so many trailing zeros
 spread-span : (width : Width) (z : ℕ) → z ≤ 64 → IsSpan (norm 0 (modulus width - 1) z)
@@ -41,7 +37,7 @@ added-span : (width : Width) (a b : Span) → IsSpan a → IsSpan b → IsSpan (
 unfolding added
 added-span width a b i j =
     let z = min a.zeros b.zeros in
-    span_by_test (norm (a.lo + b.lo) (a.hi + b.hi) z) (norm 0 (modulus width - 1) z) (nat_lt (a.hi + b.hi) (modulus width))
+    is_by_test (norm (a.lo + b.lo) (a.hi + b.hi) z) (norm 0 (modulus width - 1) z) (nat_lt (a.hi + b.hi) (modulus width))
     (λ e.
     norm-span (a.lo + b.lo) (a.hi + b.hi) z (lesser-few a b i)
     (omega (arith, ltb-true (a.hi + b.hi) (modulus width) e, modulus-most width)) (added_some a b i j))
@@ -51,7 +47,7 @@ subtracted-span : (width : Width) (a b : Span) → IsSpan a → IsSpan b → IsS
 unfolding subtracted
 subtracted-span width a b i j =
     let z = min a.zeros b.zeros in
-    span_by_test (norm (a.lo - b.hi) (a.hi - b.lo) z) (norm 0 (modulus width - 1) z) (nat_le b.hi a.lo)
+    is_by_test (norm (a.lo - b.hi) (a.hi - b.lo) z) (norm 0 (modulus width - 1) z) (nat_le b.hi a.lo)
     (λ _. norm-span (a.lo - b.hi) (a.hi - b.lo) z (lesser-few a b i) (omega (arith, i.word)) (subtracted_some a b i j))
     (λ _. spread-span width z (lesser-few a b i))
 
@@ -60,7 +56,7 @@ unfolding multiplied
 multiplied-span width a b i j =
     let z = min (a.zeros + b.zeros) 64 in
     let few : z ≤ 64 = min-le_right (a.zeros + b.zeros) 64 in
-    span_by_test (norm (a.lo * b.lo) (a.hi * b.hi) z) (norm 0 (modulus width - 1) z) (nat_lt (a.hi * b.hi) (modulus width))
+    is_by_test (norm (a.lo * b.lo) (a.hi * b.hi) z) (norm 0 (modulus width - 1) z) (nat_lt (a.hi * b.hi) (modulus width))
     (λ e.
     norm-span (a.lo * b.lo) (a.hi * b.hi) z few
     (omega (arith, ltb-true (a.hi * b.hi) (modulus width) e, modulus-most width)) (multiplied_some a b i j))
@@ -69,9 +65,9 @@ multiplied-span width a b i j =
 divided-span : (a b : Span) → IsSpan a → IsSpan (divided a b)
 unfolding divided
 divided-span a b i =
-    span_by_test (divided_by a b.lo) (norm 0 a.hi 0) (is_exact b)
+    is_by_test (divided_by a b.lo) (norm 0 a.hi 0) (is_exact b)
     (λ _.
-    span_by_test (exact 0) (norm (a.lo / b.lo) (a.hi / b.lo) 0) (b.lo == 0)
+    is_by_test (exact 0) (norm (a.lo / b.lo) (a.hi / b.lo) 0) (b.lo == 0)
     (λ _. exact-span 0 (omega arith))
     (λ e.
     let other : b.lo ≡ 0 → ⊥ = eqb-false b.lo 0 e in
@@ -82,12 +78,12 @@ divided-span a b i =
 left_over-span : (a b : Span) → IsSpan a → IsSpan b → IsSpan (left_over a b)
 unfolding left_over
 left_over-span a b i j =
-    span_by_test (left_over_by a b.lo) (norm 0 a.hi 0) (is_exact b)
+    is_by_test (left_over_by a b.lo) (norm 0 a.hi 0) (is_exact b)
     (λ _.
-    span_by_test a (if nat_lt a.hi b.lo then a else norm 0 (b.lo - 1) 0) (b.lo == 0)
+    is_by_test a (if nat_lt a.hi b.lo then a else norm 0 (b.lo - 1) 0) (b.lo == 0)
     (λ _. i)
     (λ _.
-    span_by_test a (norm 0 (b.lo - 1) 0) (nat_lt a.hi b.lo)
+    is_by_test a (norm 0 (b.lo - 1) 0) (nat_lt a.hi b.lo)
     (λ _. i)
     (λ _. below-span (b.lo - 1) 0 (omega arith) (omega (arith, j.ordered, j.word)))))
     (λ _. below-span a.hi 0 (omega arith) i.word)
@@ -116,9 +112,9 @@ shifted_left-span width a b i =
     let s = shift width b.lo in
     let z = min (a.zeros + s) 64 in
     let few : z ≤ 64 = min-le_right (a.zeros + s) 64 in
-    span_by_test (shifted_left_by width a s) (norm 0 (modulus width - 1) a.zeros) (is_exact b)
+    is_by_test (shifted_left_by width a s) (norm 0 (modulus width - 1) a.zeros) (is_exact b)
     (λ _.
-    span_by_test (norm (a.lo * 2 ^ s) (a.hi * 2 ^ s) z) (norm 0 (modulus width - 1) z) (nat_lt (a.hi * 2 ^ s) (modulus width))
+    is_by_test (norm (a.lo * 2 ^ s) (a.hi * 2 ^ s) z) (norm 0 (modulus width - 1) z) (nat_lt (a.hi * 2 ^ s) (modulus width))
     (λ e.
     norm-span (a.lo * 2 ^ s) (a.hi * 2 ^ s) z few
     (omega (arith, ltb-true (a.hi * 2 ^ s) (modulus width) e, modulus-most width)) (shifted_left_some a s i))
@@ -129,7 +125,7 @@ shifted_right-span : (width : Width) (a b : Span) → IsSpan a → IsSpan (shift
 unfolding shifted_right
 shifted_right-span width a b i =
     let s = shift width b.lo in
-    span_by_test (shifted_right_by a s) (norm 0 a.hi 0) (is_exact b)
+    is_by_test (shifted_right_by a s) (norm 0 a.hi 0) (is_exact b)
     (λ _.
     norm-span (a.lo / 2 ^ s) (a.hi / 2 ^ s) (a.zeros - s) (omega (arith, i.bits)) (omega (arith, shr_le a.hi s, i.word))
     (shifted_right_some a s i))
@@ -138,7 +134,7 @@ shifted_right-span width a b i =
 shifted_signed-span : (width : Width) (a b : Span) → IsSpan a → IsSpan (shifted_signed width a b)
 unfolding shifted_signed
 shifted_signed-span width a b i =
-    span_by_test (shifted_right width a b) (top width) (nat_lt a.hi (modulus width / 2))
+    is_by_test (shifted_right width a b) (top width) (nat_lt a.hi (modulus width / 2))
     (λ _. shifted_right-span width a b i) (λ _. top-span width)
 
 alu_row-span : (op : AluOp) (width : Width) (a b : Span) → IsSpan a → IsSpan b → IsSpan (alu_row op width a b)
@@ -165,7 +161,7 @@ top_bits-span B64 = record { ordered = omega arith; word = omega arith; bits = o
 ordered-span : (order : ByteOrder) (bits : EndianBits) (a : Span) → IsSpan a → IsSpan (ordered order bits a)
 unfolding little
 ordered-span Le bits a i =
-    span_by_test a (top_bits bits) (nat_lt a.hi (endian_modulus bits)) (λ _. i) (λ _. top_bits-span bits)
+    is_by_test a (top_bits bits) (nat_lt a.hi (endian_modulus bits)) (λ _. i) (λ _. top_bits-span bits)
 ordered-span Be bits a i = top_bits-span bits
 ordered-span Swap bits a i = top_bits-span bits
 
@@ -174,7 +170,7 @@ unfolding negative extended
 row-span (Alu op) width a b i j = alu_row-span op width a b i j
 row-span Neg width a b i j = spread-span width a.zeros i.bits
 row-span (Movsx bits) width a b i j =
-    span_by_test b (top width) (nat_lt b.hi (low_modulus bits / 2)) (λ _. j) (λ _. top-span width)
+    is_by_test b (top width) (nat_lt b.hi (low_modulus bits / 2)) (λ _. j) (λ _. top-span width)
 row-span (Endian order bits) width a b i j = ordered-span order bits a i
 
 -- meanings are words
@@ -188,10 +184,10 @@ meant-word fit (Endian order bits) width x y = fit.in_order_is_word order bits x
 operand_of-span : (width : Width) (s : Span) → IsSpan s → IsSpan (operand_of width s)
 unfolding low32
 operand_of-span W32 s i =
-    span_by_test s (if is_exact s then exact (s.lo % 2 ^ 32) else top W32) (nat_lt s.hi (2 ^ 32))
+    is_by_test s (if is_exact s then exact (s.lo % 2 ^ 32) else top W32) (nat_lt s.hi (2 ^ 32))
     (λ _. i)
     (λ _.
-    span_by_test (exact (s.lo % 2 ^ 32)) (top W32) (is_exact s)
+    is_by_test (exact (s.lo % 2 ^ 32)) (top W32) (is_exact s)
     (λ _. exact-span (s.lo % 2 ^ 32) (omega arith)) (λ _. top-span W32))
 operand_of-span W64 s i = i
 
@@ -207,6 +203,6 @@ unfolding of_operands
 span_of-span fit operation width a b i j =
     let first = operand operation width a in
     let second = operand operation width b in
-    span_by_test (exact (meant operation width first.lo second.lo)) (row operation width first second) (reads_exact operation first second)
+    is_by_test (exact (meant operation width first.lo second.lo)) (row operation width first second) (reads_exact operation first second)
     (λ _. exact-span (meant operation width first.lo second.lo) (meant-word fit operation width first.lo second.lo))
     (λ _. row-span operation width first second (operand-span operation width a i) (operand-span operation width b j))

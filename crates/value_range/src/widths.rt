@@ -1,7 +1,7 @@
 //! What depends on the width of an operation alone.
 
 ghost use Rattle.std.specs.Prelude.{◌≡◌, ◌-◌, ◌<◌, ◌≤◌, IfSome, IfNone};
-ghost use Rattle.bpf_insn_words.specs.Words.{modulus, shift};
+ghost use Rattle.bpf_insn_words.specs.Words.{modulus};
 ghost use Rattle.value_range_spans.specs.Spans.{norm};
 
 use bpf_insn::Width;
@@ -26,15 +26,4 @@ pub fn spread(width: Width, zeros: u32) -> Range
     ensures { result ≡ norm 0 (modulus width - 1) zeros }
 {
     norm(0, top(width).hi(), zeros)
-}
-
-/// By how many bits a shift moves: its amount modulo the number of bits.
-pub fn shift_amount(width: Width, amount: u64) -> u32
-    ensures equal { result ≡ shift width amount }
-    ensures below { result < 64 }
-{
-    match width {
-        Width::W32 => (amount % 32) as u32,
-        Width::W64 => (amount % 64) as u32,
-    }
 }

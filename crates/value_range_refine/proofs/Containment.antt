@@ -11,7 +11,7 @@ use Rattle.bpf_insn.specs.declared.insn.Compare.TheVariants.{Eq, Gt, Ge, Set, Ne
 use Rattle.bpf_insn_words.specs.Words.{modulus, compared, holds}
 use Rattle.value_range_spans.specs.Spans.{Span, IsSpan, Contains, is_exact, rounded_up, rounded_down, norm}
 use Rattle.value_range_spans.proofs.Multiples.{apart, up-most, down-least}
-use Rattle.value_range_spans.proofs.SpanLaws.{norm-contains, exact-number, number-word, max-one}
+use Rattle.value_range_spans.proofs.SpanLaws.{contains_by_test, norm-contains, exact-number, number-word, max-one}
 use Rattle.value_range_refine.specs.declared.condition.Condition.{Condition}
 use Rattle.value_range_refine.specs.declared.condition.Condition.TheVariants.{Holds, NotSet}
 use Rattle.value_range_refine.specs.RefineLaw.{Has}
@@ -48,10 +48,6 @@ equal-has a b x c d =
     multiple
 
 -- NE
-contains_by_test : (x : ℕ) (s t : Span) (b : Bool) → (b ≡ true → Contains s x) → (b ≡ false → Contains t x) → Contains (if b then s else t) x
-contains_by_test x s t true h k = h refl
-contains_by_test x s t false h k = k refl
-
 without-contains : (n : ℕ) (s : Span) (y : ℕ) → IsSpan s → Contains s y → (y ≡ n → ⊥) → Contains (without n s) y
 unfolding without
 without-contains n s y i c other =

@@ -19,8 +19,9 @@ equal-none a b z lo hi h is_z is_lo is_hi is_h empty =
     (sym (cond-true (nat_lt h (rounded_up z lo)) None (Some (norm (rounded_up z lo) h z, norm (rounded_up z lo) h z))
     (lt-ltb h (rounded_up z lo) (omega (arith, up-least z lo)))))
 
-least-within : (z lo hi h : ℕ) → h ≡ rounded_down z hi → lo ≤ h → rounded_up z lo ≤ h
-least-within z lo hi h is_h more = up-most z lo h (subst (λ (n : ℕ). n % 2 ^ z ≡ 0) (sym is_h) (down-multiple z hi)) more
+-- what is left of the bounds has a multiple between them
+pub equal-within : (z lo hi h : ℕ) → h ≡ rounded_down z hi → lo ≤ h → rounded_up z lo ≤ h
+equal-within z lo hi h is_h more = up-most z lo h (subst (λ (n : ℕ). n % 2 ^ z ≡ 0) (sym is_h) (down-multiple z hi)) more
 
 pub equal-some : (a b r : Span) (z lo hi h : ℕ) → z ≡ max a.zeros b.zeros → lo ≡ max a.lo b.lo → hi ≡ min a.hi b.hi →
     h ≡ rounded_down z hi → lo ≤ h → r ≡ norm lo h z → Some (r, r) ≡ equal a b
@@ -30,11 +31,7 @@ equal-some a b r z lo hi h is_z is_lo is_hi is_h more is_r =
     rw (← is_z, ← is_lo, ← is_hi, ← is_h)
     (ap (λ (s : Span). Some (s, s)) is_common
     ∙ sym (cond-false (nat_lt h (rounded_up z lo)) None (Some (norm (rounded_up z lo) h z, norm (rounded_up z lo) h z))
-    (le-ltb h (rounded_up z lo) (least-within z lo hi h is_h more))))
-
--- what is left of the bounds has a multiple between them
-pub equal-within : (z lo hi h : ℕ) → h ≡ rounded_down z hi → lo ≤ h → rounded_up z lo ≤ h
-equal-within z lo hi h is_h more = least-within z lo hi h is_h more
+    (le-ltb h (rounded_up z lo) (equal-within z lo hi h is_h more))))
 
 pub greater-first : (a : Span) (n : ℕ) → IsSpan a → n < a.hi → rounded_up a.zeros (max a.lo (n + 1)) ≤ a.hi
 greater-first a n i above =

@@ -9,7 +9,7 @@ use Rattle.bpf_insn.specs.declared.insn.Width.TheVariants.{W32, W64}
 use Rattle.bpf_insn.specs.declared.insn.Compare.TheVariants.{Eq, Gt, Ge, Set, Ne, Sgt, Sge, Lt, Le, Slt, Sle}
 use Rattle.value_range_spans.specs.Spans.{Span, IsSpan, is_exact, rounded_up, rounded_down, norm}
 use Rattle.value_range_spans.proofs.Multiples.{up-multiple, up-most, down-most}
-use Rattle.value_range_spans.proofs.SpanLaws.{norm-span}
+use Rattle.value_range_spans.proofs.SpanLaws.{is_by_test, norm-span}
 use Rattle.value_range_refine.specs.declared.condition.Condition.{Condition}
 use Rattle.value_range_refine.specs.declared.condition.Condition.TheVariants.{Holds, NotSet}
 use Rattle.value_range_refine.specs.RefineLaw.{AreSpans}
@@ -20,10 +20,6 @@ use Rattle.value_range_refine.proofs.RefineLaws.{greater-first, greater-second, 
 are_by_test : (p q : Refined) (b : Bool) → (b ≡ true → AreSpans p) → (b ≡ false → AreSpans q) → AreSpans (if b then p else q)
 are_by_test p q true h k = h refl
 are_by_test p q false h k = k refl
-
-is_by_test : (s t : Span) (b : Bool) → (b ≡ true → IsSpan s) → (b ≡ false → IsSpan t) → IsSpan (if b then s else t)
-is_by_test s t true h k = h refl
-is_by_test s t false h k = k refl
 
 equal-spans : (a b : Span) → IsSpan a → IsSpan b → AreSpans (equal a b)
 unfolding equal

@@ -16,12 +16,8 @@ use Rattle.bpf_insn.specs.declared.insn.MovsxBits.{MovsxBits}
 use Rattle.bpf_insn.specs.declared.insn.MovsxBits.TheVariants.{B8, B16 as Low16, B32 as Low32}
 use Rattle.bpf_insn_words.specs.Words.{alu, computed, negated, moved_signed, in_order, modulus, low_modulus, endian_modulus, endian_integers, shift, signed, integers}
 use Rattle.bpf_insn_words.proofs.SignedLaws.{half, signed-abs, div-abs, rem-abs, rem-le}
+use Rattle.bpf_insn_words.proofs.WordLaws.{modulus-positive}
 use Rattle.bpf_insn_words.proofs.results_fit.Goals as goal
-
--- every width has numbers
-positive : (width : Width) → 0 < modulus width
-positive W32 = omega arith
-positive W64 = omega arith
 
 -- whichever is chosen
 chosen : (test : Bool) (m x y : ℕ) → x < m → y < m → (if test then x else y) < m
@@ -51,17 +47,17 @@ below m a r h k = omega arith
 -- on numbers of the width
 computed-fits : (width : Width) (op : AluOp) (a b : ℕ) → a < modulus width → b < modulus width →
     computed width op a b < modulus width
-computed-fits width Add a b h k = mod_below (a + b) (modulus width) (positive width)
-computed-fits width Sub a b h k = mod_below (a + (modulus width - b)) (modulus width) (positive width)
-computed-fits width Mul a b h k = mod_below (a * b) (modulus width) (positive width)
-computed-fits width Div a b h k = chosen (b == 0) (modulus width) 0 (a / b) (positive width) (below (modulus width) a (a / b) (div-le_self a b) h)
+computed-fits width Add a b h k = mod_below (a + b) (modulus width) (modulus-positive width)
+computed-fits width Sub a b h k = mod_below (a + (modulus width - b)) (modulus width) (modulus-positive width)
+computed-fits width Mul a b h k = mod_below (a * b) (modulus width) (modulus-positive width)
+computed-fits width Div a b h k = chosen (b == 0) (modulus width) 0 (a / b) (modulus-positive width) (below (modulus width) a (a / b) (div-le_self a b) h)
 computed-fits width Sdiv a b h k =
     let z : ℤ = int_div (signed width a) (signed width b) in
     let small : unsigned_abs z ≤ half width = omega (arith, div-abs (signed width a) (signed width b), signed-abs width a h) in
-    chosen (b == 0) (modulus width) 0 (cast_unsigned (integers width) z) (positive width) (cast-fits width z small)
+    chosen (b == 0) (modulus width) 0 (cast_unsigned (integers width) z) (modulus-positive width) (cast-fits width z small)
 computed-fits width Or a b h k = or-fits width a b h k
 computed-fits width And a b h k = below (modulus width) a _ (and_le_l a b) h
-computed-fits width Lsh a b h k = mod_below (a * 2 ^ shift width b) (modulus width) (positive width)
+computed-fits width Lsh a b h k = mod_below (a * 2 ^ shift width b) (modulus width) (modulus-positive width)
 computed-fits width Rsh a b h k = below (modulus width) a _ (div-le_self a (2 ^ shift width b)) h
 computed-fits width Mod a b h k = chosen (b == 0) (modulus width) a (a % b) h (below (modulus width) a (a % b) (rem-le a b) h)
 computed-fits width Smod a b h k =
@@ -73,17 +69,17 @@ computed-fits width Mov a b h k = k
 computed-fits width Arsh a b h k =
     chosen (nat_lt (2 * a) (modulus width)) (modulus width) _ _
     (below (modulus width) a _ (div-le_self a (2 ^ shift width b)) h)
-    (omega (arith, positive width))
+    (omega (arith, modulus-positive width))
 
 alu-fits : (width : Width) (op : AluOp) (a b : ℕ) → alu width op a b < modulus width
 unfolding alu
 alu-fits width op a b =
-    computed-fits width op (a % modulus width) (b % modulus width) (mod_below a (modulus width) (positive width))
-    (mod_below b (modulus width) (positive width))
+    computed-fits width op (a % modulus width) (b % modulus width) (mod_below a (modulus width) (modulus-positive width))
+    (mod_below b (modulus width) (modulus-positive width))
 
 negated-fits : (width : Width) (a : ℕ) → negated width a < modulus width
 unfolding negated
-negated-fits width a = mod_below (modulus width - a % modulus width) (modulus width) (positive width)
+negated-fits width a = mod_below (modulus width - a % modulus width) (modulus width) (modulus-positive width)
 
 -- low bits are among the width's
 low-positive : (bits : MovsxBits) → 0 < low_modulus bits

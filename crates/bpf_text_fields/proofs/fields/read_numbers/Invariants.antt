@@ -1,7 +1,7 @@
 use Rattle.std.proofs.Common.{◌≡◌, length}
 use Rattle.bpf_text_lines.specs.Words.{words_of}
 use Rattle.bpf_text_fields.specs.Fields.{numbers_in}
-use Rattle.bpf_text_fields.proofs.FieldLaws.{with_front}
+use Rattle.bpf_text_fields.proofs.RefusalLaws.{with_front}
 use Rattle.bpf_text_fields.proofs.fields.read_numbers.Given as goal
 
 abbrev pub invariant-loop-word : goal.invariant-loop-word
