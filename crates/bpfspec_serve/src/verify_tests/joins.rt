@@ -150,36 +150,63 @@ const RETURN_INDEX: &str = "mov64 r0, r1 | exit";
 
 const READ_CTX: &str = "ldx64 r4, [r2+0] | mov64 r0, 0 | exit";
 
+const WRITTEN_ON_ONE_WAY: &str =
+    "jeq64 r1, 0, other | st64 [r10-8], 5 | mov64 r1, 4 | mov64 r3, r10 | add64 r3, -8";
+
+const OTHER_WAY: &str = "exit | other: | mov64 r1, 4 | mov64 r3, r10 | add64 r3, -8";
+
+const WRITTEN_ON_THE_OTHER_WAY: &str =
+    "exit | other: | st64 [r10-8], 6 | mov64 r1, 4 | mov64 r3, r10 | add64 r3, -8";
+
+// The lines before each call, the callback, and the answer.
+const TWO_CALLS: &[(&str, &str, &str, &str)] = &[
+    (
+        ONCE,
+        TWICE,
+        RETURN_INDEX,
+        "accepted | function 0 at 0 count 11 | function 1 at 13 count 2",
+    ),
+    (ONCE, THRICE, RETURN_INDEX, "refused V24 at slot 14"),
+    (THRICE, ONCE, RETURN_INDEX, "refused V24 at slot 14"),
+    (
+        WITH_WRITTEN_CTX,
+        WITH_CTX,
+        READ_CTX,
+        "accepted | function 0 at 0 count 14 | function 1 at 16 count 3",
+    ),
+    (
+        WITH_CTX,
+        WITH_WRITTEN_CTX,
+        READ_CTX,
+        "refused V20 at slot 16",
+    ),
+    (
+        WRITTEN_ON_ONE_WAY,
+        WRITTEN_ON_THE_OTHER_WAY,
+        READ_CTX,
+        "accepted | function 0 at 0 count 9 | function 1 at 19 count 3",
+    ),
+    (
+        WRITTEN_ON_ONE_WAY,
+        OTHER_WAY,
+        READ_CTX,
+        "refused V20 at slot 18",
+    ),
+    (WITH_WRITTEN_CTX, TWICE, READ_CTX, "refused V12 at slot 15"),
+    (
+        WITH_WRITTEN_CTX,
+        WITH_LOWER_CTX,
+        READ_CTX,
+        "refused V12 at slot 16",
+    ),
+];
+
 #[test]
 fn calls_of_a_callback_meet(rt: HostRuntime) -> Result<(), Fail> {
     let alloc = rt.alloc();
-    let small = "accepted | function 0 at 0 count 11 | function 1 at 13 count 2";
-    let written = "accepted | function 0 at 0 count 14 | function 1 at 16 count 3";
-    for (first, second, callback, answer) in [
-        (ONCE, TWICE, RETURN_INDEX, small),
-        (ONCE, THRICE, RETURN_INDEX, "refused V24 at slot 14"),
-        (THRICE, ONCE, RETURN_INDEX, "refused V24 at slot 14"),
-        (WITH_WRITTEN_CTX, WITH_CTX, READ_CTX, written),
-        (
-            WITH_CTX,
-            WITH_WRITTEN_CTX,
-            READ_CTX,
-            "refused V20 at slot 16",
-        ),
-        (WITH_WRITTEN_CTX, TWICE, READ_CTX, "refused V12 at slot 15"),
-        (
-            WITH_WRITTEN_CTX,
-            WITH_LOWER_CTX,
-            READ_CTX,
-            "refused V12 at slot 16",
-        ),
-    ] {
-        is_answered(
-            &rt,
-            alloc,
-            &two_calls(alloc, first, second, callback)?,
-            answer,
-        )?;
+    for (first, second, callback, answer) in TWO_CALLS {
+        let unit = two_calls(alloc, first, second, callback)?;
+        is_answered(&rt, alloc, &unit, answer)?;
     }
     Ok(())
 }
