@@ -124,7 +124,7 @@ const BOUNDS_OF_FRAMES: &str = "
     atomic64 add [r10-520], r1 | exit      => refused V19 at slot 0
 ";
 
-/// The lowest address of the frame. The next slot is 2.
+/// The lowest address of the frame, and a line at slot 2.
 const LOWEST: &str = "maps 1 | mov64 r2, r10 | add64 r2, -512 | ..";
 
 const BOUNDS_FROM_THE_LOWEST: &str = "
