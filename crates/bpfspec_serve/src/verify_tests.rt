@@ -1,8 +1,19 @@
-//! Units that are accepted, and the first rules that others break.
+//! What verify answers to units that break a rule, and to units that only just keep it.
+//!
+//! In the tables ` | ` parts the lines of a unit and of an answer.
 
-use crate::serving_tests::{is_done, is_refused_by, served_as};
+mod accesses;
+mod joins;
+mod loops;
+mod operands;
+mod ranges;
+mod slots;
+mod ways;
+
+use crate::serving_tests::{is_done, served_as};
 use crate::{Mode, Served, UnitForm};
-use std::alloc::{AllocError, Global};
+use std::alloc::Global;
+use std::process::Abort;
 use std::test::Fail;
 
 /// Verifies a unit of assembler text.
@@ -10,133 +21,90 @@ const VERIFY: Mode = Mode::Verify {
     form: UnitForm::Assembler,
 };
 
-/// A unit of these maps whose main calls `bpf_loop` for so many iterations of the callback's lines.
-fn loop_of(
-    alloc: Global,
-    maps: &str,
-    iterations: &str,
-    callback: &str,
-) -> Result<String, AllocError> {
-    let mut unit = String::from_str(alloc, maps)?;
-    unit.push_str("\nmov64 r1, ")?;
-    unit.push_str(iterations)?;
-    unit.push_str("\nldcode r2, cb\nmov64 r3, 0\nmov64 r4, 0\ncall 181\nexit\ncb:\n")?;
-    unit.push_str(callback)?;
-    Ok(unit)
+/// A lookup of element 3 and a line at slot 6.
+const LOOKUP: &str =
+    "maps 4 | st32 [r10-4], 3 | ldmap r1, 0 | mov64 r2, r10 | add64 r2, -4 | call 1 | ..";
+
+/// A loop of 4 iterations whose ctx is the address of 8 bytes that main wrote, and its callback at
+/// slot 9.
+const CTX: &str =
+    "maps 1 | st64 [r10-8], 5 | mov64 r1, 4 | ldcode r2, cb | mov64 r3, r10 | add64 r3, -8 | \
+    mov64 r4, 0 | call 181 | exit | cb: | ..";
+
+/// A loop of 4 iterations without ctx, and its callback at slot 7.
+const LOOP: &str =
+    "maps 1 | mov64 r1, 4 | ldcode r2, cb | mov64 r3, 0 | mov64 r4, 0 | call 181 | exit | cb: | ..";
+
+/// How a unit with this answer is served.
+fn served_with(answer: &str) -> Served {
+    if answer.starts_with("accepted") {
+        Served::Done
+    } else if answer.starts_with("refused V") {
+        Served::Refused
+    } else {
+        Served::Text
+    }
 }
 
-/// Whether a unit is refused with this line.
-fn is_broken(alloc: Global, unit: &str, line: &str) -> bool {
-    is_refused_by(alloc, VERIFY, unit, Served::Refused, line)
+/// Asserts what verify answers to a unit.
+fn is_answered(rt: &impl Abort, alloc: Global, unit: &str, answer: &str) -> Result<(), Fail> {
+    let text = unit.replace(alloc, " | ", "\n")?;
+    let mut expected = answer.replace(alloc, " | ", "\n")?;
+    expected.push_str("\n")?;
+    let (served, written) = served_as(alloc, VERIFY, text.as_bytes());
+    assert_eq!(rt;
+        str::from_utf8(written.as_slice()),
+        Ok(expected.as_str()),
+        "of {unit}"
+    );
+    assert!(rt; served == served_with(answer), "of {unit}");
+    Ok(())
 }
 
-/// Reads element r1 modulo a power of two of map 0, behind a shift.
-const MASKED: &str = "and64 r1, 7\nlsh64 r1, 3\nldmapval r3, 0, 0\nadd64 r3, r1\nldx64 r4, [r3+0]\n\
-    mov64 r0, 0\nexit\n";
+/// Asserts what verify answers to units that differ where `unit` has two dots. A row of the table has
+/// the lines that stand there and, behind `=>`, the answer.
+fn are_answered(rt: &impl Abort, alloc: Global, unit: &str, table: &str) -> Result<(), Fail> {
+    for row in table.trim().lines() {
+        let (lines, answer) = row.split_once("=>").ok_or("a row has an answer")?;
+        let whole = unit.replace(alloc, "..", lines.trim())?;
+        is_answered(rt, alloc, &whole, answer.trim())?;
+    }
+    Ok(())
+}
 
-/// Reads element r1 of map 0 where it is at most 7.
-const GUARDED: &str = "jgt64 r1, 7, out\nlsh64 r1, 3\nldmapval r3, 0, 0\nadd64 r3, r1\n\
-    ldx64 r4, [r3+0]\nout:\nmov64 r0, 0\nexit\n";
+// The least slot, and there the least number.
+const FIRST_FAULTS: &str = "
+    mov64 r0, r2 | ja -1                                       => refused V12 at slot 0
+    jeq64 r2, 0, -1 | exit                                     => refused V3 at slot 0
+    mov64 r0, r2                                               => refused V4 at slot 0
+    ldcode r2, +100                                            => refused V4 at slot 0
+    ldvar r10, 0 | exit                                        => refused V9 at slot 0
+    ldmap r10, 1 | exit                                        => refused V10 at slot 0
+    mov64 r10, r2 | exit                                       => refused V11 at slot 0
+    mov64 r2, r10 | add64 r2, r3 | exit                        => refused V12 at slot 1
+    jeq64 r10, r2, +0 | exit                                   => refused V12 at slot 0
+    stx64 [r1+0], r2 | exit                                    => refused V12 at slot 0
+    stx64 [r1+0], r10 | exit                                   => refused V15 at slot 0
+    ldmapval r3, 0, 0 | ldx32 r0, [r3-6] | exit                => refused V17 at slot 2
+    ldmapval r3, 0, 0 | ldx64 r0, [r3-6] | exit                => refused V18 at slot 2
+    ldx64 r0, [r10-516] | exit                                 => refused V18 at slot 0
+    ldx64 r0, [r10-520] | exit                                 => refused V19 at slot 0
+    ldmap r1, 0 | mov64 r2, r10 | add64 r2, -6 | call 1 | exit => refused V20 at slot 4
+";
 
 #[test]
-fn units_are_accepted(rt: HostRuntime) -> Result<(), Fail> {
-    let alloc = rt.alloc();
+fn the_first_fault_is_named(rt: HostRuntime) -> Result<(), Fail> {
+    are_answered(&rt, rt.alloc(), "maps 1 | ..", FIRST_FAULTS)
+}
+
+#[test]
+fn a_unit_in_hex_form_is_accepted(rt: HostRuntime) {
     let hex = Mode::Verify {
         form: UnitForm::Hex,
     };
     let seven = "maps 1\nb700000007000000\n9500000000000000\n";
-    assert!(rt; is_done(alloc, hex, seven, "accepted\nfunction 0 at 0 count 2\n"));
-    let two = "accepted\nfunction 0 at 0 count 6\nfunction 1 at 7 count 7\n";
-    assert!(rt;
-        is_done(
-            alloc,
-            VERIFY,
-            &loop_of(alloc, "maps 8", "100", MASKED)?,
-            two
-        )
-    );
-    assert!(rt;
-        is_done(
-            alloc,
-            VERIFY,
-            &loop_of(alloc, "maps 8", "100", GUARDED)?,
-            two
-        )
-    );
-    assert!(rt; is_done(alloc, VERIFY, &loop_of(alloc, "maps 7", "7", GUARDED)?, two));
-    let untaken = "jlt64 r1, 7, out\nmov64 r2, 0\nout:\nmov64 r0, 0\nexit\n";
-    let longest = "accepted\nfunction 0 at 0 count 6\nfunction 1 at 7 count 4\n";
-    assert!(rt;
-        is_done(
-            alloc,
-            VERIFY,
-            &loop_of(alloc, "maps 1", "7", untaken)?,
-            longest
-        )
-    );
-    Ok(())
-}
-
-#[test]
-fn loops_break_rules(rt: HostRuntime) -> Result<(), Fail> {
-    let alloc = rt.alloc();
-    let outside = "refused V19 at slot 12\n";
-    assert!(rt; is_broken(alloc, &loop_of(alloc, "maps 7", "100", MASKED)?, outside));
-    assert!(rt; is_broken(alloc, &loop_of(alloc, "maps 7", "100", GUARDED)?, outside));
-    let shifted = MASKED.replace(alloc, "lsh64 r1, 3", "lsh64 r1, 2")?;
-    let misaligned = "refused V18 at slot 12\n";
-    assert!(rt;
-        is_broken(
-            alloc,
-            &loop_of(alloc, "maps 8", "100", &shifted)?,
-            misaligned
-        )
-    );
-    let index = "mov64 r0, r1\nexit\n";
-    let returned = "refused V24 at slot 8\n";
-    assert!(rt; is_broken(alloc, &loop_of(alloc, "maps 1", "4", index)?, returned));
-    let nested = "ldcode r2, cc\nmov64 r0, 0\nexit\ncc:\nmov64 r0, 0\nexit\n";
-    let in_callback = "refused V23 at slot 7\n";
-    assert!(rt; is_broken(alloc, &loop_of(alloc, "maps 1", "1", nested)?, in_callback));
-    Ok(())
-}
-
-#[test]
-fn units_break_rules(rt: HostRuntime) {
-    let alloc = rt.alloc();
-    for (unit, line) in [
-        ("maps 1", "refused V1 at slot 0\n"),
-        ("maps 1\nmov64 r0, r2\nexit", "refused V12 at slot 0\n"),
-        ("maps 1\nldx64 r0, [r10-8]\nexit", "refused V20 at slot 0\n"),
-        ("maps 1\nja -1\nexit", "refused V3 at slot 0\n"),
-        ("maps 1\nmov64 r0, 0", "refused V4 at slot 0\n"),
-        ("maps 1\nja +1\nlddw r0, 5\nexit", "refused V3 at slot 0\n"),
-        (
-            "maps 1\nldcode r2, +100\nmov64 r0, 0\nexit",
-            "refused V5 at slot 0\n",
-        ),
-        (
-            "maps 1\nldcode r2, -1\nmov64 r0, 0\nexit",
-            "refused V5 at slot 0\n",
-        ),
-        (
-            "maps 1\nldmapval r3, 0, 8\nmov64 r0, 0\nexit",
-            "refused V10 at slot 0\n",
-        ),
-    ] {
-        assert!(rt; is_broken(alloc, unit, line));
-    }
-}
-
-#[test]
-fn a_lookup_has_to_be_checked(rt: HostRuntime) -> Result<(), Fail> {
-    let alloc = rt.alloc();
-    let unit = "maps 4\nst32 [r10-4], 3\nldmap r1, 0\nmov64 r2, r10\nadd64 r2, -4\ncall 1\n\
-        jeq64 r0, 0, out\nldx64 r0, [r0+0]\nout:\nexit\n";
-    assert!(rt; is_done(alloc, VERIFY, unit, "accepted\nfunction 0 at 0 count 8\n"));
-    let unchecked = unit.replace(alloc, "jeq64 r0, 0, out\n", "")?;
-    assert!(rt; is_broken(alloc, &unchecked, "refused V16 at slot 6\n"));
-    Ok(())
+    let accepted = "accepted\nfunction 0 at 0 count 2\n";
+    assert!(rt; is_done(rt.alloc(), hex, seven, accepted));
 }
 
 // Where a growth was refused the memory line is written, and a second try has the memory.
