@@ -33,3 +33,7 @@ slot_at bytes = record {
   offset = cast_signed w16 (from_le_bytes w16 (slice_index bytes 2 ∷ slice_index bytes 3 ∷ []));
   imm = cast_signed w32 (from_le_bytes w32 (slice_index bytes 4 ∷ slice_index bytes 5 ∷ slice_index bytes 6 ∷ slice_index bytes 7 ∷ []));
 }
+
+-- each number is one of a byte
+abbrev pub AreBytes : List ℕ → Type 0
+AreBytes bytes = (i : ℕ) → slice_index bytes i < 256

@@ -7,7 +7,7 @@ ghost use Rattle.bpf_insn.specs.Outcome.{Equals, Gives};
 
 use crate::codec_error::{CodecError, Fault};
 use crate::form::{AluCode, Form};
-use crate::insn::{
+use bpf_insn_form::{
     AluOp, AtomicOp, Callee, Compare, EndianBits, ImmKind, Insn, MovsxBits, Operand, SimpleOp,
     Size, Width,
 };

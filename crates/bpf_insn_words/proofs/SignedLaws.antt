@@ -6,8 +6,8 @@ use Rattle.std.proofs.lemmas.Int.{of_z-to_z, to_z-of_z}
 use Rattle.std.proofs.lemmas.Nat.{div-add-mod'}
 use Rattle.std.proofs.lemmas.Bool.Decides.{nat_tests}
 use Rattle.std.proofs.Math.Nat.{div-le_self}
-use Rattle.bpf_insn.specs.declared.insn.Width.{Width}
-use Rattle.bpf_insn.specs.declared.insn.Width.TheVariants.{W32, W64}
+use Rattle.bpf_insn_form.specs.declared.insn.Width.{Width}
+use Rattle.bpf_insn_form.specs.declared.insn.Width.TheVariants.{W32, W64}
 use Rattle.bpf_insn_words.specs.Words.{modulus, integers, signed, signed_quotient, signed_remainder}
 
 -- the greatest absolute value of a signed number of the width

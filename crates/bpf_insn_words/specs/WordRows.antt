@@ -1,11 +1,11 @@
 -- Worked values of the operators, worked out by hand from RFC 9669, sections 4.1 to 4.3.
 use Rattle.std.specs.Prelude.{◌≡◌, ◌+◌, ◌-◌, ◌^◌, true, false, negsuc}
-use Rattle.bpf_insn.specs.declared.insn.Width.TheVariants.{W32, W64}
-use Rattle.bpf_insn.specs.declared.insn.AluOp.TheVariants.{Add, Sub, Mul, Div, Sdiv, Or, And, Lsh, Rsh, Mod, Smod, Xor, Mov, Arsh}
-use Rattle.bpf_insn.specs.declared.insn.Compare.TheVariants.{Eq, Gt, Ge, Set, Ne, Sgt, Sge, Lt, Le, Slt, Sle}
-use Rattle.bpf_insn.specs.declared.insn.ByteOrder.TheVariants.{Le as To_le, Be as To_be, Swap}
-use Rattle.bpf_insn.specs.declared.insn.EndianBits.TheVariants.{B16, B32, B64}
-use Rattle.bpf_insn.specs.declared.insn.MovsxBits.TheVariants.{B8, B16 as Low16, B32 as Low32}
+use Rattle.bpf_insn_form.specs.declared.insn.Width.TheVariants.{W32, W64}
+use Rattle.bpf_insn_form.specs.declared.insn.AluOp.TheVariants.{Add, Sub, Mul, Div, Sdiv, Or, And, Lsh, Rsh, Mod, Smod, Xor, Mov, Arsh}
+use Rattle.bpf_insn_form.specs.declared.insn.Compare.TheVariants.{Eq, Gt, Ge, Set, Ne, Sgt, Sge, Lt, Le, Slt, Sle}
+use Rattle.bpf_insn_form.specs.declared.insn.ByteOrder.TheVariants.{Le as To_le, Be as To_be, Swap}
+use Rattle.bpf_insn_form.specs.declared.insn.EndianBits.TheVariants.{B16, B32, B64}
+use Rattle.bpf_insn_form.specs.declared.insn.MovsxBits.TheVariants.{B8, B16 as Low16, B32 as Low32}
 use Rattle.bpf_insn_words.specs.Words.{alu, negated, moved_signed, in_order, holds, word_of}
 
 -- operators at 64 bits; the word of -7 is 2 ^ 64 - 7

@@ -4,7 +4,7 @@ ghost use Rattle.std.specs.Prelude.{◌≡◌, ◌%◌};
 ghost use Rattle.std.specs.Int.{swap_bytes};
 ghost use Rattle.bpf_insn_words.specs.Words.{in_order, endian_modulus, endian_integers};
 
-use bpf_insn::{ByteOrder, EndianBits};
+use bpf_insn_form::{ByteOrder, EndianBits};
 
 /// The low 16, 32 or 64 bits of a word, as they stand for little endian and with their bytes
 /// reversed for big endian and for a swap; the other bits are cleared (RFC 9669, section 4.2).

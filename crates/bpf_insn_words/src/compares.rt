@@ -4,7 +4,7 @@ ghost use Rattle.std.specs.Prelude.{◌≡◌, ◌<◌};
 ghost use Rattle.bpf_insn_words.specs.Words.{modulus, compared, holds};
 
 use crate::widths::{low_part, signed_value};
-use bpf_insn::{Compare, Width};
+use bpf_insn_form::{Compare, Width};
 
 /// Whether the test of a conditional jump holds for two words: at 32 bits for their lower halves
 /// (RFC 9669, section 4.3).

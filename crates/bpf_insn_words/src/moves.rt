@@ -4,7 +4,7 @@ ghost use Rattle.std.specs.Prelude.{◌≡◌, ◌+◌};
 ghost use Rattle.bpf_insn_words.specs.Words.{moved_signed, low_modulus};
 
 use crate::widths::greatest;
-use bpf_insn::{MovsxBits, Width};
+use bpf_insn_form::{MovsxBits, Width};
 
 /// The low 8, 16 or 32 bits of a word, sign-extended to the width; at 32 bits the upper half is
 /// cleared (RFC 9669, section 4.1, MOVSX).

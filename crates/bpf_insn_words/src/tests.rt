@@ -1,5 +1,5 @@
 use super::*;
-use bpf_insn::{AluOp, ByteOrder, Compare, EndianBits, MovsxBits, Width};
+use bpf_insn_form::{AluOp, ByteOrder, Compare, EndianBits, MovsxBits, Width};
 use std::test::Fail;
 
 // Two's complements at 64 and at 32 bits.

@@ -3,7 +3,7 @@
 ghost use Rattle.std.specs.Prelude.{◌≡◌, ◌+◌, ◌%◌, ◌<◌};
 ghost use Rattle.bpf_insn_words.specs.Words.{modulus, shift, signed};
 
-use bpf_insn::Width;
+use bpf_insn_form::Width;
 
 /// The low 32 or 64 bits of a word, the others cleared.
 pub fn low_part(width: Width, a: u64) -> u64

@@ -1,4 +1,3 @@
-pub mod Program
 pub mod State
 pub mod Memory
 pub mod Values

@@ -1,13 +1,13 @@
 -- Lines that worked programs are made of.
 use Rattle.std.specs.Prelude.{ℕ, pos, List, [], ◌∷◌}
-use Rattle.bpf_insn.specs.declared.insn.Width.TheVariants.{W64}
-use Rattle.bpf_insn.specs.declared.insn.AluOp.{AluOp}
-use Rattle.bpf_insn.specs.declared.insn.AluOp.TheVariants.{Add, Lsh, Mov}
-use Rattle.bpf_insn.specs.declared.insn.Operand.TheVariants.{Imm, Reg}
-use Rattle.bpf_insn.specs.declared.insn.Callee.TheVariants.{Helper}
-use Rattle.bpf_insn.specs.declared.insn.ImmKind.TheVariants.{Code, MapValue}
-use Rattle.bpf_insn.specs.declared.insn.Insn.{Insn}
-use Rattle.bpf_insn.specs.declared.insn.Insn.TheVariants.{Alu, Call, Exit, LoadImm}
+use Rattle.bpf_insn_form.specs.declared.insn.Width.TheVariants.{W64}
+use Rattle.bpf_insn_form.specs.declared.insn.AluOp.{AluOp}
+use Rattle.bpf_insn_form.specs.declared.insn.AluOp.TheVariants.{Add, Lsh, Mov}
+use Rattle.bpf_insn_form.specs.declared.insn.Operand.TheVariants.{Imm, Reg}
+use Rattle.bpf_insn_form.specs.declared.insn.Callee.TheVariants.{Helper}
+use Rattle.bpf_insn_form.specs.declared.insn.ImmKind.TheVariants.{Code, MapValue}
+use Rattle.bpf_insn_form.specs.declared.insn.Insn.{Insn}
+use Rattle.bpf_insn_form.specs.declared.insn.Insn.TheVariants.{Alu, Call, Exit, LoadImm}
 
 -- mov64 r, n
 abbrev pub mov : ℕ → ℕ → Insn

@@ -7,7 +7,7 @@ use Rattle.std.proofs.lemmas.List.{length-append, length-take-le, take-append-dr
 use Rattle.std.proofs.lemmas.List.Sums.{AllPass-from_list_all}
 use Rattle.hex.specs.Hex.{lower_digits, encode_with, encode_lower}
 use Rattle.hex.proofs.HexLemmas.{length-encode_with, decode_of-encode_lower}
-use Rattle.bpf_insn.specs.declared.insn.Insn.{Insn}
+use Rattle.bpf_insn_form.specs.declared.insn.Insn.{Insn}
 use Rattle.bpf_insn.specs.Spelling.{program_spelling}
 use Rattle.bpf_insn.proofs.Programs.{one_program}
 use Rattle.bpf_text_lines.specs.Lines.{lines_of, contents_from, contents_of}

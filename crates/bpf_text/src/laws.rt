@@ -1,7 +1,7 @@
 //! Laws of the hex form, as functions that do nothing: what they ensure is the law.
 
 ghost use Rattle.std.specs.Prelude.{◌≡◌, ℕ, List, Ok};
-ghost use Rattle.bpf_insn.specs.declared.insn.Insn.{Insn};
+ghost use Rattle.bpf_insn_form.specs.declared.insn.Insn.{Insn};
 ghost use Rattle.bpf_insn.specs.Spelling.{program_spelling};
 ghost use Rattle.bpf_text_insns.specs.UnitText.{unit_hex};
 ghost use Rattle.bpf_text_units.specs.UnitLaw.{AreParts};

@@ -1,12 +1,12 @@
 -- An instruction as a mnemonic and operands.
 use Rattle.std.specs.Prelude.{ℕ, ℤ, ◌+◌, ◌*◌, ◌^◌}
 use Rattle.std.specs.Int.{w32, cast_unsigned}
-use Rattle.bpf_insn.specs.declared.insn.Operand.{Operand}
-use Rattle.bpf_insn.specs.declared.insn.Operand.TheVariants as operand
-use Rattle.bpf_insn.specs.declared.insn.ImmKind.{ImmKind}
-use Rattle.bpf_insn.specs.declared.insn.ImmKind.TheVariants as kind
-use Rattle.bpf_insn.specs.declared.insn.Insn.{Insn}
-use Rattle.bpf_insn.specs.declared.insn.Insn.TheVariants as insn
+use Rattle.bpf_insn_form.specs.declared.insn.Operand.{Operand}
+use Rattle.bpf_insn_form.specs.declared.insn.Operand.TheVariants as operand
+use Rattle.bpf_insn_form.specs.declared.insn.ImmKind.{ImmKind}
+use Rattle.bpf_insn_form.specs.declared.insn.ImmKind.TheVariants as kind
+use Rattle.bpf_insn_form.specs.declared.insn.Insn.{Insn}
+use Rattle.bpf_insn_form.specs.declared.insn.Insn.TheVariants as insn
 use Rattle.bpf_text_insns.specs.declared.mnemonic.Mnemonic.{Mnemonic}
 use Rattle.bpf_text_insns.specs.declared.mnemonic.Mnemonic.TheVariants as mnemonic
 use Rattle.bpf_text_insns.specs.declared.value.Value.{Value}

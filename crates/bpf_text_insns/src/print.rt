@@ -15,7 +15,8 @@ use crate::words::{
     alu_word, atomic_word, callee_word, compare_word, endian_word, kind_word, movsx_word,
     order_word, size_word, width_word,
 };
-use bpf_insn::{CodecError, Insn, Unit, encode};
+use bpf_insn::{CodecError, encode};
+use bpf_insn_form::{Insn, Unit};
 use std::alloc::{AllocError, Global};
 
 /// Adds a mnemonic to a text.

@@ -5,7 +5,7 @@ ghost use Rattle.bpf_text_insns.specs.Statement.{mnemonic_of, operand_value, two
 
 use crate::mnemonic::Mnemonic;
 use crate::value::{Operands, Value};
-use bpf_insn::{ImmKind, Insn, Operand, Reg};
+use bpf_insn_form::{ImmKind, Insn, Operand, Reg};
 
 /// The second operand of arithmetic or of a compare.
 fn value_of(operand: Operand) -> Value

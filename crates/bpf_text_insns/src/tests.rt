@@ -1,5 +1,6 @@
 use super::*;
-use bpf_insn::{CodecError, Fault, ImmKind, Insn, MovsxBits, Reg, Unit, Width, decode};
+use bpf_insn::{CodecError, Fault, decode};
+use bpf_insn_form::{ImmKind, Insn, MovsxBits, Reg, Unit, Width};
 use std::alloc::Global;
 use std::test::Fail;
 

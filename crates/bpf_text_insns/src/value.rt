@@ -1,6 +1,6 @@
 //! The operands of a line.
 
-use bpf_insn::Reg;
+use bpf_insn_form::Reg;
 
 /// An operand.
 #[derive(Clone, Copy, Debug, PartialEq, Eq)]

@@ -1,16 +1,16 @@
 -- Each instruction that has bytes is read back from its line.
 use Rattle.std.proofs.Common.{◌≡◌, ℕ, suc, zero, ℤ, pos, negsuc, List, Option, Some, None, Ok, refl, ap, ap₂, ◌∙◌}
-use Rattle.bpf_insn.specs.declared.insn.Width.TheVariants as width
-use Rattle.bpf_insn.specs.declared.insn.Size.TheVariants as size
-use Rattle.bpf_insn.specs.declared.insn.MovsxBits.TheVariants as movsx
-use Rattle.bpf_insn.specs.declared.insn.Operand.TheVariants as operand
-use Rattle.bpf_insn.specs.declared.insn.ImmKind.{ImmKind}
-use Rattle.bpf_insn.specs.declared.insn.ImmKind.TheVariants as load
-use Rattle.bpf_insn.specs.declared.insn.Insn.{Insn}
-use Rattle.bpf_insn.specs.declared.insn.Insn.TheVariants as insn
+use Rattle.bpf_insn_form.specs.declared.insn.Width.TheVariants as width
+use Rattle.bpf_insn_form.specs.declared.insn.Size.TheVariants as size
+use Rattle.bpf_insn_form.specs.declared.insn.MovsxBits.TheVariants as movsx
+use Rattle.bpf_insn_form.specs.declared.insn.Operand.TheVariants as operand
+use Rattle.bpf_insn_form.specs.declared.insn.ImmKind.{ImmKind}
+use Rattle.bpf_insn_form.specs.declared.insn.ImmKind.TheVariants as load
+use Rattle.bpf_insn_form.specs.declared.insn.Insn.{Insn}
+use Rattle.bpf_insn_form.specs.declared.insn.Insn.TheVariants as insn
 use Rattle.bpf_insn.specs.declared.slot.Slot.{Slot}
 use Rattle.bpf_insn.specs.Spelling.{spelling}
-use Rattle.bpf_insn.specs.Values.{InsnFits}
+use Rattle.bpf_insn_form.specs.Values.{InsnFits}
 use Rattle.bpf_text_insns.specs.declared.mnemonic.Mnemonic.TheVariants as mnemonic
 use Rattle.bpf_text_insns.specs.declared.value.Value.TheVariants as value
 use Rattle.bpf_text_insns.specs.Statement.{wide}

@@ -16,7 +16,7 @@ use Rattle.bpf_text_insns.specs.declared.value.Operands.{Operands}
 use Rattle.bpf_text_insns.specs.declared.value.Operands.TheVariants as operands
 use Rattle.bpf_text_insns.specs.MnemonicWords.{mnemonic_word}
 use Rattle.bpf_text_insns.specs.UnitText.{distance_spelling, value_spelling, operands_spelling}
-use Rattle.bpf_insn.specs.declared.insn.Insn.{Insn}
+use Rattle.bpf_insn_form.specs.declared.insn.Insn.{Insn}
 use Rattle.bpf_text_operands.specs.declared.kind.Kind.{Kind}
 use Rattle.bpf_text_operands.specs.declared.kind.Kind.TheVariants as kind
 use Rattle.bpf_text_operands.specs.declared.kind.Kinds.TheVariants as kinds

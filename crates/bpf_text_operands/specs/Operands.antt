@@ -1,7 +1,7 @@
 -- The operands of a line: what kinds a mnemonic takes, and what a word of a kind means.
 use Rattle.std.specs.Prelude.{ℕ, ℤ, ◌+◌, ◌-◌, ◌^◌, ◌==◌, ◌&&◌, ◌||◌, nat_lt, nat_le, Bool, false, if◌then◌else◌, List, length, take, drop, slice_index, position, Option, Some, None, is_ok, Result, Ok, Err}
 use Rattle.std.specs.List.{position_or_len}
-use Rattle.bpf_insn.specs.declared.insn.ImmKind.TheVariants as load
+use Rattle.bpf_insn_form.specs.declared.insn.ImmKind.TheVariants as load
 use Rattle.bpf_text_lines.specs.Lines.{trim}
 use Rattle.bpf_text_lines.specs.Names.{is_name}
 use Rattle.bpf_text_lines.specs.Numbers.{is_number}

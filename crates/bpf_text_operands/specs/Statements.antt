@@ -2,13 +2,13 @@
 use Rattle.std.specs.Prelude.{ℕ, ◌%◌, ◌/◌, ◌^◌, if◌then◌else◌, List, take, drop, Option, Some, None, pos, Result, Ok, Err}
 use Rattle.std.specs.Int.{w32, cast_signed}
 use Rattle.std.specs.List.{position_or_len}
-use Rattle.bpf_insn.specs.declared.insn.ImmKind.{ImmKind}
-use Rattle.bpf_insn.specs.declared.insn.ImmKind.TheVariants as load
-use Rattle.bpf_insn.specs.declared.insn.Width.{Width}
-use Rattle.bpf_insn.specs.declared.insn.AtomicOp.{AtomicOp}
-use Rattle.bpf_insn.specs.declared.insn.Operand.TheVariants as operand
-use Rattle.bpf_insn.specs.declared.insn.Insn.{Insn}
-use Rattle.bpf_insn.specs.declared.insn.Insn.TheVariants as insn
+use Rattle.bpf_insn_form.specs.declared.insn.ImmKind.{ImmKind}
+use Rattle.bpf_insn_form.specs.declared.insn.ImmKind.TheVariants as load
+use Rattle.bpf_insn_form.specs.declared.insn.Width.{Width}
+use Rattle.bpf_insn_form.specs.declared.insn.AtomicOp.{AtomicOp}
+use Rattle.bpf_insn_form.specs.declared.insn.Operand.TheVariants as operand
+use Rattle.bpf_insn_form.specs.declared.insn.Insn.{Insn}
+use Rattle.bpf_insn_form.specs.declared.insn.Insn.TheVariants as insn
 use Rattle.bpf_text_lines.specs.Lines.{is_blank, trim_start}
 use Rattle.bpf_text_fields.specs.declared.error.Fault.{Fault}
 use Rattle.bpf_text_fields.specs.declared.error.Fault.TheVariants as faults

@@ -3,7 +3,7 @@
 ghost use Rattle.std.specs.Prelude.{◌≡◌};
 ghost use Rattle.bpf_text_operands.specs.Operands.{kinds_of};
 
-use bpf_insn::ImmKind;
+use bpf_insn_form::ImmKind;
 use bpf_text_insns::Mnemonic;
 
 /// What may stand as an operand.

@@ -1,10 +1,10 @@
 //! Laws of the lines of instructions, as functions that do nothing: what they ensure is the law.
 
 ghost use Rattle.std.specs.Prelude.{◌≡◌, ℕ, List, Option, Ok};
-ghost use Rattle.bpf_insn.specs.declared.insn.Insn.{Insn};
+ghost use Rattle.bpf_insn_form.specs.declared.insn.Insn.{Insn};
 ghost use Rattle.bpf_insn.specs.declared.slot.Slot.{Slot};
 ghost use Rattle.bpf_insn.specs.Spelling.{spelling};
-ghost use Rattle.bpf_insn.specs.Values.{InsnFits};
+ghost use Rattle.bpf_insn_form.specs.Values.{InsnFits};
 ghost use Rattle.bpf_text_insns.specs.UnitText.{insn_spelling};
 ghost use Rattle.bpf_text_operands.specs.Statements.{insn_at};
 

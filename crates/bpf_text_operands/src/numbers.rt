@@ -8,7 +8,7 @@ ghost use Rattle.bpf_text_lines.specs.Numbers.{number_in};
 ghost use Rattle.bpf_text_fields.specs.Fields.{fault_of};
 ghost use Rattle.bpf_text_operands.specs.SignedNumbers.{is_register, register_at, ahead, back, signed_at, is_ahead, is_offset, offset_at, distance_to};
 
-use bpf_insn::Reg;
+use bpf_insn_form::Reg;
 use bpf_text_fields::Fault;
 use bpf_text_lines::{NumberError, is_negative, is_numeral, read_number};
 

@@ -13,7 +13,7 @@ use crate::numbers::{
     distance_to, fault_of, is_offset, is_register, offset_at, register_at, signed_at,
 };
 use crate::pairs::pair;
-use bpf_insn::Reg;
+use bpf_insn_form::Reg;
 use bpf_text_fields::Fault;
 use bpf_text_insns::{Operands, Value};
 use bpf_text_lines::{is_name, is_number, read_number, trim};

@@ -10,7 +10,7 @@ use crate::kind::kinds_of;
 use crate::labels::Labels;
 use crate::operands::{all_stand, operands_at};
 use crate::tables::{atomic_at, atomic_width, mnemonic_at};
-use bpf_insn::Insn;
+use bpf_insn_form::Insn;
 use bpf_text_fields::Fault;
 use bpf_text_insns::{Mnemonic, Operands};
 use bpf_text_lines::{is_blank, trim_start};

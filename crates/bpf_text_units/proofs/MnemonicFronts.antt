@@ -1,16 +1,16 @@
 -- Each mnemonic begins a line.
 use Rattle.std.proofs.Common.{refl}
-use Rattle.bpf_insn.specs.declared.insn.Width.TheVariants as width
-use Rattle.bpf_insn.specs.declared.insn.Size.TheVariants as size
-use Rattle.bpf_insn.specs.declared.insn.EndianBits.TheVariants as endian
-use Rattle.bpf_insn.specs.declared.insn.MovsxBits.TheVariants as movsx
-use Rattle.bpf_insn.specs.declared.insn.AluOp.TheVariants as op
-use Rattle.bpf_insn.specs.declared.insn.ByteOrder.TheVariants as order
-use Rattle.bpf_insn.specs.declared.insn.Compare.TheVariants as compare
-use Rattle.bpf_insn.specs.declared.insn.Callee.TheVariants as callee
-use Rattle.bpf_insn.specs.declared.insn.SimpleOp.TheVariants as simple
-use Rattle.bpf_insn.specs.declared.insn.AtomicOp.TheVariants as atomic
-use Rattle.bpf_insn.specs.declared.insn.ImmKind.TheVariants as kind
+use Rattle.bpf_insn_form.specs.declared.insn.Width.TheVariants as width
+use Rattle.bpf_insn_form.specs.declared.insn.Size.TheVariants as size
+use Rattle.bpf_insn_form.specs.declared.insn.EndianBits.TheVariants as endian
+use Rattle.bpf_insn_form.specs.declared.insn.MovsxBits.TheVariants as movsx
+use Rattle.bpf_insn_form.specs.declared.insn.AluOp.TheVariants as op
+use Rattle.bpf_insn_form.specs.declared.insn.ByteOrder.TheVariants as order
+use Rattle.bpf_insn_form.specs.declared.insn.Compare.TheVariants as compare
+use Rattle.bpf_insn_form.specs.declared.insn.Callee.TheVariants as callee
+use Rattle.bpf_insn_form.specs.declared.insn.SimpleOp.TheVariants as simple
+use Rattle.bpf_insn_form.specs.declared.insn.AtomicOp.TheVariants as atomic
+use Rattle.bpf_insn_form.specs.declared.insn.ImmKind.TheVariants as kind
 use Rattle.bpf_text_insns.specs.declared.mnemonic.Mnemonic.{Mnemonic}
 use Rattle.bpf_text_insns.specs.declared.mnemonic.Mnemonic.TheVariants as mnemonic
 use Rattle.bpf_text_insns.specs.MnemonicWords.{mnemonic_word}

@@ -5,16 +5,16 @@ use Rattle.std.specs.List.{list_all}
 use Rattle.std.proofs.lemmas.List.{length-append}
 use Rattle.std.proofs.lemmas.Fmt.{length-decimal-le}
 use Rattle.std.proofs.lemmas.Bool.{and_from}
-use Rattle.bpf_insn.specs.declared.insn.ImmKind.{ImmKind}
-use Rattle.bpf_insn.specs.declared.insn.ImmKind.TheVariants as kind
+use Rattle.bpf_insn_form.specs.declared.insn.ImmKind.{ImmKind}
+use Rattle.bpf_insn_form.specs.declared.insn.ImmKind.TheVariants as kind
 use Rattle.bpf_text_insns.specs.MnemonicWords.{mnemonic_word}
 use Rattle.std.specs.Prelude.{FitsSigned}
 use Rattle.std.specs.Int.{w16}
-use Rattle.bpf_insn.specs.declared.insn.Operand.{Operand}
-use Rattle.bpf_insn.specs.declared.insn.Operand.TheVariants as operand
-use Rattle.bpf_insn.specs.declared.insn.Insn.{Insn}
-use Rattle.bpf_insn.specs.declared.insn.Insn.TheVariants as insn
-use Rattle.bpf_insn.specs.Values.{OperandFits, InsnFits}
+use Rattle.bpf_insn_form.specs.declared.insn.Operand.{Operand}
+use Rattle.bpf_insn_form.specs.declared.insn.Operand.TheVariants as operand
+use Rattle.bpf_insn_form.specs.declared.insn.Insn.{Insn}
+use Rattle.bpf_insn_form.specs.declared.insn.Insn.TheVariants as insn
+use Rattle.bpf_insn_form.specs.Values.{OperandFits, InsnFits}
 use Rattle.bpf_text_insns.specs.declared.value.Value.{Value}
 use Rattle.bpf_text_insns.specs.declared.value.Value.TheVariants as value
 use Rattle.bpf_text_insns.specs.declared.value.Operands.{Operands}

@@ -3,13 +3,13 @@ use Rattle.std.proofs.Common.{◌≡◌, ℕ, ◌+◌, ◌*◌, ◌≤◌, List,
 use Rattle.std.specs.Prelude.{nat_le, nat_lt}
 use Rattle.std.proofs.lemmas.Bool.{le-leb, le-ltb, cond-true, cond-false}
 use Rattle.std.proofs.lemmas.List.{length-append}
-use Rattle.bpf_insn.specs.declared.insn.Insn.{Insn}
-use Rattle.bpf_insn.specs.declared.insn.Insn.TheVariants as insn
+use Rattle.bpf_insn_form.specs.declared.insn.Insn.{Insn}
+use Rattle.bpf_insn_form.specs.declared.insn.Insn.TheVariants as insn
 use Rattle.bpf_insn.specs.declared.slot.Slot.{Slot}
 use Rattle.bpf_insn.specs.declared.codec_error.CodecError.{CodecError}
-use Rattle.bpf_insn.specs.Slots.{slots_of}
+use Rattle.bpf_insn_form.specs.Slots.{slots_of}
 use Rattle.bpf_insn.specs.Spelling.{spelling, bytes_at, spelling_from, program_spelling}
-use Rattle.bpf_insn.specs.Values.{InsnFits, AreInsns}
+use Rattle.bpf_insn_form.specs.Values.{InsnFits, AreInsns}
 use Rattle.bpf_insn.proofs.Programs.{joined_ok, bytes_ok}
 use Rattle.bpf_text_lines.specs.Lines.{lines_of, contents_from, contents_of}
 use Rattle.bpf_text_fields.specs.declared.error.Fault.TheVariants as faults

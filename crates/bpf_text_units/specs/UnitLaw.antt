@@ -1,7 +1,7 @@
 -- Units that have a text.
 use Rattle.std.specs.Prelude.{◌≡◌, ℕ, ◌≤◌, true, List}
-use Rattle.bpf_insn.specs.declared.insn.Insn.{Insn}
-use Rattle.bpf_insn.specs.Values.{AreInsns}
+use Rattle.bpf_insn_form.specs.declared.insn.Insn.{Insn}
+use Rattle.bpf_insn_form.specs.Values.{AreInsns}
 use Rattle.bpf_text_fields.specs.Head.{are_sizes}
 use Rattle.bpf_text_units.specs.UnitReading.{slots_in, UnitParts}
 

@@ -1,9 +1,9 @@
 -- What the lines of a unit's assembler text mean.
 use Rattle.std.specs.Prelude.{◌≡◌, ℕ, ◌+◌, ◌-◌, ◌==◌, ◌&&◌, nat_lt, nat_le, Bool, if◌then◌else◌, List, [], ◌∷◌, ◌++◌, length, take, slice_index, Option, Some, None, Result, Ok, Err}
 use Rattle.std.specs.Str.{bytes_eq}
-use Rattle.bpf_insn.specs.declared.insn.Insn.{Insn}
-use Rattle.bpf_insn.specs.declared.unit.Unit.{Unit}
-use Rattle.bpf_insn.specs.Slots.{slots_of}
+use Rattle.bpf_insn_form.specs.declared.insn.Insn.{Insn}
+use Rattle.bpf_insn_form.specs.declared.unit.Unit.{Unit}
+use Rattle.bpf_insn_form.specs.Slots.{slots_of}
 use Rattle.bpf_text_lines.specs.Lines.{contents_of}
 use Rattle.bpf_text_lines.specs.Names.{is_name}
 use Rattle.bpf_text_lines.specs.Words.{words_of}

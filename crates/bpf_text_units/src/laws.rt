@@ -1,7 +1,7 @@
 //! Laws of units' texts, as functions that do nothing: what they ensure is the law.
 
 ghost use Rattle.std.specs.Prelude.{◌≡◌, ℕ, List, Ok};
-ghost use Rattle.bpf_insn.specs.declared.insn.Insn.{Insn};
+ghost use Rattle.bpf_insn_form.specs.declared.insn.Insn.{Insn};
 ghost use Rattle.bpf_text_insns.specs.UnitText.{unit_text as canonical_text};
 ghost use Rattle.bpf_text_units.specs.UnitReading.{unit_text};
 ghost use Rattle.bpf_text_units.specs.UnitLaw.{AreParts, these_parts};

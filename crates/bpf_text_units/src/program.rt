@@ -9,7 +9,7 @@ ghost use Rattle.bpf_text_operands.specs.LabelTable.{slots_of};
 ghost use Rattle.bpf_text_units.specs.UnitReading.{label_at, in_limit, line_at, insns_behind, slots_in, Adds};
 
 use crate::label::label_name;
-use bpf_insn::{Insn, slots};
+use bpf_insn_form::{Insn, slots};
 use bpf_text_fields::{Fault, MAX_SLOTS, TextError};
 use bpf_text_lines::next_line;
 use bpf_text_operands::{Labels, read_insn};

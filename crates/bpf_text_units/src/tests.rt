@@ -1,5 +1,6 @@
 use super::*;
-use bpf_insn::{Unit, encode};
+use bpf_insn::encode;
+use bpf_insn_form::Unit;
 use bpf_text_fields::{Fault, TextError};
 use std::alloc::{AllocError, Global};
 use std::test::Fail;

@@ -7,7 +7,7 @@ ghost use Rattle.bpf_text_units.specs.UnitReading.{parts, unit_of, unit_text};
 
 use crate::label::read_labels;
 use crate::program::read_insns;
-use bpf_insn::Unit;
+use bpf_insn_form::Unit;
 use bpf_text_fields::{Fault, MAX_TEXT, TextError, read_head};
 use bpf_text_lines::next_line;
 use std::alloc::Global;

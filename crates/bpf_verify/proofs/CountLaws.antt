@@ -3,14 +3,14 @@ use Rattle.std.proofs.Common.{◌≡◌, ◌≢◌, ℕ, zero, suc, ◌+◌, ◌
 use Rattle.std.specs.Prelude.{nat_eq, nat_lt}
 use Rattle.std.proofs.lemmas.Bool.Decides.{nat_tests}
 use Rattle.std.proofs.lemmas.List.{get_or-set_same, get_or-set_other}
-use Rattle.bpf_insn.specs.declared.insn.Insn.{Insn}
-use Rattle.bpf_insn.specs.declared.insn.Insn.TheVariants.{Ja, Ja32, Jump, Exit}
-use Rattle.bpf_insn.specs.Slots.{slots_of}
-use Rattle.bpf_step_model.specs.Program.{slot_count, insn_at, moved, callback_starts}
+use Rattle.bpf_insn_form.specs.declared.insn.Insn.{Insn}
+use Rattle.bpf_insn_form.specs.declared.insn.Insn.TheVariants.{Ja, Ja32, Jump, Exit}
+use Rattle.bpf_insn_form.specs.Slots.{slots_of}
+use Rattle.bpf_insn_form.specs.Program.{slot_count, insn_at, moved, callback_starts}
 use Rattle.bpf_verify_rules.specs.Rules.{jump_distance, jump_target}
 use Rattle.bpf_verify_flow.specs.Count.{behind_jump, through, longest, count_of}
 use Rattle.bpf_verify.specs.Counting.{JumpsForward, slice_index_or_zero}
-use Rattle.bpf_verify.proofs.ProgramLaws.{slots_some, insn_at-end, slot_count-more, slot_count-front, insn_at-index, insn_at-index_inner}
+use Rattle.bpf_insn_form.proofs.ProgramLaws.{slots_some, insn_at-end, slot_count-more, slot_count-front, insn_at-index, insn_at-index_inner}
 
 behind-congr : (f g : ℕ → ℕ) (slot : ℕ) (t : Option ℕ) → ((k : ℕ) → slot + 1 ≤ k → f k ≡ g k) → ((target : ℕ) → t ≡ Some target → slot < target) →
     behind_jump f t ≡ behind_jump g t

@@ -2,15 +2,15 @@
 use Rattle.std.proofs.Common.{◌≡◌, ℕ, zero, suc, ◌<◌, ◌≤◌, Bool, true, false, not, ◌&&◌, List, refl, ap, sym, ◌∙◌, arith, Option, Some, None, is_some}
 use Rattle.std.specs.Prelude.{nat_lt, nat_eq, if◌then◌else◌}
 use Rattle.std.proofs.lemmas.Bool.Decides.{nat_tests}
-use Rattle.bpf_insn.specs.declared.insn.Insn.{Insn}
-use Rattle.bpf_step_model.specs.Program.{Program, slot_count, insn_at, leads_to}
+use Rattle.bpf_insn_form.specs.declared.insn.Insn.{Insn}
+use Rattle.bpf_insn_form.specs.Program.{Program, slot_count, insn_at, leads_to}
 use Rattle.bpf_verify_rules.specs.declared.rule.Rule.{Rule}
 use Rattle.bpf_verify_rules.specs.declared.rule.Rule.TheVariants.{V1, V2, V3}
 use Rattle.bpf_verify_rules.specs.Rules.{jump_distance, jump_target, leads_later, jumps_astray, slot_fault, or_else, fault_of}
 use Rattle.bpf_verify_flow.specs.Inflow.{before}
 use Rattle.bpf_verify_flow.specs.Accepted.{Fault, unless_earlier, fault_at, fault_at_insn, fault_within, first_fault, is_too_large}
 use Rattle.bpf_verify.specs.Counting.{JumpsForward, HasCount}
-use Rattle.bpf_verify.proofs.ProgramLaws.{insn_at-end}
+use Rattle.bpf_insn_form.proofs.ProgramLaws.{insn_at-end}
 
 unless_earlier-first : (f : Option Fault) (slot : ℕ) (r : Option Rule) → unless_earlier f slot r ≡ None → f ≡ None
 unless_earlier-first None slot r e = refl

@@ -1,4 +1,4 @@
-pub mod ProgramLaws
+pub mod MarkLaws
 pub mod PassLaws
 pub mod StartLaws
 pub mod CountLaws

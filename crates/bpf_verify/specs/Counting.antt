@@ -1,7 +1,7 @@
 -- The most instructions from each slot on.
 use Rattle.std.specs.Prelude.{◌≡◌, ℕ, ◌<◌, ◌≤◌, false, List, length, map, ◌∷◌, slice_index_or, Some, None}
-use Rattle.bpf_insn.specs.declared.insn.Insn.{Insn}
-use Rattle.bpf_step_model.specs.Program.{Program, slot_count, insn_at, callback_starts}
+use Rattle.bpf_insn_form.specs.declared.insn.Insn.{Insn}
+use Rattle.bpf_insn_form.specs.Program.{Program, slot_count, insn_at, callback_starts}
 use Rattle.bpf_verify_rules.specs.Rules.{jump_distance, jump_target}
 use Rattle.bpf_verify_flow.specs.Accepted.{first_fault, is_too_large}
 use Rattle.bpf_verify_flow.specs.Count.{longest}

@@ -1,13 +1,8 @@
 -- Where the instructions of a unit stand, and in which functions.
 use Rattle.std.specs.Prelude.{◌≡◌, ℕ, if◌then◌else◌, List, slice_index_or, Option, Some, None, is_some}
-use Rattle.bpf_insn.specs.declared.insn.Insn.{Insn}
-use Rattle.bpf_insn.specs.declared.unit.Unit.{Unit as UnitOf}
-use Rattle.bpf_step_model.specs.Program.{Program, insn_at, function_of, callback_starts}
+use Rattle.bpf_insn_form.specs.declared.insn.Insn.{Insn}
+use Rattle.bpf_insn_form.specs.Program.{insn_at, function_of, callback_starts}
 use Rattle.bpf_verify.specs.declared.layout.Layout.{Layout}
-
--- a unit as a program
-abbrev pub program_of : UnitOf → Program
-program_of unit = record { sizes = unit.sizes.items; insns = unit.insns.items }
 
 -- the function of the instruction that starts at a slot, if one does
 abbrev pub place_of : List Insn → ℕ → Option ℕ

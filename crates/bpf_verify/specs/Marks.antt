@@ -1,8 +1,8 @@
 -- Marks of slots.
 use Rattle.std.specs.Prelude.{◌≡◌, ℕ, ◌<◌, Bool, true, false, nat_eq, List, length, slice_index_or, slice_set, Option, Some, None, is_some}
 use Rattle.std.specs.List.{list_any}
-use Rattle.bpf_insn.specs.declared.insn.Insn.{Insn}
-use Rattle.bpf_step_model.specs.Program.{slot_count, insn_at, named_from}
+use Rattle.bpf_insn_form.specs.declared.insn.Insn.{Insn}
+use Rattle.bpf_insn_form.specs.Program.{slot_count, insn_at, named_from}
 
 -- marks with one more, where the slot has a mark
 abbrev pub marked : List Bool → Option ℕ → List Bool

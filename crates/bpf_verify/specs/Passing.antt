@@ -1,7 +1,7 @@
 -- How far a pass over a program's slots has come.
 use Rattle.std.specs.Prelude.{◌≡◌, ℕ, ◌<◌, true, List, length, slice_index_or, Option, Some, None, is_some}
-use Rattle.bpf_insn.specs.declared.insn.Insn.{Insn}
-use Rattle.bpf_step_model.specs.Program.{Program, insn_at}
+use Rattle.bpf_insn_form.specs.declared.insn.Insn.{Insn}
+use Rattle.bpf_insn_form.specs.Program.{Program, insn_at}
 use Rattle.bpf_verify_state.specs.declared.state.State.{State}
 use Rattle.bpf_verify_rules.specs.Rules.{targets_in}
 use Rattle.bpf_verify_flow.specs.declared.outflow.Outflow.{Outflow}

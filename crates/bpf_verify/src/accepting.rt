@@ -2,32 +2,30 @@
 
 ghost use Rattle.std.specs.Prelude.{◌≡◌, IfOk, IfErr};
 ghost use Rattle.bpf_verify_flow.specs.Accepted.{first_fault, Accepted};
-ghost use Rattle.bpf_verify.specs.Layout.{program_of};
 ghost use Rattle.bpf_verify.specs.Passing.{IsFault};
 ghost use Rattle.bpf_verify.specs.Counting.{HasCount};
 
 use crate::counting::counts_of;
 use crate::error::VerifyError;
-use crate::layout::{layout_of, slot_count};
+use crate::layout::layout_of;
 use crate::passing::{Code, pass};
-use crate::sizes::sizes_fit;
 use crate::verified::Verified;
-use bpf_insn::Unit;
+use bpf_insn_form::{Unit, elements_of, slot_count};
 use bpf_verify_rules::Rule;
 use std::alloc::Global;
 
 // How many slots a unit has within the limits, or why it is refused (V1, V2).
 #[tactic(auto, unfolding(bpf_verify_flow::specs::Accepted::first_fault))]
 fn count_of(unit: &Unit) -> Result<u32, VerifyError>
-    ensures ok { IfOk result (HasCount (program_of unit.now)) }
-    ensures err { IfErr result (IsFault (first_fault (program_of unit.now))) }
+    ensures ok { IfOk result (HasCount unit.now) }
+    ensures err { IfErr result (IsFault (first_fault unit.now)) }
 {
     match slot_count(&unit.insns) {
         Some(0) => Err(VerifyError::Refused {
             rule: Rule::V1,
             slot: 0,
         }),
-        Some(count) => if sizes_fit(&unit.sizes) {
+        Some(count) => if elements_of(&unit.sizes).is_some() {
             Ok(count)
         } else {
             Err(VerifyError::Refused {
@@ -46,9 +44,9 @@ fn count_of(unit: &Unit) -> Result<u32, VerifyError>
 /// and there the least number (see `Rule`). Memory may run out in place of either answer.
 pub fn verify(alloc: Global, unit: Unit) -> Result<Verified, VerifyError>
     // What is accepted is this unit, and it breaks no rule.
-    ensures ok { IfOk result (λ verified. (verified ≡ program_of unit) × Accepted (program_of unit)) }
+    ensures ok { IfOk result (λ verified. (verified ≡ unit) × Accepted unit) }
     // What is refused is refused by its first fault.
-    ensures err { IfErr result (IsFault (first_fault (program_of unit))) }
+    ensures err { IfErr result (IsFault (first_fault unit)) }
 {
     let count = count_of(&unit)?;
     let layout = layout_of(alloc, &unit.insns, count)?;

@@ -1,12 +1,12 @@
 //! How many instructions each function takes at most.
 
 ghost use Rattle.std.specs.Prelude.{◌≡◌, ℕ, ◌<◌, ◌≤◌, ◌∷◌, [], ◌++◌, map, length, replicate, slice_set, slice_index_or, IfOk, IfErr, OnOk};
-ghost use Rattle.bpf_step_model.specs.Program.{slot_count};
+ghost use Rattle.bpf_insn_form.specs.Program.{slot_count};
 ghost use Rattle.bpf_verify_flow.specs.Count.{behind_jump, through, longest};
 ghost use Rattle.bpf_verify.specs.Counting.{slice_index_or_zero, JumpsForward, AreLongest};
 
 use crate::error::VerifyError;
-use bpf_insn::{Insn, slots};
+use bpf_insn_form::{Insn, slots};
 use bpf_verify_flow::moved;
 use std::alloc::Global;
 

@@ -1,12 +1,12 @@
 //! Where instructions stand, and in which functions.
 
 ghost use Rattle.std.specs.Prelude.{◌≡◌, ◌<◌, ◌≤◌, ◌&&◌, false, if◌then◌else◌, ◌++◌, ◌∷◌, [], length, slice_index_or, option_to_list, IfSome, IfNone, IfOk, IfErr, OnOk};
-ghost use Rattle.bpf_step_model.specs.Program.{slot_count, named_by, code_target};
+ghost use Rattle.bpf_insn_form.specs.Program.{slot_count, named_by, code_target};
 ghost use Rattle.bpf_verify.specs.Marks.{marked, BeginMarks, NamedMarks};
 ghost use Rattle.bpf_verify.specs.Layout.{IsLayout};
 
 use crate::error::VerifyError;
-use bpf_insn::{ImmKind, Insn, slots};
+use bpf_insn_form::{ImmKind, Insn, slots};
 use bpf_verify_flow::code_target;
 use std::alloc::Global;
 
@@ -16,21 +16,6 @@ use std::alloc::Global;
 pub struct Layout {
     pub places: Vec<Option<u32>>,
     pub starts: Vec<u32>,
-}
-
-/// How many slots instructions take, if they are at most 4,096.
-pub fn slot_count(insns: &[Insn]) -> Option<u32>
-    ensures some { IfSome result (λ n. (n ≡ slot_count insns.now) × (n ≤ 4096)) }
-    ensures none { IfNone result (4096 < slot_count insns.now) }
-{
-    let mut total = 0;
-    for insn in insns {
-        total += slots(insn);
-        if total > 4096 {
-            return None;
-        }
-    }
-    Some(total)
 }
 
 /// The slot that an instruction at a slot names, if it is the load of a code address.

@@ -7,7 +7,6 @@ mod counting;
 mod error;
 mod layout;
 mod passing;
-mod sizes;
 mod verified;
 
 pub use accepting::verify;

@@ -2,7 +2,7 @@
 //! break each rule, or only just keep it, are tests of `bpfspec_serve`.
 
 use super::*;
-use bpf_insn::{AluOp, Callee, ImmKind, Insn, Operand, Reg, Size, Unit, Width};
+use bpf_insn_form::{AluOp, Callee, ImmKind, Insn, Operand, Reg, Size, Unit, Width};
 use std::alloc::Global;
 use std::process::Abort;
 use std::test::Fail;

@@ -1,8 +1,8 @@
 -- Which programs are accepted, and the first fault of the others.
-use Rattle.std.specs.Prelude.{◌≡◌, ℕ, zero, suc, ◌==◌, Bool, not, ◌&&◌, ◌||◌, nat_lt, nat_le, if◌then◌else◌, List, length, Option, Some, None}
-use Rattle.std.specs.List.{list_all, sum}
-use Rattle.bpf_insn.specs.declared.insn.Insn.{Insn}
-use Rattle.bpf_step_model.specs.Program.{Program, insn_at, slot_count}
+use Rattle.std.specs.Prelude.{◌≡◌, ℕ, zero, suc, ◌==◌, Bool, not, ◌||◌, nat_lt, if◌then◌else◌, Option, Some, None}
+use Rattle.bpf_insn_form.specs.Limits.{sizes_fit}
+use Rattle.bpf_insn_form.specs.declared.insn.Insn.{Insn}
+use Rattle.bpf_insn_form.specs.Program.{Program, insn_at, slot_count}
 use Rattle.bpf_verify_rules.specs.declared.rule.Rule.{Rule}
 use Rattle.bpf_verify_rules.specs.declared.rule.Rule.TheVariants.{V1, V2}
 use Rattle.bpf_verify_rules.specs.Rules.{fault_of}
@@ -32,11 +32,6 @@ unless_earlier None slot (Some rule) = Some (record { rule = rule; slot = slot }
 unfoldable pub fault_within : Program → ℕ → Option Fault
 fault_within program zero = None
 fault_within program (suc slot) = unless_earlier (fault_within program slot) slot (fault_at program slot)
-
--- sizes within the limits: 1 to 16 maps, each of at least 1 element, and at most 65,536 elements over all
-abbrev pub sizes_fit : List ℕ → Bool
-sizes_fit sizes =
-    nat_le 1 (length sizes) && nat_le (length sizes) 16 && list_all (λ size. nat_le 1 size) sizes && nat_le (sum sizes) 65536
 
 -- V2: more than 4,096 slots, or sizes that break the limits
 abbrev pub is_too_large : Program → Bool

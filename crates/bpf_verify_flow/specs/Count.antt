@@ -1,9 +1,9 @@
 -- How many instructions a function takes at most.
 use Rattle.std.specs.Prelude.{ℕ, zero, suc, ◌+◌, max, List, slice_index_or, Option, Some, None}
-use Rattle.bpf_insn.specs.declared.insn.Insn.{Insn}
-use Rattle.bpf_insn.specs.declared.insn.Insn.TheVariants.{Ja, Ja32, Jump, Exit}
-use Rattle.bpf_insn.specs.Slots.{slots_of}
-use Rattle.bpf_step_model.specs.Program.{insn_at, moved, slot_count, callback_starts}
+use Rattle.bpf_insn_form.specs.declared.insn.Insn.{Insn}
+use Rattle.bpf_insn_form.specs.declared.insn.Insn.TheVariants.{Ja, Ja32, Jump, Exit}
+use Rattle.bpf_insn_form.specs.Slots.{slots_of}
+use Rattle.bpf_insn_form.specs.Program.{insn_at, moved, slot_count, callback_starts}
 
 -- the most instructions behind a jump, by those behind each slot
 abbrev pub behind_jump : (ℕ → ℕ) → Option ℕ → ℕ

@@ -1,23 +1,23 @@
 -- What flows from a slot to later ones.
 use Rattle.std.specs.Prelude.{ℕ, ℤ, pos, negsuc, ◌+◌, ◌+ℤ◌, ◌-◌, ◌*◌, ◌^◌, ◌==◌, Bool, nat_le, if◌then◌else◌, min, max, List, slice_get, slice_set, Option, Some, None}
 use Rattle.std.specs.Int.{cast_unsigned, w32}
-use Rattle.bpf_insn.specs.declared.insn.Width.{Width}
-use Rattle.bpf_insn.specs.declared.insn.Width.TheVariants.{W32, W64}
-use Rattle.bpf_insn.specs.declared.insn.Size.{Size}
-use Rattle.bpf_insn.specs.declared.insn.AluOp.TheVariants.{Mov}
-use Rattle.bpf_insn.specs.declared.insn.Compare.{Compare}
-use Rattle.bpf_insn.specs.declared.insn.Compare.TheVariants.{Eq}
-use Rattle.bpf_insn.specs.declared.insn.AtomicOp.{AtomicOp}
-use Rattle.bpf_insn.specs.declared.insn.AtomicOp.TheVariants.{Fetch, Xchg, Cmpxchg}
-use Rattle.bpf_insn.specs.declared.insn.Operand.{Operand}
-use Rattle.bpf_insn.specs.declared.insn.Operand.TheVariants.{Imm, Reg}
-use Rattle.bpf_insn.specs.declared.insn.ImmKind.{ImmKind}
-use Rattle.bpf_insn.specs.declared.insn.ImmKind.TheVariants.{Number as NumberKind, Code as CodeKind, Map as MapKind, MapValue}
-use Rattle.bpf_insn.specs.declared.insn.Insn.{Insn}
-use Rattle.bpf_insn.specs.declared.insn.Insn.TheVariants.{Alu, Neg, Movsx, Endian, Ja, Ja32, Jump, Call, Exit, Load, LoadSx, StoreImm, Store, Atomic, LoadImm}
-use Rattle.bpf_insn.specs.Slots.{slots_of}
+use Rattle.bpf_insn_form.specs.declared.insn.Width.{Width}
+use Rattle.bpf_insn_form.specs.declared.insn.Width.TheVariants.{W32, W64}
+use Rattle.bpf_insn_form.specs.declared.insn.Size.{Size}
+use Rattle.bpf_insn_form.specs.declared.insn.AluOp.TheVariants.{Mov}
+use Rattle.bpf_insn_form.specs.declared.insn.Compare.{Compare}
+use Rattle.bpf_insn_form.specs.declared.insn.Compare.TheVariants.{Eq}
+use Rattle.bpf_insn_form.specs.declared.insn.AtomicOp.{AtomicOp}
+use Rattle.bpf_insn_form.specs.declared.insn.AtomicOp.TheVariants.{Fetch, Xchg, Cmpxchg}
+use Rattle.bpf_insn_form.specs.declared.insn.Operand.{Operand}
+use Rattle.bpf_insn_form.specs.declared.insn.Operand.TheVariants.{Imm, Reg}
+use Rattle.bpf_insn_form.specs.declared.insn.ImmKind.{ImmKind}
+use Rattle.bpf_insn_form.specs.declared.insn.ImmKind.TheVariants.{Number as NumberKind, Code as CodeKind, Map as MapKind, MapValue}
+use Rattle.bpf_insn_form.specs.declared.insn.Insn.{Insn}
+use Rattle.bpf_insn_form.specs.declared.insn.Insn.TheVariants.{Alu, Neg, Movsx, Endian, Ja, Ja32, Jump, Call, Exit, Load, LoadSx, StoreImm, Store, Atomic, LoadImm}
+use Rattle.bpf_insn_form.specs.Slots.{slots_of}
 use Rattle.bpf_insn_words.specs.Words.{word_of}
-use Rattle.bpf_step_model.specs.Program.{moved, code_target}
+use Rattle.bpf_insn_form.specs.Program.{moved, code_target}
 use Rattle.bpf_step_model.specs.Memory.{bytes_of}
 use Rattle.value_range_spans.specs.Spans.{Span, exact, top, norm}
 use Rattle.value_range.specs.declared.operation.Operation.TheVariants.{Alu as AluOperation, Neg as NegOperation, Movsx as MovsxOperation, Endian as EndianOperation}

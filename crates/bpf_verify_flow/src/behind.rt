@@ -2,14 +2,14 @@
 
 ghost use Rattle.std.specs.Prelude.{◌≡◌, ◌+◌, ◌*◌, ◌^◌, ◌+ℤ◌, ◌≤◌, pos, slice_get};
 ghost use Rattle.std.specs.Int.{cast_unsigned, w32};
-ghost use Rattle.bpf_insn.specs.declared.insn.ImmKind.TheVariants.{Code as CodeKind};
-ghost use Rattle.bpf_step_model.specs.Program.{moved, code_target};
+ghost use Rattle.bpf_insn_form.specs.declared.insn.ImmKind.TheVariants.{Code as CodeKind};
+ghost use Rattle.bpf_insn_form.specs.Program.{moved, code_target};
 ghost use Rattle.bpf_step_model.specs.Memory.{bytes_of};
 ghost use Rattle.bpf_verify_state.specs.Abstract.{register};
 ghost use Rattle.bpf_verify_state.specs.Values.{operand_value, result_of};
 ghost use Rattle.bpf_verify_flow.specs.Flow.{sets, number_of_size, with_written, stores, fetches, code_at, wide_value, after_call, address_in, found, answer_of, behind};
 
-use bpf_insn::{AluOp, AtomicOp, ImmKind, Insn, Operand, Reg, Size, Width};
+use bpf_insn_form::{AluOp, AtomicOp, ImmKind, Insn, Operand, Reg, Size, Width};
 use bpf_verify_rules::{Helper, bytes_of, helper_of};
 use bpf_verify_state::{AbstractValue, State, on_number, operand_value, reg, result_of};
 use value_range::{Operation, exact, norm, top};

@@ -1,15 +1,15 @@
 //! The ways out of an instruction.
 
 ghost use Rattle.std.specs.Prelude.{◌≡◌, ◌≤◌, ◌+◌};
-ghost use Rattle.bpf_insn.specs.Slots.{slots_of};
-ghost use Rattle.bpf_step_model.specs.Program.{moved};
+ghost use Rattle.bpf_insn_form.specs.Slots.{slots_of};
+ghost use Rattle.bpf_insn_form.specs.Program.{moved};
 ghost use Rattle.bpf_verify_state.specs.Abstract.{register};
 ghost use Rattle.bpf_verify_flow.specs.Flow.{way, branches, jumps, goes_ahead, most_iterations, index_value, ctx_value, callback_entry, enters, calls_back, behind, flow};
 
 use crate::behind::{behind, moved};
 use crate::outflow::{Edge, Outflow};
 use crate::ways::{Ways, ways_of};
-use bpf_insn::{AluOp, Insn, Width, slots};
+use bpf_insn_form::{AluOp, Insn, Width, slots};
 use bpf_verify_rules::{Helper, helper_of};
 use bpf_verify_state::{AbstractValue, Marks, Registers, State, reg};
 use value_range::{Operation, Range, alu, exact, norm};

@@ -4,7 +4,7 @@ ghost use Rattle.std.specs.Prelude.{◌≡◌};
 ghost use Rattle.bpf_verify_state.specs.Abstract.{register};
 ghost use Rattle.bpf_verify_flow.specs.Flow.{compared_imm, with_number, refines, both_ways, number_ways, register_ways, operand_ways, null_ways, ways_of};
 
-use bpf_insn::{Compare, Operand, Reg, Width};
+use bpf_insn_form::{Compare, Operand, Reg, Width};
 use bpf_verify_state::{AbstractValue, State};
 use value_range::{Condition, Range, exact, refine};
 

@@ -1,8 +1,8 @@
 -- Accesses of memory, and where they may go.
 use Rattle.std.specs.Prelude.{ℕ, ℤ, pos, ◌+ℤ◌, ◌*◌, ◌-◌, ◌+◌, ◌==◌, Bool, true, false, not, ◌&&◌, ◌||◌, nat_lt, nat_le, int_lt, int_rem, List, slice_get, Option, Some, None}
 use Rattle.std.specs.Ordering.{int_eq}
-use Rattle.bpf_insn.specs.declared.insn.Insn.{Insn}
-use Rattle.bpf_insn.specs.declared.insn.Insn.TheVariants.{Load, LoadSx, StoreImm, Store, Atomic}
+use Rattle.bpf_insn_form.specs.declared.insn.Insn.{Insn}
+use Rattle.bpf_insn_form.specs.declared.insn.Insn.TheVariants.{Load, LoadSx, StoreImm, Store, Atomic}
 use Rattle.bpf_step_model.specs.Memory.{bytes_of, atomic_bytes}
 use Rattle.value_range_spans.specs.Spans.{Span}
 use Rattle.bpf_verify_state.specs.declared.abstract_value.AbstractValue.{AbstractValue}

@@ -4,7 +4,7 @@ ghost use Rattle.std.specs.Prelude.{◌≡◌, ◌≤◌, IfSome};
 ghost use Rattle.bpf_step_model.specs.Memory.{bytes_of, atomic_bytes};
 ghost use Rattle.bpf_verify_rules.specs.Accesses.{access_of, reads, writes};
 
-use bpf_insn::{Insn, Reg, Size, Width};
+use bpf_insn_form::{Insn, Reg, Size, Width};
 
 /// What an access does.
 #[derive(Clone, Copy)]

@@ -3,7 +3,7 @@
 ghost use Rattle.std.specs.Prelude.{◌≡◌};
 ghost use Rattle.bpf_verify_rules.specs.Helpers.{helper_called};
 
-use bpf_insn::Callee;
+use bpf_insn_form::Callee;
 
 /// A helper by its name (bpf-helpers(7)).
 #[derive(Clone, Copy)]

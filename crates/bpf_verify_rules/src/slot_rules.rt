@@ -5,7 +5,7 @@ ghost use Rattle.bpf_verify_rules.specs.Rules.{jump_distance, goes_on, is_code_k
 
 use crate::helper::{Helper, helper_of};
 use crate::rule::Rule;
-use bpf_insn::{AtomicOp, Callee, ImmKind, Insn, Reg};
+use bpf_insn_form::{AtomicOp, Callee, ImmKind, Insn, Reg};
 
 /// The distance of a jump.
 pub fn jump_distance(insn: Insn) -> Option<i32>

@@ -11,7 +11,7 @@ use crate::places::{
     is_ctx, is_memory, is_outside, is_part_of_value, is_unwritten_at, misses_alignment,
 };
 use crate::rule::Rule;
-use bpf_insn::{AluOp, AtomicOp, Insn, Operand, Reg};
+use bpf_insn_form::{AluOp, AtomicOp, Insn, Operand, Reg};
 use bpf_verify_state::{
     AbstractValue, State, compares, is_number, is_unwritten, operand_value, reg, result_of,
 };

@@ -6,7 +6,7 @@ ghost use Rattle.bpf_verify_state.specs.Abstract.{joined_registers, starting_reg
 
 use crate::abstract_value::AbstractValue;
 use crate::joining::join_values;
-use bpf_insn::Reg;
+use bpf_insn_form::Reg;
 use std::marker::Model;
 
 /// What is known of each register.

@@ -6,7 +6,7 @@ ghost use Rattle.bpf_verify_state.specs.Abstract.{register, with_register, joine
 use crate::abstract_value::AbstractValue;
 use crate::marks::Marks;
 use crate::registers::Registers;
-use bpf_insn::{Reg, Width};
+use bpf_insn_form::{Reg, Width};
 use value_range::top;
 
 /// What is known before a slot: each register, the written bytes of the own frame, and in a callback

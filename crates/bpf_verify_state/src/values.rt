@@ -1,13 +1,13 @@
 //! What operators give on what is known of registers.
 
 ghost use Rattle.std.specs.Prelude.{◌≡◌, ◌≤◌, IfSome};
-ghost use Rattle.bpf_insn.specs.declared.insn.Width.TheVariants.{W64};
+ghost use Rattle.bpf_insn_form.specs.declared.insn.Width.TheVariants.{W64};
 ghost use Rattle.bpf_verify_state.specs.declared.abstract_value.AbstractValue.TheVariants.{Number};
 ghost use Rattle.bpf_verify_state.specs.Values.{operand_value, on_number, on_numbers, copied, moved_position, frame_address, ctx_address, area_sum, added, taken_away, sum_of, difference_of, result_of, is_null_check, compares};
 
 use crate::abstract_value::{AbstractValue, is_number};
 use crate::state::State;
-use bpf_insn::{AluOp, Compare, Operand, Width};
+use bpf_insn_form::{AluOp, Compare, Operand, Width};
 use bpf_insn_words::alu_word;
 use value_range::{Operation, Range, alu, exact};
 

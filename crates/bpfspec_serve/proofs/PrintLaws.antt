@@ -5,7 +5,7 @@ use Rattle.std.proofs.lemmas.List.Sums.{sum_by_more}
 use Rattle.std.proofs.lemmas.List.{drop-drop}
 use Rattle.array_maps.specs.MapList.{base_of}
 use Rattle.loop_core_law.specs.declared.verdict.LoopReport.{LoopReport}
-use Rattle.bpf_insn.specs.declared.insn.Insn.{Insn}
+use Rattle.bpf_insn_form.specs.declared.insn.Insn.{Insn}
 use Rattle.bpfspec_serve.specs.AcceptedText.{function_line, function_lines}
 use Rattle.bpfspec_serve.specs.ReportText.{values_of, loop_line, loop_lines}
 

@@ -1,8 +1,8 @@
 -- What is printed of an accepted program.
 use Rattle.std.specs.Prelude.{ℕ, zero, suc, ◌+◌, List, [], ◌++◌, length, codes}
 use Rattle.std.specs.Fmt.{decimal}
-use Rattle.bpf_insn.specs.declared.insn.Insn.{Insn}
-use Rattle.bpf_step_model.specs.Program.{callback_starts}
+use Rattle.bpf_insn_form.specs.declared.insn.Insn.{Insn}
+use Rattle.bpf_insn_form.specs.Program.{callback_starts}
 use Rattle.bpf_verify_flow.specs.Count.{start_of, count_of}
 
 -- the line of a function: where it starts, and the most instructions that it takes

@@ -3,7 +3,7 @@ use Rattle.std.specs.Prelude.{◌≡◌, ℕ, nat_lt, nat_eq, if◌then◌else�
 use Rattle.std.specs.Cmp.Lexicographic.{pointwise}
 use Rattle.std.specs.List.{concat, sum}
 use Rattle.std.specs.Str.{is_utf8}
-use Rattle.bpf_insn.specs.declared.insn.Insn.{Insn}
+use Rattle.bpf_insn_form.specs.declared.insn.Insn.{Insn}
 use Rattle.bpf_insn.specs.declared.codec_error.CodecError.{CodecError}
 use Rattle.bpf_insn.specs.declared.codec_error.CodecError.TheVariants as codec
 use Rattle.bpf_insn.specs.Reading.{reading}
@@ -15,7 +15,7 @@ use Rattle.bpf_text.specs.MapsText.{maps_text}
 use Rattle.bpf_text_insns.specs.UnitText.{unit_text as assembler_form, unit_hex as hex_form}
 use Rattle.bpf_text_units.specs.UnitReading.{UnitParts, unit_text as assembler_text}
 use Rattle.array_maps.specs.MapList.{lengths}
-use Rattle.bpf_step_model.specs.Program.{Program}
+use Rattle.bpf_insn_form.specs.Program.{Program}
 use Rattle.bpf_step_model.specs.Run.{Ended}
 use Rattle.loop_core_law.specs.Report.{Reported, report_in_order}
 use Rattle.spec_run.specs.Thin.{Thin}

@@ -2,7 +2,7 @@
 
 ghost use Rattle.std.specs.Prelude.{◌≡◌, ◌≤◌, ◌+◌, ◌++◌, IfOk, OnOk, length};
 ghost use Rattle.std.specs.String.{string_bytes};
-ghost use Rattle.bpf_step_model.specs.Program.{callback_starts};
+ghost use Rattle.bpf_insn_form.specs.Program.{callback_starts};
 ghost use Rattle.bpfspec_serve.specs.AcceptedText.{function_line, function_lines, accepted_text};
 
 use bpf_verify::Verified;

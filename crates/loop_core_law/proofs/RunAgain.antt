@@ -5,7 +5,7 @@ use Rattle.std.proofs.lemmas.Bool.{eqb-true, eq-eqb}
 use Rattle.std.proofs.lemmas.Option.{slice_get_within, slice_get-get_or, get_or_from_slice_get}
 use Rattle.array_maps.specs.Accesses.{Action, Read, Write, ReadWrite, Reduce, Access, exchanged, left_by, Saw, SawEach, actions_at, words_after, words_after_all}
 use Rattle.array_maps.proofs.ElementLaws.{length-words_after, element_after_all}
-use Rattle.bpf_step_model.specs.Program.{Program}
+use Rattle.bpf_insn_form.specs.Program.{Program}
 use Rattle.bpf_step_model.specs.State.{Machine, LoopCall, callback_entry}
 use Rattle.bpf_step_model.specs.Step.{Request, Load, Store, Update, Fetch, Move, NoStep, Next, Asks, Loops, Refuses, Exits, step}
 use Rattle.bpf_step_model.specs.Run.{Ending, Ended, Stuck, Unfinished, Turn, Exit, Loop, Refused, Stretch, action_of, told, one_more, one_more_with, ended_by, after_access, after_move, run}

@@ -1,7 +1,7 @@
 -- The law of speculation.
 use Rattle.std.specs.Prelude.{◌≡◌, ℕ, ◌<◌, false, ◌&&◌, is_none, List, [], length}
 use Rattle.array_maps.specs.Accesses.{Access}
-use Rattle.bpf_step_model.specs.Program.{Program}
+use Rattle.bpf_insn_form.specs.Program.{Program}
 use Rattle.bpf_step_model.specs.State.{LoopCall}
 use Rattle.bpf_step_model.specs.Run.{Ended}
 use Rattle.bpf_step_model.specs.LoopInOrder.{loop_in_order}

@@ -3,7 +3,7 @@ use Rattle.std.specs.Prelude.{ℕ, zero, suc, ◌+◌, Bool, false, ◌==◌, if
 use Rattle.std.specs.List.{range_with_len}
 use Rattle.std.specs.Option.{option_or}
 use Rattle.array_maps.specs.Accesses.{Access}
-use Rattle.bpf_step_model.specs.Program.{Program}
+use Rattle.bpf_insn_form.specs.Program.{Program}
 use Rattle.bpf_step_model.specs.State.{LoopCall}
 use Rattle.bpf_step_model.specs.Run.{Ending, Ended, Stuck, Unfinished}
 use Rattle.bpf_step_model.specs.Iteration.{Iterated, iteration}

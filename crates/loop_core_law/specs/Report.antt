@@ -1,7 +1,7 @@
 -- What is told of a program's loops.
 use Rattle.std.specs.Prelude.{ℕ, ◌+◌, List, [], ◌∷◌, map, length, Option, Some, None}
 use Rattle.array_maps.specs.Accesses.{Access}
-use Rattle.bpf_step_model.specs.Program.{Program}
+use Rattle.bpf_insn_form.specs.Program.{Program}
 use Rattle.bpf_step_model.specs.State.{LoopCall}
 use Rattle.bpf_step_model.specs.Run.{Ending, Ended, Stuck, Unfinished}
 use Rattle.bpf_step_model.specs.ProgramInOrder.{LoopMade, Finished, program_in_order}

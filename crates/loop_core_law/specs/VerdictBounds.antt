@@ -1,6 +1,6 @@
 -- A bound decides nothing of a verdict but whether there is one yet.
 use Rattle.std.specs.Prelude.{ℕ, ◌≤◌, List}
-use Rattle.bpf_step_model.specs.Program.{Program}
+use Rattle.bpf_insn_form.specs.Program.{Program}
 use Rattle.bpf_step_model.specs.State.{LoopCall}
 use Rattle.bpf_step_model.specs.Bounds.{Extends}
 use Rattle.loop_core_law.specs.LeastBreak.{counted_runs}

@@ -1,6 +1,6 @@
 -- Worked verdicts: what is reported of loops that may run in parallel. Each is worked out by hand.
 use Rattle.std.specs.Prelude.{◌≡◌, ℕ, pos, negsuc, List, [], ◌∷◌, ◌++◌, replicate}
-use Rattle.bpf_insn.specs.declared.insn.Insn.{Insn}
+use Rattle.bpf_insn_form.specs.declared.insn.Insn.{Insn}
 use Rattle.bpf_step_model.specs.Run.{Ended}
 use Rattle.bpf_step_model.specs.Lines.{end, loop_with}
 use Rattle.bpf_step_model.specs.LoopRows.{looping, add_index, increment, shift_right, shift_left, last_writer, mixed_operators, break_at_five, break_that_never_comes, and_operands, add_fetched, two_loops}

@@ -13,7 +13,7 @@ use Rattle.bpf_step_model.specs.Iteration.{iteration}
 use Rattle.bpf_step_model.specs.LoopInOrder.{behind, loop_from, loop_in_order}
 use Rattle.bpf_step_model.specs.ProgramInOrder.{one_loop_more, resumed, after_loop, after_stretch, main_from, program_in_order}
 use Rattle.array_maps.specs.MapList.{MapList, base_of}
-use Rattle.bpf_step_model.specs.Program.{Program}
+use Rattle.bpf_insn_form.specs.Program.{Program}
 use Rattle.loop_core_law.specs.declared.verdict.LoopReport.{LoopReport}
 use Rattle.loop_core_law.specs.declared.verdict.Verdict.TheVariants.{InOrder}
 use Rattle.loop_core_law.specs.Report.{loop_report_in_order, reported_with, report_in_order}

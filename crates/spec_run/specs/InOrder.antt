@@ -1,7 +1,7 @@
 -- What a run in order gives.
 use Rattle.std.specs.Prelude.{◌≡◌, ℕ}
 use Rattle.array_maps.specs.MapList.{MapList}
-use Rattle.bpf_step_model.specs.Program.{Program}
+use Rattle.bpf_insn_form.specs.Program.{Program}
 use Rattle.bpf_step_model.specs.Run.{Ended}
 use Rattle.loop_core_law.specs.Report.{report_in_order}
 use Rattle.spec_run.specs.declared.running.Report.{Report}

@@ -2,13 +2,13 @@
 use Rattle.std.specs.Prelude.{◌≡◌, ℕ, zero, suc, ◌≤◌, pos, List, [], ◌∷◌}
 use Rattle.array_maps.specs.declared.access.Op.TheVariants.{Add as Adds}
 use Rattle.array_maps.specs.Accesses.{combined}
-use Rattle.bpf_insn.specs.declared.insn.Width.TheVariants.{W64}
-use Rattle.bpf_insn.specs.declared.insn.SimpleOp.TheVariants.{Add}
-use Rattle.bpf_insn.specs.declared.insn.AtomicOp.TheVariants.{Simple}
-use Rattle.bpf_insn.specs.declared.insn.Insn.{Insn}
-use Rattle.bpf_insn.specs.declared.insn.Insn.TheVariants.{Atomic}
-use Rattle.bpf_insn.specs.declared.unit.Unit.{Unit as CodeUnit}
-use Rattle.bpf_step_model.specs.Program.{Program}
+use Rattle.bpf_insn_form.specs.declared.insn.Width.TheVariants.{W64}
+use Rattle.bpf_insn_form.specs.declared.insn.SimpleOp.TheVariants.{Add}
+use Rattle.bpf_insn_form.specs.declared.insn.AtomicOp.TheVariants.{Simple}
+use Rattle.bpf_insn_form.specs.declared.insn.Insn.{Insn}
+use Rattle.bpf_insn_form.specs.declared.insn.Insn.TheVariants.{Atomic}
+use Rattle.bpf_insn_form.specs.declared.unit.Unit.{Unit as CodeUnit}
+use Rattle.bpf_insn_form.specs.Program.{Program}
 use Rattle.bpf_step_model.specs.Lines.{map_value, end, loop_of}
 
 -- a unit without where it lies in memory

@@ -1,6 +1,7 @@
 use super::*;
 use array_maps::Maps;
-use bpf_insn::{Unit, decode};
+use bpf_insn::decode;
+use bpf_insn_form::Unit;
 use loop_core_law::{LoopReport, Verdict};
 use std::alloc::Global;
 use std::test::Fail;

@@ -2,20 +2,20 @@
 
 ghost use Rattle.std.specs.Prelude.{◌≡◌, ◌≤◌, ℕ, pos, [], ◌∷◌, Some, IfSome, IfNone, IsTrue};
 ghost use Rattle.std.specs.List.{list_all};
-ghost use Rattle.bpf_insn.specs.declared.insn.Width.TheVariants.{W64};
-ghost use Rattle.bpf_insn.specs.declared.insn.AluOp.TheVariants.{Mov};
-ghost use Rattle.bpf_insn.specs.declared.insn.Operand.TheVariants.{Imm};
-ghost use Rattle.bpf_insn.specs.declared.insn.SimpleOp.TheVariants.{Add};
-ghost use Rattle.bpf_insn.specs.declared.insn.AtomicOp.TheVariants.{Simple};
-ghost use Rattle.bpf_insn.specs.declared.insn.ImmKind.TheVariants.{Code};
-ghost use Rattle.bpf_insn.specs.declared.insn.Callee.TheVariants.{Helper};
-ghost use Rattle.bpf_insn.specs.declared.insn.Insn.TheVariants.{Alu, Atomic, Call, Exit, LoadImm};
+ghost use Rattle.bpf_insn_form.specs.declared.insn.Width.TheVariants.{W64};
+ghost use Rattle.bpf_insn_form.specs.declared.insn.AluOp.TheVariants.{Mov};
+ghost use Rattle.bpf_insn_form.specs.declared.insn.Operand.TheVariants.{Imm};
+ghost use Rattle.bpf_insn_form.specs.declared.insn.SimpleOp.TheVariants.{Add};
+ghost use Rattle.bpf_insn_form.specs.declared.insn.AtomicOp.TheVariants.{Simple};
+ghost use Rattle.bpf_insn_form.specs.declared.insn.ImmKind.TheVariants.{Code};
+ghost use Rattle.bpf_insn_form.specs.declared.insn.Callee.TheVariants.{Helper};
+ghost use Rattle.bpf_insn_form.specs.declared.insn.Insn.TheVariants.{Alu, Atomic, Call, Exit, LoadImm};
 ghost use Rattle.array_maps.specs.MapList.{AreSizes};
 ghost use Rattle.bpf_step_model.specs.Lines.{loop_of, map_value};
-ghost use Rattle.bpf_step_model.specs.Program.{Program};
+ghost use Rattle.bpf_insn_form.specs.Program.{Program};
 ghost use Rattle.spec_run.specs.Thin.{adds_index, program_of, thin_program, Thin};
 
-use bpf_insn::{AluOp, AtomicOp, Callee, ImmKind, Insn, Operand, SimpleOp, Unit, Width};
+use bpf_insn_form::{AluOp, AtomicOp, Callee, ImmKind, Insn, Operand, SimpleOp, Unit, Width};
 use std::marker::Model;
 
 /// The most iterations that a loop may have (bpf-helpers(7), bpf_loop).

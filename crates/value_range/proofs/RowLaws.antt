@@ -7,7 +7,7 @@ use Rattle.std.proofs.lemmas.Nat.{mul-le, pow_pos, and_le_l, and_le_r, or_lt, xo
 use Rattle.std.proofs.lemmas.Nat.Bits.{ones_shr}
 use Rattle.std.proofs.Math.Pow.{pow_mono}
 use Rattle.std.proofs.lemmas.Bool.{cases_lt, cond-true, lt-ltb}
-use Rattle.bpf_insn.specs.declared.insn.Width.{Width}
+use Rattle.bpf_insn_form.specs.declared.insn.Width.{Width}
 use Rattle.bpf_insn_words.specs.Words.{modulus}
 use Rattle.bpf_insn_words.proofs.WordLaws.{modulus-most}
 use Rattle.value_range_spans.specs.Spans.{Span, IsSpan, Contains, rounded_up, norm}

@@ -5,7 +5,7 @@ ghost use Rattle.bpf_insn_words.specs.Words.{modulus};
 ghost use Rattle.value_range.specs.AluRows.{shifted_left_by, shifted_left, shifted_right, shifted_signed};
 
 use crate::widths::{spread, within};
-use bpf_insn::Width;
+use bpf_insn_form::Width;
 use bpf_insn_words::shift_amount;
 use value_range_spans::{Range, norm, top};
 

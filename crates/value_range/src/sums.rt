@@ -5,7 +5,7 @@ ghost use Rattle.bpf_insn_words.specs.Words.{modulus};
 ghost use Rattle.value_range.specs.AluRows.{added, subtracted, multiplied};
 
 use crate::widths::{spread, within};
-use bpf_insn::Width;
+use bpf_insn_form::Width;
 use value_range_spans::{Range, norm};
 
 /// Where no sum wraps, from the least to the greatest.

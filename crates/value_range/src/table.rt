@@ -11,7 +11,7 @@ use crate::operation::Operation;
 use crate::quotients::{divided, left_over};
 use crate::shifts::{shifted_left, shifted_right, shifted_signed};
 use crate::sums::{added, multiplied, subtracted};
-use bpf_insn::{AluOp, Width};
+use bpf_insn_form::{AluOp, Width};
 use bpf_insn_words::{alu_word, endian_word, movsx_word, neg_word, results_fit};
 use value_range_spans::{Range, exact, top};
 

@@ -1,7 +1,7 @@
 ghost use Rattle.std.specs.Prelude.{◌<◌};
 
 use super::*;
-use bpf_insn::{AluOp, ByteOrder, EndianBits, MovsxBits, Width};
+use bpf_insn_form::{AluOp, ByteOrder, EndianBits, MovsxBits, Width};
 use std::test::Fail;
 
 const GREATEST: u64 = 0xffff_ffff_ffff_ffff;

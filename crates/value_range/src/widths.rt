@@ -4,7 +4,7 @@ ghost use Rattle.std.specs.Prelude.{◌≡◌, ◌-◌, ◌<◌, ◌≤◌, IfSo
 ghost use Rattle.bpf_insn_words.specs.Words.{modulus};
 ghost use Rattle.value_range_spans.specs.Spans.{norm};
 
-use bpf_insn::Width;
+use bpf_insn_form::Width;
 use value_range_spans::{Range, norm, top};
 
 /// The number, where it is one of the width.

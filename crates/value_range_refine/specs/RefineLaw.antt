@@ -1,7 +1,7 @@
 -- The law of conditions on spans.
 use Rattle.std.specs.Prelude.{◌≡◌, ℕ, true}
 use Rattle.std.specs.declared.option.Option.TheVariants.{None, Some}
-use Rattle.bpf_insn.specs.declared.insn.Width.{Width}
+use Rattle.bpf_insn_form.specs.declared.insn.Width.{Width}
 use Rattle.value_range_spans.specs.Spans.{Span, IsSpan, Contains}
 use Rattle.value_range_refine.specs.declared.condition.Condition.{Condition}
 use Rattle.value_range_refine.specs.RefineRows.{Refined, says, refined}

@@ -1,12 +1,12 @@
 //! The conditions of the two ways of a conditional jump.
 
 ghost use Rattle.std.specs.Prelude.{◌≡◌, ℕ, not};
-ghost use Rattle.bpf_insn.specs.declared.insn.Width.{Width};
+ghost use Rattle.bpf_insn_form.specs.declared.insn.Width.{Width};
 ghost use Rattle.bpf_insn_words.specs.Words.{holds};
 ghost use Rattle.value_range_refine.specs.declared.condition.Condition.TheVariants.{Holds};
 ghost use Rattle.value_range_refine.specs.RefineRows.{says, opposite};
 
-use bpf_insn::{Compare, Width};
+use bpf_insn_form::{Compare, Width};
 use bpf_insn_words::compare_words;
 
 /// What is known on one way of a conditional jump.

@@ -4,7 +4,7 @@ ghost use Rattle.std.specs.Prelude.{◌≡◌, ◌≢◌};
 ghost use Rattle.value_range_refine.specs.RefineRows.{equal, without, different, greater, not_less, exchanged, tested};
 
 use crate::condition::Condition;
-use bpf_insn::Width;
+use bpf_insn_form::Width;
 use value_range_spans::{Range, norm, round_down};
 
 /// Equal: what both have in common.

@@ -7,7 +7,7 @@ ghost use Rattle.value_range_refine.specs.RefineRows.{says, refine_row, refined}
 
 use crate::condition::Condition;
 use crate::rows::{different, equal, exchanged, greater, not_less, tested};
-use bpf_insn::{Compare, Width};
+use bpf_insn_form::{Compare, Width};
 use value_range_spans::Range;
 
 /// The ranges of both operands where the condition holds. They contain every pair of words of a and b

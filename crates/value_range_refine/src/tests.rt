@@ -1,7 +1,7 @@
 ghost use Rattle.std.specs.Prelude.{◌<◌};
 
 use super::*;
-use bpf_insn::{Compare, Width};
+use bpf_insn_form::{Compare, Width};
 use std::test::Fail;
 use value_range_spans::{Range, exact, join, top};
 

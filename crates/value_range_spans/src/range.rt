@@ -5,7 +5,7 @@ ghost use Rattle.value_range_spans.specs.Spans.{Span, IsSpan, Contains, exact, t
 ghost use Rattle.value_range_spans.specs.SpanLaw.{SpanLaw};
 
 use crate::bounds::{round_down, round_up};
-use bpf_insn::Width;
+use bpf_insn_form::Width;
 use std::marker::Model;
 
 /// The words from a least to a greatest that are multiples of a power of two.

@@ -1,5 +1,5 @@
 use super::*;
-use bpf_insn::Width;
+use bpf_insn_form::Width;
 use std::test::Fail;
 
 // The least word, the greatest, and the trailing zeros.

@@ -4,16 +4,16 @@ use Rattle.std.specs.Prelude.{if◌then◌else◌, ◌==◌, nat_lt, bit_or, bit
 use Rattle.std.specs.Int.{cast_unsigned, swap_bytes}
 use Rattle.std.proofs.lemmas.Nat.{mod_below, or_lt, xor_lt, and_le_l}
 use Rattle.std.proofs.Math.Nat.{div-le_self}
-use Rattle.bpf_insn.specs.declared.insn.Width.{Width}
-use Rattle.bpf_insn.specs.declared.insn.Width.TheVariants.{W32, W64}
-use Rattle.bpf_insn.specs.declared.insn.AluOp.{AluOp}
-use Rattle.bpf_insn.specs.declared.insn.AluOp.TheVariants.{Add, Sub, Mul, Div, Sdiv, Or, And, Lsh, Rsh, Mod, Smod, Xor, Mov, Arsh}
-use Rattle.bpf_insn.specs.declared.insn.ByteOrder.{ByteOrder}
-use Rattle.bpf_insn.specs.declared.insn.ByteOrder.TheVariants.{Le, Be, Swap}
-use Rattle.bpf_insn.specs.declared.insn.EndianBits.{EndianBits}
-use Rattle.bpf_insn.specs.declared.insn.EndianBits.TheVariants.{B16, B32, B64}
-use Rattle.bpf_insn.specs.declared.insn.MovsxBits.{MovsxBits}
-use Rattle.bpf_insn.specs.declared.insn.MovsxBits.TheVariants.{B8, B16 as Low16, B32 as Low32}
+use Rattle.bpf_insn_form.specs.declared.insn.Width.{Width}
+use Rattle.bpf_insn_form.specs.declared.insn.Width.TheVariants.{W32, W64}
+use Rattle.bpf_insn_form.specs.declared.insn.AluOp.{AluOp}
+use Rattle.bpf_insn_form.specs.declared.insn.AluOp.TheVariants.{Add, Sub, Mul, Div, Sdiv, Or, And, Lsh, Rsh, Mod, Smod, Xor, Mov, Arsh}
+use Rattle.bpf_insn_form.specs.declared.insn.ByteOrder.{ByteOrder}
+use Rattle.bpf_insn_form.specs.declared.insn.ByteOrder.TheVariants.{Le, Be, Swap}
+use Rattle.bpf_insn_form.specs.declared.insn.EndianBits.{EndianBits}
+use Rattle.bpf_insn_form.specs.declared.insn.EndianBits.TheVariants.{B16, B32, B64}
+use Rattle.bpf_insn_form.specs.declared.insn.MovsxBits.{MovsxBits}
+use Rattle.bpf_insn_form.specs.declared.insn.MovsxBits.TheVariants.{B8, B16 as Low16, B32 as Low32}
 use Rattle.bpf_insn_words.specs.Words.{alu, computed, negated, moved_signed, in_order, modulus, low_modulus, endian_modulus, endian_integers, shift, signed, integers}
 use Rattle.bpf_insn_words.proofs.SignedLaws.{half, signed-abs, div-abs, rem-abs, rem-le}
 use Rattle.bpf_insn_words.proofs.WordLaws.{modulus-positive}

@@ -1,5 +1,5 @@
 use Rattle.std.proofs.Common.{sym, arith}
-use Rattle.bpf_insn.specs.declared.insn.AluOp.{AluOp}
+use Rattle.bpf_insn_form.specs.declared.insn.AluOp.{AluOp}
 use Rattle.bpf_insn_words.proofs.WordLaws.{alu-words}
 use Rattle.array_maps.specs.Accesses.{combined}
 use Rattle.array_maps.proofs.store.applied.Goals as goal

@@ -1,7 +1,7 @@
 -- What is low in a negative modulo 2 ^ 64 is the negative modulo the width.
 use Rattle.std.proofs.Common.{◌∙◌, ◌≡◌, ℕ, ◌+◌, ◌-◌, ◌%◌, ◌^◌, ◌<◌, arith}
-use Rattle.bpf_insn.specs.declared.insn.Width.{Width}
-use Rattle.bpf_insn.specs.declared.insn.Width.TheVariants.{W32, W64}
+use Rattle.bpf_insn_form.specs.declared.insn.Width.{Width}
+use Rattle.bpf_insn_form.specs.declared.insn.Width.TheVariants.{W32, W64}
 use Rattle.bpf_insn_words.specs.Words.{modulus, negated}
 use Rattle.bpf_insn_words.proofs.arithmetic.neg_word.Goals as goal
 

@@ -1,5 +1,5 @@
 use Rattle.std.proofs.Common.{◌≡◌, ◌∷◌, map, take}
-use Rattle.bpf_step_model.specs.Program.{slot_count}
+use Rattle.bpf_insn_form.specs.Program.{slot_count}
 use Rattle.bpf_verify_flow.specs.Count.{longest}
 use Rattle.bpf_verify.proofs.counting.counts_of.Given as goal
 

@@ -1,12 +1,11 @@
 use Rattle.std.proofs.Common.{◌≡◌, take, length}
-use Rattle.bpf_step_model.specs.Program.{slot_count}
-use Rattle.bpf_verify.specs.Layout.{program_of}
+use Rattle.bpf_insn_form.specs.Program.{slot_count}
 use Rattle.bpf_verify.specs.Passing.{Passed}
 use Rattle.bpf_verify.proofs.passing.pass.Given as goal
 
 abbrev pub invariant-loop-insn : goal.invariant-loop-insn
 invariant-loop-insn l = record {
-  low : l.slot ≡ slot_count (take l.insn-index l.code.unit.now.insns.items);
+  low : l.slot ≡ slot_count (take l.insn-index l.code.unit.now.insns);
   size : length l.table.items ≡ l.count;
-  passed : Passed (program_of l.code.unit.now) l.slot l.targets.items l.table.items;
+  passed : Passed l.code.unit.now l.slot l.targets.items l.table.items;
 }

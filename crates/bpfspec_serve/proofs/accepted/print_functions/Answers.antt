@@ -1,6 +1,6 @@
 use Rattle.std.proofs.Common.{◌≡◌, ◌+◌, ◌++◌, ℕ, length, ap, ◌∙◌, arith}
 use Rattle.std.specs.String.{string_bytes}
-use Rattle.bpf_step_model.specs.Program.{callback_starts}
+use Rattle.bpf_insn_form.specs.Program.{callback_starts}
 use Rattle.bpfspec_serve.specs.AcceptedText.{function_line, function_lines}
 use Rattle.bpfspec_serve.proofs.PrintLaws.{functions_first, functions_more}
 use Rattle.bpfspec_serve.proofs.accepted.print_functions.Goals as goal

@@ -1,10 +1,10 @@
 use Rattle.std.proofs.Common.{◌≡◌, ◌∙◌, ◌<◌, ℕ, length, sym, arith, ap, [], ◌∷◌, to_z, pos, w32}
-use Rattle.bpf_insn.specs.declared.insn.Width.TheVariants.{W64}
-use Rattle.bpf_insn.specs.declared.insn.AluOp.TheVariants.{Mov}
-use Rattle.bpf_insn.specs.declared.insn.Operand.TheVariants.{Imm}
-use Rattle.bpf_insn.specs.declared.insn.Insn.TheVariants.{Alu}
+use Rattle.bpf_insn_form.specs.declared.insn.Width.TheVariants.{W64}
+use Rattle.bpf_insn_form.specs.declared.insn.AluOp.TheVariants.{Mov}
+use Rattle.bpf_insn_form.specs.declared.insn.Operand.TheVariants.{Imm}
+use Rattle.bpf_insn_form.specs.declared.insn.Insn.TheVariants.{Alu}
 use Rattle.std.proofs.lemmas.Int.{to_z_pos}
-use Rattle.bpf_insn.specs.declared.insn.Insn.{Insn}
+use Rattle.bpf_insn_form.specs.declared.insn.Insn.{Insn}
 use Rattle.spec_run.proofs.ThinLists.{each_holds, same_list, stands}
 use Rattle.spec_run.proofs.verified.are_thin.Goals as goal
 

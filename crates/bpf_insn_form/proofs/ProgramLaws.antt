@@ -1,16 +1,12 @@
 -- Where the instructions of a list stand.
-use Rattle.std.proofs.Common.{◌≡◌, ◌≢◌, ℕ, zero, suc, ◌+◌, ◌-◌, ◌<◌, ◌≤◌, Bool, true, false, ◌||◌, List, [], ◌∷◌, ◌++◌, take, drop, length, get_or, set, refl, ap, sym, ◌∙◌, subst, arith, add-one, lit≤, Option, Some, None, is_some}
-use Rattle.std.specs.Prelude.{nat_eq, nat_lt, if◌then◌else◌}
-use Rattle.std.specs.List.{list_any, cons_option}
+use Rattle.std.proofs.Common.{◌≡◌, ◌≢◌, ℕ, zero, suc, ◌+◌, ◌-◌, ◌<◌, ◌≤◌, Bool, true, false, List, [], ◌∷◌, ◌++◌, take, drop, length, get_or, refl, ap, sym, ◌∙◌, arith, add-one, lit≤, Option, Some, None}
+use Rattle.std.specs.Prelude.{nat_lt, if◌then◌else◌}
+use Rattle.std.specs.List.{cons_option}
 use Rattle.std.proofs.lemmas.Bool.Decides.{nat_tests}
-use Rattle.std.proofs.lemmas.List.{get_or-set_same, get_or-set_other}
-use Rattle.std.proofs.lemmas.List.Folds.{list_any-append}
-use Rattle.std.proofs.Math.ListN.{length-set}
-use Rattle.bpf_insn.specs.declared.insn.Insn.{Insn}
-use Rattle.bpf_insn.specs.declared.insn.Insn.TheVariants.{LoadImm}
-use Rattle.bpf_insn.specs.Slots.{slots_of}
-use Rattle.bpf_step_model.specs.Program.{slot_count, insn_at, named_by, named_from}
-use Rattle.bpf_verify.specs.Marks.{marked}
+use Rattle.bpf_insn_form.specs.declared.insn.Insn.{Insn}
+use Rattle.bpf_insn_form.specs.declared.insn.Insn.TheVariants.{LoadImm}
+use Rattle.bpf_insn_form.specs.Slots.{slots_of}
+use Rattle.bpf_insn_form.specs.Program.{slot_count, insn_at, named_by, named_from}
 
 -- an instruction takes 1 or 2 slots
 pub slots_some : (x : Insn) → 1 ≤ slots_of x
@@ -98,22 +94,6 @@ starts-push xs x k other = by_place xs x k other (nat_lt k (slot_count xs)) refl
         let more : slot_count xs < k = omega (arith, other) in
         by_inner xs x k more (nat_lt k (slot_count xs + slots_of x)) refl ∙ sym (insn_at-end xs k past)
 
--- the marks of a front with one instruction more
-pub begin-step : (xs : List Insn) (x : Insn) (marks : List Bool) → ((k : ℕ) → get_or marks k false ≡ is_some (insn_at xs k)) →
-    slot_count xs < length marks → (k : ℕ) → get_or (set marks (slot_count xs) true) k false ≡ is_some (insn_at (xs ++ (x ∷ [])) k)
-begin-step xs x marks so_far inside k = by_place xs x marks so_far inside k (nat_eq k (slot_count xs)) refl
-  where
-    by_place : (xs : List Insn) (x : Insn) (marks : List Bool) → ((k : ℕ) → get_or marks k false ≡ is_some (insn_at xs k)) →
-        slot_count xs < length marks → (k : ℕ) (b : Bool) → nat_eq k (slot_count xs) ≡ b →
-        get_or (set marks (slot_count xs) true) k false ≡ is_some (insn_at (xs ++ (x ∷ [])) k)
-    by_place xs x marks so_far inside k true e =
-        let here : k ≡ slot_count xs = grind (arith, nat_tests) in
-        ap (λ (j : ℕ). get_or (set marks (slot_count xs) true) j false) here ∙ get_or-set_same marks (slot_count xs) true false inside
-        ∙ sym (ap is_some (ap (insn_at (xs ++ (x ∷ []))) here ∙ insn_at-front xs x []))
-    by_place xs x marks so_far inside k false e =
-        let other : k ≢ slot_count xs = grind (arith, nat_tests) in
-        get_or-set_other marks (slot_count xs) k true false other ∙ so_far k ∙ sym (ap is_some (starts-push xs x k other))
-
 -- what code addresses name in a front with one instruction more
 pub named_from-push : (slot : ℕ) (xs : List Insn) (x : Insn) →
     named_from slot (xs ++ (x ∷ [])) ≡ named_from slot xs ++ cons_option (named_by (slot + slot_count xs) x) []
@@ -125,51 +105,6 @@ named_from-push slot (y ∷ xs) x =
     onto : (t : Option ℕ) (xs ys : List ℕ) → cons_option t (xs ++ ys) ≡ cons_option t xs ++ ys
     onto None xs ys = refl
     onto (Some t) xs ys = refl
-
--- marks of named slots with one more
-named-step : (named : List ℕ) (target : Option ℕ) (marks : List Bool) (k : ℕ) → k < length marks →
-    get_or marks k false ≡ list_any (nat_eq k) named → (after : List Bool) → (target ≡ None → after ≡ marks) →
-    ((t : ℕ) → target ≡ Some t → after ≡ set marks t true) →
-    get_or after k false ≡ list_any (nat_eq k) (named ++ cons_option target [])
-named-step named None marks k inside so_far after none some =
-    ap (λ (m : List Bool). get_or m k false) (none refl) ∙ so_far ∙ sym (list_any-append (nat_eq k) named [] ∙ or_false (list_any (nat_eq k) named))
-  where
-    or_false : (b : Bool) → (b || false) ≡ b
-    or_false true = refl
-    or_false false = refl
-named-step named (Some t) marks k inside so_far after none some =
-    ap (λ (m : List Bool). get_or m k false) (some t refl) ∙ by_place named t marks k inside so_far (nat_eq k t) refl
-    ∙ sym (list_any-append (nat_eq k) named (t ∷ []))
-  where
-    or_true : (b : Bool) → true ≡ (b || (true || false))
-    or_true true = refl
-    or_true false = refl
-
-    or_false : (b : Bool) → b ≡ (b || (false || false))
-    or_false true = refl
-    or_false false = refl
-
-    by_place : (named : List ℕ) (t : ℕ) (marks : List Bool) (k : ℕ) → k < length marks → get_or marks k false ≡ list_any (nat_eq k) named →
-        (b : Bool) → nat_eq k t ≡ b → get_or (set marks t true) k false ≡ (list_any (nat_eq k) named || list_any (nat_eq k) (t ∷ []))
-    by_place named t marks k inside so_far true e =
-        let here : k ≡ t = grind (arith, nat_tests) in
-        ap (λ (j : ℕ). get_or (set marks t true) j false) here ∙ get_or-set_same marks t true false (subst (λ (j : ℕ). j < length marks) here inside)
-        ∙ or_true (list_any (nat_eq k) named) ∙ ap (λ (b : Bool). list_any (nat_eq k) named || (b || false)) (sym e)
-    by_place named t marks k inside so_far false e =
-        let other : k ≢ t = grind (arith, nat_tests) in
-        get_or-set_other marks t k true false other ∙ so_far ∙ or_false (list_any (nat_eq k) named)
-        ∙ ap (λ (b : Bool). list_any (nat_eq k) named || (b || false)) (sym e)
-
-pub named-marked : (named : List ℕ) (target : Option ℕ) (marks : List Bool) (k : ℕ) → k < length marks →
-    get_or marks k false ≡ list_any (nat_eq k) named →
-    get_or (marked marks target) k false ≡ list_any (nat_eq k) (named ++ cons_option target [])
-named-marked named None marks k inside so_far = named-step named None marks k inside so_far marks (λ _. refl) (λ t e. cc)
-named-marked named (Some s) marks k inside so_far =
-    named-step named (Some s) marks k inside so_far (set marks s true) (λ e. cc) (λ t e. let same : s ≡ t = cc in ap (λ (n : ℕ). set marks n true) same)
-
-pub length-marked : (marks : List Bool) (target : Option ℕ) → length (marked marks target) ≡ length marks
-length-marked marks None = refl
-length-marked marks (Some s) = length-set marks s true
 
 -- a list before, at and behind an index
 split_at-suc : (xs : List Insn) (i : ℕ) (x : Insn) → i < length xs → x ≡ get_or xs i x → xs ≡ take i xs ++ (x ∷ drop (suc i) xs)

@@ -1,7 +1,7 @@
 //! Every instruction form of the profile, as nested enums. The names are those of RFC 9669.
 
 ghost use Rattle.std.specs.Prelude.{◌≡◌};
-ghost use Rattle.bpf_insn.specs.Slots.{slots_of};
+ghost use Rattle.bpf_insn_form.specs.Slots.{slots_of};
 
 use crate::reg::Reg;
 

@@ -1,6 +1,6 @@
 use Rattle.std.proofs.Common.{◌≡◌, ◌≤◌, take}
-use Rattle.bpf_step_model.specs.Program.{slot_count}
-use Rattle.bpf_verify.proofs.layout.slot_count.Given as goal
+use Rattle.bpf_insn_form.specs.Program.{slot_count}
+use Rattle.bpf_insn_form.proofs.limits.slot_count.Given as goal
 
 abbrev pub invariant-loop-insn : goal.invariant-loop-insn
 invariant-loop-insn l = record {
