@@ -19,7 +19,7 @@ use Rattle.bpf_text_fields.specs.Head.{are_sizes}
 use Rattle.bpf_text_insns.specs.UnitText.{hex_lines, head_spelling, unit_hex}
 use Rattle.bpf_text_insns.proofs.HexLines.{hex_lines-slot}
 use Rattle.bpf_text_operands.proofs.ValueLaws.{same_ok}
-use Rattle.bpf_text_units.specs.UnitReading.{slots_in}
+use Rattle.bpf_insn_form.specs.Program.{slot_count}
 use Rattle.bpf_text_units.specs.UnitLaw.{AreParts}
 use Rattle.bpf_text_units.proofs.SolidWords.{is_solid, solids_in_line, ends_word, Line}
 use Rattle.bpf_text_units.proofs.PrintedLines.{contents-line}
@@ -166,7 +166,7 @@ hex_back sizes insns bytes text u spelled hex =
     let p = printed (whole sizes) (program_spelling insns) text hex in
     let same : bytes ≡ p.bytes = same_ok bytes p.bytes (program_spelling insns) spelled p.are_spelled in
     ap hex_text (sym (ap (whole sizes) same ∙ p.is_text))
-    ∙ read_whole sizes bytes (slots_in insns) u.sizes_stand (spelled_bytes 0 insns bytes u.insns_fit spelled) u.in_limit
+    ∙ read_whole sizes bytes (slot_count insns) u.sizes_stand (spelled_bytes 0 insns bytes u.insns_fit spelled) u.in_limit
 
 pub one_unit : (sizes others : List ℕ) (insns also : List Insn) (text : List ℕ) → AreParts sizes insns → AreParts others also → unit_hex sizes insns ≡ Ok text → unit_hex others also ≡ Ok text →
     (sizes ≡ others) × (insns ≡ also)

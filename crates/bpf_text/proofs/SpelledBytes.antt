@@ -30,7 +30,7 @@ use Rattle.bpf_insn.proofs.Bytes.{HasBytes, HaveBytes}
 use Rattle.bpf_insn.proofs.HasBytes.{spelling_has}
 use Rattle.bpf_insn.proofs.Lengths.{spelled_len}
 use Rattle.bpf_insn.proofs.Programs.{of_ok, joined_ok, bytes_ok}
-use Rattle.bpf_text_units.specs.UnitReading.{slots_in}
+use Rattle.bpf_insn_form.specs.Program.{slot_count}
 
 -- ---- opcodes
 
@@ -179,7 +179,7 @@ pub record SlotBytes (n : ℕ) (bytes : List ℕ) : Type 0 where
   pub are : Bytes bytes
   pub long : length bytes ≡ 8 * n
 
-pub spelled_bytes : (n : ℕ) (insns : List Insn) (bytes : List ℕ) → AreInsns insns → spelling_from n insns ≡ Ok bytes → SlotBytes (slots_in insns) bytes
+pub spelled_bytes : (n : ℕ) (insns : List Insn) (bytes : List ℕ) → AreInsns insns → spelling_from n insns ≡ Ok bytes → SlotBytes (slot_count insns) bytes
 spelled_bytes n [] bytes fit e = (let same : [] ≡ bytes = cc in subst (SlotBytes 0) same (record { are = tt; long = omega arith }))
 spelled_bytes n (i ∷ is) bytes fit e =
     let cut = joined_ok (bytes_at n (spelling i)) (spelling_from (n + slots_of i) is) bytes e in
@@ -188,4 +188,4 @@ spelled_bytes n (i ∷ is) bytes fit e =
     let later = spelled_bytes (n + slots_of i) is cut.1 fit.1 cut.3 in
     let others = later.long in
     let total : length (cut.0 ++ cut.1) ≡ length cut.0 + length cut.1 = length-append cut.0 cut.1 in
-    subst (SlotBytes (slots_in (i ∷ is))) (sym cut.4) (record { are = bytes-append cut.0 cut.1 here later.are; long = omega (arith, len, others, total) })
+    subst (SlotBytes (slot_count (i ∷ is))) (sym cut.4) (record { are = bytes-append cut.0 cut.1 here later.are; long = omega (arith, len, others, total) })

@@ -157,7 +157,7 @@ fn print_slots(alloc: Global, out: &mut String, bytes: &[u8]) -> Result<(), Allo
 /// and behind each comma, each distance with its sign. It is refused as `encode` is: with the first
 /// instruction that has no bytes, at its slot. `Memory` may come in place of either answer.
 pub fn print_unit(alloc: Global, unit: &Unit) -> Result<String, CodecError>
-    ensures { Gives string_bytes result (unit_text unit.now.sizes.items unit.now.insns.items) }
+    ensures { Gives string_bytes result (unit_text unit.now.sizes unit.now.insns) }
 {
     let _bytes = encode(alloc, &unit.insns)?;
     let mut out = print_head(alloc, &unit.sizes)?;
@@ -169,7 +169,7 @@ pub fn print_unit(alloc: Global, unit: &Unit) -> Result<String, CodecError>
 /// refused as `encode` is: with the first instruction that has no bytes, at its slot. `Memory` may
 /// come in place of either answer.
 pub fn write_hex(alloc: Global, unit: &Unit) -> Result<String, CodecError>
-    ensures { Gives string_bytes result (unit_hex unit.now.sizes.items unit.now.insns.items) }
+    ensures { Gives string_bytes result (unit_hex unit.now.sizes unit.now.insns) }
 {
     let bytes = encode(alloc, &unit.insns)?;
     let mut out = print_head(alloc, &unit.sizes)?;

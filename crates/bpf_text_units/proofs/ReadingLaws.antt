@@ -10,7 +10,8 @@ use Rattle.bpf_text_fields.specs.Head.{head_of}
 use Rattle.bpf_text_fields.proofs.RefusalLaws.{bind_fails}
 use Rattle.bpf_text_operands.specs.declared.labels.Label.{Label}
 use Rattle.bpf_text_operands.specs.LabelTable.{or_this}
-use Rattle.bpf_text_units.specs.UnitReading.{line_slots, line_label, labels_from, line_at, slots_in, insns_behind, UnitParts, unit_of}
+use Rattle.bpf_insn_form.specs.Program.{slot_count, Program}
+use Rattle.bpf_text_units.specs.UnitReading.{line_slots, line_label, labels_from, line_at, insns_behind, unit_of}
 
 -- ---- labels
 
@@ -40,22 +41,22 @@ labels_end before whole slot all name none so_far =
 
 -- ---- instructions
 
-pub slots_in-append : (before more : List Insn) → slots_in (before ++ more) ≡ slots_in before + slots_in more
-slots_in-append [] more = omega arith
-slots_in-append (i ∷ is) more = let h = slots_in-append is more in omega (arith, h)
+pub slot_count-append : (before more : List Insn) → slot_count (before ++ more) ≡ slot_count before + slot_count more
+slot_count-append [] more = omega arith
+slot_count-append (i ∷ is) more = let h = slot_count-append is more in omega (arith, h)
 
-pub insns_behind-line : (labels : List ℕ → Option Label) (before : List Insn) (slot : ℕ) (line : ℕ × List ℕ) (lines : List (ℕ × List ℕ)) (more : List Insn) → slot ≡ slots_in before →
+pub insns_behind-line : (labels : List ℕ → Option Label) (before : List Insn) (slot : ℕ) (line : ℕ × List ℕ) (lines : List (ℕ × List ℕ)) (more : List Insn) → slot ≡ slot_count before →
     at_line line.0 (line_at labels slot line.0 line.1) ≡ Ok more → insns_behind labels before (line ∷ lines) ≡ insns_behind labels (before ++ more) lines
 unfolding insns_behind
 insns_behind-line labels before slot line lines more same read =
-    let here : at_line line.0 (line_at labels (slots_in before) line.0 line.1) ≡ Ok more = rw (← same) read in
+    let here : at_line line.0 (line_at labels (slot_count before) line.0 line.1) ≡ Ok more = rw (← same) read in
     ap (λ (r : Result (List Insn) TextError). r >>= λ m. insns_behind labels (before ++ m) lines) here
 
-pub insns_behind-fails : (labels : List ℕ → Option Label) (e : TextError) (before : List Insn) (slot : ℕ) (line : ℕ × List ℕ) (lines : List (ℕ × List ℕ)) → slot ≡ slots_in before →
+pub insns_behind-fails : (labels : List ℕ → Option Label) (e : TextError) (before : List Insn) (slot : ℕ) (line : ℕ × List ℕ) (lines : List (ℕ × List ℕ)) → slot ≡ slot_count before →
     Fails e (at_line line.0 (line_at labels slot line.0 line.1)) → Fails e (insns_behind labels before (line ∷ lines))
 unfolding insns_behind
 insns_behind-fails labels e before slot line lines same fails =
-    bind_fails e (at_line line.0 (line_at labels (slots_in before) line.0 line.1)) (λ m. insns_behind labels (before ++ m) lines)
+    bind_fails e (at_line line.0 (line_at labels (slot_count before) line.0 line.1)) (λ m. insns_behind labels (before ++ m) lines)
     (subst (λ n. Fails e (at_line line.0 (line_at labels n line.0 line.1))) same fails)
 
 pub insns_behind-end : (labels : List ℕ → Option Label) (before : List Insn) → insns_behind labels before [] ≡ Ok before
@@ -74,7 +75,7 @@ unfolding unit_of
 head_fails e contents line lines same fails = rw same (bind_fails e (at_line line.0 (head_of (words_of line.1))) _ fails)
 
 -- the unit whose sizes are read
-abbrev with_insns : List ℕ → Result (List Insn) TextError → Result UnitParts TextError
+abbrev with_insns : List ℕ → Result (List Insn) TextError → Result Program TextError
 with_insns sizes read = read >>= λ insns. Ok (record { sizes = sizes; insns = insns })
 
 head_read : (contents : List (ℕ × List ℕ)) (line : ℕ × List ℕ) (lines : List (ℕ × List ℕ)) (sizes : List ℕ) (labels : List ℕ → Option Label) → contents ≡ line ∷ lines →
@@ -87,7 +88,7 @@ head_read contents line lines sizes labels same read table =
 pub insns_fail : (e : TextError) (contents : List (ℕ × List ℕ)) (line : ℕ × List ℕ) (lines : List (ℕ × List ℕ)) (sizes : List ℕ) (labels : List ℕ → Option Label) → contents ≡ line ∷ lines →
     at_line line.0 (head_of (words_of line.1)) ≡ Ok sizes → ((name : List ℕ) → labels name ≡ labels_from 0 lines name) → Fails e (insns_behind labels [] lines) → Fails e (unit_of contents)
 insns_fail e contents line lines sizes labels same read table fails =
-    let P : Result UnitParts TextError → Type 0 = λ r. Fails e r in
+    let P : Result Program TextError → Type 0 = λ r. Fails e r in
     subst P (sym (head_read contents line lines sizes labels same read table)) (bind_fails e (insns_behind labels [] lines) (λ insns. Ok (record { sizes = sizes; insns = insns })) fails)
 
 pub insns_read : (contents : List (ℕ × List ℕ)) (line : ℕ × List ℕ) (lines : List (ℕ × List ℕ)) (sizes : List ℕ) (insns : List Insn) (labels : List ℕ → Option Label) → contents ≡ line ∷ lines →

@@ -22,9 +22,10 @@ use Rattle.bpf_text_operands.specs.LabelTable.{slot_in}
 use Rattle.bpf_text_operands.specs.Statements.{insn_at}
 use Rattle.bpf_text_operands.proofs.InsnBack.{insn_back}
 use Rattle.bpf_text_operands.proofs.ValueLaws.{same_ok}
-use Rattle.bpf_text_units.specs.UnitReading.{name_of, is_label, labels_from, label_at, in_limit, line_at, slots_in, insns_behind, UnitParts, unit_of, unit_text}
+use Rattle.bpf_insn_form.specs.Program.{slot_count, Program}
+use Rattle.bpf_text_units.specs.UnitReading.{name_of, is_label, labels_from, label_at, in_limit, line_at, insns_behind, unit_of, unit_text}
 use Rattle.bpf_text_units.specs.UnitLaw.{these_parts, AreParts}
-use Rattle.bpf_text_units.proofs.ReadingLaws.{slots_in-append, insns_behind-line, insns_behind-end, insns_read}
+use Rattle.bpf_text_units.proofs.ReadingLaws.{slot_count-append, insns_behind-line, insns_behind-end, insns_read}
 use Rattle.bpf_text_units.proofs.PrintedInsns.{insn_is_line}
 use Rattle.bpf_text_units.proofs.PrintedLines.{contents-line, no_label}
 use Rattle.bpf_text_units.proofs.PrintedHead.{head_line, head_back, head_is_line, head_short}
@@ -66,13 +67,13 @@ line_read labels slot n i ss fits e le =
     ∙ ap (in_limit slot) (insn_back find slot i ss fits e)
     ∙ cond-true (nat_le (slot + slots_of i) 4096) (Ok (i ∷ [])) (Err faults.TooLong) (le-leb _ _ le))
 
-insns_back : (labels : List ℕ → Option Label) (before insns : List Insn) (n : ℕ) → AreInsns insns → Spelled insns → slots_in before + slots_in insns ≤ 4096 →
+insns_back : (labels : List ℕ → Option Label) (before insns : List Insn) (n : ℕ) → AreInsns insns → Spelled insns → slot_count before + slot_count insns ≤ 4096 →
     insns_behind labels before (numbered n insns) ≡ Ok (before ++ insns)
 insns_back labels before [] n fit spelled le = insns_behind-end labels before ∙ ap (λ (is : List Insn). Ok is) (sym (append-nil before))
 insns_back labels before (i ∷ is) n fit spelled le =
-    let more : slots_in (before ++ i ∷ []) ≡ slots_in before + slots_in (i ∷ []) = slots_in-append before (i ∷ []) in
-    insns_behind-line labels before (slots_in before) (n, insn_spelling i) (numbered (n + 1) is) (i ∷ []) refl
-    (line_read labels (slots_in before) n i spelled.0.0 fit.0 spelled.0.1 (omega (arith, le)))
+    let more : slot_count (before ++ i ∷ []) ≡ slot_count before + slot_count (i ∷ []) = slot_count-append before (i ∷ []) in
+    insns_behind-line labels before (slot_count before) (n, insn_spelling i) (numbered (n + 1) is) (i ∷ []) refl
+    (line_read labels (slot_count before) n i spelled.0.0 fit.0 spelled.0.1 (omega (arith, le)))
     ∙ insns_back labels (before ++ i ∷ []) is (n + 1) fit.1 spelled.1 (omega (arith, le, more))
     ∙ ap (λ (all : List Insn). Ok all) (append_assoc before (i ∷ []) is)
 
@@ -95,7 +96,7 @@ takes_a_slot (insn.Store s dst src offset) = omega arith
 takes_a_slot (insn.Atomic w o dst src offset) = omega arith
 takes_a_slot (insn.LoadImm k dst imm next) = omega arith
 
-lines_short : (insns : List Insn) → AreInsns insns → length (flat_map insn_line insns) ≤ 181 * slots_in insns
+lines_short : (insns : List Insn) → AreInsns insns → length (flat_map insn_line insns) ≤ 181 * slot_count insns
 lines_short [] fit = omega arith
 lines_short (i ∷ is) fit =
     let here = (insn_is_line i fit.0).short in
@@ -149,4 +150,4 @@ pub one_unit : (sizes others : List ℕ) (insns also : List Insn) (text : List �
     (sizes ≡ others) × (insns ≡ also)
 one_unit sizes others insns also text u v e h =
     let same = same_ok (these_parts sizes insns) (these_parts others also) (unit_text text) (unit_back sizes insns text u e) (unit_back others also text v h) in
-    (ap (λ (p : UnitParts). p.sizes) same, ap (λ (p : UnitParts). p.insns) same)
+    (ap (λ (p : Program). p.sizes) same, ap (λ (p : Program). p.insns) same)

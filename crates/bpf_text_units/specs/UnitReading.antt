@@ -2,7 +2,7 @@
 use Rattle.std.specs.Prelude.{◌≡◌, ℕ, ◌+◌, ◌-◌, ◌==◌, ◌&&◌, nat_lt, nat_le, Bool, if◌then◌else◌, List, [], ◌∷◌, ◌++◌, length, take, slice_index, Option, Some, None, Result, Ok, Err}
 use Rattle.std.specs.Str.{bytes_eq}
 use Rattle.bpf_insn_form.specs.declared.insn.Insn.{Insn}
-use Rattle.bpf_insn_form.specs.declared.unit.Unit.{Unit}
+use Rattle.bpf_insn_form.specs.Program.{Program, slot_count}
 use Rattle.bpf_insn_form.specs.Slots.{slots_of}
 use Rattle.bpf_text_lines.specs.Lines.{contents_of}
 use Rattle.bpf_text_lines.specs.Names.{is_name}
@@ -56,29 +56,15 @@ line_at labels slot number line =
     if is_label line then label_at number (labels (name_of line))
     else in_limit slot (insn_at (λ name. slot_in (labels name)) slot line)
 
--- how many slots instructions take
-abbrev pub slots_in : List Insn → ℕ
-slots_in [] = 0
-slots_in (i ∷ is) = slots_of i + slots_in is
-
 -- the instructions of earlier lines, and those of these lines behind them
 unfoldable pub insns_behind : (List ℕ → Option Label) → List Insn → List (ℕ × List ℕ) → Result (List Insn) TextError
 insns_behind labels before [] = Ok before
 insns_behind labels before (line ∷ lines) = do
-  more ← at_line line.0 (line_at labels (slots_in before) line.0 line.1)
+  more ← at_line line.0 (line_at labels (slot_count before) line.0 line.1)
   insns_behind labels (before ++ more) lines
 
--- what a unit is: the maps' sizes and the instructions
-pub record UnitParts : Type 0 where
-  pub sizes : List ℕ
-  pub insns : List Insn
-
--- a unit without where it lies in memory
-abbrev pub parts : Unit → UnitParts
-parts unit = record { sizes = unit.sizes.items; insns = unit.insns.items }
-
 -- the unit that lines give, the first of which is the head; labels are those of all lines
-unfoldable pub unit_of : List (ℕ × List ℕ) → Result UnitParts TextError
+unfoldable pub unit_of : List (ℕ × List ℕ) → Result Program TextError
 unit_of [] = Err (errors.Refused faults.Form 0)
 unit_of (head ∷ lines) = do
   sizes ← at_line head.0 (head_of (words_of head.1))
@@ -86,10 +72,10 @@ unit_of (head ∷ lines) = do
   Ok (record { sizes = sizes; insns = insns })
 
 -- what a unit's assembler text means
-abbrev pub unit_text : List ℕ → Result UnitParts TextError
+abbrev pub unit_text : List ℕ → Result Program TextError
 unit_text text = if nat_lt 1048576 (length text) then Err (errors.Refused faults.TooLong 0) else unit_of (contents_of text)
 
 -- what adding a line's instructions behind others leaves, where the line has this meaning and stands at a slot: them, and the slot behind them, or the refusal
 abbrev pub Adds : (old new : List Insn) → ℕ → Result ℕ TextError → Result (List Insn) TextError → Type 0
-Adds old new slot (Ok next) meaning = (more : List Insn) × (meaning ≡ Ok more) × (new ≡ old ++ more) × (next ≡ slot + slots_in more)
+Adds old new slot (Ok next) meaning = (more : List Insn) × (meaning ≡ Ok more) × (new ≡ old ++ more) × (next ≡ slot + slot_count more)
 Adds old new slot (Err e) meaning = Fails e meaning

@@ -6,7 +6,8 @@ ghost use Rattle.bpf_text_lines.specs.Lines.{contents_from, lines_of};
 ghost use Rattle.bpf_text_operands.specs.LabelTable.{found};
 ghost use Rattle.bpf_text_operands.specs.Statements.{insn_at};
 ghost use Rattle.bpf_text_operands.specs.LabelTable.{slots_of};
-ghost use Rattle.bpf_text_units.specs.UnitReading.{label_at, in_limit, line_at, insns_behind, slots_in, Adds};
+ghost use Rattle.bpf_insn_form.specs.Program.{slot_count};
+ghost use Rattle.bpf_text_units.specs.UnitReading.{label_at, in_limit, line_at, insns_behind, Adds};
 
 use crate::label::label_name;
 use bpf_insn_form::{Insn, slots};

@@ -3,7 +3,7 @@
 ghost use Rattle.std.specs.Prelude.{◌≡◌, ◌≤◌, length};
 ghost use Rattle.bpf_text_lines.specs.Lines.{contents_of};
 ghost use Rattle.bpf_text_fields.specs.Refusals.{Gives};
-ghost use Rattle.bpf_text_units.specs.UnitReading.{parts, unit_of, unit_text};
+ghost use Rattle.bpf_text_units.specs.UnitReading.{unit_of, unit_text};
 
 use crate::label::read_labels;
 use crate::program::read_insns;
@@ -15,7 +15,7 @@ use std::alloc::Global;
 /// The unit of a text that isn't too long.
 fn read_unit(alloc: Global, text: &[u8]) -> Result<Unit, TextError>
     requires { length text.now ≤ 1048576 }
-    ensures { Gives parts result (unit_of (contents_of text.now)) }
+    ensures { Gives (λ u. u) result (unit_of (contents_of text.now)) }
 {
     let Some(head) = next_line(text, 1) else {
         return Err(Fault::Form.at(0));
@@ -36,7 +36,7 @@ fn read_unit(alloc: Global, text: &[u8]) -> Result<Unit, TextError>
 /// passes 4,096 slots, `Limits` for sizes that break the limits. Labels are those of the whole text,
 /// also behind a faulty line. `Memory` may come in place of any answer.
 pub fn parse_unit(alloc: Global, text: &str) -> Result<Unit, TextError>
-    ensures { Gives parts result (unit_text text.now) }
+    ensures { Gives (λ u. u) result (unit_text text.now) }
 {
     let bytes = text.as_bytes();
     if bytes.len() > MAX_TEXT {

@@ -13,7 +13,8 @@ use Rattle.bpf_text_fields.specs.declared.error.TextError.TheVariants as text
 use Rattle.bpf_text.specs.HexText.{HexParts, hex_text}
 use Rattle.bpf_text.specs.MapsText.{maps_text}
 use Rattle.bpf_text_insns.specs.UnitText.{unit_text as assembler_form, unit_hex as hex_form}
-use Rattle.bpf_text_units.specs.UnitReading.{UnitParts, unit_text as assembler_text}
+use Rattle.bpf_insn_form.specs.Program.{Program}
+use Rattle.bpf_text_units.specs.UnitReading.{unit_text as assembler_text}
 use Rattle.array_maps.specs.MapList.{lengths}
 use Rattle.bpf_insn_form.specs.Program.{Program}
 use Rattle.bpf_step_model.specs.Run.{Ended}
@@ -71,7 +72,7 @@ of_hex (Err failure) = Err failure
 of_hex (Ok parts) = with_sizes parts.sizes (reading parts.bytes)
 
 -- the program of a unit of assembler text
-abbrev pub of_assembler : Result UnitParts Failure → Result Program Failure
+abbrev pub of_assembler : Result Program Failure → Result Program Failure
 of_assembler (Err failure) = Err failure
 of_assembler (Ok parts) = Ok (record { sizes = parts.sizes; insns = parts.insns })
 

@@ -3,7 +3,6 @@
 ghost use Rattle.std.specs.Prelude.{◌≡◌, ◌<◌, IfOk, Ok, length};
 ghost use Rattle.std.specs.String.{string_bytes};
 ghost use Rattle.array_maps.specs.MapList.{lists, zero_maps};
-ghost use Rattle.spec_run.specs.Thin.{program_of};
 ghost use Rattle.bpfspec_command_line.specs.declared.job.Mode.TheVariants.{Order};
 ghost use Rattle.bpfspec_serve.specs.declared.refusal.Refusal.TheVariants.{Text};
 ghost use Rattle.bpfspec_serve.specs.declared.refusal.Failure.TheVariants.{Refused};
@@ -43,7 +42,7 @@ fn text_failure(error: TextError, section: Section) -> Failure
 
 /// The unit of a section in hex form.
 fn read_hex_unit(alloc: Global, section: &str) -> Result<Unit, Failure>
-    ensures { Met program_of (λ program. program ≡ unit_program UnitForm.Hex section.now) result }
+    ensures { Met (λ unit. unit) (λ program. program ≡ unit_program UnitForm.Hex section.now) result }
 {
     let parts = match read_hex(alloc, section) {
         Ok(parts) => parts,
@@ -61,7 +60,7 @@ fn read_hex_unit(alloc: Global, section: &str) -> Result<Unit, Failure>
 
 /// The unit of a section.
 fn read_unit(alloc: Global, form: UnitForm, section: &str) -> Result<Unit, Failure>
-    ensures { Met program_of (λ program. program ≡ unit_program form section.now) result }
+    ensures { Met (λ unit. unit) (λ program. program ≡ unit_program form section.now) result }
 {
     match form {
         UnitForm::Assembler => match parse_unit(alloc, section) {
@@ -74,7 +73,7 @@ fn read_unit(alloc: Global, form: UnitForm, section: &str) -> Result<Unit, Failu
 
 /// A unit as a text.
 fn write_unit(alloc: Global, form: UnitForm, unit: &Unit) -> Result<String, Failure>
-    ensures { Met string_bytes (λ outcome. outcome ≡ written form (Ok (program_of unit.now))) result }
+    ensures { Met string_bytes (λ outcome. outcome ≡ written form (Ok unit.now)) result }
 {
     let text = match form {
         UnitForm::Assembler => print_unit(alloc, unit),

@@ -7,13 +7,8 @@ use Rattle.bpf_insn_form.specs.declared.insn.SimpleOp.TheVariants.{Add}
 use Rattle.bpf_insn_form.specs.declared.insn.AtomicOp.TheVariants.{Simple}
 use Rattle.bpf_insn_form.specs.declared.insn.Insn.{Insn}
 use Rattle.bpf_insn_form.specs.declared.insn.Insn.TheVariants.{Atomic}
-use Rattle.bpf_insn_form.specs.declared.unit.Unit.{Unit as CodeUnit}
 use Rattle.bpf_insn_form.specs.Program.{Program}
 use Rattle.bpf_step_model.specs.Lines.{map_value, end, loop_of}
-
--- a unit without where it lies in memory
-abbrev pub program_of : CodeUnit → Program
-program_of unit = record { sizes = unit.sizes.items; insns = unit.insns.items }
 
 -- ldmapval r2, 0, 0; atomic64 add [r2+0], r1; mov64 r0, 0; exit
 abbrev pub adds_index : List Insn

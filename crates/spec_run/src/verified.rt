@@ -13,7 +13,7 @@ ghost use Rattle.bpf_insn_form.specs.declared.insn.Insn.TheVariants.{Alu, Atomic
 ghost use Rattle.array_maps.specs.MapList.{AreSizes};
 ghost use Rattle.bpf_step_model.specs.Lines.{loop_of, map_value};
 ghost use Rattle.bpf_insn_form.specs.Program.{Program};
-ghost use Rattle.spec_run.specs.Thin.{adds_index, program_of, thin_program, Thin};
+ghost use Rattle.spec_run.specs.Thin.{adds_index, thin_program, Thin};
 
 use bpf_insn_form::{AluOp, AtomicOp, Callee, ImmKind, Insn, Operand, SimpleOp, Unit, Width};
 use std::marker::Model;
@@ -205,8 +205,8 @@ fn asked_iterations(insns: &[Insn]) -> Option<u32>
 /// `mov64 r1, n`, `ldcode r2, +5`, `mov64 r3, 0`, `mov64 r4, 0`, `call 181`, `exit`,
 /// `ldmapval r2, 0, 0`, `atomic64 add [r2+0], r1`, `mov64 r0, 0`, `exit` with n from 0 to 8,388,608.
 pub fn thin(unit: Unit) -> Option<Verified>
-    ensures some { IfSome result (λ v. v ≡ program_of unit) }
-    ensures none { IfNone result (¬ Thin (program_of unit)) }
+    ensures some { IfSome result (λ v. v ≡ unit) }
+    ensures none { IfNone result (¬ Thin unit) }
 {
     let iterations = asked_iterations(&unit.insns)?;
     if !is_one_element(&unit.sizes) || !are_thin(&unit.insns, iterations) {

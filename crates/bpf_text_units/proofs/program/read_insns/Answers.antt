@@ -2,8 +2,9 @@ use Rattle.std.proofs.Common.{◌+◌, sym, ap, ◌∙◌, arith}
 use Rattle.std.proofs.lemmas.Result.{err_from_is_err_and}
 use Rattle.bpf_text_lines.specs.Lines.{contents_from, lines_of}
 use Rattle.bpf_text_operands.specs.LabelTable.{found}
-use Rattle.bpf_text_units.specs.UnitReading.{insns_behind, slots_in}
-use Rattle.bpf_text_units.proofs.ReadingLaws.{slots_in-append, insns_behind-line, insns_behind-fails, insns_behind-end}
+use Rattle.bpf_insn_form.specs.Program.{slot_count}
+use Rattle.bpf_text_units.specs.UnitReading.{insns_behind}
+use Rattle.bpf_text_units.proofs.ReadingLaws.{slot_count-append, insns_behind-line, insns_behind-fails, insns_behind-end}
 use Rattle.bpf_text_units.proofs.program.read_insns.Goals as goal
 
 pub returns-in_err-slot : goal.returns-in_err-slot
@@ -27,7 +28,7 @@ loop-line-preserved c =
     let step = insns_behind-line labels before c.loop-line.slot (line.number, line.content.now) lines adds.0 c.loop-line.invariant.slot adds.1 in
     record {
       so_far = rw adds.2 (sym step ∙ ap (insns_behind labels before) (sym c.in-Some.ensures.some) ∙ c.loop-line.invariant.so_far);
-      slot = rw (adds.2, slots_in-append before adds.0) (adds.3 ∙ ap (λ n. n + slots_in adds.0) c.loop-line.invariant.slot);
+      slot = rw (adds.2, slot_count-append before adds.0) (adds.3 ∙ ap (λ n. n + slot_count adds.0) c.loop-line.invariant.slot);
       room = c.in_ok-slot.ensures.bound;
       ahead = omega (arith, c.in-Some.ensures.shorter);
     }

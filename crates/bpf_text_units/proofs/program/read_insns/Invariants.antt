@@ -1,13 +1,14 @@
 use Rattle.std.proofs.Common.{◌≡◌, ◌≤◌, ◌+◌, [], length}
 use Rattle.bpf_text_lines.specs.Lines.{contents_from, lines_of}
 use Rattle.bpf_text_operands.specs.LabelTable.{found}
-use Rattle.bpf_text_units.specs.UnitReading.{slots_in, insns_behind}
+use Rattle.bpf_insn_form.specs.Program.{slot_count}
+use Rattle.bpf_text_units.specs.UnitReading.{insns_behind}
 use Rattle.bpf_text_units.proofs.program.read_insns.Given as goal
 
 abbrev pub invariant-loop-line : goal.invariant-loop-line
 invariant-loop-line l = record {
   so_far : insns_behind (found l.labels) l.insns.items (contents_from l.number (lines_of l.rest)) ≡ insns_behind (found l.labels) [] (contents_from l.first (lines_of l.text));
-  slot : l.slot ≡ slots_in l.insns.items;
+  slot : l.slot ≡ slot_count l.insns.items;
   room : l.slot ≤ 4096;
   ahead : l.number + length l.rest ≤ l.first + length l.text;
 }
