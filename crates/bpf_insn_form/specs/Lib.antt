@@ -1,3 +1,4 @@
+pub mod Outcome
 pub mod Slots
 pub mod Values
 pub mod Program
