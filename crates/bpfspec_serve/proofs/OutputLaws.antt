@@ -8,8 +8,8 @@ use Rattle.std.specs.Str.{IsUtf8, is_utf8}
 use Rattle.std.proofs.lemmas.Bool.Decides.{nat_tests}
 use Rattle.std.proofs.lemmas.Str.{IsUtf8-from_is_utf8, is_utf8-from_IsUtf8}
 use Rattle.bpf_text_fields.specs.declared.error.Fault.TheVariants as text_faults
-use Rattle.bpfspec_serve.specs.declared.refusal.Section.TheVariants as sections
-use Rattle.bpfspec_serve.specs.declared.refusal.Refusal.TheVariants as refusals
+use Rattle.bpfspec_answers.specs.declared.refusal.Section.TheVariants as sections
+use Rattle.bpfspec_answers.specs.declared.refusal.Refusal.TheVariants as refusals
 use Rattle.bpfspec_streams.specs.Streams.{ReadsToEnd}
 use Rattle.bpfspec_serve.specs.HowServed.{AnswersReader, HowWritten}
 use Rattle.bpfspec_serve.specs.declared.serving.Served.{Served}

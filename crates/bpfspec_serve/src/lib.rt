@@ -1,16 +1,14 @@
 //! What the program does between its streams: reads an input, answers it, and writes the answer.
 #![tactic(auto)]
 
-mod accepted;
+mod answer_error;
 mod answering;
-mod printing;
-mod refusal;
 mod sections;
 mod serving;
 
-pub use bpfspec_command_line::{Job, LineFault, Mode, UnitForm, mode_of, read_words};
+pub use bpfspec_command_line::{Job, LineFault, Mode, UnitForm, read_command_line, read_words};
 pub use bpfspec_streams::{
-    Counted, Fault, ReadAllError, Sink, Source, read_all, read_outcome, write_all, write_outcome,
+    Counted, DeviceFault, ReadAllError, Sink, Source, read_all, read_outcome, write_all, write_outcome,
 };
 pub use serving::{Served, serve};
 

@@ -2,7 +2,7 @@
 
 ghost use Rattle.std.specs.Prelude.{Some};
 
-use crate::{Fault, Sink, Source};
+use crate::{DeviceFault, Sink, Source};
 use std::io::Read;
 
 /// How many bytes a call of the streams below moves at most.
@@ -36,17 +36,17 @@ impl Source for Stumbling<'_> {
 
     ghost failed = { λ s. s.failures };
 
-    fn read(&mut self, buffer: &mut [u8]) -> Result<usize, Fault> {
+    fn read(&mut self, buffer: &mut [u8]) -> Result<usize, DeviceFault> {
         if is_failing(&mut self.until_failure) {
             self.failures += 1;
-            return Err(Fault);
+            return Err(DeviceFault);
         }
         let room = buffer.len().min(STEP);
         match Read::read(&mut self.rest, &mut buffer[..room]) {
             Ok(n) => Ok(n),
             Err(_) => {
                 self.failures += 1;
-                Err(Fault)
+                Err(DeviceFault)
             }
         }
     }
@@ -69,13 +69,13 @@ impl Sink for Narrow {
 
     ghost failed = { λ s. s.failures };
 
-    fn write(&mut self, piece: &[u8]) -> Result<usize, Fault> {
+    fn write(&mut self, piece: &[u8]) -> Result<usize, DeviceFault> {
         let n = piece.len().min(STEP);
         if is_failing(&mut self.until_failure)
             || self.taken.extend_from_slice(&piece[..n]).is_err()
         {
             self.failures += 1;
-            return Err(Fault);
+            return Err(DeviceFault);
         }
         Ok(n)
     }

@@ -3,7 +3,7 @@
 ghost use Rattle.std.specs.Prelude.{◌≡◌};
 ghost use Rattle.bpfspec_streams.specs.Counting.{failures_of};
 
-use crate::{Counted, Fault, ReadAllError, Sink, Source, read_all, write_all};
+use crate::{Counted, DeviceFault, ReadAllError, Sink, Source, read_all, write_all};
 use std::alloc::Global;
 use std::io;
 use std::io::{ErrorKind, Read, Write};
@@ -109,7 +109,7 @@ fn a_read_fails_only_where_the_reader_does(rt: HostRuntime) {
         let outcome = source.read(&mut buffer);
         match turn {
             Turn::Fails => {
-                assert_eq!(rt; outcome, Err(Fault));
+                assert_eq!(rt; outcome, Err(DeviceFault));
                 assert_eq!(rt; source.failures(), before + 1);
             }
             Turn::Moves(n) => {
@@ -130,7 +130,7 @@ fn a_write_fails_only_where_the_writer_does(rt: HostRuntime) {
         let outcome = sink.write(b"eightish");
         match turn {
             Turn::Fails => {
-                assert_eq!(rt; outcome, Err(Fault));
+                assert_eq!(rt; outcome, Err(DeviceFault));
                 assert_eq!(rt; sink.failures(), before + 1);
             }
             Turn::Moves(n) => {
@@ -145,7 +145,7 @@ fn a_write_fails_only_where_the_writer_does(rt: HostRuntime) {
 #[test]
 fn a_write_that_takes_nothing_fails(rt: HostRuntime) {
     let mut sink = writer(rt.alloc(), &[Turn::Moves(0), Turn::Moves(0)]);
-    assert_eq!(rt; sink.write(b"eightish"), Err(Fault));
+    assert_eq!(rt; sink.write(b"eightish"), Err(DeviceFault));
     assert_eq!(rt; sink.failures(), 1);
     assert_eq!(rt; sink.write(b""), Ok(0));
     assert_eq!(rt; sink.failures(), 1);
@@ -168,7 +168,7 @@ fn streams_that_never_fail_count_nothing(rt: HostRuntime) -> Result<(), Fail> {
 fn a_writer_without_room_fails(rt: HostRuntime) -> Result<(), Fail> {
     let mut room = [0; 4];
     let mut sink = Counted::new(room.as_mut_slice());
-    assert_eq!(rt; write_all(&mut sink, b"eightish"), Err(Fault));
+    assert_eq!(rt; write_all(&mut sink, b"eightish"), Err(DeviceFault));
     assert_eq!(rt; sink.failures(), 1);
     assert_eq!(rt; room, *b"eigh");
     Ok(())
@@ -200,7 +200,7 @@ fn reads_to_the_end_or_to_the_limit(rt: HostRuntime) -> Result<(), Fail> {
 #[test]
 fn a_failed_write_leaves_a_beginning(rt: HostRuntime) -> Result<(), Fail> {
     let mut sink = writer(rt.alloc(), &[Turn::Moves(3), Turn::Fails]);
-    assert_eq!(rt; write_all(&mut sink, b"eightish"), Err(Fault));
+    assert_eq!(rt; write_all(&mut sink, b"eightish"), Err(DeviceFault));
     assert_eq!(rt; sink.failures(), 1);
     assert_eq!(rt; sink.into_inner().taken.as_slice(), b"eig".as_slice());
     Ok(())

@@ -7,10 +7,10 @@ use Rattle.bpf_text_fields.specs.declared.error.Fault.{Fault as TextFault}
 use Rattle.bpf_text_fields.specs.declared.error.Fault.TheVariants as text_faults
 use Rattle.bpf_verify_rules.specs.declared.rule.Rule.{Rule}
 use Rattle.bpf_verify_rules.specs.declared.rule.Rule.TheVariants as rules
-use Rattle.bpfspec_serve.specs.declared.refusal.Section.{Section}
-use Rattle.bpfspec_serve.specs.declared.refusal.Section.TheVariants as sections
-use Rattle.bpfspec_serve.specs.declared.refusal.Refusal.{Refusal}
-use Rattle.bpfspec_serve.specs.declared.refusal.Refusal.TheVariants as refusals
+use Rattle.bpfspec_answers.specs.declared.refusal.Section.{Section}
+use Rattle.bpfspec_answers.specs.declared.refusal.Section.TheVariants as sections
+use Rattle.bpfspec_answers.specs.declared.refusal.Refusal.{Refusal}
+use Rattle.bpfspec_answers.specs.declared.refusal.Refusal.TheVariants as refusals
 
 -- the number of what is wrong with a text
 abbrev pub text_number : TextFault → List ℕ

@@ -1,11 +1,12 @@
 -- What is printed of a program that ran.
-use Rattle.std.specs.Prelude.{ℕ, ◌+◌, List, [], ◌∷◌, ◌++◌, take, drop, codes}
+use Rattle.std.specs.Prelude.{ℕ, List, [], ◌∷◌, ◌++◌, take, drop, codes}
 use Rattle.std.specs.Fmt.{decimal, signed_decimal}
 use Rattle.bpf_text.specs.MapsText.{maps_spelling}
 use Rattle.loop_core_law.specs.declared.verdict.Verdict.{Verdict}
 use Rattle.loop_core_law.specs.declared.verdict.Verdict.TheVariants.{Parallel, Conflict, Refused, InOrder}
 use Rattle.loop_core_law.specs.declared.verdict.LoopReport.{LoopReport}
 use Rattle.loop_core_law.specs.Report.{Reported}
+use Rattle.bpfspec_answers.specs.NumberedLines.{numbered_lines}
 
 -- the words of each map
 abbrev pub values_of : List ℕ → List ℕ → List (List ℕ)
@@ -25,15 +26,10 @@ loop_line number told =
     codes "loop " ++ decimal number ++ codes " at " ++ decimal told.slot ++ codes ": answer " ++ signed_decimal told.answer ++ codes ", "
     ++ verdict_text told.verdict ++ codes "\n"
 
--- the lines of loop calls, the first of which has this number
-abbrev pub loop_lines : ℕ → List LoopReport → List ℕ
-loop_lines number [] = []
-loop_lines number (told ∷ others) = loop_line number told ++ loop_lines (number + 1) others
-
 -- the line of a return value
 abbrev pub return_line : ℕ → List ℕ
 return_line ret = codes "return " ++ decimal ret ++ codes "\n"
 
 -- the return value, the loop calls, and the maps of these sizes
 abbrev pub report_text : List ℕ → Reported → List ℕ
-report_text sizes told = return_line told.ret ++ loop_lines 0 told.loops ++ maps_spelling (values_of sizes told.words)
+report_text sizes told = return_line told.ret ++ numbered_lines loop_line 0 told.loops ++ maps_spelling (values_of sizes told.words)

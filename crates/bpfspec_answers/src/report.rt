@@ -5,12 +5,12 @@ ghost use Rattle.std.specs.List.{sum};
 ghost use Rattle.std.specs.String.{string_bytes};
 ghost use Rattle.loop_core_law.specs.declared.verdict.Verdict.TheVariants.{Conflict};
 ghost use Rattle.bpf_text.specs.MapsText.{lists, maps_spelling};
-ghost use Rattle.bpfspec_serve.specs.ReportText.{values_of, verdict_text, loop_line, loop_lines, return_line, report_text};
+ghost use Rattle.bpfspec_answers.specs.ReportText.{values_of, verdict_text, loop_line, return_line, report_text};
+ghost use Rattle.bpfspec_answers.specs.NumberedLines.{numbered_lines};
 
 use array_maps::Maps;
 use bpf_text::print_maps;
 use loop_core_law::{LoopReport, Verdict};
-use spec_run::Report;
 use std::alloc::{AllocError, Global};
 
 /// Adds how a loop was carried out.
@@ -38,7 +38,7 @@ fn print_loop(out: &mut String, number: usize, told: &LoopReport) -> Result<(), 
 
 /// Adds the lines of loop calls.
 fn print_loops(out: &mut String, loops: &[LoopReport]) -> Result<(), AllocError>
-    ensures { OnOk result (string_bytes out.new ≡ string_bytes out.old ++ loop_lines 0 loops.now) }
+    ensures { OnOk result (string_bytes out.new ≡ string_bytes out.old ++ numbered_lines loop_line 0 loops.now) }
 {
     for (number, told) in loops.iter().enumerate() {
         print_loop(out, number, told)?;
@@ -58,16 +58,21 @@ fn values_of(alloc: Global, maps: &Maps) -> Result<Vec<Vec<u64>>, AllocError>
 }
 
 /// What is printed of a program that ran: its return value, its loop calls and the maps after it.
-pub fn print_report(alloc: Global, report: &Report, maps: &Maps) -> Result<String, AllocError>
+pub fn print_report(
+    alloc: Global,
+    ret: u64,
+    loops: &[LoopReport],
+    maps: &Maps,
+) -> Result<String, AllocError>
     ensures { IfOk result (λ text. string_bytes text ≡ report_text maps.now.sizes (record {
-      ret = report.now.ret;
-      loops = report.now.loops.items;
+      ret = ret;
+      loops = loops.now;
       words = maps.now.words;
     })) }
 {
     let mut out = String::new(alloc);
-    writeln!(out, "return {}", report.ret)?;
-    print_loops(&mut out, &report.loops)?;
+    writeln!(out, "return {ret}")?;
+    print_loops(&mut out, loops)?;
     let values = values_of(alloc, maps)?;
     out.push_str(&print_maps(alloc, &values)?)?;
     Ok(out)

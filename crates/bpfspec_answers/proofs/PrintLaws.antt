@@ -4,10 +4,8 @@ use Rattle.std.specs.Prelude.{slice_range}
 use Rattle.std.proofs.lemmas.List.Sums.{sum_by_more}
 use Rattle.std.proofs.lemmas.List.{drop-drop}
 use Rattle.array_maps.specs.MapList.{base_of}
-use Rattle.loop_core_law.specs.declared.verdict.LoopReport.{LoopReport}
-use Rattle.bpf_insn_form.specs.declared.insn.Insn.{Insn}
-use Rattle.bpfspec_serve.specs.AcceptedText.{function_line, function_lines}
-use Rattle.bpfspec_serve.specs.ReportText.{values_of, loop_line, loop_lines}
+use Rattle.bpfspec_answers.specs.NumberedLines.{numbered_lines}
+use Rattle.bpfspec_answers.specs.ReportText.{values_of}
 
 front_suc : {X : Type 0} (xs : List X) (i : ℕ) (x : X) → i < length xs → x ≡ get_or xs i x → drop i xs ≡ x ∷ drop (suc i) xs
 front_suc [] i x within read = absurd (omega arith)
@@ -19,12 +17,13 @@ pub front : {X : Type 0} (xs : List X) (i : ℕ) (x : X) → i < length xs → x
 front xs i x within read = rw add-one (front_suc xs i x within read)
 
 -- one more line is printed
-pub line_more : (out out_before whole : List ℕ) (number : ℕ) (told : LoopReport) (loops : List LoopReport) → number < length loops → told ≡ get_or loops number told
-    → out ≡ out_before ++ loop_line number told → out_before ++ loop_lines number (drop number loops) ≡ whole → out ++ loop_lines (number + 1) (drop (number + 1) loops) ≡ whole
-line_more out out_before whole number told loops within read printed so_far =
-    ap (λ ls. ls ++ loop_lines (number + 1) (drop (number + 1) loops)) printed
-    ∙ append_assoc out_before (loop_line number told) (loop_lines (number + 1) (drop (number + 1) loops))
-    ∙ ap (λ ls. out_before ++ loop_lines number ls) (sym (front loops number told within read))
+pub line_more : {X : Type 0} (line : ℕ → X → List ℕ) (out out_before whole : List ℕ) (number : ℕ) (item : X) (items : List X) → number < length items
+    → item ≡ get_or items number item → out ≡ out_before ++ line number item → out_before ++ numbered_lines line number (drop number items) ≡ whole
+    → out ++ numbered_lines line (number + 1) (drop (number + 1) items) ≡ whole
+line_more line out out_before whole number item items within read printed so_far =
+    ap (λ ls. ls ++ numbered_lines line (number + 1) (drop (number + 1) items)) printed
+    ∙ append_assoc out_before (line number item) (numbered_lines line (number + 1) (drop (number + 1) items))
+    ∙ ap (λ ls. out_before ++ numbered_lines line number ls) (sym (front items number item within read))
     ∙ so_far
 
 -- one more map is read
@@ -42,19 +41,3 @@ values_more values whole sizes words map size within read so_far =
     ∙ ap (λ (ws : List ℕ). values ++ take size (drop base words) ∷ values_of (drop (map + 1) sizes) ws) (sym (drop-drop size base words))
     ∙ ap (λ (ss : List ℕ). values ++ values_of ss (drop base words)) (sym (front sizes map size within read))
     ∙ so_far
-
-functions_next : (insns : List Insn) (count : ℕ) → function_lines insns (suc count) ≡ function_lines insns count ++ function_line insns count
-unfolding function_lines
-functions_next insns count = refl
-
--- main alone
-pub functions_first : (insns : List Insn) → function_line insns 0 ≡ function_lines insns (0 + 1)
-unfolding function_lines
-functions_first insns = refl
-
--- one more function is printed
-pub functions_more : (before out : List ℕ) (insns : List Insn) (count : ℕ) → out ≡ (before ++ function_lines insns count) ++ function_line insns count
-    → out ≡ before ++ function_lines insns (count + 1)
-functions_more before out insns count printed =
-    printed ∙ append_assoc before (function_lines insns count) (function_line insns count)
-    ∙ ap (λ (ls : List ℕ). before ++ ls) (rw add-one (sym (functions_next insns count)))

@@ -2,10 +2,13 @@
 
 ghost use Rattle.std.specs.Prelude.{◌≡◌, ◌++◌, IfOk, OnOk};
 ghost use Rattle.std.specs.String.{string_bytes};
-ghost use Rattle.bpfspec_serve.specs.declared.refusal.Refusal.TheVariants.{Text, Code};
-ghost use Rattle.bpfspec_serve.specs.Refusals.{text_number, code_number, rule_number, section_name, what_is_refused, refusal_line};
+ghost use Rattle.bpfspec_answers.specs.declared.refusal.Refusal.TheVariants.{Text, Code};
+ghost use Rattle.bpfspec_answers.specs.Refusals.{text_number, code_number, rule_number, section_name, what_is_refused, refusal_line};
 
 use std::alloc::{AllocError, Global};
+
+/// The line that tells that memory ran out.
+pub const MEMORY_LINE: &[u8] = b"refused memory\n";
 
 /// A section of an input.
 #[derive(Clone, Copy, Debug, PartialEq, Eq)]
@@ -32,7 +35,7 @@ pub enum Refusal {
     },
     /// The program breaks a rule of the verifier.
     Rule {
-        rule: bpf_verify::Rule,
+        rule: bpf_verify_rules::Rule,
         slot: u32,
     },
     /// V0: the program isn't a thin one.
@@ -72,35 +75,35 @@ fn code_number(fault: bpf_insn::Fault) -> &'static str
 }
 
 /// The number of a rule that is broken.
-fn rule_number(rule: bpf_verify::Rule) -> &'static str
+fn rule_number(rule: bpf_verify_rules::Rule) -> &'static str
     ensures { result.now ≡ rule_number rule }
 {
     match rule {
-        bpf_verify::Rule::V1 => "V1",
-        bpf_verify::Rule::V2 => "V2",
-        bpf_verify::Rule::V3 => "V3",
-        bpf_verify::Rule::V4 => "V4",
-        bpf_verify::Rule::V5 => "V5",
-        bpf_verify::Rule::V6 => "V6",
-        bpf_verify::Rule::V7 => "V7",
-        bpf_verify::Rule::V8 => "V8",
-        bpf_verify::Rule::V9 => "V9",
-        bpf_verify::Rule::V10 => "V10",
-        bpf_verify::Rule::V11 => "V11",
-        bpf_verify::Rule::V12 => "V12",
-        bpf_verify::Rule::V13 => "V13",
-        bpf_verify::Rule::V14 => "V14",
-        bpf_verify::Rule::V15 => "V15",
-        bpf_verify::Rule::V16 => "V16",
-        bpf_verify::Rule::V17 => "V17",
-        bpf_verify::Rule::V18 => "V18",
-        bpf_verify::Rule::V19 => "V19",
-        bpf_verify::Rule::V20 => "V20",
-        bpf_verify::Rule::V21 => "V21",
-        bpf_verify::Rule::V22 => "V22",
-        bpf_verify::Rule::V23 => "V23",
-        bpf_verify::Rule::V24 => "V24",
-        bpf_verify::Rule::V25 => "V25",
+        bpf_verify_rules::Rule::V1 => "V1",
+        bpf_verify_rules::Rule::V2 => "V2",
+        bpf_verify_rules::Rule::V3 => "V3",
+        bpf_verify_rules::Rule::V4 => "V4",
+        bpf_verify_rules::Rule::V5 => "V5",
+        bpf_verify_rules::Rule::V6 => "V6",
+        bpf_verify_rules::Rule::V7 => "V7",
+        bpf_verify_rules::Rule::V8 => "V8",
+        bpf_verify_rules::Rule::V9 => "V9",
+        bpf_verify_rules::Rule::V10 => "V10",
+        bpf_verify_rules::Rule::V11 => "V11",
+        bpf_verify_rules::Rule::V12 => "V12",
+        bpf_verify_rules::Rule::V13 => "V13",
+        bpf_verify_rules::Rule::V14 => "V14",
+        bpf_verify_rules::Rule::V15 => "V15",
+        bpf_verify_rules::Rule::V16 => "V16",
+        bpf_verify_rules::Rule::V17 => "V17",
+        bpf_verify_rules::Rule::V18 => "V18",
+        bpf_verify_rules::Rule::V19 => "V19",
+        bpf_verify_rules::Rule::V20 => "V20",
+        bpf_verify_rules::Rule::V21 => "V21",
+        bpf_verify_rules::Rule::V22 => "V22",
+        bpf_verify_rules::Rule::V23 => "V23",
+        bpf_verify_rules::Rule::V24 => "V24",
+        bpf_verify_rules::Rule::V25 => "V25",
     }
 }
 
@@ -115,7 +118,7 @@ fn section_name(section: Section) -> &'static str
 }
 
 /// Adds what is refused, and where it stands.
-fn print_refused(out: &mut String, refusal: Refusal) -> Result<(), AllocError>
+fn print_what(out: &mut String, refusal: Refusal) -> Result<(), AllocError>
     ensures { OnOk result (string_bytes out.new ≡ string_bytes out.old ++ what_is_refused refusal) }
 {
     match refusal {
@@ -136,30 +139,11 @@ fn print_refused(out: &mut String, refusal: Refusal) -> Result<(), AllocError>
 }
 
 /// The line of a refusal.
-pub fn refusal_line(alloc: Global, refusal: Refusal) -> Result<String, AllocError>
+pub fn print_refusal(alloc: Global, refusal: Refusal) -> Result<String, AllocError>
     ensures { IfOk result (λ line. string_bytes line ≡ refusal_line refusal) }
 {
     let mut out = String::from_str(alloc, "refused ")?;
-    print_refused(&mut out, refusal)?;
+    print_what(&mut out, refusal)?;
     out.push_str("\n")?;
     Ok(out)
-}
-
-/// Why an input was given up.
-#[derive(Clone, Copy, Debug, PartialEq, Eq)]
-pub enum Failure {
-    /// It is refused.
-    Refused(Refusal),
-    /// There was no memory.
-    Memory,
-}
-
-impl From<AllocError> for Failure {
-    ghost use Rattle.bpfspec_serve.specs.declared.refusal.Failure.TheVariants.{Memory};
-
-    ghost from_gives = { λ _ e. e ≡ Memory };
-
-    fn from(_e: AllocError) -> Failure {
-        Failure::Memory
-    }
 }

@@ -1,8 +1,8 @@
 use Rattle.std.proofs.Common.{◌≡◌, ◌++◌, drop}
 use Rattle.bpf_text.specs.MapsText.{lists}
 use Rattle.array_maps.specs.MapList.{base_of}
-use Rattle.bpfspec_serve.specs.ReportText.{values_of}
-use Rattle.bpfspec_serve.proofs.printing.values_of.Given as goal
+use Rattle.bpfspec_answers.specs.ReportText.{values_of}
+use Rattle.bpfspec_answers.proofs.report.values_of.Given as goal
 
 abbrev pub invariant-loop-map : goal.invariant-loop-map
 invariant-loop-map l =
