@@ -93,3 +93,9 @@ first_fault-within program count has =
     ap (λ (b : Bool). if b then Some (record { rule = V1; slot = 0 }) else if is_too_large program then Some (record { rule = V2; slot = 0 }) else fault_within program (slot_count program.insns)) some
     ∙ ap (λ (b : Bool). if b then Some (record { rule = V2; slot = 0 }) else fault_within program (slot_count program.insns)) has.small
     ∙ ap (fault_within program) has.counted
+
+-- a program is its sizes and its instructions
+pub program-is : (program : Program) (sizes : List ℕ) (insns : List Insn) → sizes ≡ program.sizes → insns ≡ program.insns →
+    record { sizes = sizes; insns = insns } ≡ program
+program-is program sizes insns e f =
+    ap (λ (l : List ℕ). record { sizes = l; insns = insns }) e ∙ ap (λ (l : List Insn). record { sizes = program.sizes; insns = l }) f

@@ -11,7 +11,12 @@ use Rattle.bpf_verify_flow.specs.Accepted.{Fault, fault_within}
 use Rattle.bpf_verify.specs.declared.error.VerifyError.{VerifyError}
 use Rattle.bpf_verify.specs.declared.error.VerifyError.TheVariants.{Refused, Memory}
 use Rattle.bpf_verify.specs.declared.layout.Layout.{Layout}
+use Rattle.bpf_verify.specs.declared.passing.Code.{Code}
 use Rattle.bpf_verify.specs.Layout.{IsLayout}
+
+-- the program of some code
+abbrev pub program_of : Code → Program
+program_of code = record { sizes = code.sizes.now; insns = code.insns.now }
 
 -- an instruction starts at a slot of a program with this layout
 pub record Stands (insns : List Insn) (layout : Layout) (slot : ℕ) : Type 0 where

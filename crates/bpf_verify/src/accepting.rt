@@ -51,7 +51,8 @@ pub fn verify(alloc: Global, unit: Unit) -> Result<Verified, VerifyError>
     let count = count_of(&unit)?;
     let layout = layout_of(alloc, &unit.insns, count)?;
     let code = Code {
-        unit: &unit,
+        sizes: unit.sizes.as_slice(),
+        insns: unit.insns.as_slice(),
         layout: &layout,
     };
     match pass(alloc, &code, count) {

@@ -7,11 +7,11 @@ ghost use Rattle.bpf_verify_rules.specs.Rules.{leads_later, jumps_astray, falls_
 ghost use Rattle.bpf_verify_flow.specs.Inflow.{met, received};
 ghost use Rattle.bpf_verify_flow.specs.Accepted.{fault_within};
 ghost use Rattle.bpf_verify.specs.Layout.{IsLayout, place_of};
-ghost use Rattle.bpf_verify.specs.Passing.{Stands, out_of, Passed, IsFirst, IsFault};
+ghost use Rattle.bpf_verify.specs.Passing.{program_of, Stands, out_of, Passed, IsFirst, IsFault};
 
 use crate::error::VerifyError;
 use crate::layout::{Layout, named_by};
-use bpf_insn_form::{Insn, Unit, slots};
+use bpf_insn_form::{Insn, slots};
 use bpf_verify_flow::{Edge, Outflow, flow, moved};
 use bpf_verify_rules::{
     Rule, callback_fault, exit_fault, goes_on, insn_fault, is_code_load, jump_distance, state_fault,
@@ -19,17 +19,18 @@ use bpf_verify_rules::{
 use bpf_verify_state::State;
 use std::alloc::Global;
 
-/// A unit with its layout.
+/// A program with its layout.
 #[derive(Clone, Copy)]
 pub struct Code<'a> {
-    pub unit: &'a Unit,
+    pub sizes: &'a [u32],
+    pub insns: &'a [Insn],
     pub layout: &'a Layout,
 }
 
 // The function of the instruction at a slot, if one starts there.
 fn place(code: &Code, slot: u32) -> Option<u32>
-    requires { IsLayout code.now.unit.now.insns code.now.layout.now }
-    ensures { result ≡ place_of code.now.unit.now.insns slot }
+    requires { IsLayout code.now.insns.now code.now.layout.now }
+    ensures { result ≡ place_of code.now.insns.now slot }
 {
     match code.layout.places.get(slot as usize) {
         None => None,
@@ -39,8 +40,8 @@ fn place(code: &Code, slot: u32) -> Option<u32>
 
 // The function of an instruction.
 fn function_at(code: &Code, slot: u32) -> u32
-    requires { Stands code.now.unit.now.insns code.now.layout.now slot }
-    ensures { result ≡ function_of code.now.unit.now.insns slot }
+    requires { Stands code.now.insns.now code.now.layout.now slot }
+    ensures { result ≡ function_of code.now.insns.now slot }
 {
     match place(code, slot) {
         None => unreachable!(),
@@ -50,8 +51,8 @@ fn function_at(code: &Code, slot: u32) -> u32
 
 // Whether an instruction of the same function starts at another slot.
 fn leads_to(code: &Code, slot: u32, target: u32) -> bool
-    requires { Stands code.now.unit.now.insns code.now.layout.now slot }
-    ensures { result ≡ leads_to code.now.unit.now.insns slot target }
+    requires { Stands code.now.insns.now code.now.layout.now slot }
+    ensures { result ≡ leads_to code.now.insns.now slot target }
 {
     match place(code, target) {
         None => false,
@@ -61,8 +62,8 @@ fn leads_to(code: &Code, slot: u32, target: u32) -> bool
 
 // A later slot, where an instruction of the same function starts.
 fn leads_later(code: &Code, slot: u32, target: Option<u32>) -> bool
-    requires { Stands code.now.unit.now.insns code.now.layout.now slot }
-    ensures { result ≡ leads_later code.now.unit.now.insns slot target }
+    requires { Stands code.now.insns.now code.now.layout.now slot }
+    ensures { result ≡ leads_later code.now.insns.now slot target }
 {
     match target {
         None => false,
@@ -72,8 +73,8 @@ fn leads_later(code: &Code, slot: u32, target: Option<u32>) -> bool
 
 // V3: a jump's target isn't a later slot where an instruction of the same function starts.
 fn jumps_astray(code: &Code, slot: u32, insn: Insn) -> bool
-    requires { Stands code.now.unit.now.insns code.now.layout.now slot }
-    ensures { result ≡ jumps_astray code.now.unit.now.insns slot insn }
+    requires { Stands code.now.insns.now code.now.layout.now slot }
+    ensures { result ≡ jumps_astray code.now.insns.now slot insn }
 {
     match jump_distance(insn) {
         None => false,
@@ -83,16 +84,16 @@ fn jumps_astray(code: &Code, slot: u32, insn: Insn) -> bool
 
 // V4: it goes on, but no instruction of the same function follows.
 fn falls_off(code: &Code, slot: u32, insn: &Insn) -> bool
-    requires { Stands code.now.unit.now.insns code.now.layout.now slot }
-    ensures { result ≡ falls_off code.now.unit.now.insns slot insn.now }
+    requires { Stands code.now.insns.now code.now.layout.now slot }
+    ensures { result ≡ falls_off code.now.insns.now slot insn.now }
 {
     goes_on(*insn) && !leads_to(code, slot, slot + slots(insn))
 }
 
 // Whether an instruction starts at a slot.
 fn starts(code: &Code, slot: Option<u32>) -> bool
-    requires { IsLayout code.now.unit.now.insns code.now.layout.now }
-    ensures { result ≡ starts code.now.unit.now.insns slot }
+    requires { IsLayout code.now.insns.now code.now.layout.now }
+    ensures { result ≡ starts code.now.insns.now slot }
 {
     match slot {
         None => false,
@@ -102,8 +103,8 @@ fn starts(code: &Code, slot: Option<u32>) -> bool
 
 // V5: a code address's target isn't the first slot of an instruction past the load.
 fn names_none(code: &Code, slot: u32, insn: &Insn) -> bool
-    requires { Stands code.now.unit.now.insns code.now.layout.now slot }
-    ensures { result ≡ names_none code.now.unit.now.insns slot insn.now }
+    requires { Stands code.now.insns.now code.now.layout.now slot }
+    ensures { result ≡ names_none code.now.insns.now slot insn.now }
 {
     is_code_load(*insn) && !starts(code, named_by(slot, *insn))
 }
@@ -111,9 +112,9 @@ fn names_none(code: &Code, slot: u32, insn: &Insn) -> bool
 // The least of V3 to V6; so many targets are named up to this slot.
 #[tactic(auto, unfolding(bpf_verify_rules::specs::Rules::slot_fault))]
 fn slot_fault(code: &Code, slot: u32, insn: &Insn, targets: usize) -> Option<Rule>
-    requires stands { Stands code.now.unit.now.insns code.now.layout.now slot }
-    requires targets { targets ≡ length (targets_in code.now.unit.now.insns (slot + 1)) }
-    ensures { result ≡ slot_fault code.now.unit.now.insns slot insn.now }
+    requires stands { Stands code.now.insns.now code.now.layout.now slot }
+    requires targets { targets ≡ length (targets_in code.now.insns.now (slot + 1)) }
+    ensures { result ≡ slot_fault code.now.insns.now slot insn.now }
 {
     let astray = jumps_astray(code, slot, *insn);
     let off = falls_off(code, slot, insn);
@@ -168,11 +169,11 @@ fn fault_of(
     targets: usize,
     before: &Option<State>,
 ) -> Option<Rule>
-    requires stands { Stands code.now.unit.now.insns code.now.layout.now slot }
-    requires targets { targets ≡ length (targets_in code.now.unit.now.insns (slot + 1)) }
-    ensures { result ≡ fault_of code.now.unit.now slot insn.now before.now }
+    requires stands { Stands code.now.insns.now code.now.layout.now slot }
+    requires targets { targets ≡ length (targets_in code.now.insns.now (slot + 1)) }
+    ensures { result ≡ fault_of (program_of code.now) slot insn.now before.now }
 {
-    let sizes = code.unit.sizes.as_slice();
+    let sizes = code.sizes;
     let function = function_at(code, slot);
     let slot_rule = slot_fault(code, slot, insn, targets);
     let insn_rule = insn_fault(sizes, insn);
@@ -267,20 +268,20 @@ fn visit(
     targets: &mut Vec<u32>,
     table: &mut Vec<Option<State>>,
 ) -> Result<(), VerifyError>
-    requires stands { Stands code.now.unit.now.insns code.now.layout.now slot }
-    requires here { insn_at code.now.unit.now.insns slot ≡ Some insn.now }
+    requires stands { Stands code.now.insns.now code.now.layout.now slot }
+    requires here { insn_at code.now.insns.now slot ≡ Some insn.now }
     requires within { slot < length table.old.items }
-    requires passed { Passed code.now.unit.now slot targets.old.items table.old.items }
+    requires passed { Passed (program_of code.now) slot targets.old.items table.old.items }
     ensures size { OnOk result (length table.new.items ≡ length table.old.items) }
-    ensures ok { OnOk result (Passed code.now.unit.now (slot + 1) targets.new.items table.new.items) }
-    ensures err { IfErr result (IsFault (fault_within code.now.unit.now (slot + 1))) }
+    ensures ok { OnOk result (Passed (program_of code.now) (slot + 1) targets.new.items table.new.items) }
+    ensures err { IfErr result (IsFault (fault_within (program_of code.now) (slot + 1))) }
 {
     add_target(targets, named_by(slot, *insn))?;
     let before = known(table, slot);
     if let Some(rule) = fault_of(code, slot, insn, targets.len(), &before) {
         return Err(VerifyError::Refused { rule, slot });
     }
-    let out = out_of(&code.unit.sizes, slot, insn, &before);
+    let out = out_of(code.sizes, slot, insn, &before);
     receive(table, &out.ahead);
     receive(table, &out.aside);
     Ok(())
@@ -310,17 +311,17 @@ fn first_table(alloc: Global, count: u32) -> Result<Vec<Option<State>>, VerifyEr
 
 /// Passes over all instructions, up to the first fault.
 pub fn pass(alloc: Global, code: &Code, count: u32) -> Result<(), VerifyError>
-    requires layout { IsLayout code.now.unit.now.insns code.now.layout.now }
-    requires slots { slot_count code.now.unit.now.insns ≡ count }
+    requires layout { IsLayout code.now.insns.now code.now.layout.now }
+    requires slots { slot_count code.now.insns.now ≡ count }
     requires some { 0 < count }
     requires few { count ≤ 4096 }
-    ensures ok { IfOk result (λ _. fault_within code.now.unit.now count ≡ None) }
-    ensures err { IfErr result (IsFault (fault_within code.now.unit.now count)) }
+    ensures ok { IfOk result (λ _. fault_within (program_of code.now) count ≡ None) }
+    ensures err { IfErr result (IsFault (fault_within (program_of code.now) count)) }
 {
     let mut table = first_table(alloc, count)?;
     let mut targets = Vec::new(alloc);
     let mut slot = 0;
-    let insns = code.unit.insns.as_slice();
+    let insns = code.insns;
     for insn in insns {
         match visit(code, slot, insn, &mut targets, &mut table) {
             Err(error) => return Err(error),

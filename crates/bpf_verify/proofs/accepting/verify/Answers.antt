@@ -1,33 +1,43 @@
-use Rattle.std.proofs.Common.{◌≡◌, ℕ, ◌∷◌, List, Option, map, length, refl, ap, sym, ◌∙◌, subst, arith}
+use Rattle.std.proofs.Common.{◌≡◌, ℕ, ◌∷◌, List, Option, None, map, length, refl, ap, sym, ◌∙◌, subst, arith}
 use Rattle.bpf_insn_form.specs.declared.insn.Insn.{Insn}
-use Rattle.bpf_insn_form.specs.Program.{slot_count, callback_starts}
-use Rattle.bpf_verify_flow.specs.Accepted.{Fault}
+use Rattle.bpf_insn_form.specs.Program.{Program, slot_count, callback_starts}
+use Rattle.bpf_verify_flow.specs.Accepted.{Fault, fault_within}
 use Rattle.bpf_verify_flow.specs.Count.{longest}
 use Rattle.bpf_verify.specs.Passing.{IsFault}
 use Rattle.bpf_verify.specs.Counting.{JumpsForward}
 use Rattle.bpf_verify.proofs.StartLaws.{starts-few}
-use Rattle.bpf_verify.proofs.JumpLaws.{jumps_forward, first_fault-within}
+use Rattle.bpf_verify.proofs.JumpLaws.{jumps_forward, first_fault-within, program-is}
 use Rattle.bpf_verify.proofs.accepting.verify.Goals as goal
 
 pub returns-in-Err-clause-err : goal.returns-in-Err-clause-err
 returns-in-Err-clause-err c =
-    subst (λ (f : Option Fault). IsFault f c.in-Err.error) (sym (first_fault-within c.args.unit c.in_ok-count.count c.in_ok-count.ensures.ok)) c.in-Err.ensures.err
+    subst (λ (f : Option Fault). IsFault f c.in-Err.error) (sym (first_fault-within c.args.unit c.in_ok-count.count c.in_ok-count.ensures.ok))
+    (subst (λ (program : Program). IsFault (fault_within program c.in_ok-count.count) c.in-Err.error)
+    (program-is c.args.unit c.as_slice.result.now c.as_slice-2.result.now (c.as_slice.ensures.value ∙ ap (λ (p : Program). p.sizes) c.unit.view_is) (c.as_slice-2.ensures.value ∙ ap (λ (p : Program). p.insns) c.unit.view_is)) c.in-Err.ensures.err)
 
 pub counts_of-requires-clause-forward : goal.counts_of-requires-clause-forward
 counts_of-requires-clause-forward c =
-    subst JumpsForward (sym c.deref-2.ensures.value) (jumps_forward c.args.unit c.in_ok-count.count c.in_ok-count.ensures.ok.counted c.in-Ok.ensures.ok)
+    subst JumpsForward (sym (c.deref-2.ensures.value ∙ ap (λ (p : Program). p.insns) c.unit.view_is))
+    (jumps_forward c.args.unit c.in_ok-count.count c.in_ok-count.ensures.ok.counted
+    (ap (λ (program : Program). fault_within program c.in_ok-count.count)
+    (sym (program-is c.args.unit c.as_slice.result.now c.as_slice-2.result.now (c.as_slice.ensures.value ∙ ap (λ (p : Program). p.sizes) c.unit.view_is) (c.as_slice-2.ensures.value ∙ ap (λ (p : Program). p.insns) c.unit.view_is))) ∙ c.in-Ok.ensures.ok))
 
 pub invariant_of-result : goal.invariant_of-result
 invariant_of-result c =
     let starts : c.in_ok-layout.layout.starts.items ≡ callback_starts c.args.unit.insns =
-    c.in_ok-layout.ensures.ok.starts ∙ ap callback_starts c.deref.ensures.value in
+    c.in_ok-layout.ensures.ok.starts ∙ ap callback_starts (c.deref.ensures.value ∙ ap (λ (p : Program). p.insns) c.unit.view_is) in
     record {
-      accepted = first_fault-within c.args.unit c.in_ok-count.count c.in_ok-count.ensures.ok ∙ c.in-Ok.ensures.ok;
+      accepted = first_fault-within c.args.unit c.in_ok-count.count c.in_ok-count.ensures.ok
+          ∙ ap (λ (program : Program). fault_within program c.in_ok-count.count)
+          (sym (program-is c.args.unit c.as_slice.result.now c.as_slice-2.result.now (c.as_slice.ensures.value ∙ ap (λ (p : Program). p.sizes) c.unit.view_is) (c.as_slice-2.ensures.value ∙ ap (λ (p : Program). p.insns) c.unit.view_is))) ∙ c.in-Ok.ensures.ok;
       starts_are = starts;
-      counts_are = c.in_ok-counts.ensures.ok ∙ ap (λ (l : List Insn). map (longest l (slot_count l)) (0 ∷ c.deref-3.result.now)) c.deref-2.ensures.value
+      counts_are = c.in_ok-counts.ensures.ok ∙ ap (λ (l : List Insn). map (longest l (slot_count l)) (0 ∷ c.deref-3.result.now)) (c.deref-2.ensures.value ∙ ap (λ (p : Program). p.insns) c.unit.view_is)
           ∙ ap (λ (l : List ℕ). map (longest c.args.unit.insns (slot_count c.args.unit.insns)) (0 ∷ l)) c.deref-3.ensures.value;
       few = omega (arith, ap length starts, starts-few c.args.unit.insns (slot_count c.args.unit.insns), c.in_ok-count.ensures.ok.counted, c.in_ok-count.ensures.ok.few);
     }
 
 pub returns-clause-ok : goal.returns-clause-ok
-returns-clause-ok c = (refl, first_fault-within c.args.unit c.in_ok-count.count c.in_ok-count.ensures.ok ∙ c.in-Ok.ensures.ok)
+returns-clause-ok c =
+    (refl, first_fault-within c.args.unit c.in_ok-count.count c.in_ok-count.ensures.ok
+    ∙ ap (λ (program : Program). fault_within program c.in_ok-count.count)
+    (sym (program-is c.args.unit c.as_slice.result.now c.as_slice-2.result.now (c.as_slice.ensures.value ∙ ap (λ (p : Program). p.sizes) c.unit.view_is) (c.as_slice-2.ensures.value ∙ ap (λ (p : Program). p.insns) c.unit.view_is))) ∙ c.in-Ok.ensures.ok)

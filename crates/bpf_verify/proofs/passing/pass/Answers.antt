@@ -1,5 +1,5 @@
-use Rattle.std.proofs.Common.{ℕ, ◌+◌, ◌<◌, length, List, ap, sym, ◌∙◌, subst, arith}
-use Rattle.bpf_verify.specs.Passing.{Passed}
+use Rattle.std.proofs.Common.{ℕ, ◌+◌, ◌<◌, length, List, refl, ap, sym, ◌∙◌, subst, arith}
+use Rattle.bpf_verify.specs.Passing.{program_of, Passed}
 use Rattle.bpf_verify.proofs.PassLaws.{passed-none, passed-over, at-index, At, fault-later}
 use Rattle.bpf_verify.proofs.passing.pass.Goals as goal
 
@@ -7,50 +7,50 @@ pub loop-insn-init : goal.loop-insn-init
 loop-insn-init c = record {
   low = omega arith;
   size = c.in_ok-table.ensures.ok.size;
-  passed = subst (λ (targets : List ℕ). Passed c.args.code.now.unit.now 0 targets c.in_ok-table.table.items) (sym c.new-targets.ensures.items)
-      (passed-none c.args.code.now.unit.now c.in_ok-table.table.items (λ t h. c.in_ok-table.ensures.ok.known t (omega (arith, h, c.in_ok-table.ensures.ok.size))));
+  passed = subst (λ (targets : List ℕ). Passed (program_of c.args.code.now) 0 targets c.in_ok-table.table.items) (sym c.new-targets.ensures.items)
+      (passed-none (program_of c.args.code.now) c.in_ok-table.table.items (λ t h. c.in_ok-table.ensures.ok.known t (omega (arith, h, c.in_ok-table.ensures.ok.size))));
 }
 
 pub visit-requires-clause-stands : goal.visit-requires-clause-stands
 visit-requires-clause-stands c =
-    (at-index c.args.code.now.unit.now.insns c.as_slice-insns.result.now c.args.code.now.layout.now c.args.count c.loop-insn.slot c.loop-insn.insn-index c.insn-item.result
-    c.requires.layout c.requires.slots c.requires.few c.as_slice-insns.ensures.value c.loop-insn-test.true c.insn-item.is c.loop-insn.invariant.low).stands
+    (at-index c.args.code.now.insns.now c.args.code.now.insns.now c.args.code.now.layout.now c.args.count c.loop-insn.slot c.loop-insn.insn-index c.insn-item.result
+    c.requires.layout c.requires.slots c.requires.few refl c.loop-insn-test.true c.insn-item.is c.loop-insn.invariant.low).stands
 
 pub visit-requires-clause-here : goal.visit-requires-clause-here
 visit-requires-clause-here c =
-    (at-index c.args.code.now.unit.now.insns c.as_slice-insns.result.now c.args.code.now.layout.now c.args.count c.loop-insn.slot c.loop-insn.insn-index c.insn-item.result
-    c.requires.layout c.requires.slots c.requires.few c.as_slice-insns.ensures.value c.loop-insn-test.true c.insn-item.is c.loop-insn.invariant.low).here
+    (at-index c.args.code.now.insns.now c.args.code.now.insns.now c.args.code.now.layout.now c.args.count c.loop-insn.slot c.loop-insn.insn-index c.insn-item.result
+    c.requires.layout c.requires.slots c.requires.few refl c.loop-insn-test.true c.insn-item.is c.loop-insn.invariant.low).here
 
 pub visit-requires-clause-within : goal.visit-requires-clause-within
 visit-requires-clause-within c =
-    let at : At c.args.code.now.unit.now.insns c.args.code.now.layout.now c.args.count c.loop-insn.slot c.loop-insn.insn-index c.insn-item.result =
-    at-index c.args.code.now.unit.now.insns c.as_slice-insns.result.now c.args.code.now.layout.now c.args.count c.loop-insn.slot c.loop-insn.insn-index c.insn-item.result
-    c.requires.layout c.requires.slots c.requires.few c.as_slice-insns.ensures.value c.loop-insn-test.true c.insn-item.is c.loop-insn.invariant.low in
+    let at : At c.args.code.now.insns.now c.args.code.now.layout.now c.args.count c.loop-insn.slot c.loop-insn.insn-index c.insn-item.result =
+    at-index c.args.code.now.insns.now c.args.code.now.insns.now c.args.code.now.layout.now c.args.count c.loop-insn.slot c.loop-insn.insn-index c.insn-item.result
+    c.requires.layout c.requires.slots c.requires.few refl c.loop-insn-test.true c.insn-item.is c.loop-insn.invariant.low in
     let within : c.loop-insn.slot < length c.loop-insn.table.items = omega (arith, at.inside, at.some, c.loop-insn.invariant.size) in
     within
 
 pub returns-in-Err-clause-err : goal.returns-in-Err-clause-err
 returns-in-Err-clause-err c =
-    let at : At c.args.code.now.unit.now.insns c.args.code.now.layout.now c.args.count c.loop-insn.slot c.loop-insn.insn-index c.insn-item.result =
-    at-index c.args.code.now.unit.now.insns c.as_slice-insns.result.now c.args.code.now.layout.now c.args.count c.loop-insn.slot c.loop-insn.insn-index c.insn-item.result
-    c.requires.layout c.requires.slots c.requires.few c.as_slice-insns.ensures.value c.loop-insn-test.true c.insn-item.is c.loop-insn.invariant.low in
-    fault-later c.args.code.now.unit.now (c.loop-insn.slot + 1) c.args.count c.in-Err.error c.in-Err.ensures.err (omega (arith, at.inside, at.some))
+    let at : At c.args.code.now.insns.now c.args.code.now.layout.now c.args.count c.loop-insn.slot c.loop-insn.insn-index c.insn-item.result =
+    at-index c.args.code.now.insns.now c.args.code.now.insns.now c.args.code.now.layout.now c.args.count c.loop-insn.slot c.loop-insn.insn-index c.insn-item.result
+    c.requires.layout c.requires.slots c.requires.few refl c.loop-insn-test.true c.insn-item.is c.loop-insn.invariant.low in
+    fault-later (program_of c.args.code.now) (c.loop-insn.slot + 1) c.args.count c.in-Err.error c.in-Err.ensures.err (omega (arith, at.inside, at.some))
 
 pub overflow_add-slot : goal.overflow_add-slot
 overflow_add-slot c =
-    let at : At c.args.code.now.unit.now.insns c.args.code.now.layout.now c.args.count c.loop-insn.slot c.loop-insn.insn-index c.insn-item.result =
-    at-index c.args.code.now.unit.now.insns c.as_slice-insns.result.now c.args.code.now.layout.now c.args.count c.loop-insn.slot c.loop-insn.insn-index c.insn-item.result
-    c.requires.layout c.requires.slots c.requires.few c.as_slice-insns.ensures.value c.loop-insn-test.true c.insn-item.is c.loop-insn.invariant.low in
+    let at : At c.args.code.now.insns.now c.args.code.now.layout.now c.args.count c.loop-insn.slot c.loop-insn.insn-index c.insn-item.result =
+    at-index c.args.code.now.insns.now c.args.code.now.insns.now c.args.code.now.layout.now c.args.count c.loop-insn.slot c.loop-insn.insn-index c.insn-item.result
+    c.requires.layout c.requires.slots c.requires.few refl c.loop-insn-test.true c.insn-item.is c.loop-insn.invariant.low in
     omega (arith, at.inside, c.requires.few, c.slots-slot.ensures)
 
 pub loop-insn-preserved : goal.loop-insn-preserved
 loop-insn-preserved c =
-    let at : At c.args.code.now.unit.now.insns c.args.code.now.layout.now c.args.count c.loop-insn.slot c.loop-insn.insn-index c.insn-item.result =
-    at-index c.args.code.now.unit.now.insns c.as_slice-insns.result.now c.args.code.now.layout.now c.args.count c.loop-insn.slot c.loop-insn.insn-index c.insn-item.result
-    c.requires.layout c.requires.slots c.requires.few c.as_slice-insns.ensures.value c.loop-insn-test.true c.insn-item.is c.loop-insn.invariant.low in
+    let at : At c.args.code.now.insns.now c.args.code.now.layout.now c.args.count c.loop-insn.slot c.loop-insn.insn-index c.insn-item.result =
+    at-index c.args.code.now.insns.now c.args.code.now.insns.now c.args.code.now.layout.now c.args.count c.loop-insn.slot c.loop-insn.insn-index c.insn-item.result
+    c.requires.layout c.requires.slots c.requires.few refl c.loop-insn-test.true c.insn-item.is c.loop-insn.invariant.low in
     record {
       low = ap (λ (n : ℕ). c.loop-insn.slot + n) c.slots-slot.ensures ∙ at.more;
       size = c.in-Ok.ensures.size ∙ c.loop-insn.invariant.size;
-      passed = passed-over c.args.code.now.unit.now c.loop-insn.slot c.slots-slot.result c.insn-item.result c.visit.new.targets.items c.visit.new.table.items
+      passed = passed-over (program_of c.args.code.now) c.loop-insn.slot c.slots-slot.result c.insn-item.result c.visit.new.targets.items c.visit.new.table.items
           c.in-Ok.ensures.ok c.slots-slot.ensures at.inner;
     }

@@ -1,11 +1,11 @@
 use Rattle.std.proofs.Common.{◌≡◌, take, length}
 use Rattle.bpf_insn_form.specs.Program.{slot_count}
-use Rattle.bpf_verify.specs.Passing.{Passed}
+use Rattle.bpf_verify.specs.Passing.{program_of, Passed}
 use Rattle.bpf_verify.proofs.passing.pass.Given as goal
 
 abbrev pub invariant-loop-insn : goal.invariant-loop-insn
 invariant-loop-insn l = record {
-  low : l.slot ≡ slot_count (take l.insn-index l.code.unit.now.insns);
+  low : l.slot ≡ slot_count (take l.insn-index l.code.insns.now);
   size : length l.table.items ≡ l.count;
-  passed : Passed l.code.unit.now l.slot l.targets.items l.table.items;
+  passed : Passed (program_of l.code) l.slot l.targets.items l.table.items;
 }

@@ -1,19 +1,19 @@
-use Rattle.std.proofs.Common.{ℕ, List, ap, sym, ◌∙◌, None}
+use Rattle.std.proofs.Common.{ℕ, ap, sym, ◌∙◌, None}
 use Rattle.bpf_verify_flow.specs.Accepted.{unless_earlier}
-use Rattle.bpf_verify.specs.Passing.{out_of}
+use Rattle.bpf_verify.specs.Passing.{program_of}
 use Rattle.bpf_verify.proofs.PassLaws.{fault_within-more, known-here, passed-more}
 use Rattle.bpf_verify.proofs.passing.visit.Goals as goal
 
 pub returns-in-Some-clause-err : goal.returns-in-Some-clause-err
 returns-in-Some-clause-err c =
-    fault_within-more c.args.code.now.unit.now c.args.slot c.args.insn.now c.known-before.result c.requires.passed.fine c.requires.here
-    (known-here c.args.code.now.unit.now c.args.slot c.known-before.result c.args.targets.now.items c.args.table.now.items c.requires.passed c.requires.within c.known-before.ensures)
+    fault_within-more (program_of c.args.code.now) c.args.slot c.args.insn.now c.known-before.result c.requires.passed.fine c.requires.here
+    (known-here (program_of c.args.code.now) c.args.slot c.known-before.result c.args.targets.now.items c.args.table.now.items c.requires.passed c.requires.within c.known-before.ensures)
     ∙ ap (unless_earlier None c.args.slot) (sym c.fault_of.ensures ∙ c.in-Some.is)
 
 pub returns-clause-ok : goal.returns-clause-ok
 returns-clause-ok c =
-    passed-more c.args.code.now.unit.now c.args.slot c.args.insn.now c.known-before.result c.named_by.result c.out_of-out.result
+    passed-more (program_of c.args.code.now) c.args.slot c.args.insn.now c.known-before.result c.named_by.result c.out_of-out.result
     c.args.targets.now.items c.add_target.new.targets.items c.args.table.now.items c.receive.new.table.items c.receive-2.new.table.items
     c.requires.passed c.requires.here c.requires.within c.known-before.ensures (sym c.fault_of.ensures ∙ c.in_default.is) c.named_by.ensures
-    c.in_ok-add_target.ensures.ok (c.out_of-out.ensures ∙ ap (λ (sizes : List ℕ). out_of sizes c.args.slot c.args.insn.now c.known-before.result) c.deref.ensures.value)
+    c.in_ok-add_target.ensures.ok c.out_of-out.ensures
     c.receive.ensures.received c.receive-2.ensures.received c.receive.ensures.size c.receive-2.ensures.size
