@@ -93,9 +93,13 @@ written form (Err error) = Err error
 written Assembler (Ok program) = as_outcome (assembler_form program.sizes program.insns)
 written Hex (Ok program) = as_outcome (hex_form program.sizes program.insns)
 
--- the functions of a program, main first
+-- a function of a program, by its number: where it starts, and the most instructions that it takes
+abbrev pub function_of : List Insn → ℕ → Function
+function_of insns number = record { start = start_of insns number; count = count_of insns number }
+
+-- the functions of a program: main, and each callback
 abbrev pub functions_of : List Insn → List Function
-functions_of insns = map (λ function. record { start = start_of insns function; count = count_of insns function }) (range_with_len 0 (length (callback_starts insns) + 1))
+functions_of insns = map (function_of insns) (range_with_len 0 (length (callback_starts insns) + 1))
 
 -- an accepted program is told with its functions, another is refused by its first fault
 abbrev pub judged : Program → Option Fault → Outcome

@@ -1,12 +1,13 @@
 //! What comes of an input.
 
-ghost use Rattle.std.specs.Prelude.{◌≡◌, ◌<◌, IfOk, Ok, length};
+ghost use Rattle.std.specs.Prelude.{◌≡◌, ◌<◌, ◌≤◌, IfOk, Ok, length};
+ghost use Rattle.bpf_insn_form.specs.Program.{callback_starts};
 ghost use Rattle.std.specs.String.{string_bytes};
 ghost use Rattle.array_maps.specs.MapList.{lists, zero_maps};
 ghost use Rattle.bpfspec_command_line.specs.declared.job.Mode.TheVariants.{Order};
 ghost use Rattle.bpfspec_answers.specs.declared.refusal.Refusal.TheVariants.{Text};
 ghost use Rattle.bpfspec_serve.specs.declared.answer_error.AnswerError.TheVariants.{Refused};
-ghost use Rattle.bpfspec_serve.specs.Output.{text_error, code_error, readable, unit_program, functions_of, fitting, start_words, RunsTo, OfProgram, OfUnit, OfReadable, OfInput, Met, written, verified};
+ghost use Rattle.bpfspec_serve.specs.Output.{text_error, code_error, readable, unit_program, function_of, functions_of, fitting, start_words, RunsTo, OfProgram, OfUnit, OfReadable, OfInput, Met, written, verified};
 ghost use Rattle.bpfspec_serve.specs.Sections.{unit_section};
 
 use crate::answer_error::AnswerError;
@@ -170,16 +171,25 @@ fn translate(alloc: Global, from: UnitForm, to: UnitForm, input: &str) -> Result
     write_unit(alloc, to, &unit)
 }
 
-/// The functions of an accepted program, main first.
+/// A function of an accepted program, whose number is at most the program's `callbacks()`.
+fn function_of(program: &Accepted, number: u32) -> Function
+    requires { number ≤ length (callback_starts program.now.insns) }
+    ensures { result ≡ function_of program.now.insns number }
+{
+    Function {
+        start: program.start(number),
+        count: program.count(number),
+    }
+}
+
+/// The functions of an accepted program: main, and each callback.
 fn functions_of(alloc: Global, program: &Accepted) -> Result<Vec<Function>, AllocError>
     ensures { IfOk result (λ functions. functions.items ≡ functions_of program.now.insns) }
 {
     let mut functions = Vec::new(alloc);
-    for function in 0..=program.callbacks() {
-        functions.push(Function {
-            start: program.start(function),
-            count: program.count(function),
-        })?;
+    functions.push(function_of(program, 0))?;
+    for callback in 0..program.callbacks() {
+        functions.push(function_of(program, callback + 1))?;
     }
     Ok(functions)
 }
