@@ -66,7 +66,7 @@ fn answer_to(alloc: Global, mode: &Mode, input: &[u8]) -> Result<Answer, AllocEr
 }
 
 /// Writes a text, and tells how it was served: as wanted, unless a write failed.
-fn write<W: Sink>(sink: &mut W, text: &[u8], wanted: Served) -> Served
+pub(crate) fn write<W: Sink>(sink: &mut W, text: &[u8], wanted: Served) -> Served
     requires { W.failed sink.old < 2 ^ 64 - 1 }
     ensures { HowWritten text.now wanted result (λ n. W.failed sink.new ≡ W.failed sink.old + n)
         (W.taken sink.old) (W.taken sink.new) }
