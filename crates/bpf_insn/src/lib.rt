@@ -13,7 +13,7 @@ pub use bpf_insn_form::{
     AluOp, AtomicOp, ByteOrder, Callee, Compare, EndianBits, ImmKind, Insn, MovsxBits, Operand,
     Reg, SimpleOp, Size, Unit, Width, slots,
 };
-pub use codec_error::{CodecError, Fault};
+pub use codec_error::{CodecError, CodecFault};
 pub use decoding::decode;
 pub use encoding::encode;
 

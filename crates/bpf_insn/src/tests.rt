@@ -14,7 +14,7 @@ fn both_ways(rt: &impl Abort, alloc: Global, insn: Insn, bytes: &[u8]) -> Result
     Ok(())
 }
 
-fn refused(fault: Fault, slot: usize) -> Option<CodecError> {
+fn refused(fault: CodecFault, slot: usize) -> Option<CodecError> {
     Some(CodecError::Refused { fault, slot })
 }
 
@@ -145,9 +145,9 @@ fn every_opcode(rt: HostRuntime) {
         for says in row {
             let want = match *says {
                 b'k' => None,
-                b'5' => refused(Fault::I5, 0),
-                b'7' => refused(Fault::I7, 0),
-                _ => refused(Fault::I2, 0),
+                b'5' => refused(CodecFault::Immediate, 0),
+                b'7' => refused(CodecFault::SecondSlot, 0),
+                _ => refused(CodecFault::UnknownOpcode, 0),
             };
             let bytes = [opcode, 0, 0, 0, 0, 0, 0, 0];
             assert_eq!(rt; decode(rt.alloc(), &bytes).err(), want, "opcode {opcode}");
@@ -158,14 +158,14 @@ fn every_opcode(rt: HostRuntime) {
 
 #[test]
 fn each_refusal(rt: HostRuntime) {
-    let rows: [(&[u8], Fault, usize); 7] = [
-        (b"\xb7\0\0\0\x07\0\0", Fault::I1, 0),
-        (b"\x8d\0\0\0\0\0\0\0", Fault::I2, 0),
-        (b"\xb7\x0b\0\0\0\0\0\0", Fault::I3, 0),
-        (b"\xb7\x10\0\0\x07\0\0\0", Fault::I4, 0),
-        (b"\xd4\0\0\0\x08\0\0\0", Fault::I5, 0),
-        (b"\x37\0\x02\0\x01\0\0\0", Fault::I6, 0),
-        (b"\xb7\0\0\0\0\0\0\0\x18\0\0\0\0\0\0\0", Fault::I7, 1),
+    let rows: [(&[u8], CodecFault, usize); 7] = [
+        (b"\xb7\0\0\0\x07\0\0", CodecFault::Incomplete, 0),
+        (b"\x8d\0\0\0\0\0\0\0", CodecFault::UnknownOpcode, 0),
+        (b"\xb7\x0b\0\0\0\0\0\0", CodecFault::RegisterNumber, 0),
+        (b"\xb7\x10\0\0\x07\0\0\0", CodecFault::FieldNotZero, 0),
+        (b"\xd4\0\0\0\x08\0\0\0", CodecFault::Immediate, 0),
+        (b"\x37\0\x02\0\x01\0\0\0", CodecFault::Offset, 0),
+        (b"\xb7\0\0\0\0\0\0\0\x18\0\0\0\0\0\0\0", CodecFault::SecondSlot, 1),
     ];
     for (bytes, fault, slot) in rows {
         assert_eq!(rt; decode(rt.alloc(), bytes).err(), refused(fault, slot));
@@ -180,10 +180,10 @@ const LOOP: &[u8; 96] = b"\xb7\x01\0\0\x08\0\0\0\x18\x42\0\0\x05\0\0\0\0\0\0\0\0
 fn each_beginning(rt: HostRuntime) {
     for len in 0..=LOOP.len() {
         let want = match len {
-            16..=23 => refused(Fault::I7, 1),
-            64..=71 => refused(Fault::I7, 7),
+            16..=23 => refused(CodecFault::SecondSlot, 1),
+            64..=71 => refused(CodecFault::SecondSlot, 7),
             _ if len % 8 == 0 => None,
-            _ => refused(Fault::I1, len / 8),
+            _ => refused(CodecFault::Incomplete, len / 8),
         };
         assert_eq!(rt; decode(rt.alloc(), &LOOP[..len]).err(), want, "{len} bytes");
     }
@@ -216,7 +216,7 @@ fn encode_refuses(rt: HostRuntime) -> Result<(), Fail> {
         dst: r1,
         src: r2,
     };
-    for (insn, fault) in [(ldxs, Fault::I2), (ldmap, Fault::I4), (movsx, Fault::I6)] {
+    for (insn, fault) in [(ldxs, CodecFault::UnknownOpcode), (ldmap, CodecFault::FieldNotZero), (movsx, CodecFault::Offset)] {
         assert_eq!(rt; encode(rt.alloc(), &[insn]).err(), refused(fault, 0));
         assert_eq!(rt;
             encode(rt.alloc(), &[first, Insn::Exit, insn]).err(),
@@ -247,7 +247,7 @@ fn growths_refused(rt: HostRuntime) {
             Err(
                 CodecError::Memory
                     | CodecError::Refused {
-                        fault: Fault::I7,
+                        fault: CodecFault::SecondSlot,
                         slot: 1
                     }
             )

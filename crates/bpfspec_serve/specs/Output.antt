@@ -7,14 +7,14 @@ use Rattle.bpf_insn_form.specs.declared.insn.Insn.{Insn}
 use Rattle.bpf_insn.specs.declared.codec_error.CodecError.{CodecError}
 use Rattle.bpf_insn.specs.declared.codec_error.CodecError.TheVariants as codec
 use Rattle.bpf_insn.specs.Reading.{reading}
-use Rattle.bpf_text_fields.specs.declared.error.Fault.TheVariants as text_faults
-use Rattle.bpf_text_fields.specs.declared.error.TextError.{TextError}
-use Rattle.bpf_text_fields.specs.declared.error.TextError.TheVariants as text
-use Rattle.bpf_text.specs.HexText.{HexParts, hex_text}
+use Rattle.bpf_text_lines.specs.declared.text_error.TextFault.TheVariants as text_faults
+use Rattle.bpf_text_lines.specs.declared.text_error.TextError.{TextError}
+use Rattle.bpf_text_lines.specs.declared.text_error.TextError.TheVariants as text
+use Rattle.bpf_text_hex.specs.HexText.{HexParts, hex_text}
 use Rattle.bpf_text.specs.MapsText.{maps_text}
-use Rattle.bpf_text_insns.specs.UnitText.{unit_text as assembler_form, unit_hex as hex_form}
+use Rattle.bpf_text_insns.specs.PrintedLines.{unit_text as assembler_form, unit_hex as hex_form}
 use Rattle.bpf_insn_form.specs.Program.{Program}
-use Rattle.bpf_text_units.specs.UnitReading.{unit_text as assembler_text}
+use Rattle.bpf_text_units.specs.AssemblerText.{unit_text as assembler_text}
 use Rattle.array_maps.specs.MapList.{lengths}
 use Rattle.bpf_insn_form.specs.Program.{Program}
 use Rattle.bpf_step_model.specs.Run.{Ended}

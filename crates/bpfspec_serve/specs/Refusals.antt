@@ -1,10 +1,10 @@
 -- The line that tells why an input has no result.
 use Rattle.std.specs.Prelude.{ℕ, List, ◌++◌, codes}
 use Rattle.std.specs.Fmt.{decimal}
-use Rattle.bpf_insn.specs.declared.codec_error.Fault.{Fault as CodeFault}
-use Rattle.bpf_insn.specs.declared.codec_error.Fault.TheVariants as code_faults
-use Rattle.bpf_text_fields.specs.declared.error.Fault.{Fault as TextFault}
-use Rattle.bpf_text_fields.specs.declared.error.Fault.TheVariants as text_faults
+use Rattle.bpf_insn.specs.declared.codec_error.CodecFault.{CodecFault as CodeFault}
+use Rattle.bpf_insn.specs.declared.codec_error.CodecFault.TheVariants as code_faults
+use Rattle.bpf_text_lines.specs.declared.text_error.TextFault.{TextFault as TextFault}
+use Rattle.bpf_text_lines.specs.declared.text_error.TextFault.TheVariants as text_faults
 use Rattle.bpf_verify_rules.specs.declared.rule.Rule.{Rule}
 use Rattle.bpf_verify_rules.specs.declared.rule.Rule.TheVariants as rules
 use Rattle.bpfspec_serve.specs.declared.refusal.Section.{Section}
