@@ -16,6 +16,3 @@ pub use bpf_insn_form::{
 pub use codec_error::{CodecError, CodecFault};
 pub use decoding::decode;
 pub use encoding::encode;
-
-#[cfg(test)]
-mod tests;

@@ -61,13 +61,15 @@ fn code_number(fault: bpf_insn::CodecFault) -> &'static str
     ensures { result.now ≡ code_number fault }
 {
     match fault {
-        bpf_insn::CodecFault::I1 => "I1",
-        bpf_insn::CodecFault::I2 => "I2",
-        bpf_insn::CodecFault::I3 => "I3",
-        bpf_insn::CodecFault::I4 => "I4",
-        bpf_insn::CodecFault::I5 => "I5",
-        bpf_insn::CodecFault::I6 => "I6",
-        bpf_insn::CodecFault::I7 => "I7",
+        bpf_insn::CodecFault::Incomplete => "I1",
+        bpf_insn::CodecFault::UnknownOpcode => "I2",
+        bpf_insn::CodecFault::RegisterNumber => "I3",
+        bpf_insn::CodecFault::FieldNotZero
+        | bpf_insn::CodecFault::CallSource
+        | bpf_insn::CodecFault::LoadKind => "I4",
+        bpf_insn::CodecFault::Immediate => "I5",
+        bpf_insn::CodecFault::Offset => "I6",
+        bpf_insn::CodecFault::SecondSlot => "I7",
     }
 }
 
