@@ -1,36 +1,14 @@
 -- The line that tells why an input has no result.
 use Rattle.std.specs.Prelude.{ℕ, List, ◌++◌, codes}
 use Rattle.std.specs.Fmt.{decimal}
-use Rattle.bpf_insn.specs.declared.codec_error.Fault.{Fault as CodeFault}
-use Rattle.bpf_insn.specs.declared.codec_error.Fault.TheVariants as code_faults
-use Rattle.bpf_text_fields.specs.declared.error.Fault.{Fault as TextFault}
-use Rattle.bpf_text_fields.specs.declared.error.Fault.TheVariants as text_faults
+use Rattle.bpf_insn.specs.FaultNumbers.{fault_number as codec_fault_number}
+use Rattle.bpf_text_lines.specs.FaultNumbers.{fault_number as text_fault_number}
 use Rattle.bpf_verify_rules.specs.declared.rule.Rule.{Rule}
 use Rattle.bpf_verify_rules.specs.declared.rule.Rule.TheVariants as rules
 use Rattle.bpfspec_answers.specs.declared.refusal.Section.{Section}
 use Rattle.bpfspec_answers.specs.declared.refusal.Section.TheVariants as sections
 use Rattle.bpfspec_answers.specs.declared.refusal.Refusal.{Refusal}
 use Rattle.bpfspec_answers.specs.declared.refusal.Refusal.TheVariants as refusals
-
--- the number of what is wrong with a text
-abbrev pub text_number : TextFault → List ℕ
-text_number text_faults.Form = codes "A1"
-text_number text_faults.Field = codes "A2"
-text_number text_faults.Register = codes "A3"
-text_number text_faults.UnknownLabel = codes "A4"
-text_number text_faults.RepeatedLabel = codes "A5"
-text_number text_faults.TooLong = codes "A6"
-text_number text_faults.Limits = codes "A7"
-
--- the number of what is wrong with an instruction's bytes
-abbrev pub code_number : CodeFault → List ℕ
-code_number code_faults.I1 = codes "I1"
-code_number code_faults.I2 = codes "I2"
-code_number code_faults.I3 = codes "I3"
-code_number code_faults.I4 = codes "I4"
-code_number code_faults.I5 = codes "I5"
-code_number code_faults.I6 = codes "I6"
-code_number code_faults.I7 = codes "I7"
 
 -- the number of a rule that is broken
 abbrev pub rule_number : Rule → List ℕ
@@ -67,8 +45,8 @@ section_name sections.Maps = codes "maps"
 
 -- a refusal without what all have in common
 abbrev pub what_is_refused : Refusal → List ℕ
-what_is_refused (refusals.Text fault section line) = text_number fault ++ codes " at " ++ section_name section ++ codes " line " ++ decimal line
-what_is_refused (refusals.Code fault slot) = code_number fault ++ codes " at slot " ++ decimal slot
+what_is_refused (refusals.Text fault section line) = codes "A" ++ decimal (text_fault_number fault) ++ codes " at " ++ section_name section ++ codes " line " ++ decimal line
+what_is_refused (refusals.Codec fault slot) = codes "I" ++ decimal (codec_fault_number fault) ++ codes " at slot " ++ decimal slot
 what_is_refused (refusals.Rule rule slot) = rule_number rule ++ codes " at slot " ++ decimal slot
 what_is_refused refusals.NotThin = codes "V0 at slot 0"
 what_is_refused refusals.Sizes = codes "P1"

@@ -2,9 +2,12 @@
 
 ghost use Rattle.std.specs.Prelude.{◌≡◌, ◌++◌, IfOk, OnOk};
 ghost use Rattle.std.specs.String.{string_bytes};
-ghost use Rattle.bpfspec_answers.specs.declared.refusal.Refusal.TheVariants.{Text, Code};
-ghost use Rattle.bpfspec_answers.specs.Refusals.{text_number, code_number, rule_number, section_name, what_is_refused, refusal_line};
+ghost use Rattle.bpfspec_answers.specs.declared.refusal.Refusal.TheVariants.{Text, Codec};
+ghost use Rattle.bpfspec_answers.specs.Refusals.{rule_number, section_name, what_is_refused, refusal_line};
 
+use bpf_insn::CodecFault;
+use bpf_text_lines::TextFault;
+use bpf_verify_rules::Rule;
 use std::alloc::{AllocError, Global};
 
 /// The line that tells that memory ran out.
@@ -24,86 +27,50 @@ pub enum Section {
 pub enum Refusal {
     /// A section is no text of its form.
     Text {
-        fault: bpf_text::Fault,
+        fault: TextFault,
         section: Section,
         line: u32,
     },
     /// The bytes of the instructions spell no program.
-    Code {
-        fault: bpf_insn::Fault,
-        slot: usize,
-    },
+    Codec { fault: CodecFault, slot: usize },
     /// The program breaks a rule of the verifier.
-    Rule {
-        rule: bpf_verify_rules::Rule,
-        slot: u32,
-    },
+    Rule { rule: Rule, slot: u32 },
     /// V0: the program isn't a thin one.
     NotThin,
     /// P1: the sizes of the maps differ from the program's.
     Sizes,
 }
 
-/// The number of what is wrong with a text.
-fn text_number(fault: bpf_text::Fault) -> &'static str
-    ensures { result.now ≡ text_number fault }
-{
-    match fault {
-        bpf_text::Fault::Form => "A1",
-        bpf_text::Fault::Field => "A2",
-        bpf_text::Fault::Register => "A3",
-        bpf_text::Fault::UnknownLabel => "A4",
-        bpf_text::Fault::RepeatedLabel => "A5",
-        bpf_text::Fault::TooLong => "A6",
-        bpf_text::Fault::Limits => "A7",
-    }
-}
-
-/// The number of what is wrong with an instruction's bytes.
-fn code_number(fault: bpf_insn::Fault) -> &'static str
-    ensures { result.now ≡ code_number fault }
-{
-    match fault {
-        bpf_insn::Fault::I1 => "I1",
-        bpf_insn::Fault::I2 => "I2",
-        bpf_insn::Fault::I3 => "I3",
-        bpf_insn::Fault::I4 => "I4",
-        bpf_insn::Fault::I5 => "I5",
-        bpf_insn::Fault::I6 => "I6",
-        bpf_insn::Fault::I7 => "I7",
-    }
-}
-
 /// The number of a rule that is broken.
-fn rule_number(rule: bpf_verify_rules::Rule) -> &'static str
+fn rule_number(rule: Rule) -> &'static str
     ensures { result.now ≡ rule_number rule }
 {
     match rule {
-        bpf_verify_rules::Rule::V1 => "V1",
-        bpf_verify_rules::Rule::V2 => "V2",
-        bpf_verify_rules::Rule::V3 => "V3",
-        bpf_verify_rules::Rule::V4 => "V4",
-        bpf_verify_rules::Rule::V5 => "V5",
-        bpf_verify_rules::Rule::V6 => "V6",
-        bpf_verify_rules::Rule::V7 => "V7",
-        bpf_verify_rules::Rule::V8 => "V8",
-        bpf_verify_rules::Rule::V9 => "V9",
-        bpf_verify_rules::Rule::V10 => "V10",
-        bpf_verify_rules::Rule::V11 => "V11",
-        bpf_verify_rules::Rule::V12 => "V12",
-        bpf_verify_rules::Rule::V13 => "V13",
-        bpf_verify_rules::Rule::V14 => "V14",
-        bpf_verify_rules::Rule::V15 => "V15",
-        bpf_verify_rules::Rule::V16 => "V16",
-        bpf_verify_rules::Rule::V17 => "V17",
-        bpf_verify_rules::Rule::V18 => "V18",
-        bpf_verify_rules::Rule::V19 => "V19",
-        bpf_verify_rules::Rule::V20 => "V20",
-        bpf_verify_rules::Rule::V21 => "V21",
-        bpf_verify_rules::Rule::V22 => "V22",
-        bpf_verify_rules::Rule::V23 => "V23",
-        bpf_verify_rules::Rule::V24 => "V24",
-        bpf_verify_rules::Rule::V25 => "V25",
+        Rule::V1 => "V1",
+        Rule::V2 => "V2",
+        Rule::V3 => "V3",
+        Rule::V4 => "V4",
+        Rule::V5 => "V5",
+        Rule::V6 => "V6",
+        Rule::V7 => "V7",
+        Rule::V8 => "V8",
+        Rule::V9 => "V9",
+        Rule::V10 => "V10",
+        Rule::V11 => "V11",
+        Rule::V12 => "V12",
+        Rule::V13 => "V13",
+        Rule::V14 => "V14",
+        Rule::V15 => "V15",
+        Rule::V16 => "V16",
+        Rule::V17 => "V17",
+        Rule::V18 => "V18",
+        Rule::V19 => "V19",
+        Rule::V20 => "V20",
+        Rule::V21 => "V21",
+        Rule::V22 => "V22",
+        Rule::V23 => "V23",
+        Rule::V24 => "V24",
+        Rule::V25 => "V25",
     }
 }
 
@@ -127,11 +94,11 @@ fn print_what(out: &mut String, refusal: Refusal) -> Result<(), AllocError>
             section,
             line,
         } => {
-            let number = text_number(fault);
+            let number = fault.number();
             let section = section_name(section);
-            write!(out, "{number} at {section} line {line}")
+            write!(out, "A{number} at {section} line {line}")
         }
-        Refusal::Code { fault, slot } => write!(out, "{} at slot {slot}", code_number(fault)),
+        Refusal::Codec { fault, slot } => write!(out, "I{} at slot {slot}", fault.number()),
         Refusal::Rule { rule, slot } => write!(out, "{} at slot {slot}", rule_number(rule)),
         Refusal::NotThin => out.push_str("V0 at slot 0"),
         Refusal::Sizes => out.push_str("P1"),

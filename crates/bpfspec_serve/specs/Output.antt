@@ -7,14 +7,16 @@ use Rattle.bpf_insn_form.specs.declared.insn.Insn.{Insn}
 use Rattle.bpf_insn.specs.declared.codec_error.CodecError.{CodecError}
 use Rattle.bpf_insn.specs.declared.codec_error.CodecError.TheVariants as codec
 use Rattle.bpf_insn.specs.Reading.{reading}
-use Rattle.bpf_text_fields.specs.declared.error.Fault.TheVariants as text_faults
-use Rattle.bpf_text_fields.specs.declared.error.TextError.{TextError}
-use Rattle.bpf_text_fields.specs.declared.error.TextError.TheVariants as text
-use Rattle.bpf_text.specs.HexText.{HexParts, hex_text}
+use Rattle.bpf_text_lines.specs.declared.text_error.TextFault.TheVariants as text_faults
+use Rattle.bpf_text_lines.specs.declared.text_error.TextError.{TextError}
+use Rattle.bpf_text_lines.specs.declared.text_error.TextError.TheVariants as text
+use Rattle.bpf_text_hex.specs.SizesAndBytes.{SizesAndBytes}
+use Rattle.bpf_text_hex.specs.HexText.{hex_text}
+use Rattle.bpf_text_hex.specs.HexForm.{hex_form}
+use Rattle.bpf_text_units.specs.AssemblerForm.{assembler_form}
+use Rattle.bpf_text_units.specs.AssemblerText.{assembler_text}
 use Rattle.bpf_text.specs.MapsText.{maps_text}
-use Rattle.bpf_text_insns.specs.UnitText.{unit_text as assembler_form, unit_hex as hex_form}
 use Rattle.bpf_insn_form.specs.Program.{Program, callback_starts}
-use Rattle.bpf_text_units.specs.UnitReading.{unit_text as assembler_text}
 use Rattle.array_maps.specs.MapList.{lengths}
 use Rattle.bpf_step_model.specs.Run.{Ended}
 use Rattle.loop_core_law.specs.Report.{Reported, report_in_order}
@@ -58,40 +60,35 @@ in_section section (Ok x) = Ok x
 in_section section (Err error) = Err (text_error section error)
 
 -- the error of a program's bytes
-abbrev pub code_error : CodecError → AnswerError
-code_error (codec.Refused fault slot) = errors.Refused (refusals.Code fault slot)
-code_error codec.Memory = errors.Memory
+abbrev pub codec_error : CodecError → AnswerError
+codec_error (codec.Refused fault slot) = errors.Refused (refusals.Codec fault slot)
+codec_error codec.Memory = errors.Memory
 
 -- the program of sizes and instructions
 abbrev pub with_sizes : List ℕ → Result (List Insn) CodecError → Result Program AnswerError
 with_sizes sizes (Ok insns) = Ok (record { sizes = sizes; insns = insns })
-with_sizes sizes (Err error) = Err (code_error error)
+with_sizes sizes (Err error) = Err (codec_error error)
 
 -- the program of a unit in hex form
-abbrev pub of_hex : Result HexParts AnswerError → Result Program AnswerError
+abbrev pub of_hex : Result SizesAndBytes AnswerError → Result Program AnswerError
 of_hex (Err error) = Err error
 of_hex (Ok parts) = with_sizes parts.sizes (reading parts.bytes)
 
--- the program of a unit of assembler text
-abbrev pub of_assembler : Result Program AnswerError → Result Program AnswerError
-of_assembler (Err error) = Err error
-of_assembler (Ok parts) = Ok (record { sizes = parts.sizes; insns = parts.insns })
-
 -- the program of a section
 abbrev pub unit_program : UnitForm → List ℕ → Result Program AnswerError
-unit_program Assembler section = of_assembler (in_section sections.Unit (assembler_text section))
+unit_program Assembler section = in_section sections.Unit (assembler_text section)
 unit_program Hex section = of_hex (in_section sections.Unit (hex_text section))
 
 -- a text of a unit, where its instructions have bytes
 abbrev pub as_outcome : Result (List ℕ) CodecError → Outcome
 as_outcome (Ok text) = Ok text
-as_outcome (Err error) = Err (code_error error)
+as_outcome (Err error) = Err (codec_error error)
 
 -- a unit in the other form
 abbrev pub written : UnitForm → Result Program AnswerError → Outcome
 written form (Err error) = Err error
-written Assembler (Ok program) = as_outcome (assembler_form program.sizes program.insns)
-written Hex (Ok program) = as_outcome (hex_form program.sizes program.insns)
+written Assembler (Ok program) = as_outcome (assembler_form program)
+written Hex (Ok program) = as_outcome (hex_form program)
 
 -- a function of a program, by its number: where it starts, and the most instructions that it takes
 abbrev pub function_of : List Insn → ℕ → Function

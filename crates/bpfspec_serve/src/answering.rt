@@ -7,7 +7,7 @@ ghost use Rattle.array_maps.specs.MapList.{lists, zero_maps};
 ghost use Rattle.bpfspec_command_line.specs.declared.job.Mode.TheVariants.{Order};
 ghost use Rattle.bpfspec_answers.specs.declared.refusal.Refusal.TheVariants.{Text};
 ghost use Rattle.bpfspec_serve.specs.declared.answer_error.AnswerError.TheVariants.{Refused};
-ghost use Rattle.bpfspec_serve.specs.Output.{text_error, code_error, readable, unit_program, function_of, functions_of, fitting, start_words, RunsTo, OfProgram, OfUnit, OfReadable, OfInput, Met, written, verified};
+ghost use Rattle.bpfspec_serve.specs.Output.{text_error, codec_error, readable, unit_program, function_of, functions_of, fitting, start_words, RunsTo, OfProgram, OfUnit, OfReadable, OfInput, Met, written, verified};
 ghost use Rattle.bpfspec_serve.specs.Sections.{unit_section};
 
 use crate::answer_error::AnswerError;
@@ -50,7 +50,7 @@ fn read_hex_unit(alloc: Global, section: &str) -> Result<Unit, AnswerError>
     };
     let insns = match decode(alloc, &parts.bytes) {
         Ok(insns) => insns,
-        Err(error) => return Err(code_error(error)),
+        Err(error) => return Err(codec_error(error)),
     };
     Ok(Unit {
         sizes: parts.sizes,
@@ -81,16 +81,16 @@ fn write_unit(alloc: Global, form: UnitForm, unit: &Unit) -> Result<String, Answ
     };
     match text {
         Ok(text) => Ok(text),
-        Err(error) => Err(code_error(error)),
+        Err(error) => Err(codec_error(error)),
     }
 }
 
 /// The error of a program's bytes.
-fn code_error(error: CodecError) -> AnswerError
-    ensures { result ≡ code_error error }
+fn codec_error(error: CodecError) -> AnswerError
+    ensures { result ≡ codec_error error }
 {
     match error {
-        CodecError::Refused { fault, slot } => AnswerError::Refused(Refusal::Code { fault, slot }),
+        CodecError::Refused { fault, slot } => AnswerError::Refused(Refusal::Codec { fault, slot }),
         CodecError::Memory => AnswerError::Memory,
     }
 }
@@ -213,11 +213,11 @@ fn readable(input: &[u8]) -> Result<&str, AnswerError>
     ensures { Met (λ s. s.now) (λ outcome. outcome ≡ readable input.now) result }
 {
     if input.len() > MAX_INPUT {
-        return Err(unit_refusal(bpf_text::Fault::TooLong));
+        return Err(unit_refusal(bpf_text::TextFault::TooLong));
     }
     match str::from_utf8(input) {
         Ok(text) => Ok(text),
-        Err(_) => Err(unit_refusal(bpf_text::Fault::Form)),
+        Err(_) => Err(unit_refusal(bpf_text::TextFault::Form)),
     }
 }
 
@@ -235,7 +235,7 @@ pub fn outcome(alloc: Global, mode: &Mode, input: &[u8]) -> Result<String, Answe
 }
 
 /// A fault of the unit's text as a whole.
-fn unit_refusal(fault: bpf_text::Fault) -> AnswerError
+fn unit_refusal(fault: bpf_text::TextFault) -> AnswerError
     ensures { result ≡ Refused (Text fault Section.Unit 0) }
 {
     AnswerError::Refused(Refusal::Text {
