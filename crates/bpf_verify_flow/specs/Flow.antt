@@ -19,11 +19,11 @@ use Rattle.bpf_insn_form.specs.Slots.{slots_of}
 use Rattle.bpf_insn_words.specs.Words.{word_of}
 use Rattle.bpf_insn_form.specs.Program.{moved, code_target}
 use Rattle.bpf_step_model.specs.Memory.{bytes_of}
-use Rattle.value_range_spans.specs.Spans.{Span, exact, top, norm}
-use Rattle.value_range.specs.declared.operation.Operation.TheVariants.{Alu as AluOperation, Neg as NegOperation, Movsx as MovsxOperation, Endian as EndianOperation}
-use Rattle.value_range_refine.specs.declared.condition.Condition.TheVariants.{Holds}
-use Rattle.value_range.specs.AluRows.{span_of}
-use Rattle.value_range_refine.specs.RefineRows.{refined, opposite}
+use Rattle.value_range_model.specs.Spans.{Span, exact, top, norm}
+use Rattle.value_range_model.specs.declared.operation.Operation.TheVariants.{Alu as AluOperation, Neg as NegOperation, Movsx as MovsxOperation, Endian as EndianOperation}
+use Rattle.value_range_model.specs.declared.condition.Condition.TheVariants.{Holds}
+use Rattle.value_range_model.specs.AluRows.{span_of}
+use Rattle.value_range_model.specs.RefineRows.{refined, opposite}
 use Rattle.bpf_verify_state.specs.declared.abstract_value.AbstractValue.{AbstractValue}
 use Rattle.bpf_verify_state.specs.declared.abstract_value.AbstractValue.TheVariants.{Unwritten, Number, Frame, Ctx, Map, Area, AreaOrNull, Code}
 use Rattle.bpf_verify_rules.specs.declared.helper.Helper.{Helper}

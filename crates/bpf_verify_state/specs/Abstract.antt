@@ -2,7 +2,7 @@
 use Rattle.std.specs.Prelude.{ℕ, ◌+◌, ◌==◌, ◌&&◌, Bool, true, false, if◌then◌else◌, List, ◌++◌, map, take, drop, replicate, slice_index_or, slice_set, slice_range, zip, Option, Some, None}
 use Rattle.std.specs.List.{list_all}
 use Rattle.bpf_insn_form.specs.declared.insn.Width.TheVariants.{W64}
-use Rattle.value_range_spans.specs.Spans.{top, join}
+use Rattle.value_range_model.specs.Spans.{top, join}
 use Rattle.bpf_verify_state.specs.declared.abstract_value.AbstractValue.{AbstractValue}
 use Rattle.bpf_verify_state.specs.declared.abstract_value.AbstractValue.TheVariants.{Unwritten, Number, Frame, Ctx, Map, Area, AreaOrNull, Code}
 use Rattle.bpf_verify_state.specs.declared.state.State.{State}

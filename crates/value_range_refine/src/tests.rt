@@ -1,9 +1,9 @@
 ghost use Rattle.std.specs.Prelude.{◌<◌};
 
-use super::*;
+use crate::*;
 use bpf_insn_form::{Compare, Width};
 use std::test::Fail;
-use value_range_spans::{Range, exact, join, top};
+use value_range_model::{Condition, Range, exact, join, top};
 
 const WIDE: u64 = 0x1_0000_0000;
 
