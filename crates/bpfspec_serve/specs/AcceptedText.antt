@@ -3,7 +3,7 @@ use Rattle.std.specs.Prelude.{ℕ, zero, suc, ◌+◌, List, [], ◌++◌, lengt
 use Rattle.std.specs.Fmt.{decimal}
 use Rattle.bpf_insn_form.specs.declared.insn.Insn.{Insn}
 use Rattle.bpf_insn_form.specs.Program.{callback_starts}
-use Rattle.bpf_verify_flow.specs.Count.{start_of, count_of}
+use Rattle.bpf_verify_model.specs.Count.{start_of, count_of}
 
 -- the line of a function: where it starts, and the most instructions that it takes
 abbrev pub function_line : List Insn → ℕ → List ℕ

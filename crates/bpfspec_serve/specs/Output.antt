@@ -32,7 +32,7 @@ use Rattle.bpfspec_serve.specs.declared.refusal.Failure.{Failure}
 use Rattle.bpfspec_serve.specs.declared.refusal.Failure.TheVariants as failures
 use Rattle.bpfspec_serve.specs.declared.serving.Served.{Served}
 use Rattle.bpfspec_serve.specs.declared.serving.Served.TheVariants as served
-use Rattle.bpf_verify_flow.specs.Accepted.{Fault, first_fault}
+use Rattle.bpf_verify_model.specs.Accepted.{BrokenRule, first_fault}
 use Rattle.bpfspec_serve.specs.AcceptedText.{accepted_text}
 use Rattle.bpfspec_serve.specs.Refusals.{refusal_line, memory_line}
 use Rattle.bpfspec_serve.specs.ReportText.{report_text}
@@ -93,7 +93,7 @@ written Assembler (Ok program) = as_outcome (assembler_form program.sizes progra
 written Hex (Ok program) = as_outcome (hex_form program.sizes program.insns)
 
 -- an accepted program is told with its functions, another is refused by its first fault
-abbrev pub judged : Program → Option Fault → Outcome
+abbrev pub judged : Program → Option BrokenRule → Outcome
 judged program None = Ok (accepted_text program.insns)
 judged program (Some fault) = refused (refusals.Rule fault.rule fault.slot)
 

@@ -5,8 +5,8 @@ use Rattle.bpf_insn.specs.declared.codec_error.Fault.{Fault as CodeFault}
 use Rattle.bpf_insn.specs.declared.codec_error.Fault.TheVariants as code_faults
 use Rattle.bpf_text_fields.specs.declared.error.Fault.{Fault as TextFault}
 use Rattle.bpf_text_fields.specs.declared.error.Fault.TheVariants as text_faults
-use Rattle.bpf_verify_rules.specs.declared.rule.Rule.{Rule}
-use Rattle.bpf_verify_rules.specs.declared.rule.Rule.TheVariants as rules
+use Rattle.bpf_verify_model.specs.declared.rule.Rule.{Rule}
+use Rattle.bpf_verify_model.specs.declared.rule.Rule.TheVariants as rules
 use Rattle.bpfspec_serve.specs.declared.refusal.Section.{Section}
 use Rattle.bpfspec_serve.specs.declared.refusal.Section.TheVariants as sections
 use Rattle.bpfspec_serve.specs.declared.refusal.Refusal.{Refusal}
@@ -34,31 +34,31 @@ code_number code_faults.I7 = codes "I7"
 
 -- the number of a rule that is broken
 abbrev pub rule_number : Rule → List ℕ
-rule_number rules.V1 = codes "V1"
-rule_number rules.V2 = codes "V2"
-rule_number rules.V3 = codes "V3"
-rule_number rules.V4 = codes "V4"
-rule_number rules.V5 = codes "V5"
-rule_number rules.V6 = codes "V6"
-rule_number rules.V7 = codes "V7"
-rule_number rules.V8 = codes "V8"
-rule_number rules.V9 = codes "V9"
-rule_number rules.V10 = codes "V10"
-rule_number rules.V11 = codes "V11"
-rule_number rules.V12 = codes "V12"
-rule_number rules.V13 = codes "V13"
-rule_number rules.V14 = codes "V14"
-rule_number rules.V15 = codes "V15"
-rule_number rules.V16 = codes "V16"
-rule_number rules.V17 = codes "V17"
-rule_number rules.V18 = codes "V18"
-rule_number rules.V19 = codes "V19"
-rule_number rules.V20 = codes "V20"
-rule_number rules.V21 = codes "V21"
-rule_number rules.V22 = codes "V22"
-rule_number rules.V23 = codes "V23"
-rule_number rules.V24 = codes "V24"
-rule_number rules.V25 = codes "V25"
+rule_number rules.NoSlot = codes "V1"
+rule_number rules.OverLimits = codes "V2"
+rule_number rules.JumpTarget = codes "V3"
+rule_number rules.FallThrough = codes "V4"
+rule_number rules.CodeTarget = codes "V5"
+rule_number rules.TooManyCallbacks = codes "V6"
+rule_number rules.UnknownHelper = codes "V7"
+rule_number rules.CallKind = codes "V8"
+rule_number rules.LoadKind = codes "V9"
+rule_number rules.MissingMap = codes "V10"
+rule_number rules.FramePointerWrite = codes "V11"
+rule_number rules.UnwrittenRegister = codes "V12"
+rule_number rules.ArithmeticOperand = codes "V13"
+rule_number rules.ComparisonOperand = codes "V14"
+rule_number rules.StoredOperand = codes "V15"
+rule_number rules.AccessBase = codes "V16"
+rule_number rules.AreaAccessSize = codes "V17"
+rule_number rules.AccessAlignment = codes "V18"
+rule_number rules.AccessBounds = codes "V19"
+rule_number rules.UnwrittenByte = codes "V20"
+rule_number rules.CtxWrite = codes "V21"
+rule_number rules.HelperArgument = codes "V22"
+rule_number rules.NestedCallback = codes "V23"
+rule_number rules.CallbackResult = codes "V24"
+rule_number rules.MainResult = codes "V25"
 
 -- a section's name
 abbrev pub section_name : Section → List ℕ
