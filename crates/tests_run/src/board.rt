@@ -2,7 +2,7 @@
 
 ghost use Rattle.std.specs.Prelude.{◌≡◌, ◌≤◌};
 
-use crate::{Board, BoardError, BoardSeat, Tally};
+use loop_board::{Board, BoardError, BoardSeat, Tally};
 use std::alloc::Global;
 use std::test::Fail;
 use std::thread;
