@@ -19,7 +19,6 @@ atomics = record {
   compare_keeps_source = refl;
   compare_halves = refl;
   half_add_wraps = refl;
-  half_of_a_map = refl;
 }
 
 accesses : AccessRows
@@ -37,7 +36,6 @@ accesses = record {
   past_the_map = refl;
   before_the_map = refl;
   between_elements = refl;
-  half_element = refl;
   stored_address = refl;
 }
 
