@@ -1,6 +1,8 @@
-//! Tests of what runs: the board of a loop's workers. They stand in a crate of their own, since a crate with tests is
-//! proved twice.
+//! Tests of what runs: maps through their calls and through any store, the board of a loop, and
+//! whole programs. Nothing here is for other crates.
 #![tactic(auto)]
 
 #[cfg(test)]
 mod board;
+#[cfg(test)]
+mod maps;
