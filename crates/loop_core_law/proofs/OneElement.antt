@@ -7,7 +7,7 @@ use Rattle.std.specs.List.{list_any, list_all, fold}
 use Rattle.array_maps.specs.declared.access.Op.{Op}
 use Rattle.array_maps.specs.declared.access.Op.TheVariants.{Add, Or, And, Xor}
 use Rattle.array_maps.specs.Accesses.{Action, Read, Write, ReadWrite, Reduce, combined, left_by, left_by_all, SawEach}
-use Rattle.loop_core_law.specs.Marks.{writes, exposed, is_same, reduces_by, joined, only_operator, operands}
+use Rattle.loop_core_law.specs.Actions.{writes, exposed, is_same, reduces_by, joined, only_operator, operands}
 use Rattle.loop_core_law.specs.Conflict.{clash, harm}
 use Rattle.loop_core_law.specs.Committed.{last_that, left_by_last, committed_by, committed}
 
@@ -27,6 +27,10 @@ and_true_left false b h = h
 pub and_true_right : (a b : Bool) → (a && b) ≡ true → b ≡ true
 and_true_right true b h = h
 and_true_right false b h = absurd (cc)
+
+pub and_false : (b c d : Bool) → (c ≡ false → d ≡ false) → (b && c) ≡ false → (b && d) ≡ false
+and_false true c d f h = f h
+and_false false c d f h = refl
 
 -- where the iteration doesn't look at the word first, it sees the same whatever stood there
 pub sealed_saw : (actions : List Action) (word other : ℕ) → exposed actions ≡ false → SawEach actions word → SawEach actions other
