@@ -5,7 +5,7 @@ use Rattle.std.specs.Prelude.{if◌then◌else◌, is_none}
 use Rattle.std.specs.Option.{option_or}
 use Rattle.std.specs.List.{list_any, list_all, fold}
 use Rattle.array_maps.specs.declared.access.Op.{Op}
-use Rattle.array_maps.specs.declared.access.Op.TheVariants.{Add, Or, And, Xor}
+use Rattle.array_maps.specs.declared.access.Op.TheVariants.{Add, Or, And, Xor, AddH}
 use Rattle.array_maps.specs.Accesses.{Action, Read, Write, ReadWrite, Reduce, combined, left_by, left_by_all, SawEach}
 use Rattle.loop_core_law.specs.Actions.{writes, exposed, is_same, reduces_by, joined, only_operator, operands}
 use Rattle.loop_core_law.specs.Conflict.{clash, harm}
@@ -69,6 +69,7 @@ same_op Add Add h = refl
 same_op Or Or h = refl
 same_op And And h = refl
 same_op Xor Xor h = refl
+same_op AddH AddH h = refl
 same_op _ _ h = absurd (cc)
 
 -- reduces by one operator leave the word combined with their operands
@@ -168,6 +169,7 @@ is_same-refl Add = refl
 is_same-refl Or = refl
 is_same-refl And = refl
 is_same-refl Xor = refl
+is_same-refl AddH = refl
 
 chosen : (b : Bool) (a op : Op) → (if b then Some a else None) ≡ Some op → (b ≡ true) × (a ≡ op)
 chosen true a op h = (refl, cc)

@@ -1,0 +1,8 @@
+use Rattle.loop_core_marks.proofs.MarkLaws.{marks_tell, marks_merge}
+use Rattle.loop_core_marks.proofs.law_of_marks.Goals as goal
+
+pub returns-clause-tell : goal.returns-clause-tell
+returns-clause-tell c = marks_tell
+
+pub returns-clause-merge : goal.returns-clause-merge
+returns-clause-merge c = marks_merge
