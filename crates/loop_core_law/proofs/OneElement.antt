@@ -164,7 +164,7 @@ picked_at_start : (o : Option (List Action)) (start : ℕ) → picked o start st
 picked_at_start None start = refl
 picked_at_start (Some actions) start = refl
 
-is_same-refl : (op : Op) → is_same op op ≡ true
+pub is_same-refl : (op : Op) → is_same op op ≡ true
 is_same-refl Add = refl
 is_same-refl Or = refl
 is_same-refl And = refl

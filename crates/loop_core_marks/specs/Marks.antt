@@ -1,11 +1,12 @@
 -- What has to be kept of a set of iterations at one element, so that its conflict is known by either test.
-use Rattle.std.specs.Prelude.{ℕ, zero, suc, ◌+◌, ◌-◌, Bool, false, not, ◌&&◌, ◌||◌, ◌==◌, nat_lt, min, max, if◌then◌else◌, List, [], ◌∷◌, map, Option, Some, None}
+use Rattle.std.specs.Prelude.{ℕ, ◌+◌, ◌-◌, Bool, false, not, ◌&&◌, ◌||◌, ◌==◌, nat_lt, max, if◌then◌else◌, List, [], ◌∷◌, map, Option, Some, None}
 use Rattle.std.specs.List.{list_any, count_by}
 use Rattle.array_maps.specs.declared.access.Op.{Op}
 use Rattle.array_maps.specs.Accesses.{Action, operators}
 use Rattle.loop_core_law.specs.declared.loop_test.Test.{Test}
 use Rattle.loop_core_law.specs.declared.loop_test.Test.TheVariants.{Lrpd, Flow}
 use Rattle.loop_core_law.specs.Actions.{writes, exposed, reduces_by}
+use Rattle.loop_core_law.specs.LeastBreak.{lesser}
 use Rattle.loop_core_marks.specs.Flags.{is_plain, Flags}
 
 -- an iteration at one element: its index in the loop, and its actions there in order. A set of iterations is a list of
@@ -43,12 +44,6 @@ abbrev pub two_write : List (List Action) → Bool
 two_write [] = false
 two_write (first ∷ rest) = (writes first && list_any writes rest) || two_write rest
 
--- the lesser of two numbers that may be there
-abbrev pub lesser : Option ℕ → Option ℕ → Option ℕ
-lesser None other = other
-lesser (Some a) None = Some a
-lesser (Some a) (Some b) = Some (min a b)
-
 -- the least index that writes the element
 abbrev pub first_writer : List Visit → Option ℕ
 first_writer [] = None
@@ -80,6 +75,11 @@ marked_reduction marks = not marks.plain && (count_by marks.by operators == 1)
 abbrev pub stands_before : Option ℕ → ℕ → Bool
 stands_before None last = false
 stands_before (Some first) last = not (last == 0) && nat_lt first (last - 1)
+
+-- the number that stands for a first writer: 4,294,967,295 where there is none
+abbrev pub first_number : Option ℕ → ℕ
+first_number None = 4294967295
+first_number (Some index) = index
 
 -- what the marks tell by either test: a reader and another writer; a writer before a reader
 abbrev pub marked_fails : Test → Marks → Bool

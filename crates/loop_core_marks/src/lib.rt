@@ -6,7 +6,7 @@
 pub mod access;
 
 ghost use Rattle.loop_core_marks.specs.Flags.{FlagsFollowKinds};
-ghost use Rattle.loop_core_marks.specs.MarkLaw.{MarksTell, MarksMerge};
+ghost use Rattle.loop_core_marks.specs.MarkLaw.{MarksTell, FirstIsNumber, MarksMerge};
 
 pub use access::Access;
 
@@ -21,5 +21,6 @@ pub fn law_of_flags()
 /// order of merging doesn't matter.
 pub fn law_of_marks()
     ensures tell { MarksTell }
+    ensures number { FirstIsNumber }
     ensures merge { MarksMerge }
 {}
