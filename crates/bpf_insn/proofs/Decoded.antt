@@ -4,16 +4,17 @@ use Rattle.std.proofs.lemmas.List.{append-nil, drop-drop, nil_from_length, get_o
 use Rattle.std.proofs.lemmas.Bool.{le-ltb, lt-ltb, cases_lt}
 use Rattle.bpf_insn_form.specs.declared.insn.Insn.{Insn}
 use Rattle.bpf_insn.specs.declared.slot.Slot.{Slot}
-use Rattle.bpf_insn.specs.declared.codec_error.Fault.{Fault}
-use Rattle.bpf_insn.specs.declared.codec_error.Fault.TheVariants.{I1}
+use Rattle.bpf_insn.specs.declared.codec_error.CodecFault.{CodecFault}
+use Rattle.bpf_insn.specs.declared.codec_error.CodecFault.TheVariants as faults
 use Rattle.bpf_insn.specs.declared.codec_error.CodecError.{CodecError}
 use Rattle.bpf_insn.specs.declared.codec_error.CodecError.TheVariants.{Refused, Memory}
 use Rattle.bpf_insn_form.specs.Slots.{slots_of}
 use Rattle.bpf_insn.specs.SlotBytes.{slot_at}
-use Rattle.bpf_insn.specs.Reading.{insn_at, front_slot, first_insn, FailsFirst, slots_in, first, more_of, before, ended, insns_in, reading}
+use Rattle.bpf_insn.specs.Reading.{insn_of_slot, front_slot, first_insn, FailsFirst, slots_in, first, more_of, before, ended, insns_in, reading}
 use Rattle.std.specs.Prelude.{IfOk}
 use Rattle.std.specs.Global.{Vec}
-use Rattle.bpf_insn.specs.Outcome.{Fails, Gives}
+use Rattle.bpf_insn_form.specs.Outcome.{Refuses, Gives}
+use Rattle.bpf_insn.specs.CodecRefusal.{codec_refusal}
 use Rattle.bpf_insn_form.specs.Values.{AreInsns}
 use Rattle.bpf_insn.specs.Spelling.{program_spelling}
 use Rattle.bpf_insn.proofs.Spelled.{Reads}
@@ -63,24 +64,24 @@ first-slots_in bytes =
 abbrev next_of : List ℕ → Option Slot
 next_of bytes = first (slots_in (drop 8 bytes))
 
-first_insn-long : (bytes : List ℕ) → 8 ≤ length bytes → first_insn bytes ≡ insn_at (slot_at bytes) (next_of bytes)
+first_insn-long : (bytes : List ℕ) → 8 ≤ length bytes → first_insn bytes ≡ insn_of_slot (slot_at bytes) (next_of bytes)
 unfolding first_insn
-first_insn-long bytes h = long_is bytes (Err I1) (insn_at (slot_at bytes) (front_slot (drop 8 bytes))) h ∙ ap (insn_at (slot_at bytes)) (first-slots_in (drop 8 bytes))
+first_insn-long bytes h = long_is bytes (Err faults.Incomplete) (insn_of_slot (slot_at bytes) (front_slot (drop 8 bytes))) h ∙ ap (insn_of_slot (slot_at bytes)) (first-slots_in (drop 8 bytes))
 
-first_insn-short : (bytes : List ℕ) → length bytes < 8 → first_insn bytes ≡ Err I1
+first_insn-short : (bytes : List ℕ) → length bytes < 8 → first_insn bytes ≡ Err faults.Incomplete
 unfolding first_insn
-first_insn-short bytes h = short_is bytes (Err I1) (insn_at (slot_at bytes) (front_slot (drop 8 bytes))) h
+first_insn-short bytes h = short_is bytes (Err faults.Incomplete) (insn_of_slot (slot_at bytes) (front_slot (drop 8 bytes))) h
 
-err_ok : (f : Fault) (i : Insn) (r : Result Insn Fault) → r ≡ Err f → r ≡ Ok i → ⊥
+err_ok : (f : CodecFault) (i : Insn) (r : Result Insn CodecFault) → r ≡ Err f → r ≡ Ok i → ⊥
 err_ok f i r a b = absurd cc
 
-is_err : (f g : Fault) (r : Result Insn Fault) → r ≡ Err f → r ≡ Err g → f ≡ g
+is_err : (f g : CodecFault) (r : Result Insn CodecFault) → r ≡ Err f → r ≡ Err g → f ≡ g
 is_err f g r a b = cc
 
 long_if_ok : (bytes : List ℕ) (i : Insn) → first_insn bytes ≡ Ok i → 8 ≤ length bytes
 long_if_ok bytes i e =
     elim (cases_lt (length bytes) 8) [
-      | inl h ↦ absurd (err_ok I1 i (first_insn bytes) (first_insn-short bytes h) e)
+      | inl h ↦ absurd (err_ok faults.Incomplete i (first_insn bytes) (first_insn-short bytes h) e)
       | inr h ↦ h
     ]
 
@@ -100,13 +101,13 @@ some_long bytes t e =
 abbrev Goes : ℕ → List ℕ → Insn → ℕ → Type 0
 Goes left bytes i n = (8 * slots_of i ≤ length bytes) × (insns_in left (slots_in bytes) 0 n ≡ before n (Ok i) (insns_in left (slots_in (drop (8 * slots_of i) bytes)) 0 (n + slots_of i)))
 
-at_slot : (left : ℕ) (bytes : List ℕ) (i : Insn) (n : ℕ) → 8 ≤ length bytes → insn_at (slot_at bytes) (next_of bytes) ≡ Ok i
+at_slot : (left : ℕ) (bytes : List ℕ) (i : Insn) (n : ℕ) → 8 ≤ length bytes → insn_of_slot (slot_at bytes) (next_of bytes) ≡ Ok i
     → insns_in left (slots_in bytes) 0 n ≡ before n (Ok i) (insns_in left (slots_in (drop 8 bytes)) (slots_of i - 1) (n + 1))
 unfolding insns_in
 at_slot left bytes i n h e =
-    let r = insn_at (slot_at bytes) (first (slots_in (drop 8 bytes))) in
+    let r = insn_of_slot (slot_at bytes) (first (slots_in (drop 8 bytes))) in
     ap (λ (x : List Slot). insns_in left x 0 n) (slots_in-front bytes h)
-    ∙ ap (λ (x : Result Insn Fault). before n x (insns_in left (slots_in (drop 8 bytes)) (more_of x) (n + 1))) e
+    ∙ ap (λ (x : Result Insn CodecFault). before n x (insns_in left (slots_in (drop 8 bytes)) (more_of x) (n + 1))) e
 
 one_step : (left : ℕ) (bytes : List ℕ) (i : Insn) (n k : ℕ) → k ≡ 1 → before n (Ok i) (insns_in left (slots_in (drop 8 bytes)) (k - 1) (n + 1)) ≡ before n (Ok i) (insns_in left (slots_in (drop (8 * k) bytes)) 0 (n + k))
 one_step left bytes i n k h = rw h refl
@@ -121,9 +122,9 @@ goes : (left : ℕ) (bytes : List ℕ) (i : Insn) (n : ℕ) → IsBytes bytes �
 unfolding insns_in
 goes left bytes i n fits e =
     let long = long_if_ok bytes i e in
-    let read : insn_at (slot_at bytes) (next_of bytes) ≡ Ok i = sym (first_insn-long bytes long) ∙ e in
+    let read : insn_of_slot (slot_at bytes) (next_of bytes) ≡ Ok i = sym (first_insn-long bytes long) ∙ e in
     let slots : AreSlots (slot_at bytes ∷ slots_in (drop 8 bytes)) = subst AreSlots (slots_in-front bytes long) (slots_in-are bytes fits) in
-    let reads : Reads (slot_at bytes) (next_of bytes) i = of_ok (Reads (slot_at bytes) (next_of bytes)) (insn_at (slot_at bytes) (next_of bytes)) i read (slot_reads (slot_at bytes) (next_of bytes) slots.0.opcode slots.0.holds (next_holds (slots_in (drop 8 bytes)) slots.1)) in
+    let reads : Reads (slot_at bytes) (next_of bytes) i = of_ok (Reads (slot_at bytes) (next_of bytes)) (insn_of_slot (slot_at bytes) (next_of bytes)) i read (slot_reads (slot_at bytes) (next_of bytes) slots.0.opcode slots.0.holds (next_holds (slots_in (drop 8 bytes)) slots.1)) in
     let here = at_slot left bytes i n long read in
     elim reads.taken [
       | inl one ↦
@@ -142,22 +143,22 @@ goes left bytes i n fits e =
 pub first_insn-len : (bytes : List ℕ) (i : Insn) → IsBytes bytes → first_insn bytes ≡ Ok i → 8 * slots_of i ≤ length bytes
 first_insn-len bytes i fits e = (goes 0 bytes i 0 fits e).0
 
-refuses : (bytes : List ℕ) (f : Fault) (n : ℕ) → 0 < length bytes → first_insn bytes ≡ Err f → insns_in (length bytes % 8) (slots_in bytes) 0 n ≡ Err (Refused f n)
+refuses : (bytes : List ℕ) (f : CodecFault) (n : ℕ) → 0 < length bytes → first_insn bytes ≡ Err f → insns_in (length bytes % 8) (slots_in bytes) 0 n ≡ Err (Refused f n)
 unfolding insns_in
 refuses bytes f n some e =
     elim (cases_lt (length bytes) 8) [
       | inl h ↦
-          let same : I1 ≡ f = is_err I1 f (first_insn bytes) (first_insn-short bytes h) e in
-          ap (λ (x : List Slot). insns_in (length bytes % 8) x 0 n) (slots_in-short bytes h) ∙ cut_off (length bytes % 8) n (omega (arith, h, some)) ∙ ap (λ (x : Fault). refused x n) same
+          let same : faults.Incomplete ≡ f = is_err faults.Incomplete f (first_insn bytes) (first_insn-short bytes h) e in
+          ap (λ (x : List Slot). insns_in (length bytes % 8) x 0 n) (slots_in-short bytes h) ∙ cut_off (length bytes % 8) n (omega (arith, h, some)) ∙ ap (λ (x : CodecFault). refused x n) same
       | inr h ↦
           ap (λ (x : List Slot). insns_in (length bytes % 8) x 0 n) (slots_in-front bytes h)
-          ∙ ap (λ (x : Result Insn Fault). before n x (insns_in (length bytes % 8) (slots_in (drop 8 bytes)) (more_of x) (n + 1))) (sym (first_insn-long bytes h) ∙ e)
+          ∙ ap (λ (x : Result Insn CodecFault). before n x (insns_in (length bytes % 8) (slots_in (drop 8 bytes)) (more_of x) (n + 1))) (sym (first_insn-long bytes h) ∙ e)
     ]
   where
-    refused : Fault → ℕ → Result (List Insn) CodecError
+    refused : CodecFault → ℕ → Result (List Insn) CodecError
     refused x n = Err (Refused x n)
 
-    cut_off : (left n : ℕ) → 0 < left → ended left n ≡ refused I1 n
+    cut_off : (left n : ℕ) → 0 < left → ended left n ≡ refused faults.Incomplete n
     cut_off zero n h = absurd (omega (arith, h))
     cut_off (suc left) n h = refl
 
@@ -202,16 +203,16 @@ goes_on bytes rest after is i h e cut =
     moved : (is : List Insn) (i : Insn) (l m : ℕ) (a b : List ℕ) (j k : ℕ) → l ≡ m → a ≡ b → j ≡ k → with_front (is ++ i ∷ []) (insns_in l (slots_in a) 0 j) ≡ with_front (is ++ i ∷ []) (insns_in m (slots_in b) 0 k)
     moved is i l m a b j k p q r = rw (p, q, r) refl
 
-pub ends : (bytes rest : List ℕ) (is : List Insn) (f : Fault) (slot : ℕ) → 0 < length rest → IsPartRead bytes rest is → first_insn rest ≡ Err f
+pub ends : (bytes rest : List ℕ) (is : List Insn) (f : CodecFault) (slot : ℕ) → 0 < length rest → IsPartRead bytes rest is → first_insn rest ≡ Err f
     → slot ≡ (length bytes - length rest) / 8 → reading bytes ≡ Err (Refused f slot)
 ends bytes rest is f slot some h e at =
     sym h.goes_on ∙ ap (with_front is) (refuses rest f ((length bytes - length rest) / 8) some e) ∙ ap (λ (x : ℕ). refused f x) (sym at)
   where
-    refused : Fault → ℕ → Result (List Insn) CodecError
+    refused : CodecFault → ℕ → Result (List Insn) CodecError
     refused f n = Err (Refused f n)
 
 pub fails : (bytes rest : List ℕ) (is : List Insn) (e : CodecError) → 0 < length rest → IsPartRead bytes rest is
-    → FailsFirst rest ((length bytes - length rest) / 8) e → Fails e (reading bytes)
+    → FailsFirst rest ((length bytes - length rest) / 8) e → Refuses (codec_refusal e) (reading bytes)
 fails bytes rest is Memory some h e = tt
 fails bytes rest is (Refused f n) some h e = ends bytes rest is f n some h e.0 e.1
 
@@ -236,6 +237,6 @@ begins bytes fits =
     no_front (Err e) = refl
 
 -- what a program's reading gives is spelled so
-pub if_found : (bytes : List ℕ) (r : Result (Vec Insn) CodecError) → IsBytes bytes → Gives (λ v. v.items) r (reading bytes) → IfOk r (λ v. AreInsns v.items × (program_spelling v.items ≡ Ok bytes))
+pub if_found : (bytes : List ℕ) (r : Result (Vec Insn) CodecError) → IsBytes bytes → Gives codec_refusal (λ v. v.items) r (reading bytes) → IfOk r (λ v. AreInsns v.items × (program_spelling v.items ≡ Ok bytes))
 if_found bytes (Ok v) fits given = reading_found bytes v.items fits given
 if_found bytes (Err e) fits given = tt

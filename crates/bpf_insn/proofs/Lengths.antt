@@ -9,13 +9,13 @@ use Rattle.bpf_insn_form.specs.declared.insn.ImmKind.{ImmKind}
 use Rattle.bpf_insn_form.specs.declared.insn.Insn.{Insn}
 use Rattle.bpf_insn_form.specs.declared.insn.Insn.TheVariants as insn
 use Rattle.bpf_insn.specs.declared.slot.Slot.{Slot}
-use Rattle.bpf_insn.specs.declared.codec_error.Fault.{Fault}
+use Rattle.bpf_insn.specs.declared.codec_error.CodecFault.{CodecFault}
 use Rattle.bpf_insn_form.specs.Slots.{slots_of}
 use Rattle.bpf_insn.specs.SlotBytes.{slots_bytes}
 use Rattle.bpf_insn.specs.Spelling.{two, has_next, spelling, bytes_at}
 
 -- slots of 8 bytes
-abbrev pub TakeSlots : ℕ → Result (List Slot) Fault → Type 0
+abbrev pub TakeSlots : ℕ → Result (List Slot) CodecFault → Type 0
 TakeSlots n r = IfOk r (λ ss. length (slots_bytes ss) ≡ 8 * n)
 
 two_take : (kind : ImmKind) (b : Bool) (dst : ℕ) (imm next : ℤ) → TakeSlots 2 (two kind b dst imm next)
@@ -49,7 +49,7 @@ spelling_takes (insn.Store s dst src offset) = refl
 spelling_takes (insn.Atomic w o dst src offset) = refl
 spelling_takes (insn.LoadImm kind dst imm next) = two_take kind (has_next kind) dst imm next
 
-bytes_take : (n k : ℕ) (r : Result (List Slot) Fault) (bytes : List ℕ) → TakeSlots k r → bytes_at n r ≡ Ok bytes → length bytes ≡ 8 * k
+bytes_take : (n k : ℕ) (r : Result (List Slot) CodecFault) (bytes : List ℕ) → TakeSlots k r → bytes_at n r ≡ Ok bytes → length bytes ≡ 8 * k
 bytes_take n k (Ok ss) bytes h e = let same : slots_bytes ss ≡ bytes = cc in ap length (sym same) ∙ h
 bytes_take n k (Err f) bytes h e = absurd cc
 

@@ -3,14 +3,14 @@ use Rattle.std.proofs.Common.{◌≡◌, ℕ, zero, suc, ◌+◌, ◌-◌, ◌*�
 use Rattle.std.specs.Prelude.{IfOk}
 use Rattle.bpf_insn_form.specs.declared.insn.Insn.{Insn}
 use Rattle.bpf_insn.specs.declared.slot.Slot.{Slot}
-use Rattle.bpf_insn.specs.declared.codec_error.Fault.{Fault}
-use Rattle.bpf_insn.specs.declared.codec_error.Fault.TheVariants.{I1}
+use Rattle.bpf_insn.specs.declared.codec_error.CodecFault.{CodecFault}
+use Rattle.bpf_insn.specs.declared.codec_error.CodecFault.TheVariants as faults
 use Rattle.bpf_insn.specs.declared.codec_error.CodecError.{CodecError}
 use Rattle.bpf_insn_form.specs.Slots.{slots_of}
 use Rattle.bpf_insn.specs.SlotBytes.{slots_bytes}
-use Rattle.bpf_insn.specs.Spelling.{spelling, bytes_at, insn_spelling, joined, spelling_from, program_spelling}
+use Rattle.bpf_insn.specs.Spelling.{spelling, bytes_at, insn_bytes, joined, spelling_from, program_spelling}
 use Rattle.bpf_insn_form.specs.Values.{InsnFits, AreInsns}
-use Rattle.bpf_insn.specs.Reading.{insn_at, first, more_of, before, insns_in, slots_in, reading}
+use Rattle.bpf_insn.specs.Reading.{insn_of_slot, first, more_of, before, insns_in, slots_in, reading}
 use Rattle.bpf_insn.proofs.Lengths.{spelled_len}
 use Rattle.bpf_insn.proofs.Spelled.{Reads}
 use Rattle.bpf_insn.proofs.SlotReads.{NextHolds, slot_reads}
@@ -26,19 +26,19 @@ done x = Ok x
 ok_is : {A : Type 0} (x y : A) → done {E = CodecError} x ≡ Ok y → x ≡ y
 ok_is x y e = cc
 
-fault_ok_is : {A : Type 0} (x y : A) → done {E = Fault} x ≡ Ok y → x ≡ y
+fault_ok_is : {A : Type 0} (x y : A) → done {E = CodecFault} x ≡ Ok y → x ≡ y
 fault_ok_is x y e = cc
 
 some_is : {A : Type 0} (x y : A) → Some x ≡ Some y → x ≡ y
 some_is x y e = cc
 
-pub of_ok : {A : Type 0} (P : A → Type 0) (r : Result A Fault) (x : A) → r ≡ Ok x → IfOk r P → P x
+pub of_ok : {A : Type 0} (P : A → Type 0) (r : Result A CodecFault) (x : A) → r ≡ Ok x → IfOk r P → P x
 of_ok P (Ok y) x e h = subst P (fault_ok_is y x e) h
 of_ok P (Err fault) x e h = absurd cc
 
 -- ---- what is read is spelled so
 
-before_ok : (n : ℕ) (r : Result Insn Fault) (later : Result (List Insn) CodecError) (p : List Insn) → before n r later ≡ Ok p
+before_ok : (n : ℕ) (r : Result Insn CodecFault) (later : Result (List Insn) CodecError) (p : List Insn) → before n r later ≡ Ok p
     → (i : Insn) × (is : List Insn) × (r ≡ Ok i) × (later ≡ Ok is) × (p ≡ i ∷ is)
 before_ok n (Err fault) later p e = absurd cc
 before_ok n (Ok i) (Err x) p e = absurd cc
@@ -57,7 +57,7 @@ spelled_then : (n m : ℕ) (i : Insn) (is : List Insn) (ss : List Slot) (bytes :
     → spelling_from n (i ∷ is) ≡ Ok (slots_bytes ss ++ bytes)
 spelled_then n m i is ss bytes here at later =
     let moved : spelling_from (n + slots_of i) is ≡ Ok bytes = rw (← at) later in
-    ap (λ (r : Result (List Slot) Fault). joined (bytes_at n r) (spelling_from (n + slots_of i) is)) here ∙ ap (joined (Ok (slots_bytes ss))) moved
+    ap (λ (r : Result (List Slot) CodecFault). joined (bytes_at n r) (spelling_from (n + slots_of i) is)) here ∙ ap (joined (Ok (slots_bytes ss))) moved
 
 pub taken_len : (i : Insn) (ss : List Slot) → spelling i ≡ Ok ss → length (slots_bytes ss) ≡ 8 * slots_of i
 taken_len i ss e = spelled_len 0 i (slots_bytes ss) (ap (bytes_at 0) e)
@@ -65,7 +65,7 @@ taken_len i ss e = spelled_len 0 i (slots_bytes ss) (ap (bytes_at 0) e)
 abbrev Found : ℕ → List Slot → List Insn → Type 0
 Found n ss p = (spelling_from n p ≡ Ok (slots_bytes ss)) × AreInsns p
 
-pub more_is : (r : Result Insn Fault) (i : Insn) (k : ℕ) → r ≡ Ok i → slots_of i - 1 ≡ k → more_of r ≡ k
+pub more_is : (r : Result Insn CodecFault) (i : Insn) (k : ℕ) → r ≡ Ok i → slots_of i - 1 ≡ k → more_of r ≡ k
 more_is r i k e h = ap more_of e ∙ h
 
 found_in : (k : ℕ) (ss : List Slot) (n : ℕ) (p : List Insn) → length ss ≤ k → AreSlots ss → insns_in 0 ss 0 n ≡ Ok p → Found n ss p
@@ -73,7 +73,7 @@ unfolding insns_in
 found_in k [] n p le h e = subst (λ (x : List Insn). Found n [] x) (ok_is [] p e) (refl, tt)
 found_in zero (s ∷ ss) n p le h e = absurd (omega (arith, le))
 found_in (suc k) (s ∷ ss) n p le h e =
-    let r = insn_at s (first ss) in
+    let r = insn_of_slot s (first ss) in
     let cut = before_ok n r (insns_in 0 ss (more_of r) (n + 1)) p e in
     let reads : Reads s (first ss) cut.0 = of_ok (Reads s (first ss)) r cut.0 cut.2 (slot_reads s (first ss) h.0.opcode h.0.holds (next_holds ss h.1)) in
     let whole : Found n (s ∷ ss) (cut.0 ∷ cut.1) = elim reads.taken [
@@ -102,7 +102,7 @@ left_none zero ss taken n p e = refl
 left_none (suc left) [] taken n p e = absurd cc
 left_none (suc left) (s ∷ ss) (suc taken) n p e = left_none (suc left) ss taken (n + 1) p e
 left_none (suc left) (s ∷ ss) zero n p e =
-    let r = insn_at s (first ss) in
+    let r = insn_of_slot s (first ss) in
     let cut = before_ok n r (insns_in (suc left) ss (more_of r) (n + 1)) p e in
     left_none (suc left) ss (more_of r) (n + 1) cut.1 cut.3
 
@@ -122,7 +122,7 @@ joined_ok (Err e) later bytes h = absurd cc
 joined_ok (Ok a) (Err e) bytes h = absurd cc
 joined_ok (Ok a) (Ok b) bytes h = (a, b, refl, refl, sym (ok_is (a ++ b) bytes h))
 
-pub bytes_ok : (n : ℕ) (r : Result (List Slot) Fault) (a : List ℕ) → bytes_at n r ≡ Ok a → (ss : List Slot) × (r ≡ Ok ss) × (a ≡ slots_bytes ss)
+pub bytes_ok : (n : ℕ) (r : Result (List Slot) CodecFault) (a : List ℕ) → bytes_at n r ≡ Ok a → (ss : List Slot) × (r ≡ Ok ss) × (a ≡ slots_bytes ss)
 bytes_ok n (Err e) a h = absurd cc
 bytes_ok n (Ok ss) a h = (ss, refl, sym (ok_is (slots_bytes ss) a h))
 
@@ -132,17 +132,17 @@ unfolding insns_in
 steps i [] rest n h len = absurd h
 steps i (s ∷ []) rest n h len =
     let read = h (first rest) in
-    let more : more_of (insn_at s (first rest)) ≡ 0 = more_is (insn_at s (first rest)) i 0 read (omega (arith, len)) in
+    let more : more_of (insn_of_slot s (first rest)) ≡ 0 = more_is (insn_of_slot s (first rest)) i 0 read (omega (arith, len)) in
     let next : n + 1 ≡ n + slots_of i = omega (arith, len) in
-    ap (λ (x : ℕ). before n (insn_at s (first rest)) (insns_in 0 rest x (n + 1))) more
-    ∙ ap (λ (x : ℕ). before n (insn_at s (first rest)) (insns_in 0 rest 0 x)) next
-    ∙ ap (λ (r : Result Insn Fault). before n r (insns_in 0 rest 0 (n + slots_of i))) read
+    ap (λ (x : ℕ). before n (insn_of_slot s (first rest)) (insns_in 0 rest x (n + 1))) more
+    ∙ ap (λ (x : ℕ). before n (insn_of_slot s (first rest)) (insns_in 0 rest 0 x)) next
+    ∙ ap (λ (r : Result Insn CodecFault). before n r (insns_in 0 rest 0 (n + slots_of i))) read
 steps i (s ∷ t ∷ []) rest n h len =
-    let more : more_of (insn_at s (Some t)) ≡ 1 = more_is (insn_at s (Some t)) i 1 h (omega (arith, len)) in
+    let more : more_of (insn_of_slot s (Some t)) ≡ 1 = more_is (insn_of_slot s (Some t)) i 1 h (omega (arith, len)) in
     let next : n + 1 + 1 ≡ n + slots_of i = omega (arith, len) in
-    ap (λ (x : ℕ). before n (insn_at s (Some t)) (insns_in 0 (t ∷ rest) x (n + 1))) more
-    ∙ ap (λ (x : ℕ). before n (insn_at s (Some t)) (insns_in 0 rest 0 x)) next
-    ∙ ap (λ (r : Result Insn Fault). before n r (insns_in 0 rest 0 (n + slots_of i))) h
+    ap (λ (x : ℕ). before n (insn_of_slot s (Some t)) (insns_in 0 (t ∷ rest) x (n + 1))) more
+    ∙ ap (λ (x : ℕ). before n (insn_of_slot s (Some t)) (insns_in 0 rest 0 x)) next
+    ∙ ap (λ (r : Result Insn CodecFault). before n r (insns_in 0 rest 0 (n + slots_of i))) h
 steps i (s ∷ t ∷ u ∷ ss) rest n h len = absurd h
 
 before_is : (n : ℕ) (i : Insn) (is : List Insn) (later : Result (List Insn) CodecError) → later ≡ Ok is → before n (Ok i) later ≡ Ok (i ∷ is)
@@ -179,9 +179,9 @@ pub one_program : (p q : List Insn) (bytes : List ℕ) → AreInsns p → AreIns
 one_program p q bytes a b e f = ok_is p q (sym (reading_again p bytes a e) ∙ reading_again q bytes b f)
 
 -- the instruction at the front of slots
-abbrev front : List Slot → Result Insn Fault
-front [] = Err I1
-front (s ∷ ss) = insn_at s (first ss)
+abbrev front : List Slot → Result Insn CodecFault
+front [] = Err faults.Incomplete
+front (s ∷ ss) = insn_of_slot s (first ss)
 
 front_is : (i : Insn) (ss rest : List Slot) → ReadsBack i (Ok ss) → front (ss ++ rest) ≡ Ok i
 front_is i [] rest h = absurd h
@@ -201,7 +201,7 @@ one_front n i j a b x y f g e h same =
     fault_ok_is i j (sym (front_again n i a x f e) ∙ ap (λ (z : List ℕ). front (slots_in z)) same ∙ front_again n j b y g h)
 
 -- no instruction's bytes begin another's
-pub no_front : (i j : Insn) (a b x y : List ℕ) → InsnFits i → InsnFits j → insn_spelling i ≡ Ok a → insn_spelling j ≡ Ok b → a ++ x ≡ b ++ y → (i ≡ j) × (a ≡ b)
+pub no_front : (i j : Insn) (a b x y : List ℕ) → InsnFits i → InsnFits j → insn_bytes i ≡ Ok a → insn_bytes j ≡ Ok b → a ++ x ≡ b ++ y → (i ≡ j) × (a ≡ b)
 no_front i j a b x y f g e h same =
     let insn = one_front 0 i j a b x y f g e h same in
-    (insn, ok_is a b (sym e ∙ ap insn_spelling insn ∙ h))
+    (insn, ok_is a b (sym e ∙ ap insn_bytes insn ∙ h))

@@ -25,31 +25,31 @@ use Rattle.bpf_insn.specs.declared.form.AluCode.TheVariants as alu
 use Rattle.bpf_insn.specs.declared.form.Form.{Form}
 use Rattle.bpf_insn.specs.declared.form.Form.TheVariants as form
 use Rattle.bpf_insn.specs.declared.slot.Slot.{Slot}
-use Rattle.bpf_insn.specs.declared.codec_error.Fault.{Fault}
-use Rattle.bpf_insn.specs.declared.codec_error.Fault.TheVariants.{I3, I4}
+use Rattle.bpf_insn.specs.declared.codec_error.CodecFault.{CodecFault}
+use Rattle.bpf_insn.specs.declared.codec_error.CodecFault.TheVariants as faults
 use Rattle.bpf_insn.specs.Opcode.{opcode, form_at}
 use Rattle.bpf_insn.specs.SlotBytes.{slot}
 use Rattle.bpf_insn.specs.Spelling.{code_of, op_offset, endian_imm, callee_src, atomic_imm, kind_src, has_next, second, two, spelling}
 use Rattle.bpf_insn_form.specs.Values.{InsnFits}
-use Rattle.bpf_insn.specs.Reading.{unused_are_zero, op_at, alu_reg, mov_at, endian_at, call_at, atomic_at, kind_at, load_imm_at, insn_of, tested, insn_at}
+use Rattle.bpf_insn.specs.Reading.{unused_are_zero, op_at, alu_reg, mov_at, endian_at, call_at, atomic_at, kind_at, load_imm_at, insn_of_form, tested, insn_of_slot}
 use Rattle.bpf_insn.proofs.Forms.{form_at-alu_imm, form_at-alu_reg, form_at-jump_imm, form_at-jump_reg, form_at-neg, form_at-endian, form_at-load, form_at-store_imm, form_at-store, form_at-atomic}
 
 -- the slots of a spelling are read as this instruction
-abbrev pub ReadsBack : Insn → Result (List Slot) Fault → Type 0
-ReadsBack i (Ok (s ∷ [])) = (next : Option Slot) → insn_at s next ≡ Ok i
-ReadsBack i (Ok (s ∷ t ∷ [])) = insn_at s (Some t) ≡ Ok i
+abbrev pub ReadsBack : Insn → Result (List Slot) CodecFault → Type 0
+ReadsBack i (Ok (s ∷ [])) = (next : Option Slot) → insn_of_slot s next ≡ Ok i
+ReadsBack i (Ok (s ∷ t ∷ [])) = insn_of_slot s (Some t) ≡ Ok i
 ReadsBack i (Ok _) = ⊥
 ReadsBack i (Err fault) = Unit {0}
 
-passes : (a b c : Bool) (r : Result Insn Fault) → a ≡ false → b ≡ false → c ≡ true → cond (a || b) (Err I3) (cond c r (Err I4)) ≡ r
+passes : (a b c : Bool) (r : Result Insn CodecFault) → a ≡ false → b ≡ false → c ≡ true → cond (a || b) (Err faults.RegisterNumber) (cond c r (Err faults.FieldNotZero)) ≡ r
 passes a b c r x y z = rw (x, y, z) refl
 
 back : (f : Form) (dst src : ℕ) (offset imm : ℤ) (next : Option Slot) (i : Insn) → form_at (opcode f) ≡ Some f → dst ≤ 10 → src ≤ 10
-    → unused_are_zero f (slot f dst src offset imm) ≡ true → insn_of f dst src offset imm next ≡ Ok i → insn_at (slot f dst src offset imm) next ≡ Ok i
-unfolding insn_at
+    → unused_are_zero f (slot f dst src offset imm) ≡ true → insn_of_form f dst src offset imm next ≡ Ok i → insn_of_slot (slot f dst src offset imm) next ≡ Ok i
+unfolding insn_of_slot
 back f dst src offset imm next i says d s unused read =
     ap (λ (o : Option Form). tested o (slot f dst src offset imm) next) says
-    ∙ passes (ltb 10 dst) (ltb 10 src) (unused_are_zero f (slot f dst src offset imm)) (insn_of f dst src offset imm next) (le-ltb 10 dst d) (le-ltb 10 src s) unused
+    ∙ passes (ltb 10 dst) (ltb 10 src) (unused_are_zero f (slot f dst src offset imm)) (insn_of_form f dst src offset imm next) (le-ltb 10 dst d) (le-ltb 10 src s) unused
     ∙ read
 
 -- ---- the fields of each operation
@@ -163,11 +163,11 @@ kind_src-le kind.Code = omega arith
 kind_src-le kind.Map = omega arith
 kind_src-le kind.MapValue = omega arith
 
-movsx_back : (w : Width) (dst src : ℕ) (offset : ℤ) (next : Option Slot) (i : Insn) → dst ≤ 10 → src ≤ 10 → mov_at w dst src offset ≡ Ok i → insn_at (slot (form.AluReg w alu.Mov) dst src offset (pos 0)) next ≡ Ok i
+movsx_back : (w : Width) (dst src : ℕ) (offset : ℤ) (next : Option Slot) (i : Insn) → dst ≤ 10 → src ≤ 10 → mov_at w dst src offset ≡ Ok i → insn_of_slot (slot (form.AluReg w alu.Mov) dst src offset (pos 0)) next ≡ Ok i
 movsx_back w dst src offset next i d s read = back (form.AluReg w alu.Mov) dst src offset (pos 0) next i (form_at-alu_reg w alu.Mov) d s refl read
 
 load_back : (kind : ImmKind) (dst : ℕ) (imm next : ℤ) → dst ≤ 10 → load_imm_at (Some kind) dst imm (Some (second next)) ≡ Ok (insn.LoadImm kind dst imm next)
-    → insn_at (slot form.LoadImm dst (kind_src kind) (pos 0) imm) (Some (second next)) ≡ Ok (insn.LoadImm kind dst imm next)
+    → insn_of_slot (slot form.LoadImm dst (kind_src kind) (pos 0) imm) (Some (second next)) ≡ Ok (insn.LoadImm kind dst imm next)
 load_back kind dst imm next d read =
     back form.LoadImm dst (kind_src kind) (pos 0) imm (Some (second next)) (insn.LoadImm kind dst imm next) refl d (kind_src-le kind) refl
     (ap (λ (o : Option ImmKind). load_imm_at o dst imm (Some (second next))) (kind_at-src kind) ∙ read)

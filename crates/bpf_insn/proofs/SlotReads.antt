@@ -20,12 +20,12 @@ use Rattle.bpf_insn.specs.declared.form.AluCode.TheVariants as alu
 use Rattle.bpf_insn.specs.declared.form.Form.{Form}
 use Rattle.bpf_insn.specs.declared.form.Form.TheVariants as form
 use Rattle.bpf_insn.specs.declared.slot.Slot.{Slot}
-use Rattle.bpf_insn.specs.declared.codec_error.Fault.{Fault}
-use Rattle.bpf_insn.specs.declared.codec_error.Fault.TheVariants.{I3, I4, I5, I7}
+use Rattle.bpf_insn.specs.declared.codec_error.CodecFault.{CodecFault}
+use Rattle.bpf_insn.specs.declared.codec_error.CodecFault.TheVariants as faults
 use Rattle.bpf_insn.specs.Opcode.{opcode, form_at}
 use Rattle.bpf_insn.specs.SlotBytes.{slot}
 use Rattle.bpf_insn.specs.Spelling.{endian_imm, callee_src, atomic_imm, kind_src, has_next, second, both, two}
-use Rattle.bpf_insn.specs.Reading.{is, uses_dst, uses_src, uses_offset, uses_imm, unused_are_zero, endian_at, call_at, atomic_at, atomic_insn, kind_at, is_second, load_imm_at, insn_of, tested, insn_at}
+use Rattle.bpf_insn.specs.Reading.{is, uses_dst, uses_src, uses_offset, uses_imm, unused_are_zero, endian_at, call_at, atomic_at, atomic_insn, kind_at, is_second, load_imm_at, insn_of_form, tested, insn_of_slot}
 use Rattle.bpf_insn.proofs.Forms.{opcode-form_at}
 use Rattle.bpf_insn.proofs.Spelled.{Holds, Reads, Passed, if_ok, if_some, and_true, or_false, not_false, is_true, slot_is, one_is, imm_reads, reg_reads, mov_reads}
 
@@ -33,23 +33,23 @@ use Rattle.bpf_insn.proofs.Spelled.{Holds, Reads, Passed, if_ok, if_some, and_tr
 
 endian_reads : (o : ByteOrder) (s : Slot) (next : Option Slot) → Passed (form.Endian o) s → IfOk (endian_at o s.dst s.imm) (Reads s next)
 endian_reads o s next p =
-    let read : EndianBits → Result Insn Fault = λ b. Ok (insn.Endian o b s.dst) in
+    let read : EndianBits → Result Insn CodecFault = λ b. Ok (insn.Endian o b s.dst) in
     let done : (b : EndianBits) → endian_imm b ≡ s.imm → Reads s next (insn.Endian o b s.dst) = λ b h. record { taken = inl (one_is (form.Endian o) s s.dst 0 (pos 0) (endian_imm b) p.opcode_is refl (sym (eqb-true s.src 0 p.no_src)) (sym (is_true s.offset 0 p.no_offset)) h); fits = p.dst } in
-    let at64 = cond (is s.imm 64) (read endian.B64) (Err I5) in
+    let at64 = cond (is s.imm 64) (read endian.B64) (Err faults.Immediate) in
     let at32 = cond (is s.imm 32) (read endian.B32) at64 in
     if_ok (Reads s next) (is s.imm 16) (read endian.B16) at32 (λ h. done endian.B16 (sym (is_true s.imm 16 h)))
     (λ _. if_ok (Reads s next) (is s.imm 32) (read endian.B32) at64 (λ h. done endian.B32 (sym (is_true s.imm 32 h)))
-    (λ _. if_ok (Reads s next) (is s.imm 64) (read endian.B64) (Err I5) (λ h. done endian.B64 (sym (is_true s.imm 64 h))) (λ _. tt)))
+    (λ _. if_ok (Reads s next) (is s.imm 64) (read endian.B64) (Err faults.Immediate) (λ h. done endian.B64 (sym (is_true s.imm 64 h))) (λ _. tt)))
 
 call_reads : (s : Slot) (next : Option Slot) → Passed form.Call s → IfOk (call_at s.src s.imm) (Reads s next)
 call_reads s next p =
-    let read : Callee → Result Insn Fault = λ k. Ok (insn.Call k s.imm) in
+    let read : Callee → Result Insn CodecFault = λ k. Ok (insn.Call k s.imm) in
     let done : (k : Callee) → callee_src k ≡ s.src → Reads s next (insn.Call k s.imm) = λ k h. record { taken = inl (one_is form.Call s 0 (callee_src k) (pos 0) s.imm p.opcode_is (sym (eqb-true s.dst 0 p.no_dst)) h (sym (is_true s.offset 0 p.no_offset)) refl); fits = p.holds.imm } in
-    let at2 = cond (eqb s.src 2) (read Btf) (Err I4) in
+    let at2 = cond (eqb s.src 2) (read Btf) (Err faults.CallSource) in
     let at1 = cond (eqb s.src 1) (read Local) at2 in
     if_ok (Reads s next) (eqb s.src 0) (read Helper) at1 (λ h. done Helper (sym (eqb-true s.src 0 h)))
     (λ _. if_ok (Reads s next) (eqb s.src 1) (read Local) at2 (λ h. done Local (sym (eqb-true s.src 1 h)))
-    (λ _. if_ok (Reads s next) (eqb s.src 2) (read Btf) (Err I4) (λ h. done Btf (sym (eqb-true s.src 2 h))) (λ _. tt)))
+    (λ _. if_ok (Reads s next) (eqb s.src 2) (read Btf) (Err faults.CallSource) (λ h. done Btf (sym (eqb-true s.src 2 h))) (λ _. tt)))
 
 -- ---- atomics
 
@@ -59,8 +59,8 @@ IsAtomic imm o = atomic_imm o ≡ imm
 atomic_is : (imm : ℤ) → IfOk (atomic_at imm) (IsAtomic imm)
 atomic_is imm =
     let P = IsAtomic imm in
-    let later : AtomicOp → ℕ → Result AtomicOp Fault → Result AtomicOp Fault = λ o n r. cond (is imm n) (Ok o) r in
-    let r9 = later Cmpxchg 241 (Err I5) in
+    let later : AtomicOp → ℕ → Result AtomicOp CodecFault → Result AtomicOp CodecFault = λ o n r. cond (is imm n) (Ok o) r in
+    let r9 = later Cmpxchg 241 (Err faults.Immediate) in
     let r8 = later Xchg 225 r9 in
     let r7 = later (Fetch simple.Xor) 161 r8 in
     let r6 = later (Fetch simple.And) 81 r7 in
@@ -69,12 +69,12 @@ atomic_is imm =
     let r3 = later (Simple simple.Xor) 160 r4 in
     let r2 = later (Simple simple.And) 80 r3 in
     let r1 = later (Simple simple.Or) 64 r2 in
-    let step : (o : AtomicOp) (n : ℕ) (r : Result AtomicOp Fault) → atomic_imm o ≡ pos n → IfOk r P → IfOk (later o n r) P = λ o n r e q. if_ok P (is imm n) (Ok o) r (λ h. e ∙ sym (is_true imm n h)) (λ _. q) in
+    let step : (o : AtomicOp) (n : ℕ) (r : Result AtomicOp CodecFault) → atomic_imm o ≡ pos n → IfOk r P → IfOk (later o n r) P = λ o n r e q. if_ok P (is imm n) (Ok o) r (λ h. e ∙ sym (is_true imm n h)) (λ _. q) in
     step (Simple simple.Add) 0 r1 refl (step (Simple simple.Or) 64 r2 refl (step (Simple simple.And) 80 r3 refl (step (Simple simple.Xor) 160 r4 refl
     (step (Fetch simple.Add) 1 r5 refl (step (Fetch simple.Or) 65 r6 refl (step (Fetch simple.And) 81 r7 refl (step (Fetch simple.Xor) 161 r8 refl
-    (step Xchg 225 r9 refl (step Cmpxchg 241 (Err I5) refl tt)))))))))
+    (step Xchg 225 r9 refl (step Cmpxchg 241 (Err faults.Immediate) refl tt)))))))))
 
-atomic_if : (w : Width) (s : Slot) (next : Option Slot) → Passed (form.Atomic w) s → (r : Result AtomicOp Fault) → IfOk r (IsAtomic s.imm) → IfOk (atomic_insn w s.dst s.src s.offset r) (Reads s next)
+atomic_if : (w : Width) (s : Slot) (next : Option Slot) → Passed (form.Atomic w) s → (r : Result AtomicOp CodecFault) → IfOk r (IsAtomic s.imm) → IfOk (atomic_insn w s.dst s.src s.offset r) (Reads s next)
 atomic_if w s next p (Ok o) h = record { taken = inl (one_is (form.Atomic w) s s.dst s.src s.offset (atomic_imm o) p.opcode_is refl refl refl h); fits = (p.dst, p.src, p.holds.offset) }
 atomic_if w s next p (Err e) h = tt
 
@@ -114,7 +114,7 @@ second_is t h =
 abbrev pub NextHolds : Option Slot → Type 0
 NextHolds next = IfSome next Holds
 
-abbrev ok_pair : Slot → Slot → Result (List Slot) Fault
+abbrev ok_pair : Slot → Slot → Result (List Slot) CodecFault
 ok_pair a b = Ok (a ∷ b ∷ [])
 
 pair_is : (a b c d : Slot) → a ≡ b → c ≡ d → ok_pair a c ≡ ok_pair b d
@@ -124,9 +124,9 @@ load_imm_reads : (s : Slot) (o : Option ImmKind) (next : Option Slot) → Passed
 load_imm_reads s None next p n h = tt
 load_imm_reads s (Some k) None p n h = tt
 load_imm_reads s (Some k) (Some t) p n h =
-    let next_is_read = cond (is_second t) (Ok (insn.LoadImm k s.dst s.imm t.imm)) (Err I7) in
-    if_ok (Reads s (Some t)) (not (has_next k || is t.imm 0)) (Err I4) next_is_read (λ _. tt)
-    (λ a. if_ok (Reads s (Some t)) (is_second t) (Ok (insn.LoadImm k s.dst s.imm t.imm)) (Err I7)
+    let next_is_read = cond (is_second t) (Ok (insn.LoadImm k s.dst s.imm t.imm)) (Err faults.SecondSlot) in
+    if_ok (Reads s (Some t)) (not (has_next k || is t.imm 0)) (Err faults.FieldNotZero) next_is_read (λ _. tt)
+    (λ a. if_ok (Reads s (Some t)) (is_second t) (Ok (insn.LoadImm k s.dst s.imm t.imm)) (Err faults.SecondSlot)
     (λ b.
     let here : slot form.LoadImm s.dst (kind_src k) (pos 0) s.imm ≡ s = slot_is form.LoadImm s s.dst (kind_src k) (pos 0) s.imm p.opcode_is refl h (sym (is_true s.offset 0 p.no_offset)) refl in
     let spelled : both k s.dst s.imm t.imm ≡ Ok (s ∷ t ∷ []) = pair_is (slot form.LoadImm s.dst (kind_src k) (pos 0) s.imm) s (second t.imm) t here (second_is t b) in
@@ -144,7 +144,7 @@ no_form = None
 none_is_some : (f : Form) → no_form ≡ Some f → ⊥
 none_is_some f e = absurd cc
 
-form_reads : (f : Form) (s : Slot) (next : Option Slot) → Passed f s → NextHolds next → IfOk (insn_of f s.dst s.src s.offset s.imm next) (Reads s next)
+form_reads : (f : Form) (s : Slot) (next : Option Slot) → Passed f s → NextHolds next → IfOk (insn_of_form f s.dst s.src s.offset s.imm next) (Reads s next)
 form_reads (form.AluImm w c) s next p n = imm_reads w c s next p
 form_reads (form.AluReg w alu.Mov) s next p n = mov_reads w s next p
 form_reads (form.AluReg w alu.Add) s next p n = reg_reads w alu.Add s next p p.no_offset
@@ -215,9 +215,9 @@ form_reads form.LoadImm s next p n = load_imm_reads s (kind_at s.src) next p n (
 tested_reads : (o : Option Form) (s : Slot) (next : Option Slot) → form_at s.opcode ≡ o → IfSome o (λ f. opcode f ≡ s.opcode) → Holds s → NextHolds next → IfOk (tested o s next) (Reads s next)
 tested_reads None s next e h a n = tt
 tested_reads (Some f) s next e h a n =
-    let read = insn_of f s.dst s.src s.offset s.imm next in
-    if_ok (Reads s next) (ltb 10 s.dst || ltb 10 s.src) (Err I3) (cond (unused_are_zero f s) read (Err I4)) (λ _. tt)
-    (λ r. if_ok (Reads s next) (unused_are_zero f s) read (Err I4)
+    let read = insn_of_form f s.dst s.src s.offset s.imm next in
+    if_ok (Reads s next) (ltb 10 s.dst || ltb 10 s.src) (Err faults.RegisterNumber) (cond (unused_are_zero f s) read (Err faults.FieldNotZero)) (λ _. tt)
+    (λ r. if_ok (Reads s next) (unused_are_zero f s) read (Err faults.FieldNotZero)
     (λ u.
     let regs = or_false (ltb 10 s.dst) (ltb 10 s.src) r in
     let a3 = and_true (((uses_dst f || eqb s.dst 0) && (uses_src f || eqb s.src 0)) && (uses_offset f || is s.offset 0)) (uses_imm f || is s.imm 0) u in
@@ -237,6 +237,6 @@ tested_reads (Some f) s next e h a n =
     (λ _. tt))
 
 -- an instruction that is read is spelled by its slots
-pub slot_reads : (s : Slot) (next : Option Slot) → s.opcode < 256 → Holds s → NextHolds next → IfOk (insn_at s next) (Reads s next)
-unfolding insn_at
+pub slot_reads : (s : Slot) (next : Option Slot) → s.opcode < 256 → Holds s → NextHolds next → IfOk (insn_of_slot s next) (Reads s next)
+unfolding insn_of_slot
 slot_reads s next lt a n = tested_reads (form_at s.opcode) s next refl (opcode-form_at s.opcode lt) a n

@@ -17,8 +17,8 @@ use Rattle.bpf_insn.specs.declared.form.AluCode.TheVariants as alu
 use Rattle.bpf_insn.specs.declared.form.Form.{Form}
 use Rattle.bpf_insn.specs.declared.form.Form.TheVariants as form
 use Rattle.bpf_insn.specs.declared.slot.Slot.{Slot}
-use Rattle.bpf_insn.specs.declared.codec_error.Fault.{Fault}
-use Rattle.bpf_insn.specs.declared.codec_error.Fault.TheVariants.{I6}
+use Rattle.bpf_insn.specs.declared.codec_error.CodecFault.{CodecFault}
+use Rattle.bpf_insn.specs.declared.codec_error.CodecFault.TheVariants as faults
 use Rattle.bpf_insn.specs.Opcode.{opcode, form_at}
 use Rattle.bpf_insn.specs.SlotBytes.{slot}
 use Rattle.bpf_insn.specs.Spelling.{code_of, op_offset, one, spelling}
@@ -52,7 +52,7 @@ pub record Passed (f : Form) (s : Slot) : Type 0 where
 
 -- ---- choices
 
-pub if_ok : {A : Type 0} (P : A → Type 0) (b : Bool) (x y : Result A Fault) → (b ≡ true → IfOk x P) → (b ≡ false → IfOk y P) → IfOk (cond b x y) P
+pub if_ok : {A : Type 0} (P : A → Type 0) (b : Bool) (x y : Result A CodecFault) → (b ≡ true → IfOk x P) → (b ≡ false → IfOk y P) → IfOk (cond b x y) P
 if_ok P true x y h k = h refl
 if_ok P false x y h k = k refl
 
@@ -91,9 +91,9 @@ IsOp c offset o = (code_of o ≡ c) × (op_offset o ≡ offset)
 
 signed_is : (offset : ℤ) (plain signed : AluOp) (c : AluCode) → code_of plain ≡ c → op_offset plain ≡ pos 0 → code_of signed ≡ c → op_offset signed ≡ pos 1 → IfOk (signed_at offset plain signed) (IsOp c offset)
 signed_is offset plain signed c a b d e =
-    if_ok (IsOp c offset) (is offset 0) (Ok plain) (cond (is offset 1) (Ok signed) (Err I6))
+    if_ok (IsOp c offset) (is offset 0) (Ok plain) (cond (is offset 1) (Ok signed) (Err faults.Offset))
     (λ h. (a, b ∙ sym (is_true offset 0 h)))
-    (λ _. if_ok (IsOp c offset) (is offset 1) (Ok signed) (Err I6) (λ h. (d, e ∙ sym (is_true offset 1 h))) (λ _. tt))
+    (λ _. if_ok (IsOp c offset) (is offset 1) (Ok signed) (Err faults.Offset) (λ h. (d, e ∙ sym (is_true offset 1 h))) (λ _. tt))
 
 op_is : (c : AluCode) (offset : ℤ) → (has_signed c || is offset 0) ≡ true → IfOk (op_at c offset) (IsOp c offset)
 op_is alu.Add offset h = (refl, sym (is_true offset 0 h))
@@ -109,7 +109,7 @@ op_is alu.Xor offset h = (refl, sym (is_true offset 0 h))
 op_is alu.Mov offset h = (refl, sym (is_true offset 0 h))
 op_is alu.Arsh offset h = (refl, sym (is_true offset 0 h))
 
-alu_if : (P : Insn → Type 0) (w : Width) (dst : ℕ) (operand : Operand) (Q : AluOp → Type 0) (r : Result AluOp Fault) → IfOk r Q → ((o : AluOp) → Q o → P (insn.Alu w o dst operand)) → IfOk (alu_insn w dst operand r) P
+alu_if : (P : Insn → Type 0) (w : Width) (dst : ℕ) (operand : Operand) (Q : AluOp → Type 0) (r : Result AluOp CodecFault) → IfOk r Q → ((o : AluOp) → Q o → P (insn.Alu w o dst operand)) → IfOk (alu_insn w dst operand r) P
 alu_if P w dst operand Q (Ok o) q h = h o q
 alu_if P w dst operand Q (Err e) q h = tt
 
@@ -146,10 +146,10 @@ movsx_32_reads W64 s next p h = record { taken = inl (mov_slot W64 s 32 p h); fi
 
 pub mov_reads : (w : Width) (s : Slot) (next : Option Slot) → Passed (form.AluReg w alu.Mov) s → IfOk (mov_at w s.dst s.src s.offset) (Reads s next)
 mov_reads w s next p =
-    let at32 = cond (is s.offset 32) (movsx_32 w s.dst s.src) (Err I6) in
+    let at32 = cond (is s.offset 32) (movsx_32 w s.dst s.src) (Err faults.Offset) in
     let at16 = cond (is s.offset 16) (Ok (insn.Movsx w movsx.B16 s.dst s.src)) at32 in
     let at8 = cond (is s.offset 8) (Ok (insn.Movsx w movsx.B8 s.dst s.src)) at16 in
     if_ok (Reads s next) (is s.offset 0) (Ok (insn.Alu w op.Mov s.dst (Reg s.src))) at8 (λ h. record { taken = inl (mov_slot w s 0 p h); fits = (p.dst, p.src) })
     (λ _. if_ok (Reads s next) (is s.offset 8) (Ok (insn.Movsx w movsx.B8 s.dst s.src)) at16 (λ h. record { taken = inl (movsx_8 w s.dst s.src ∙ mov_slot w s 8 p h); fits = (p.dst, p.src) })
     (λ _. if_ok (Reads s next) (is s.offset 16) (Ok (insn.Movsx w movsx.B16 s.dst s.src)) at32 (λ h. record { taken = inl (movsx_16 w s.dst s.src ∙ mov_slot w s 16 p h); fits = (p.dst, p.src) })
-    (λ _. if_ok (Reads s next) (is s.offset 32) (movsx_32 w s.dst s.src) (Err I6) (λ h. movsx_32_reads w s next p h) (λ _. tt))))
+    (λ _. if_ok (Reads s next) (is s.offset 32) (movsx_32 w s.dst s.src) (Err faults.Offset) (λ h. movsx_32_reads w s next p h) (λ _. tt))))

@@ -1,5 +1,6 @@
 pub mod Opcode
-pub mod Outcome
+pub mod FaultNumbers
+pub mod CodecRefusal
 pub mod Reading
 pub mod SlotBytes
 pub mod Spelling

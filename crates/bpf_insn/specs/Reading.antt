@@ -22,8 +22,8 @@ use Rattle.bpf_insn.specs.declared.form.AluCode.TheVariants as alu
 use Rattle.bpf_insn.specs.declared.form.Form.{Form}
 use Rattle.bpf_insn.specs.declared.form.Form.TheVariants as form
 use Rattle.bpf_insn.specs.declared.slot.Slot.{Slot}
-use Rattle.bpf_insn.specs.declared.codec_error.Fault.{Fault}
-use Rattle.bpf_insn.specs.declared.codec_error.Fault.TheVariants.{I1, I2, I3, I4, I5, I6, I7}
+use Rattle.bpf_insn.specs.declared.codec_error.CodecFault.{CodecFault}
+use Rattle.bpf_insn.specs.declared.codec_error.CodecFault.TheVariants as faults
 use Rattle.bpf_insn.specs.declared.codec_error.CodecError.{CodecError}
 use Rattle.bpf_insn.specs.declared.codec_error.CodecError.TheVariants.{Refused, Memory}
 use Rattle.bpf_insn.specs.Opcode.{form_at}
@@ -99,11 +99,11 @@ unused_are_zero f s =
     (uses_dst f || s.dst == 0) && (uses_src f || s.src == 0) && (uses_offset f || is s.offset 0) && (uses_imm f || is s.imm 0)
 
 -- plain at offset 0, signed at offset 1
-abbrev pub signed_at : ℤ → AluOp → AluOp → Result AluOp Fault
-signed_at offset plain signed = if is offset 0 then Ok plain else if is offset 1 then Ok signed else Err I6
+abbrev pub signed_at : ℤ → AluOp → AluOp → Result AluOp CodecFault
+signed_at offset plain signed = if is offset 0 then Ok plain else if is offset 1 then Ok signed else Err faults.Offset
 
 -- the operation of a code and an offset (RFC 9669, section 4.1)
-abbrev pub op_at : AluCode → ℤ → Result AluOp Fault
+abbrev pub op_at : AluCode → ℤ → Result AluOp CodecFault
 op_at alu.Add offset = Ok op.Add
 op_at alu.Sub offset = Ok op.Sub
 op_at alu.Mul offset = Ok op.Mul
@@ -118,57 +118,57 @@ op_at alu.Mov offset = Ok op.Mov
 op_at alu.Arsh offset = Ok op.Arsh
 
 -- the instruction of an operation
-abbrev pub alu_insn : Width → ℕ → Operand → Result AluOp Fault → Result Insn Fault
+abbrev pub alu_insn : Width → ℕ → Operand → Result AluOp CodecFault → Result Insn CodecFault
 alu_insn w dst operand (Ok o) = Ok (insn.Alu w o dst operand)
 alu_insn w dst operand (Err fault) = Err fault
 
 -- a sign-extending move of 32 bits is of width 64 alone (RFC 9669, section 4.1)
-abbrev pub movsx_32 : Width → ℕ → ℕ → Result Insn Fault
-movsx_32 W32 dst src = Err I6
+abbrev pub movsx_32 : Width → ℕ → ℕ → Result Insn CodecFault
+movsx_32 W32 dst src = Err faults.Offset
 movsx_32 W64 dst src = Ok (insn.Movsx W64 movsx.B32 dst src)
 
 -- a move of a register by its offset (RFC 9669, section 4.1)
-abbrev pub mov_at : Width → ℕ → ℕ → ℤ → Result Insn Fault
+abbrev pub mov_at : Width → ℕ → ℕ → ℤ → Result Insn CodecFault
 mov_at w dst src offset =
     if is offset 0 then Ok (insn.Alu w op.Mov dst (Reg src))
     else if is offset 8 then Ok (insn.Movsx w movsx.B8 dst src)
     else if is offset 16 then Ok (insn.Movsx w movsx.B16 dst src)
     else if is offset 32 then movsx_32 w dst src
-    else Err I6
+    else Err faults.Offset
 
 -- arithmetic on two registers
-abbrev pub alu_reg : Width → AluCode → ℕ → ℕ → ℤ → Result Insn Fault
+abbrev pub alu_reg : Width → AluCode → ℕ → ℕ → ℤ → Result Insn CodecFault
 alu_reg w alu.Mov dst src offset = mov_at w dst src offset
 alu_reg w c dst src offset = alu_insn w dst (Reg src) (op_at c offset)
 
 -- a byte order by its immediate (RFC 9669, section 4.2)
-abbrev pub endian_at : ByteOrder → ℕ → ℤ → Result Insn Fault
+abbrev pub endian_at : ByteOrder → ℕ → ℤ → Result Insn CodecFault
 endian_at o dst imm =
     if is imm 16 then Ok (insn.Endian o endian.B16 dst)
     else if is imm 32 then Ok (insn.Endian o endian.B32 dst)
     else if is imm 64 then Ok (insn.Endian o endian.B64 dst)
-    else Err I5
+    else Err faults.Immediate
 
 -- a call by its source (RFC 9669, section 4.3.1)
-abbrev pub call_at : ℕ → ℤ → Result Insn Fault
+abbrev pub call_at : ℕ → ℤ → Result Insn CodecFault
 call_at src imm =
     if src == 0 then Ok (insn.Call Helper imm)
     else if src == 1 then Ok (insn.Call Local imm)
     else if src == 2 then Ok (insn.Call Btf imm)
-    else Err I4
+    else Err faults.CallSource
 
 -- an operation on memory by its immediate (RFC 9669, section 5.3)
-abbrev pub atomic_at : ℤ → Result AtomicOp Fault
+abbrev pub atomic_at : ℤ → Result AtomicOp CodecFault
 atomic_at imm =
     if is imm 0 then Ok (Simple simple.Add) else if is imm 64 then Ok (Simple simple.Or)
     else if is imm 80 then Ok (Simple simple.And) else if is imm 160 then Ok (Simple simple.Xor)
     else if is imm 1 then Ok (Fetch simple.Add) else if is imm 65 then Ok (Fetch simple.Or)
     else if is imm 81 then Ok (Fetch simple.And) else if is imm 161 then Ok (Fetch simple.Xor)
     else if is imm 225 then Ok Xchg else if is imm 241 then Ok Cmpxchg
-    else Err I5
+    else Err faults.Immediate
 
 -- the instruction of an operation on memory
-abbrev pub atomic_insn : Width → ℕ → ℕ → ℤ → Result AtomicOp Fault → Result Insn Fault
+abbrev pub atomic_insn : Width → ℕ → ℕ → ℤ → Result AtomicOp CodecFault → Result Insn CodecFault
 atomic_insn w dst src offset (Ok o) = Ok (insn.Atomic w o dst src offset)
 atomic_insn w dst src offset (Err fault) = Err fault
 
@@ -184,52 +184,52 @@ abbrev pub is_second : Slot → Bool
 is_second t = t.opcode == 0 && t.dst == 0 && t.src == 0 && is t.offset 0
 
 -- a two-slot load by its kind and the next slot
-abbrev pub load_imm_at : Option ImmKind → ℕ → ℤ → Option Slot → Result Insn Fault
-load_imm_at None dst imm next = Err I4
-load_imm_at (Some kind) dst imm None = Err I7
+abbrev pub load_imm_at : Option ImmKind → ℕ → ℤ → Option Slot → Result Insn CodecFault
+load_imm_at None dst imm next = Err faults.LoadKind
+load_imm_at (Some kind) dst imm None = Err faults.SecondSlot
 load_imm_at (Some kind) dst imm (Some t) =
-    if not (has_next kind || is t.imm 0) then Err I4
+    if not (has_next kind || is t.imm 0) then Err faults.FieldNotZero
     else if is_second t then Ok (insn.LoadImm kind dst imm t.imm)
-    else Err I7
+    else Err faults.SecondSlot
 
 -- the instruction of a form with these fields; next is the slot behind it
-abbrev pub insn_of : Form → ℕ → ℕ → ℤ → ℤ → Option Slot → Result Insn Fault
-insn_of (form.AluImm w c) dst src offset imm next = alu_insn w dst (Imm imm) (op_at c offset)
-insn_of (form.AluReg w c) dst src offset imm next = alu_reg w c dst src offset
-insn_of (form.Neg w) dst src offset imm next = Ok (insn.Neg w dst)
-insn_of (form.Endian o) dst src offset imm next = endian_at o dst imm
-insn_of form.Ja dst src offset imm next = Ok (insn.Ja offset)
-insn_of form.Ja32 dst src offset imm next = Ok (insn.Ja32 imm)
-insn_of (form.JumpImm w c) dst src offset imm next = Ok (insn.Jump w c dst (Imm imm) offset)
-insn_of (form.JumpReg w c) dst src offset imm next = Ok (insn.Jump w c dst (Reg src) offset)
-insn_of form.Call dst src offset imm next = call_at src imm
-insn_of form.Exit dst src offset imm next = Ok insn.Exit
-insn_of (form.Load s) dst src offset imm next = Ok (insn.Load s dst src offset)
-insn_of (form.LoadSx s) dst src offset imm next = Ok (insn.LoadSx s dst src offset)
-insn_of (form.StoreImm s) dst src offset imm next = Ok (insn.StoreImm s dst offset imm)
-insn_of (form.Store s) dst src offset imm next = Ok (insn.Store s dst src offset)
-insn_of (form.Atomic w) dst src offset imm next = atomic_insn w dst src offset (atomic_at imm)
-insn_of form.LoadImm dst src offset imm next = load_imm_at (kind_at src) dst imm next
+abbrev pub insn_of_form : Form → ℕ → ℕ → ℤ → ℤ → Option Slot → Result Insn CodecFault
+insn_of_form (form.AluImm w c) dst src offset imm next = alu_insn w dst (Imm imm) (op_at c offset)
+insn_of_form (form.AluReg w c) dst src offset imm next = alu_reg w c dst src offset
+insn_of_form (form.Neg w) dst src offset imm next = Ok (insn.Neg w dst)
+insn_of_form (form.Endian o) dst src offset imm next = endian_at o dst imm
+insn_of_form form.Ja dst src offset imm next = Ok (insn.Ja offset)
+insn_of_form form.Ja32 dst src offset imm next = Ok (insn.Ja32 imm)
+insn_of_form (form.JumpImm w c) dst src offset imm next = Ok (insn.Jump w c dst (Imm imm) offset)
+insn_of_form (form.JumpReg w c) dst src offset imm next = Ok (insn.Jump w c dst (Reg src) offset)
+insn_of_form form.Call dst src offset imm next = call_at src imm
+insn_of_form form.Exit dst src offset imm next = Ok insn.Exit
+insn_of_form (form.Load s) dst src offset imm next = Ok (insn.Load s dst src offset)
+insn_of_form (form.LoadSx s) dst src offset imm next = Ok (insn.LoadSx s dst src offset)
+insn_of_form (form.StoreImm s) dst src offset imm next = Ok (insn.StoreImm s dst offset imm)
+insn_of_form (form.Store s) dst src offset imm next = Ok (insn.Store s dst src offset)
+insn_of_form (form.Atomic w) dst src offset imm next = atomic_insn w dst src offset (atomic_at imm)
+insn_of_form form.LoadImm dst src offset imm next = load_imm_at (kind_at src) dst imm next
 
 -- the tests of a slot in the order of their numbers
-abbrev pub tested : Option Form → Slot → Option Slot → Result Insn Fault
-tested None s next = Err I2
+abbrev pub tested : Option Form → Slot → Option Slot → Result Insn CodecFault
+tested None s next = Err faults.UnknownOpcode
 tested (Some f) s next =
-    if nat_lt 10 s.dst || nat_lt 10 s.src then Err I3
-    else if unused_are_zero f s then insn_of f s.dst s.src s.offset s.imm next
-    else Err I4
+    if nat_lt 10 s.dst || nat_lt 10 s.src then Err faults.RegisterNumber
+    else if unused_are_zero f s then insn_of_form f s.dst s.src s.offset s.imm next
+    else Err faults.FieldNotZero
 
 -- the instruction that begins at a slot, or its least fault; next is the slot behind it
-unfoldable pub insn_at : Slot → Option Slot → Result Insn Fault
-insn_at s next = tested (form_at s.opcode) s next
+unfoldable pub insn_of_slot : Slot → Option Slot → Result Insn CodecFault
+insn_of_slot s next = tested (form_at s.opcode) s next
 
 -- the slot at the front, if it is complete
 abbrev pub front_slot : List ℕ → Option Slot
 front_slot bytes = if nat_lt (length bytes) 8 then None else Some (slot_at bytes)
 
 -- the instruction at the front of bytes
-unfoldable pub first_insn : List ℕ → Result Insn Fault
-first_insn bytes = if nat_lt (length bytes) 8 then Err I1 else insn_at (slot_at bytes) (front_slot (drop 8 bytes))
+unfoldable pub first_insn : List ℕ → Result Insn CodecFault
+first_insn bytes = if nat_lt (length bytes) 8 then Err faults.Incomplete else insn_of_slot (slot_at bytes) (front_slot (drop 8 bytes))
 
 -- the refusal of the instruction at the front of bytes, at this slot
 abbrev pub FailsFirst : List ℕ → ℕ → CodecError → Type 0
@@ -247,12 +247,12 @@ first [] = None
 first (s ∷ ss) = Some s
 
 -- how many slots behind its own an instruction takes
-abbrev pub more_of : Result Insn Fault → ℕ
+abbrev pub more_of : Result Insn CodecFault → ℕ
 more_of (Ok i) = slots_of i - 1
 more_of (Err fault) = 0
 
 -- an instruction before others, or the refusal at slot n
-abbrev pub before : ℕ → Result Insn Fault → Result (List Insn) CodecError → Result (List Insn) CodecError
+abbrev pub before : ℕ → Result Insn CodecFault → Result (List Insn) CodecError → Result (List Insn) CodecError
 before n (Err fault) later = Err (Refused fault n)
 before n (Ok i) (Ok is) = Ok (i ∷ is)
 before n (Ok i) (Err e) = Err e
@@ -260,14 +260,14 @@ before n (Ok i) (Err e) = Err e
 -- the end of a program at slot n, where some bytes are left
 abbrev pub ended : ℕ → ℕ → Result (List Insn) CodecError
 ended zero n = Ok []
-ended (suc left) n = Err (Refused I1 n)
+ended (suc left) n = Err (Refused faults.Incomplete n)
 
 -- the instructions in slots from slot n on, of which the first may be taken by the instruction before, with some bytes left behind
 unfoldable pub insns_in : ℕ → List Slot → ℕ → ℕ → Result (List Insn) CodecError
 insns_in left [] taken n = ended left n
 insns_in left (s ∷ ss) (suc taken) n = insns_in left ss taken (n + 1)
 insns_in left (s ∷ ss) zero n =
-    before n (insn_at s (first ss)) (insns_in left ss (more_of (insn_at s (first ss))) (n + 1))
+    before n (insn_of_slot s (first ss)) (insns_in left ss (more_of (insn_of_slot s (first ss))) (n + 1))
 
 -- the program in bytes, or its first fault
 unfoldable pub reading : List ℕ → Result (List Insn) CodecError

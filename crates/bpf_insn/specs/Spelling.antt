@@ -25,8 +25,8 @@ use Rattle.bpf_insn.specs.declared.form.AluCode.TheVariants as alu
 use Rattle.bpf_insn.specs.declared.form.Form.{Form}
 use Rattle.bpf_insn.specs.declared.form.Form.TheVariants as form
 use Rattle.bpf_insn.specs.declared.slot.Slot.{Slot}
-use Rattle.bpf_insn.specs.declared.codec_error.Fault.{Fault}
-use Rattle.bpf_insn.specs.declared.codec_error.Fault.TheVariants.{I2, I4, I6}
+use Rattle.bpf_insn.specs.declared.codec_error.CodecFault.{CodecFault}
+use Rattle.bpf_insn.specs.declared.codec_error.CodecFault.TheVariants as faults
 use Rattle.bpf_insn.specs.declared.codec_error.CodecError.{CodecError}
 use Rattle.bpf_insn.specs.declared.codec_error.CodecError.TheVariants.{Refused, Memory}
 use Rattle.bpf_insn_form.specs.Slots.{slots_of}
@@ -106,7 +106,7 @@ has_next kind.MapValue = true
 has_next _ = false
 
 -- one slot
-abbrev pub one : Form → ℕ → ℕ → ℤ → ℤ → Result (List Slot) Fault
+abbrev pub one : Form → ℕ → ℕ → ℤ → ℤ → Result (List Slot) CodecFault
 one f dst src offset imm = Ok (slot f dst src offset imm ∷ [])
 
 -- the second slot of a load: only its immediate isn't zero (RFC 9669, section 3.2)
@@ -114,21 +114,21 @@ abbrev pub second : ℤ → Slot
 second next = record { opcode = 0; dst = 0; src = 0; offset = pos 0; imm = next }
 
 -- both slots of a load
-abbrev pub both : ImmKind → ℕ → ℤ → ℤ → Result (List Slot) Fault
+abbrev pub both : ImmKind → ℕ → ℤ → ℤ → Result (List Slot) CodecFault
 both kind dst imm next = Ok (slot form.LoadImm dst (kind_src kind) (pos 0) imm ∷ second next ∷ [])
 
 -- a load of two slots; a second number is zero where its kind has none
-abbrev pub two : ImmKind → Bool → ℕ → ℤ → ℤ → Result (List Slot) Fault
+abbrev pub two : ImmKind → Bool → ℕ → ℤ → ℤ → Result (List Slot) CodecFault
 two kind true dst imm next = both kind dst imm next
 two kind false dst imm (pos zero) = both kind dst imm (pos 0)
-two kind false dst imm _ = Err I4
+two kind false dst imm _ = Err faults.FieldNotZero
 
 -- the slots of an instruction, or the number of the refusal where it has none (RFC 9669, sections 3 to 5)
-abbrev pub spelling : Insn → Result (List Slot) Fault
+abbrev pub spelling : Insn → Result (List Slot) CodecFault
 spelling (insn.Alu w o dst (Imm imm)) = one (form.AluImm w (code_of o)) dst 0 (op_offset o) imm
 spelling (insn.Alu w o dst (Reg src)) = one (form.AluReg w (code_of o)) dst src (op_offset o) (pos 0)
 spelling (insn.Neg w dst) = one (form.Neg w) dst 0 (pos 0) (pos 0)
-spelling (insn.Movsx W32 movsx.B32 dst src) = Err I6
+spelling (insn.Movsx W32 movsx.B32 dst src) = Err faults.Offset
 spelling (insn.Movsx w bits dst src) = one (form.AluReg w alu.Mov) dst src (movsx_offset bits) (pos 0)
 spelling (insn.Endian order bits dst) = one (form.Endian order) dst 0 (pos 0) (endian_imm bits)
 spelling (insn.Ja offset) = one form.Ja 0 0 offset (pos 0)
@@ -138,7 +138,7 @@ spelling (insn.Jump w c dst (Reg src) offset) = one (form.JumpReg w c) dst src o
 spelling (insn.Call callee imm) = one form.Call 0 (callee_src callee) (pos 0) imm
 spelling insn.Exit = one form.Exit 0 0 (pos 0) (pos 0)
 spelling (insn.Load s dst src offset) = one (form.Load s) dst src offset (pos 0)
-spelling (insn.LoadSx size.Dw dst src offset) = Err I2
+spelling (insn.LoadSx size.Dw dst src offset) = Err faults.UnknownOpcode
 spelling (insn.LoadSx s dst src offset) = one (form.LoadSx s) dst src offset (pos 0)
 spelling (insn.StoreImm s dst offset imm) = one (form.StoreImm s) dst 0 offset imm
 spelling (insn.Store s dst src offset) = one (form.Store s) dst src offset (pos 0)
@@ -155,13 +155,13 @@ pub record SpelledFits (s : Spelled) : Type 0 where
   pub second : IfSome s.second SlotFits
 
 -- the bytes of slots, or the refusal at slot n
-abbrev pub bytes_at : ℕ → Result (List Slot) Fault → Result (List ℕ) CodecError
+abbrev pub bytes_at : ℕ → Result (List Slot) CodecFault → Result (List ℕ) CodecError
 bytes_at n (Ok slots) = Ok (slots_bytes slots)
 bytes_at n (Err fault) = Err (Refused fault n)
 
 -- the bytes of an instruction alone
-abbrev pub insn_spelling : Insn → Result (List ℕ) CodecError
-insn_spelling i = bytes_at 0 (spelling i)
+abbrev pub insn_bytes : Insn → Result (List ℕ) CodecError
+insn_bytes i = bytes_at 0 (spelling i)
 
 -- one after the other, or the first refusal
 abbrev pub joined : Result (List ℕ) CodecError → Result (List ℕ) CodecError → Result (List ℕ) CodecError

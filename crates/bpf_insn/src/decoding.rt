@@ -2,13 +2,14 @@
 
 ghost use Rattle.std.specs.Prelude.{◌≡◌, ◌≤◌, ◌<◌, ◌*◌, List, length, drop, ◌++◌, ◌∷◌, [], IfOk, IfErr, OnOk, MatchResult};
 ghost use Rattle.bpf_insn_form.specs.Slots.{slots_of};
-ghost use Rattle.bpf_insn.specs.Reading.{signed_at, op_at, alu_insn, mov_at, alu_reg, endian_at, call_at, atomic_at, atomic_insn, kind_at, is_second, load_imm_at, insn_of, insn_at, front_slot, first_insn, FailsFirst, reading};
-ghost use Rattle.bpf_insn.specs.Outcome.{Gives};
+ghost use Rattle.bpf_insn.specs.Reading.{signed_at, op_at, alu_insn, mov_at, alu_reg, endian_at, call_at, atomic_at, atomic_insn, kind_at, is_second, load_imm_at, insn_of_form, insn_of_slot, front_slot, first_insn, FailsFirst, reading};
+ghost use Rattle.bpf_insn_form.specs.Outcome.{Gives};
+ghost use Rattle.bpf_insn.specs.CodecRefusal.{codec_refusal};
 ghost use Rattle.bpf_insn_form.specs.Values.{AreInsns};
 ghost use Rattle.bpf_insn.specs.Spelling.{program_spelling};
 ghost use Rattle.bpf_insn_form.specs.declared.insn.Insn.{Insn};
 
-use crate::codec_error::{CodecError, Fault};
+use crate::codec_error::{CodecError, CodecFault};
 use crate::encoding::has_next_imm;
 use crate::fields::only_its_fields;
 use crate::form::{AluCode, Form, form_of};
@@ -16,17 +17,17 @@ use bpf_insn_form::{AluOp, AtomicOp, ByteOrder, Callee, EndianBits, ImmKind, Ins
 use crate::slot::Slot;
 use std::alloc::Global;
 
-fn signed_op(offset: i16, plain: AluOp, signed: AluOp) -> Result<AluOp, Fault>
+fn signed_op(offset: i16, plain: AluOp, signed: AluOp) -> Result<AluOp, CodecFault>
     ensures { result ≡ signed_at offset plain signed }
 {
     match offset {
         0 => Ok(plain),
         1 => Ok(signed),
-        _ => Err(Fault::I6),
+        _ => Err(CodecFault::Offset),
     }
 }
 
-fn op_of(code: AluCode, offset: i16) -> Result<AluOp, Fault>
+fn op_of(code: AluCode, offset: i16) -> Result<AluOp, CodecFault>
     ensures { result ≡ op_at code offset }
 {
     match code {
@@ -45,7 +46,7 @@ fn op_of(code: AluCode, offset: i16) -> Result<AluOp, Fault>
     }
 }
 
-fn alu(width: Width, code: AluCode, dst: Reg, operand: Operand, offset: i16) -> Result<Insn, Fault>
+fn alu(width: Width, code: AluCode, dst: Reg, operand: Operand, offset: i16) -> Result<Insn, CodecFault>
     ensures { result ≡ alu_insn width dst operand (op_at code offset) }
 {
     let op = op_of(code, offset)?;
@@ -57,7 +58,7 @@ fn alu(width: Width, code: AluCode, dst: Reg, operand: Operand, offset: i16) -> 
     })
 }
 
-fn mov(width: Width, dst: Reg, src: Reg, offset: i16) -> Result<Insn, Fault>
+fn mov(width: Width, dst: Reg, src: Reg, offset: i16) -> Result<Insn, CodecFault>
     ensures { result ≡ mov_at width dst src offset }
 {
     let bits = match (offset, width) {
@@ -72,7 +73,7 @@ fn mov(width: Width, dst: Reg, src: Reg, offset: i16) -> Result<Insn, Fault>
         (8, _) => MovsxBits::B8,
         (16, _) => MovsxBits::B16,
         (32, Width::W64) => MovsxBits::B32,
-        _ => return Err(Fault::I6),
+        _ => return Err(CodecFault::Offset),
     };
     Ok(Insn::Movsx {
         width,
@@ -82,7 +83,7 @@ fn mov(width: Width, dst: Reg, src: Reg, offset: i16) -> Result<Insn, Fault>
     })
 }
 
-fn alu_register(width: Width, code: AluCode, dst: Reg, src: Reg, offset: i16) -> Result<Insn, Fault>
+fn alu_register(width: Width, code: AluCode, dst: Reg, src: Reg, offset: i16) -> Result<Insn, CodecFault>
     ensures { result ≡ alu_reg width code dst src offset }
 {
     match code {
@@ -91,7 +92,7 @@ fn alu_register(width: Width, code: AluCode, dst: Reg, src: Reg, offset: i16) ->
     }
 }
 
-fn endian(order: ByteOrder, dst: Reg, imm: i32) -> Result<Insn, Fault>
+fn endian(order: ByteOrder, dst: Reg, imm: i32) -> Result<Insn, CodecFault>
     ensures { result ≡ endian_at order dst imm }
 {
     match imm {
@@ -110,11 +111,11 @@ fn endian(order: ByteOrder, dst: Reg, imm: i32) -> Result<Insn, Fault>
             bits: EndianBits::B64,
             dst,
         }),
-        _ => Err(Fault::I5),
+        _ => Err(CodecFault::Immediate),
     }
 }
 
-fn call(src: u8, imm: i32) -> Result<Insn, Fault>
+fn call(src: u8, imm: i32) -> Result<Insn, CodecFault>
     ensures { result ≡ call_at src imm }
 {
     match src {
@@ -130,11 +131,11 @@ fn call(src: u8, imm: i32) -> Result<Insn, Fault>
             callee: Callee::Btf,
             imm,
         }),
-        _ => Err(Fault::I4),
+        _ => Err(CodecFault::CallSource),
     }
 }
 
-fn atomic_op(imm: i32) -> Result<AtomicOp, Fault>
+fn atomic_op(imm: i32) -> Result<AtomicOp, CodecFault>
     ensures { result ≡ atomic_at imm }
 {
     match imm {
@@ -148,11 +149,11 @@ fn atomic_op(imm: i32) -> Result<AtomicOp, Fault>
         0xa1 => Ok(AtomicOp::Fetch(SimpleOp::Xor)),
         0xe1 => Ok(AtomicOp::Xchg),
         0xf1 => Ok(AtomicOp::Cmpxchg),
-        _ => Err(Fault::I5),
+        _ => Err(CodecFault::Immediate),
     }
 }
 
-fn atomic(width: Width, dst: Reg, src: Reg, offset: i16, imm: i32) -> Result<Insn, Fault>
+fn atomic(width: Width, dst: Reg, src: Reg, offset: i16, imm: i32) -> Result<Insn, CodecFault>
     ensures { result ≡ atomic_insn width dst src offset (atomic_at imm) }
 {
     let op = atomic_op(imm)?;
@@ -186,20 +187,20 @@ fn is_second_slot(slot: Slot) -> bool
     slot.opcode == 0 && slot.dst == 0 && slot.src == 0 && slot.offset == 0
 }
 
-fn load_imm(src: u8, dst: Reg, imm: i32, next: Option<Slot>) -> Result<Insn, Fault>
+fn load_imm(src: u8, dst: Reg, imm: i32, next: Option<Slot>) -> Result<Insn, CodecFault>
     ensures { result ≡ load_imm_at (kind_at src) dst imm next }
 {
     let Some(kind) = kind_of(src) else {
-        return Err(Fault::I4);
+        return Err(CodecFault::LoadKind);
     };
     let Some(second) = next else {
-        return Err(Fault::I7);
+        return Err(CodecFault::SecondSlot);
     };
     if !has_next_imm(kind) && second.imm != 0 {
-        return Err(Fault::I4);
+        return Err(CodecFault::FieldNotZero);
     }
     if !is_second_slot(second) {
-        return Err(Fault::I7);
+        return Err(CodecFault::SecondSlot);
     }
     Ok(Insn::LoadImm {
         kind,
@@ -215,8 +216,8 @@ fn insn_of_form(
     src: Reg,
     slot: Slot,
     next: Option<Slot>,
-) -> Result<Insn, Fault>
-    ensures { result ≡ insn_of form dst src slot.offset slot.imm next }
+) -> Result<Insn, CodecFault>
+    ensures { result ≡ insn_of_form form dst src slot.offset slot.imm next }
 {
     let Slot { offset, imm, .. } = slot;
     match form {
@@ -276,18 +277,18 @@ fn insn_of_form(
 }
 
 /// The instruction that begins at a slot, or its least fault; next is the slot behind it.
-#[tactic(auto, unfolding(crate::specs::Reading::insn_at))]
-fn insn_of_slot(slot: Slot, next: Option<Slot>) -> Result<Insn, Fault>
-    ensures { result ≡ insn_at slot next }
+#[tactic(auto, unfolding(crate::specs::Reading::insn_of_slot))]
+fn insn_of_slot(slot: Slot, next: Option<Slot>) -> Result<Insn, CodecFault>
+    ensures { result ≡ insn_of_slot slot next }
 {
     let Some(form) = form_of(slot.opcode) else {
-        return Err(Fault::I2);
+        return Err(CodecFault::UnknownOpcode);
     };
     let (Some(dst), Some(src)) = (Reg::new(slot.dst), Reg::new(slot.src)) else {
-        return Err(Fault::I3);
+        return Err(CodecFault::RegisterNumber);
     };
     if !only_its_fields(form, slot) {
-        return Err(Fault::I4);
+        return Err(CodecFault::FieldNotZero);
     }
     insn_of_form(form, dst, src, slot, next)
 }
@@ -303,11 +304,11 @@ fn front(bytes: &[u8]) -> Option<Slot>
 
 /// The instruction at the front of bytes, or its least fault.
 #[tactic(auto, unfolding(crate::specs::Reading::first_insn))]
-fn first(bytes: &[u8]) -> Result<Insn, Fault>
+fn first(bytes: &[u8]) -> Result<Insn, CodecFault>
     ensures { result ≡ first_insn bytes.now }
 {
     if bytes.len() < 8 {
-        return Err(Fault::I1);
+        return Err(CodecFault::Incomplete);
     }
     insn_of_slot(Slot::from_bytes(bytes), front(&bytes[8..]))
 }
@@ -337,7 +338,7 @@ fn add(insns: &mut Vec<Insn>, insn: Insn) -> Result<(), CodecError>
 }
 
 fn all(alloc: Global, bytes: &[u8]) -> Result<Vec<Insn>, CodecError>
-    ensures { Gives (λ v. v.items) result (reading bytes.now) }
+    ensures { Gives codec_refusal (λ v. v.items) result (reading bytes.now) }
 {
     let mut insns = Vec::new(alloc);
     let mut rest = bytes;
@@ -355,15 +356,15 @@ fn all(alloc: Global, bytes: &[u8]) -> Result<Vec<Insn>, CodecError>
 
 /// The program that the bytes spell, 8 bytes a slot, all of the bytes. Where they spell none it
 /// refuses by the first slot with a fault, counted from 0, and there by the least number (see
-/// `Fault`). Memory may run out in place of either answer.
+/// `CodecFault`). Memory may run out in place of either answer.
 pub fn decode(alloc: Global, bytes: &[u8]) -> Result<Vec<Insn>, CodecError>
     // What is read is spelled so.
     ensures found { IfOk result (λ v. AreInsns v.items × (program_spelling v.items ≡ Ok bytes.now)) }
     // What is spelled so is read, unless memory runs out.
     ensures only { (insns : List Insn) → AreInsns insns → program_spelling insns ≡ Ok bytes.now
-        → Gives (λ v. v.items) result (Ok insns) }
+        → Gives codec_refusal (λ v. v.items) result (Ok insns) }
     // Which refusal it is.
-    ensures exact { Gives (λ v. v.items) result (reading bytes.now) }
+    ensures exact { Gives codec_refusal (λ v. v.items) result (reading bytes.now) }
 {
     all(alloc, bytes)
 }

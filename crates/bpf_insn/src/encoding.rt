@@ -1,11 +1,12 @@
 //! Instructions to bytes.
 
-ghost use Rattle.std.specs.Prelude.{◌≡◌, ◌≤◌, ◌∷◌, [], MatchResult, IfOk};
+ghost use Rattle.std.specs.Prelude.{◌≡◌, ◌≤◌, ◌∷◌, [], MatchResult, IfOk, Some};
 ghost use Rattle.bpf_insn.specs.SlotBytes.{slot, SlotFits};
 ghost use Rattle.bpf_insn.specs.Spelling.{code_of, op_offset, movsx_offset, endian_imm, callee_src, atomic_imm, kind_src, has_next, two, spelling, spelled_slots, SpelledFits, Appends, program_spelling};
-ghost use Rattle.bpf_insn.specs.Outcome.{Equals, Gives};
+ghost use Rattle.bpf_insn_form.specs.Outcome.{Gives};
+ghost use Rattle.bpf_insn.specs.CodecRefusal.{codec_refusal};
 
-use crate::codec_error::{CodecError, Fault};
+use crate::codec_error::{CodecError, CodecFault};
 use crate::form::{AluCode, Form};
 use bpf_insn_form::{
     AluOp, AtomicOp, Callee, Compare, EndianBits, ImmKind, Insn, MovsxBits, Operand, SimpleOp,
@@ -132,13 +133,13 @@ fn one(form: Form, dst: u8, src: u8, offset: i16, imm: i32) -> Spelled
     }
 }
 
-fn load_imm(kind: ImmKind, dst: u8, imm: i32, next_imm: i32) -> Result<Spelled, Fault>
+fn load_imm(kind: ImmKind, dst: u8, imm: i32, next_imm: i32) -> Result<Spelled, CodecFault>
     requires { dst ≤ 10 }
-    ensures slots { Equals spelled_slots result (two kind (has_next kind) dst imm next_imm) }
+    ensures slots { Gives Some spelled_slots result (two kind (has_next kind) dst imm next_imm) }
     ensures fits { IfOk result SpelledFits }
 {
     if next_imm != 0 && !has_next_imm(kind) {
-        return Err(Fault::I4);
+        return Err(CodecFault::FieldNotZero);
     }
     Ok(Spelled {
         first: Slot::of_form(Form::LoadImm, dst, src_of_kind(kind), 0, imm),
@@ -186,8 +187,8 @@ fn jump(width: Width, compare: Compare, dst: u8, operand: Operand, offset: i16) 
     }
 }
 
-fn spell(insn: &Insn) -> Result<Spelled, Fault>
-    ensures slots { Equals spelled_slots result (spelling insn.now) }
+fn spell(insn: &Insn) -> Result<Spelled, CodecFault>
+    ensures slots { Gives Some spelled_slots result (spelling insn.now) }
     ensures fits { IfOk result SpelledFits }
 {
     match *insn {
@@ -202,7 +203,7 @@ fn spell(insn: &Insn) -> Result<Spelled, Fault>
             width: Width::W32,
             bits: MovsxBits::B32,
             ..
-        } => Err(Fault::I6),
+        } => Err(CodecFault::Offset),
         Insn::Movsx {
             width,
             bits,
@@ -241,7 +242,7 @@ fn spell(insn: &Insn) -> Result<Spelled, Fault>
             src,
             offset,
         } => { Ok(one(Form::Load(size), dst.number(), src.number(), offset, 0)) }
-        Insn::LoadSx { size: Size::Dw, .. } => Err(Fault::I2),
+        Insn::LoadSx { size: Size::Dw, .. } => Err(CodecFault::UnknownOpcode),
         Insn::LoadSx {
             size,
             dst,
@@ -294,11 +295,11 @@ fn put(bytes: &mut Vec<u8>, insn: &Insn) -> Result<(), CodecError>
 }
 
 /// The bytes of a program, 8 a slot, one instruction behind the other. It refuses the first
-/// instruction that has no bytes, at its slot: a sign-extending load of 8 bytes (I2), a second
-/// number where the kind of a two-slot load has none (I4), a sign-extending move of 32 bits at
-/// width 32 (I6). Memory may run out in place of either answer.
+/// instruction that has no bytes, at its slot: a sign-extending load of 8 bytes (`UnknownOpcode`), a second
+/// number where the kind of a two-slot load has none (`FieldNotZero`), a sign-extending move of 32 bits at
+/// width 32 (`Offset`). Memory may run out in place of either answer.
 pub fn encode(alloc: Global, insns: &[Insn]) -> Result<Vec<u8>, CodecError>
-    ensures { Gives (λ v. v.items) result (program_spelling insns.now) }
+    ensures { Gives codec_refusal (λ v. v.items) result (program_spelling insns.now) }
 {
     let mut bytes = Vec::new(alloc);
     for insn in insns {

@@ -4,7 +4,7 @@ ghost use Rattle.std.specs.Prelude.{◌≡◌, ℕ, List, ◌++◌, Ok};
 ghost use Rattle.bpf_insn_form.specs.declared.insn.Insn.{Insn};
 ghost use Rattle.bpf_insn_form.specs.Values.{InsnFits, AreInsns};
 ghost use Rattle.bpf_insn.specs.SlotBytes.{AreBytes};
-ghost use Rattle.bpf_insn.specs.Spelling.{insn_spelling, program_spelling};
+ghost use Rattle.bpf_insn.specs.Spelling.{insn_bytes, program_spelling};
 ghost use Rattle.bpf_insn.specs.Reading.{reading};
 
 /// Bytes spell one program at most.
@@ -16,7 +16,7 @@ pub fn one_program()
 /// No instruction's bytes begin another's, whatever follows them.
 pub fn no_beginning()
     ensures { (i j : Insn) (a b x y : List ℕ) → InsnFits i → InsnFits j
-        → insn_spelling i ≡ Ok a → insn_spelling j ≡ Ok b
+        → insn_bytes i ≡ Ok a → insn_bytes j ≡ Ok b
         → a ++ x ≡ b ++ y → (i ≡ j) × (a ≡ b) }
 {}
 

@@ -13,9 +13,6 @@ pub use bpf_insn_form::{
     AluOp, AtomicOp, ByteOrder, Callee, Compare, EndianBits, ImmKind, Insn, MovsxBits, Operand,
     Reg, SimpleOp, Size, Unit, Width, slots,
 };
-pub use codec_error::{CodecError, Fault};
+pub use codec_error::{CodecError, CodecFault};
 pub use decoding::decode;
 pub use encoding::encode;
-
-#[cfg(test)]
-mod tests;

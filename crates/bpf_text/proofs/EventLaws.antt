@@ -1,12 +1,13 @@
 -- Reading lines of events one after the other, as a loop does.
 use Rattle.std.proofs.Common.{◌≡◌, ℕ, List, [], ◌∷◌, ◌++◌, Result, Ok, Err, refl, sym, ap, ◌∙◌, subst}
 use Rattle.bpf_text_lines.specs.Words.{words_of}
-use Rattle.bpf_text_fields.specs.declared.error.Fault.TheVariants as faults
-use Rattle.bpf_text_fields.specs.declared.error.TextError.{TextError}
-use Rattle.bpf_text_fields.specs.declared.error.TextError.TheVariants as errors
-use Rattle.bpf_text_fields.specs.Refusals.{at_line, ◌>>=◌, Fails}
+use Rattle.bpf_text_lines.specs.declared.text_error.TextFault.TheVariants as faults
+use Rattle.bpf_text_lines.specs.declared.text_error.TextError.{TextError}
+use Rattle.bpf_text_lines.specs.declared.text_error.TextError.TheVariants as errors
+use Rattle.bpf_insn_form.specs.Outcome.{Refuses}
+use Rattle.bpf_text_lines.specs.Refusals.{at_line, ◌>>=◌, text_refusal}
 use Rattle.bpf_text.specs.declared.event.EventWord.{EventWord}
-use Rattle.bpf_text_fields.proofs.RefusalLaws.{bind_fails}
+use Rattle.bpf_text_lines.proofs.RefusalLaws.{bind_fails}
 use Rattle.bpf_text.specs.EventsText.{events_of, bounds_of, events_behind, schedule_of}
 
 -- ---- lines
@@ -17,7 +18,7 @@ unfolding events_behind
 events_behind-line before line lines more read = ap (λ (r : Result (List EventWord) TextError). r >>= λ m. events_behind (before ++ m) lines) read
 
 pub events_behind-fails : (e : TextError) (before : List EventWord) (line : ℕ × List ℕ) (lines : List (ℕ × List ℕ)) →
-    Fails e (at_line line.0 (events_of (words_of line.1))) → Fails e (events_behind before (line ∷ lines))
+    Refuses (text_refusal e) (at_line line.0 (events_of (words_of line.1))) → Refuses (text_refusal e) (events_behind before (line ∷ lines))
 unfolding events_behind
 events_behind-fails e before line lines fails = bind_fails e (at_line line.0 (events_of (words_of line.1))) (λ m. events_behind (before ++ m) lines) fails
 
@@ -32,7 +33,7 @@ unfolding schedule_of
 no_bounds contents none = rw none refl
 
 pub bounds_fail : (e : TextError) (contents : List (ℕ × List ℕ)) (line : ℕ × List ℕ) (lines : List (ℕ × List ℕ)) → contents ≡ line ∷ lines →
-    Fails e (at_line line.0 (bounds_of (words_of line.1))) → Fails e (schedule_of contents)
+    Refuses (text_refusal e) (at_line line.0 (bounds_of (words_of line.1))) → Refuses (text_refusal e) (schedule_of contents)
 unfolding schedule_of
 bounds_fail e contents line lines same fails = rw same (bind_fails e (at_line line.0 (bounds_of (words_of line.1))) _ fails)
 
@@ -46,9 +47,9 @@ unfolding schedule_of
 bounds_read contents line lines bounds same read = rw same (ap (λ (r : Result (List ℕ) TextError). r >>= λ b. with_events b (events_behind [] lines)) read)
 
 pub events_fail : (e : TextError) (contents : List (ℕ × List ℕ)) (line : ℕ × List ℕ) (lines : List (ℕ × List ℕ)) (bounds : List ℕ) → contents ≡ line ∷ lines →
-    at_line line.0 (bounds_of (words_of line.1)) ≡ Ok bounds → Fails e (events_behind [] lines) → Fails e (schedule_of contents)
+    at_line line.0 (bounds_of (words_of line.1)) ≡ Ok bounds → Refuses (text_refusal e) (events_behind [] lines) → Refuses (text_refusal e) (schedule_of contents)
 events_fail e contents line lines bounds same read fails =
-    let P : Result (List ℕ × List EventWord) TextError → Type 0 = λ r. Fails e r in
+    let P : Result (List ℕ × List EventWord) TextError → Type 0 = λ r. Refuses (text_refusal e) r in
     subst P (sym (bounds_read contents line lines bounds same read)) (bind_fails e (events_behind [] lines) (λ events. Ok (bounds, events)) fails)
 
 pub events_read : (contents : List (ℕ × List ℕ)) (line : ℕ × List ℕ) (lines : List (ℕ × List ℕ)) (bounds : List ℕ) (events : List EventWord) → contents ≡ line ∷ lines →

@@ -1,11 +1,12 @@
 -- Reading maps one after the other, as a loop does.
 use Rattle.std.proofs.Common.{◌≡◌, ℕ, ◌+◌, List, [], ◌∷◌, ◌++◌, length, Result, Ok, Err, refl, ap, subst, ◌<◌, arith}
 use Rattle.bpf_text_lines.specs.Words.{words_of}
-use Rattle.bpf_text_fields.specs.declared.error.Fault.TheVariants as faults
-use Rattle.bpf_text_fields.specs.declared.error.TextError.{TextError}
-use Rattle.bpf_text_fields.specs.declared.error.TextError.TheVariants as errors
-use Rattle.bpf_text_fields.specs.Refusals.{at_line, ◌>>=◌, Fails}
-use Rattle.bpf_text_fields.proofs.RefusalLaws.{bind_fails}
+use Rattle.bpf_text_lines.specs.declared.text_error.TextFault.TheVariants as faults
+use Rattle.bpf_text_lines.specs.declared.text_error.TextError.{TextError}
+use Rattle.bpf_text_lines.specs.declared.text_error.TextError.TheVariants as errors
+use Rattle.bpf_insn_form.specs.Outcome.{Refuses}
+use Rattle.bpf_text_lines.specs.Refusals.{at_line, ◌>>=◌, text_refusal}
+use Rattle.bpf_text_lines.proofs.RefusalLaws.{bind_fails}
 use Rattle.bpf_text.specs.MapsText.{some_maps, values_of, count_of, maps_behind}
 
 -- one more map, with its values
@@ -22,12 +23,12 @@ maps_behind-line before number held line lines values count sum read =
     ap (λ (r : Result (List ℕ) TextError). r >>= λ v. maps_behind (before ++ v ∷ []) lines) here
 
 pub maps_behind-fails : (e : TextError) (before : List (List ℕ)) (number held : ℕ) (line : ℕ × List ℕ) (lines : List (ℕ × List ℕ)) → number ≡ length before → held ≡ count_of before →
-    Fails e (at_line line.0 (values_of number held (words_of line.1))) → Fails e (maps_behind before (line ∷ lines))
+    Refuses (text_refusal e) (at_line line.0 (values_of number held (words_of line.1))) → Refuses (text_refusal e) (maps_behind before (line ∷ lines))
 unfolding maps_behind
 maps_behind-fails e before number held line lines count sum fails =
     bind_fails e (at_line line.0 (values_of (length before) (count_of before) (words_of line.1))) (λ v. maps_behind (before ++ v ∷ []) lines)
-    (subst (λ n. Fails e (at_line line.0 (values_of n (count_of before) (words_of line.1)))) count
-    (subst (λ h. Fails e (at_line line.0 (values_of number h (words_of line.1)))) sum fails))
+    (subst (λ n. Refuses (text_refusal e) (at_line line.0 (values_of n (count_of before) (words_of line.1)))) count
+    (subst (λ h. Refuses (text_refusal e) (at_line line.0 (values_of number h (words_of line.1)))) sum fails))
 
 pub maps_behind-end : (before : List (List ℕ)) → maps_behind before [] ≡ Ok before
 unfolding maps_behind
@@ -43,6 +44,6 @@ pub some_maps-some : (r : Result (List (List ℕ)) TextError) (maps : List (List
 some_maps-some r [] read some = absurd (omega arith)
 some_maps-some r (values ∷ maps) read some = ap some_maps read
 
-pub some_maps-fails : (e : TextError) (r : Result (List (List ℕ)) TextError) → Fails e r → Fails e (some_maps r)
+pub some_maps-fails : (e : TextError) (r : Result (List (List ℕ)) TextError) → Refuses (text_refusal e) r → Refuses (text_refusal e) (some_maps r)
 some_maps-fails errors.Memory r fails = tt
 some_maps-fails (errors.Refused fault line) r fails = ap some_maps fails

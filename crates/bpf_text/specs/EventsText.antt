@@ -5,12 +5,12 @@ use Rattle.std.specs.Str.{bytes_eq}
 use Rattle.bpf_text_lines.specs.Lines.{contents_of}
 use Rattle.bpf_text_lines.specs.Numbers.{is_number}
 use Rattle.bpf_text_lines.specs.Words.{words_of}
-use Rattle.bpf_text_fields.specs.declared.error.Fault.{Fault}
-use Rattle.bpf_text_fields.specs.declared.error.Fault.TheVariants as faults
-use Rattle.bpf_text_fields.specs.declared.error.TextError.{TextError}
-use Rattle.bpf_text_fields.specs.declared.error.TextError.TheVariants as errors
-use Rattle.bpf_text_fields.specs.Refusals.{at_line, with_first, ◌>>=◌}
-use Rattle.bpf_text_fields.specs.Fields.{fields_of, field_of}
+use Rattle.bpf_text_lines.specs.declared.text_error.TextFault.{TextFault}
+use Rattle.bpf_text_lines.specs.declared.text_error.TextFault.TheVariants as faults
+use Rattle.bpf_text_lines.specs.declared.text_error.TextError.{TextError}
+use Rattle.bpf_text_lines.specs.declared.text_error.TextError.TheVariants as errors
+use Rattle.bpf_text_lines.specs.Refusals.{at_line, with_first, ◌>>=◌}
+use Rattle.bpf_text_lines.specs.Fields.{fields_of, field_of}
 use Rattle.bpf_text.specs.declared.event.EventKind.{EventKind}
 use Rattle.bpf_text.specs.declared.event.EventKind.TheVariants as kind
 use Rattle.bpf_text.specs.declared.event.EventWord.{EventWord}
@@ -30,26 +30,26 @@ abbrev pub is_event : List ℕ → Bool
 is_event word = is_some (kind_at (slice_index word 0)) && is_number (drop 1 word)
 
 -- an event of a kind and a worker
-abbrev pub event : Option EventKind → Result ℕ Fault → Result EventWord Fault
+abbrev pub event : Option EventKind → Result ℕ TextFault → Result EventWord TextFault
 event None worker = Err faults.Form
 event (Some k) (Err fault) = Err fault
 event (Some k) (Ok worker) = Ok (record { kind = k; worker = worker })
 
 -- the event of a word: its letter, and a worker of 0 to 255
-abbrev pub event_at : List ℕ → Result EventWord Fault
+abbrev pub event_at : List ℕ → Result EventWord TextFault
 event_at word = event (kind_at (slice_index word 0)) (field_of 255 (drop 1 word))
 
 -- the events of words
-abbrev pub events_in : List (List ℕ) → Result (List EventWord) Fault
+abbrev pub events_in : List (List ℕ) → Result (List EventWord) TextFault
 events_in [] = Ok []
 events_in (word ∷ words) = with_first (event_at word) (events_in words)
 
 -- the same, where a word that is no event comes before a worker outside its field
-abbrev pub events_of : List (List ℕ) → Result (List EventWord) Fault
+abbrev pub events_of : List (List ℕ) → Result (List EventWord) TextFault
 events_of words = if list_all is_event words then events_in words else Err faults.Form
 
 -- the bounds that the words of a first line give
-abbrev pub bounds_of : List (List ℕ) → Result (List ℕ) Fault
+abbrev pub bounds_of : List (List ℕ) → Result (List ℕ) TextFault
 bounds_of [] = Err faults.Form
 bounds_of (word ∷ words) = if bytes_eq word (codes "bounds") then fields_of (2 ^ 32 - 1) words else Err faults.Form
 

@@ -1,3 +1,2 @@
-pub mod HexText
 pub mod MapsText
 pub mod EventsText

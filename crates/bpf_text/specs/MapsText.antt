@@ -8,12 +8,12 @@ use Rattle.bpf_text_lines.specs.declared.numbers.NumberError.{NumberError}
 use Rattle.bpf_text_lines.specs.Lines.{contents_of}
 use Rattle.bpf_text_lines.specs.Numbers.{is_number, number_in}
 use Rattle.bpf_text_lines.specs.Words.{words_of}
-use Rattle.bpf_text_fields.specs.declared.error.Fault.{Fault}
-use Rattle.bpf_text_fields.specs.declared.error.Fault.TheVariants as faults
-use Rattle.bpf_text_fields.specs.declared.error.TextError.{TextError}
-use Rattle.bpf_text_fields.specs.declared.error.TextError.TheVariants as errors
-use Rattle.bpf_text_fields.specs.Refusals.{at_line, ◌>>=◌}
-use Rattle.bpf_text_fields.specs.Fields.{fields_of}
+use Rattle.bpf_text_lines.specs.declared.text_error.TextFault.{TextFault}
+use Rattle.bpf_text_lines.specs.declared.text_error.TextFault.TheVariants as faults
+use Rattle.bpf_text_lines.specs.declared.text_error.TextError.{TextError}
+use Rattle.bpf_text_lines.specs.declared.text_error.TextError.TheVariants as errors
+use Rattle.bpf_text_lines.specs.Refusals.{at_line, ◌>>=◌}
+use Rattle.bpf_text_lines.specs.Fields.{fields_of}
 
 -- maps without where they lie in memory
 abbrev pub lists : List (Vec ℕ Global) → List (List ℕ)
@@ -43,12 +43,12 @@ fits_as_map number held label values =
     && (nat_lt number 16 && (nat_le 1 (length values) && nat_le (held + length values) 65536))
 
 -- numbers as the values of this map
-abbrev pub as_values : (number held : ℕ) → List ℕ → Result (List ℕ) Fault → Result (List ℕ) Fault
+abbrev pub as_values : (number held : ℕ) → List ℕ → Result (List ℕ) TextFault → Result (List ℕ) TextFault
 as_values number held label (Err fault) = Err fault
 as_values number held label (Ok values) = if fits_as_map number held label values then Ok values else Err faults.Limits
 
 -- the values that the words of a line give, where the line has to be this map's
-abbrev pub values_of : (number held : ℕ) → List (List ℕ) → Result (List ℕ) Fault
+abbrev pub values_of : (number held : ℕ) → List (List ℕ) → Result (List ℕ) TextFault
 values_of number held [] = Err faults.Form
 values_of number held (word ∷ []) = Err faults.Form
 values_of number held (word ∷ label ∷ words) =

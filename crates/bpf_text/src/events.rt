@@ -4,12 +4,15 @@ ghost use Rattle.std.specs.Prelude.{◌≡◌, ◌≤◌, ◌<◌, ◌+◌, ◌^
 ghost use Rattle.std.specs.List.{list_all};
 ghost use Rattle.bpf_text_lines.specs.Lines.{contents_of, contents_from, lines_of};
 ghost use Rattle.bpf_text_lines.specs.Words.{words_of};
-ghost use Rattle.bpf_text_fields.specs.Refusals.{at_line, Gives};
+ghost use Rattle.bpf_insn_form.specs.Outcome.{Gives};
+ghost use Rattle.bpf_text_lines.specs.Refusals.{at_line, text_refusal};
 ghost use Rattle.bpf_text.specs.EventsText.{kind_at, is_event, event_at, events_in, events_of, bounds_of, events_behind, schedule_of, events_text};
 
 use crate::event::{EventKind, EventWord};
-use bpf_text_fields::{Fault, MAX_TEXT, TextError, read_u32_fields};
-use bpf_text_lines::{NumberError, is_number, next_line, next_word, read_number};
+use bpf_text_lines::{
+    MAX_TEXT, NumberError, TextError, TextFault, is_number, next_line, next_word, read_number,
+    read_u32_fields,
+};
 use std::alloc::Global;
 
 /// The kind that a letter stands for.
@@ -52,27 +55,27 @@ fn are_events(words: &[u8]) -> bool
 
 /// The event of a word, or its fault.
 fn read_event(word: &[u8], line: u32) -> Result<EventWord, TextError>
-    ensures { Gives (λ e. e) result (at_line line (event_at word.now)) }
+    ensures { Gives text_refusal (λ e. e) result (at_line line (event_at word.now)) }
 {
     if word.is_empty() {
-        return Err(Fault::Form.at(line));
+        return Err(TextFault::Form.at(line));
     }
     let Some(kind) = kind_at(word[0]) else {
-        return Err(Fault::Form.at(line));
+        return Err(TextFault::Form.at(line));
     };
     match read_number(&word[1..], u64::from(u8::MAX)) {
         Ok(worker) => Ok(EventWord {
             kind,
             worker: worker as u8,
         }),
-        Err(NumberError::Form) => Err(Fault::Form.at(line)),
-        Err(NumberError::Field) => Err(Fault::Field.at(line)),
+        Err(NumberError::Form) => Err(TextFault::Form.at(line)),
+        Err(NumberError::Field) => Err(TextFault::Field.at(line)),
     }
 }
 
 /// The events of a line's words, or the first fault.
 fn read_words(alloc: Global, words: &[u8], line: u32) -> Result<Vec<EventWord>, TextError>
-    ensures { Gives (λ v. v.items) result (at_line line (events_in (words_of words.now))) }
+    ensures { Gives text_refusal (λ v. v.items) result (at_line line (events_in (words_of words.now))) }
 {
     let mut events = Vec::new(alloc);
     let mut rest = words;
@@ -85,23 +88,23 @@ fn read_words(alloc: Global, words: &[u8], line: u32) -> Result<Vec<EventWord>, 
 
 /// The events of a line. A word that is no event is found before a worker outside its field.
 fn read_events(alloc: Global, words: &[u8], line: u32) -> Result<Vec<EventWord>, TextError>
-    ensures { Gives (λ v. v.items) result (at_line line (events_of (words_of words.now))) }
+    ensures { Gives text_refusal (λ v. v.items) result (at_line line (events_of (words_of words.now))) }
 {
     if !are_events(words) {
-        return Err(Fault::Form.at(line));
+        return Err(TextFault::Form.at(line));
     }
     read_words(alloc, words, line)
 }
 
 /// The bounds that the first line gives, or its fault.
 fn read_bounds(alloc: Global, content: &[u8], line: u32) -> Result<Vec<u32>, TextError>
-    ensures { Gives (λ v. v.items) result (at_line line (bounds_of (words_of content.now))) }
+    ensures { Gives text_refusal (λ v. v.items) result (at_line line (bounds_of (words_of content.now))) }
 {
     let Some((word, rest)) = next_word(content) else {
-        return Err(Fault::Form.at(line));
+        return Err(TextFault::Form.at(line));
     };
     if word != b"bounds".as_slice() {
-        return Err(Fault::Form.at(line));
+        return Err(TextFault::Form.at(line));
     }
     read_u32_fields(alloc, rest, line)
 }
@@ -109,7 +112,7 @@ fn read_bounds(alloc: Global, content: &[u8], line: u32) -> Result<Vec<u32>, Tex
 /// The events of lines, the first of which has this number.
 fn read_lines(alloc: Global, text: &[u8], first: u32) -> Result<Vec<EventWord>, TextError>
     requires { first + length text.now < 2 ^ 32 }
-    ensures { Gives (λ v. v.items) result (events_behind [] (contents_from first (lines_of text.now))) }
+    ensures { Gives text_refusal (λ v. v.items) result (events_behind [] (contents_from first (lines_of text.now))) }
 {
     let mut events = Vec::new(alloc);
     let mut rest = text;
@@ -126,10 +129,10 @@ fn read_lines(alloc: Global, text: &[u8], first: u32) -> Result<Vec<EventWord>, 
 /// The bounds and events of a text that isn't too long.
 fn read_schedule(alloc: Global, text: &[u8]) -> Result<(Vec<u32>, Vec<EventWord>), TextError>
     requires { length text.now ≤ 1048576 }
-    ensures { Gives (λ x. (x.0.items, x.1.items)) result (schedule_of (contents_of text.now)) }
+    ensures { Gives text_refusal (λ x. (x.0.items, x.1.items)) result (schedule_of (contents_of text.now)) }
 {
     let Some(head) = next_line(text, 1) else {
-        return Err(Fault::Form.at(0));
+        return Err(TextFault::Form.at(0));
     };
     let bounds = read_bounds(alloc, head.content, head.number)?;
     let events = read_lines(alloc, head.rest, head.number + 1)?;
@@ -144,11 +147,11 @@ fn read_schedule(alloc: Global, text: &[u8]) -> Result<(Vec<u32>, Vec<EventWord>
 /// line 0, `Form` at line 0 where there is no first line, `Form`, `Field` for a bound outside 0 to
 /// 2^32 - 1 or a worker outside 0 to 255. `Memory` may come in place of any answer.
 pub fn parse_events(alloc: Global, text: &str) -> Result<(Vec<u32>, Vec<EventWord>), TextError>
-    ensures { Gives (λ x. (x.0.items, x.1.items)) result (events_text text.now) }
+    ensures { Gives text_refusal (λ x. (x.0.items, x.1.items)) result (events_text text.now) }
 {
     let bytes = text.as_bytes();
     if bytes.len() > MAX_TEXT {
-        return Err(Fault::TooLong.at(0));
+        return Err(TextFault::TooLong.at(0));
     }
     read_schedule(alloc, bytes)
 }

@@ -4,11 +4,14 @@ ghost use Rattle.std.specs.Prelude.{◌≡◌, ◌≤◌, ◌<◌, ◌+◌, ◌-
 ghost use Rattle.bpf_text_lines.specs.Lines.{contents_of, contents_from, lines_of};
 ghost use Rattle.bpf_text_lines.specs.Numbers.{number_in};
 ghost use Rattle.bpf_text_lines.specs.Words.{words_of};
-ghost use Rattle.bpf_text_fields.specs.Refusals.{at_line, Gives};
+ghost use Rattle.bpf_insn_form.specs.Outcome.{Gives};
+ghost use Rattle.bpf_text_lines.specs.Refusals.{at_line, text_refusal};
 ghost use Rattle.bpf_text.specs.MapsText.{lists, label_number, is_label, is_map_head, is_turn, fits_as_map, values_of, maps_behind, maps_text};
 
-use bpf_text_fields::{Fault, MAX_ELEMENTS, MAX_MAPS, MAX_TEXT, TextError, read_fields};
-use bpf_text_lines::{is_number, next_line, next_word, read_number};
+use bpf_insn_form::{MAX_ELEMENTS, MAX_MAPS};
+use bpf_text_lines::{
+    MAX_TEXT, TextError, TextFault, is_number, next_line, next_word, read_fields, read_number,
+};
 use std::alloc::Global;
 
 /// Whether the word is a number and a colon.
@@ -53,7 +56,7 @@ fn fits_as_map(label: &[u8], number: usize, held: usize, values: &[u64]) -> bool
     if !is_turn(label, number) {
         return false;
     }
-    number < MAX_MAPS && !values.is_empty() && values.len() <= MAX_ELEMENTS - held
+    number < MAX_MAPS && !values.is_empty() && values.len() <= MAX_ELEMENTS as usize - held
 }
 
 /// The values of the map of this number, behind this many values of the maps before it, or the
@@ -66,21 +69,21 @@ fn read_values(
     held: usize,
 ) -> Result<Vec<u64>, TextError>
     requires { held ≤ 65536 }
-    ensures meaning { Gives (λ v. v.items) result (at_line line (values_of number held (words_of content.now))) }
+    ensures meaning { Gives text_refusal (λ v. v.items) result (at_line line (values_of number held (words_of content.now))) }
     ensures room { IfOk result (λ v. held + vec_len v ≤ 65536) }
 {
     let Some((word, rest)) = next_word(content) else {
-        return Err(Fault::Form.at(line));
+        return Err(TextFault::Form.at(line));
     };
     let Some((label, rest)) = next_word(rest) else {
-        return Err(Fault::Form.at(line));
+        return Err(TextFault::Form.at(line));
     };
     if !is_map_head(word, label) {
-        return Err(Fault::Form.at(line));
+        return Err(TextFault::Form.at(line));
     }
     let values = read_fields(alloc, rest, u64::MAX, line)?;
     if !fits_as_map(label, number, held, &values) {
-        return Err(Fault::Limits.at(line));
+        return Err(TextFault::Limits.at(line));
     }
     Ok(values)
 }
@@ -88,7 +91,7 @@ fn read_values(
 /// The maps of a text that isn't too long.
 fn read_maps(alloc: Global, text: &[u8]) -> Result<Vec<Vec<u64>>, TextError>
     requires { length text.now ≤ 1048576 }
-    ensures { Gives (λ maps. lists maps.items) result (maps_behind [] (contents_of text.now)) }
+    ensures { Gives text_refusal (λ maps. lists maps.items) result (maps_behind [] (contents_of text.now)) }
 {
     let mut maps = Vec::new(alloc);
     let mut held = 0;
@@ -113,15 +116,15 @@ fn read_maps(alloc: Global, text: &[u8]) -> Result<Vec<Vec<u64>>, TextError>
 /// 2^64 - 1, `Limits` for a K out of turn, no value, or too many maps or values. `Memory` may come in
 /// place of any answer.
 pub fn parse_maps(alloc: Global, text: &str) -> Result<Vec<Vec<u64>>, TextError>
-    ensures { Gives (λ maps. lists maps.items) result (maps_text text.now) }
+    ensures { Gives text_refusal (λ maps. lists maps.items) result (maps_text text.now) }
 {
     let bytes = text.as_bytes();
     if bytes.len() > MAX_TEXT {
-        return Err(Fault::TooLong.at(0));
+        return Err(TextFault::TooLong.at(0));
     }
     let maps = read_maps(alloc, bytes)?;
     if maps.is_empty() {
-        return Err(Fault::Limits.at(0));
+        return Err(TextFault::Limits.at(0));
     }
     Ok(maps)
 }

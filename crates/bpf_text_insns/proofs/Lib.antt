@@ -1,2 +1,8 @@
 pub mod DistanceLaws
-pub mod HexLines
+pub mod WideLaws
+pub mod Bounds
+pub mod SolidWords
+pub mod MnemonicFronts
+pub mod PrintedInsns
+pub mod LineLaws
+pub mod PrintedHead

@@ -1,3 +1,3 @@
 pub mod MnemonicWords
 pub mod Statement
-pub mod UnitText
+pub mod PrintedLines

@@ -1,5 +1,5 @@
 -- A number has one spelling: its decimal digits.
-use Rattle.std.proofs.Common.{◌≡◌, ℕ, zero, suc, ◌<◌, ◌≤◌, ◌^◌, Bool, true, false, cond, ◌||◌, ◌==◌, List, [], ◌∷◌, length, get_or, Result, Ok, Err, refl, sym, ap, ◌∙◌, arith, rules}
+use Rattle.std.proofs.Common.{◌≡◌, ℕ, zero, suc, ◌-◌, ◌<◌, ◌≤◌, ◌^◌, Bool, true, false, cond, ◌||◌, ◌==◌, List, [], ◌∷◌, length, get_or, Result, Ok, Err, refl, sym, ap, ◌∙◌, arith, rules}
 use Rattle.std.specs.Prelude.{nat_le, nat_lt, IfOk}
 use Rattle.std.specs.Char.{is_ascii_digit}
 use Rattle.std.specs.Fmt.{decimal}
@@ -65,3 +65,32 @@ in_field limit n fits le =
 
 pub read_back : (limit : ℕ) (word : List ℕ) (n : ℕ) → limit < 2 ^ 64 → n ≤ limit → word ≡ decimal n → number_in limit word ≡ Ok n
 read_back limit word n fits le same = ap (number_in limit) same ∙ in_field limit n fits le
+
+-- ---- digits
+
+pub digit_low : (b : ℕ) → is_ascii_digit b ≡ true → 48 ≤ b
+digit_low b e = let h = and_parts _ _ e in leb-true 48 b h.0
+
+-- what the digits of a number are
+pub record Digits (word : List ℕ) : Type 0 where
+  pub numeral : is_numeral word ≡ true
+  pub digits : list_all is_ascii_digit word ≡ true
+  pub filled : 0 < length word
+  pub first : 48 ≤ get_or word 0 0
+
+is_answer : (numeral small negative : Bool) (v n : ℕ) → cond numeral (cond small (Ok v) (Err Field)) (cond negative (Err Field) (Err Form)) ≡ Ok n → numeral ≡ true
+is_answer true small negative v n e = refl
+is_answer false small true v n e = absurd cc
+is_answer false small false v n e = absurd cc
+
+first_from : (word : List ℕ) → 0 < length word → list_all is_ascii_digit word ≡ true → 48 ≤ get_or word 0 0
+first_from [] some e = absurd (omega arith)
+first_from (b ∷ bs) some e = digit_low b (and_parts (is_ascii_digit b) (list_all is_ascii_digit bs) e).0
+
+pub decimal_digits : (n : ℕ) → n < 2 ^ 64 → Digits (decimal n)
+decimal_digits n fits =
+    let read : number_in (2 ^ 64 - 1) (decimal n) ≡ Ok n = in_field (2 ^ 64 - 1) n (omega arith) (omega arith) in
+    let numeral = is_answer (is_numeral (decimal n)) (nat_le (value_of (decimal n)) (2 ^ 64 - 1)) (is_negative (decimal n)) (value_of (decimal n)) n read in
+    let parts = and_parts (list_all is_ascii_digit (decimal n)) _ numeral in
+    let filled = is_filled (decimal n) parts.1 in
+    record { numeral = numeral; digits = parts.0; filled = filled; first = first_from (decimal n) filled parts.0 }

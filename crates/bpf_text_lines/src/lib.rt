@@ -1,16 +1,22 @@
-//! The lines, words, numbers and names that all texts are made of, as bytes. A text's blanks are the
-//! space and the tab and nothing else: a carriage return is a byte of its line like any other.
+//! What all texts share, as bytes: lines, words, numbers and names; refusals; lines of numbers; and
+//! the first line of a unit. A text's blanks are the space and the tab and nothing else: a carriage
+//! return is a byte of its line like any other.
 #![tactic(auto)]
 
+mod fields;
+mod head;
+mod limits;
 mod lines;
 mod names;
 mod numbers;
+mod text_error;
 mod words;
 
+pub use fields::{read_fields, read_u32_fields};
+pub use head::read_head;
+pub use limits::{MAX_BYTES, MAX_TEXT};
 pub use lines::{Line, before_comment, content, next_line, split_line, trim, trim_end, trim_start};
 pub use names::is_name;
-pub use numbers::{NumberError, is_negative, is_number, is_numeral, read_number};
-pub use words::{is_blank, next_word};
-
-#[cfg(test)]
-mod tests;
+pub use numbers::{NumberError, has_only_digits, is_negative, is_number, is_numeral, read_number};
+pub use text_error::{TextError, TextFault};
+pub use words::{blank_at, is_blank, next_word};

@@ -17,7 +17,7 @@ pub enum NumberError {
 }
 
 /// Whether all bytes are decimal digits.
-fn has_only_digits(word: &[u8]) -> bool
+pub fn has_only_digits(word: &[u8]) -> bool
     ensures { result ≡ list_all is_ascii_digit word.now }
 {
     word.iter().all(|b| b.is_ascii_digit())

@@ -14,22 +14,22 @@ use Rattle.bpf_insn_form.specs.Values.{InsnFits}
 use Rattle.bpf_text_insns.specs.declared.mnemonic.Mnemonic.TheVariants as mnemonic
 use Rattle.bpf_text_insns.specs.declared.value.Value.TheVariants as value
 use Rattle.bpf_text_insns.specs.Statement.{wide}
-use Rattle.bpf_text_insns.specs.UnitText.{insn_spelling}
+use Rattle.bpf_text_insns.specs.PrintedLines.{insn_spelling}
 use Rattle.bpf_text_operands.specs.declared.kind.Kind.TheVariants as kind
-use Rattle.bpf_text_operands.specs.Statements.{with_operands, insn_at}
+use Rattle.bpf_text_operands.specs.Statements.{with_operands, insn_of_line}
 use Rattle.bpf_text_operands.proofs.MnemonicLaws.{exit_back}
-use Rattle.bpf_text_operands.proofs.ValueLaws.{same_ok}
+use Rattle.bpf_text_lines.proofs.ResultLaws.{same_ok}
 use Rattle.bpf_text_operands.proofs.LineBack.{line_one, line_two, line_three, reg_reads, imm_reads, near_reads, far_reads, address_reads, imm_operand, reg_operand, wide_reads}
-use Rattle.bpf_text_operands.proofs.WideLaws.{wide_low, wide_high, wide_fits}
+use Rattle.bpf_text_insns.proofs.WideLaws.{wide_low, wide_high, wide_fits}
 
 module _ (find : List ℕ → Option ℕ) (slot : ℕ) where
-  exit_line : insn_at find slot (insn_spelling insn.Exit) ≡ Ok insn.Exit
-  unfolding insn_at
+  exit_line : insn_of_line find slot (insn_spelling insn.Exit) ≡ Ok insn.Exit
+  unfolding insn_of_line
   exit_line = ap (with_operands find slot) exit_back
 
   -- a second number that a kind has not is zero where the load has bytes
   load_back : (k : ImmKind) (dst : ℕ) (imm next : ℤ) (ss : List Slot) → InsnFits (insn.LoadImm k dst imm next) → spelling (insn.LoadImm k dst imm next) ≡ Ok ss →
-      insn_at find slot (insn_spelling (insn.LoadImm k dst imm next)) ≡ Ok (insn.LoadImm k dst imm next)
+      insn_of_line find slot (insn_spelling (insn.LoadImm k dst imm next)) ≡ Ok (insn.LoadImm k dst imm next)
   load_back load.Number dst imm next ss fits e =
       line_two find slot (mnemonic.LoadImm load.Number) kind.Reg kind.Wide (value.Reg dst) (value.Wide (wide imm next)) (insn.LoadImm load.Number dst imm next) tt refl
       (reg_reads find slot dst fits.0) (wide_reads find slot (wide imm next) (wide_fits imm next fits.1 fits.2))
@@ -57,7 +57,7 @@ module _ (find : List ℕ → Option ℕ) (slot : ℕ) where
   load_back load.Code dst imm (pos (suc n)) ss fits e = absurd cc
   load_back load.Code dst imm (negsuc n) ss fits e = absurd cc
 
-  pub insn_back : (i : Insn) (ss : List Slot) → InsnFits i → spelling i ≡ Ok ss → insn_at find slot (insn_spelling i) ≡ Ok i
+  pub insn_back : (i : Insn) (ss : List Slot) → InsnFits i → spelling i ≡ Ok ss → insn_of_line find slot (insn_spelling i) ≡ Ok i
   insn_back (insn.Alu w o dst (operand.Imm imm)) ss fits e = line_two find slot (mnemonic.Alu w o) kind.Reg kind.RegOrImm (value.Reg dst) (value.Imm imm) _ tt refl (reg_reads find slot dst fits.0) (imm_operand find slot imm fits.1) refl
   insn_back (insn.Alu w o dst (operand.Reg src)) ss fits e = line_two find slot (mnemonic.Alu w o) kind.Reg kind.RegOrImm (value.Reg dst) (value.Reg src) _ tt refl (reg_reads find slot dst fits.0) (reg_operand find slot src fits.1) refl
   insn_back (insn.Neg w dst) ss fits e = line_one find slot (mnemonic.Neg w) kind.Reg (value.Reg dst) _ tt refl (reg_reads find slot dst fits) refl
@@ -84,4 +84,4 @@ module _ (find : List ℕ → Option ℕ) (slot : ℕ) where
 
 pub one_insn : (i j : Insn) (a b : List Slot) → InsnFits i → InsnFits j → spelling i ≡ Ok a → spelling j ≡ Ok b → insn_spelling i ≡ insn_spelling j → i ≡ j
 one_insn i j a b fits others spelled also same =
-    same_ok i j (insn_at (λ name. None) 0 (insn_spelling i)) (insn_back (λ name. None) 0 i a fits spelled) (ap (insn_at (λ name. None) 0) same ∙ insn_back (λ name. None) 0 j b others also)
+    same_ok i j (insn_of_line (λ name. None) 0 (insn_spelling i)) (insn_back (λ name. None) 0 i a fits spelled) (ap (insn_of_line (λ name. None) 0) same ∙ insn_back (λ name. None) 0 j b others also)

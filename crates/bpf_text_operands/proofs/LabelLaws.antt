@@ -4,11 +4,13 @@ use Rattle.std.specs.Option.{is_some}
 use Rattle.std.specs.Str.{bytes_eq}
 use Rattle.std.specs.Cmp.Lexicographic.{bytes_decides, nat_list_eq_equiv}
 use Rattle.bpf_text_operands.specs.declared.labels.Label.{Label}
-use Rattle.bpf_text_operands.specs.LabelTable.{or_this, defined}
+use Rattle.std.specs.Option.{option_or}
+use Rattle.bpf_text_operands.specs.LabelTable.{defined}
 
-nothing_else : (r : Option Label) → r ≡ or_this r None
-nothing_else (Some label) = refl
-nothing_else None = refl
+-- an option or none is itself
+pub option_or-none : (r : Option Label) → r ≡ option_or r None
+option_or-none (Some label) = refl
+option_or-none None = refl
 
 by_test : (t : Bool) (labels : List ℕ → Option Label) (name : List ℕ) (label : Label) (other : List ℕ) → bytes_eq name other ≡ t → labels name ≡ None →
     cond t (Some label) (labels other) ≡ defined labels name label other
@@ -18,7 +20,7 @@ by_test true labels name label other same none =
     rw (missing, here) refl
 by_test false labels name label other same none =
     let apart : bytes_eq other name ≡ false = nat_list_eq_equiv.symm other name ∙ same in
-    rw apart (nothing_else (labels other))
+    rw apart (option_or-none (labels other))
 
 -- a label that wasn't defined, once it is put in
 pub defined_once : (labels : List ℕ → Option Label) (name : List ℕ) (label : Label) (other : List ℕ) (r : Option Label) → labels name ≡ None →

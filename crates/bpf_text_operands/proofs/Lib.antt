@@ -3,6 +3,5 @@ pub mod LabelLaws
 pub mod MnemonicLaws
 pub mod PlainLaws
 pub mod ValueLaws
-pub mod WideLaws
 pub mod LineBack
 pub mod InsnBack

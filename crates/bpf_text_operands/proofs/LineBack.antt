@@ -6,26 +6,27 @@ use Rattle.std.specs.List.{list_all}
 use Rattle.std.proofs.lemmas.Bool.{ne_eqb, lt-ltb, leb-true, and_parts, and_from, cond-true, cond-false}
 use Rattle.std.specs.Fmt.{decimal, signed_decimal}
 use Rattle.std.specs.Int.{w16, w32}
-use Rattle.bpf_text_lines.proofs.SpellingLaws.{in_field}
+use Rattle.bpf_text_lines.proofs.SpellingLaws.{in_field, decimal_digits}
 use Rattle.bpf_text_lines.specs.Lines.{trim_start, trim}
-use Rattle.bpf_text_fields.specs.Fields.{as_field}
+use Rattle.bpf_text_lines.specs.Fields.{as_field}
 use Rattle.bpf_text_insns.specs.declared.mnemonic.Mnemonic.{Mnemonic}
 use Rattle.bpf_text_insns.specs.declared.value.Value.{Value}
 use Rattle.bpf_text_insns.specs.declared.value.Value.TheVariants as value
 use Rattle.bpf_text_insns.specs.declared.value.Operands.{Operands}
 use Rattle.bpf_text_insns.specs.declared.value.Operands.TheVariants as operands
 use Rattle.bpf_text_insns.specs.MnemonicWords.{mnemonic_word}
-use Rattle.bpf_text_insns.specs.UnitText.{distance_spelling, value_spelling, operands_spelling}
+use Rattle.bpf_text_insns.specs.PrintedLines.{distance_spelling, value_spelling, operands_spelling}
 use Rattle.bpf_insn_form.specs.declared.insn.Insn.{Insn}
 use Rattle.bpf_text_operands.specs.declared.kind.Kind.{Kind}
 use Rattle.bpf_text_operands.specs.declared.kind.Kind.TheVariants as kind
 use Rattle.bpf_text_operands.specs.declared.kind.Kinds.TheVariants as kinds
 use Rattle.bpf_text_operands.specs.SignedNumbers.{is_register}
 use Rattle.bpf_text_operands.specs.Operands.{kinds_of, pair, as_reg, as_imm, as_wide, as_distance, as_far_distance, value_at, cut_comma, one, two, three, both_at, three_at, operands_at}
-use Rattle.bpf_text_operands.specs.Statements.{statement_at, insn_of, some_insn, built, with_operands, insn_at}
+use Rattle.bpf_text_operands.specs.Statements.{statement_at, insn_of_mnemonic, some_insn, built, with_operands, insn_of_line}
 use Rattle.bpf_text_operands.proofs.MnemonicLaws.{HasWord, mnemonic_back}
 use Rattle.bpf_text_operands.proofs.PlainLaws.{Plain, plain-append, plain-digits, plain-no_comma, trim_start-text, trim_start-plain, trim-plain, cut_back}
-use Rattle.bpf_text_operands.proofs.ValueLaws.{InBound, decimal_digits, register_decimal, signed_back, distance_back, address_back, near_bound, far_bound}
+use Rattle.bpf_text_operands.proofs.ValueLaws.{register_decimal, signed_back, distance_back, address_back}
+use Rattle.bpf_text_insns.proofs.Bounds.{InBound, near_bound, far_bound}
 
 module _ (find : List ℕ → Option ℕ) (slot : ℕ) where
   -- a word that is read as an operand of a kind, and has no blank and no comma
@@ -57,22 +58,22 @@ module _ (find : List ℕ → Option ℕ) (slot : ℕ) where
       ∙ ap (λ f. three (pair (Ok u) f)) (both_back b c y z (32 ∷ y) v w s t (trim-plain y s.plain))
 
   -- a line whose mnemonic and operands are read is its instruction
-  from_parts : (m : Mnemonic) (line text : List ℕ) (o : Operands) (i : Insn) → statement_at line ≡ Some (m, text) → operands_at find slot (kinds_of m) text ≡ Ok o → insn_of m o ≡ Some i →
-      insn_at find slot line ≡ Ok i
-  unfolding insn_at
+  from_parts : (m : Mnemonic) (line text : List ℕ) (o : Operands) (i : Insn) → statement_at line ≡ Some (m, text) → operands_at find slot (kinds_of m) text ≡ Ok o → insn_of_mnemonic m o ≡ Some i →
+      insn_of_line find slot line ≡ Ok i
+  unfolding insn_of_line
   from_parts m line text o i said read made =
       ap (with_operands find slot) said ∙ ap (built m) read ∙ ap some_insn made
 
-  pub line_one : (m : Mnemonic) (k : Kind) (v : Value) (i : Insn) → HasWord m → kinds_of m ≡ kinds.One k → Reads k (value_spelling v) v → insn_of m (operands.One v) ≡ Some i →
-      insn_at find slot (mnemonic_word m ++ operands_spelling (operands.One v)) ≡ Ok i
+  pub line_one : (m : Mnemonic) (k : Kind) (v : Value) (i : Insn) → HasWord m → kinds_of m ≡ kinds.One k → Reads k (value_spelling v) v → insn_of_mnemonic m (operands.One v) ≡ Some i →
+      insn_of_line find slot (mnemonic_word m ++ operands_spelling (operands.One v)) ≡ Ok i
   line_one m k v i h same r made =
       let x = value_spelling v in
       from_parts m (mnemonic_word m ++ 32 ∷ x) x (operands.One v) i
       (mnemonic_back m h x ∙ ap (λ text. Some (m, text)) (trim_start-plain x r.plain))
       (ap (λ ks. operands_at find slot ks x) same ∙ one_back k x v r) made
 
-  pub line_two : (m : Mnemonic) (a b : Kind) (u v : Value) (i : Insn) → HasWord m → kinds_of m ≡ kinds.Two a b → Reads a (value_spelling u) u → Reads b (value_spelling v) v → insn_of m (operands.Two u v) ≡ Some i →
-      insn_at find slot (mnemonic_word m ++ operands_spelling (operands.Two u v)) ≡ Ok i
+  pub line_two : (m : Mnemonic) (a b : Kind) (u v : Value) (i : Insn) → HasWord m → kinds_of m ≡ kinds.Two a b → Reads a (value_spelling u) u → Reads b (value_spelling v) v → insn_of_mnemonic m (operands.Two u v) ≡ Some i →
+      insn_of_line find slot (mnemonic_word m ++ operands_spelling (operands.Two u v)) ≡ Ok i
   line_two m a b u v i h same r s made =
       let x = value_spelling u in
       let y = value_spelling v in
@@ -82,7 +83,7 @@ module _ (find : List ℕ → Option ℕ) (slot : ℕ) where
       (ap (λ ks. operands_at find slot ks (x ++ 44 ∷ 32 ∷ y)) same ∙ two_back a b x y u v r s) made
 
   pub line_three : (m : Mnemonic) (a b c : Kind) (u v w : Value) (i : Insn) → HasWord m → kinds_of m ≡ kinds.Three a b c → Reads a (value_spelling u) u → Reads b (value_spelling v) v → Reads c (value_spelling w) w →
-      insn_of m (operands.Three u v w) ≡ Some i → insn_at find slot (mnemonic_word m ++ operands_spelling (operands.Three u v w)) ≡ Ok i
+      insn_of_mnemonic m (operands.Three u v w) ≡ Some i → insn_of_line find slot (mnemonic_word m ++ operands_spelling (operands.Three u v w)) ≡ Ok i
   line_three m a b c u v w i h same r s t made =
       let x = value_spelling u in
       let y = value_spelling v in

@@ -7,6 +7,7 @@ use Rattle.std.proofs.lemmas.Bool.{ne_eqb, lt-ltb, leb-true, and_parts}
 use Rattle.std.proofs.lemmas.List.{length-append}
 use Rattle.std.proofs.Math.Seq.{take-append_seam, drop-append-add}
 use Rattle.bpf_text_lines.specs.Lines.{is_blank, trim_start, before_kept, trim_end, trim}
+use Rattle.bpf_text_lines.proofs.SpellingLaws.{digit_low}
 use Rattle.bpf_text_operands.specs.Operands.{cut, cut_comma}
 
 -- no byte is a blank or a comma
@@ -70,9 +71,6 @@ cut_back v rest p =
     ∙ ap (λ (behind : List ℕ). Some (v, behind)) (drop-append-add v (44 ∷ rest) 1)
 
 -- ---- digits
-
-pub digit_low : (b : ℕ) → is_ascii_digit b ≡ true → 48 ≤ b
-digit_low b e = let h = and_parts _ _ e in leb-true 48 b h.0
 
 pub plain-digits : (bs : List ℕ) → list_all is_ascii_digit bs ≡ true → Plain bs
 plain-digits [] e = tt

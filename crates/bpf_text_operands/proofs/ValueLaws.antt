@@ -12,50 +12,21 @@ use Rattle.std.proofs.Math.Seq.{take-append_seam, drop-append_seam, get_or-appen
 use Rattle.bpf_text_lines.specs.declared.numbers.NumberError.TheVariants as numbers
 use Rattle.bpf_text_lines.specs.Names.{continues_name, is_name}
 use Rattle.bpf_text_lines.specs.Numbers.{is_numeral, is_negative, number_in, value_of}
-use Rattle.bpf_text_lines.proofs.SpellingLaws.{is_filled, in_field}
-use Rattle.bpf_text_fields.specs.declared.error.Fault.{Fault}
-use Rattle.bpf_text_fields.specs.declared.error.Fault.TheVariants as faults
+use Rattle.bpf_text_lines.proofs.SpellingLaws.{in_field, digit_low, decimal_digits}
+use Rattle.bpf_text_lines.specs.declared.text_error.TextFault.{TextFault}
+use Rattle.bpf_text_lines.specs.declared.text_error.TextFault.TheVariants as faults
 use Rattle.bpf_text_insns.specs.declared.value.Value.{Value}
 use Rattle.bpf_text_insns.specs.declared.value.Value.TheVariants as value
-use Rattle.bpf_text_insns.specs.UnitText.{distance_spelling, value_spelling}
+use Rattle.bpf_text_insns.specs.PrintedLines.{distance_spelling, value_spelling}
 use Rattle.bpf_text_operands.specs.SignedNumbers.{as_register, register_at, ahead, back, signed_at, offset_at, distance_at}
 use Rattle.bpf_text_operands.specs.Operands.{pair, as_address, is_sign, is_bracketed, inside, base_of, offset_of, address_at}
-use Rattle.bpf_text_operands.proofs.PlainLaws.{digit_low}
-
--- what the digits of a number are
-pub record Digits (word : List ℕ) : Type 0 where
-  pub numeral : is_numeral word ≡ true
-  pub digits : list_all is_ascii_digit word ≡ true
-  pub filled : 0 < length word
-  pub first : 48 ≤ get_or word 0 0
-
-is_answer : (numeral small negative : Bool) (v n : ℕ) → cond numeral (cond small (Ok v) (Err numbers.Field)) (cond negative (Err numbers.Field) (Err numbers.Form)) ≡ Ok n → numeral ≡ true
-is_answer true small negative v n e = refl
-is_answer false small true v n e = absurd cc
-is_answer false small false v n e = absurd cc
-
-first_from : (word : List ℕ) → 0 < length word → list_all is_ascii_digit word ≡ true → 48 ≤ get_or word 0 0
-first_from [] some e = absurd (omega arith)
-first_from (b ∷ bs) some e = digit_low b (and_parts (is_ascii_digit b) (list_all is_ascii_digit bs) e).0
-
-pub decimal_digits : (n : ℕ) → n < 2 ^ 64 → Digits (decimal n)
-decimal_digits n fits =
-    let read : number_in (2 ^ 64 - 1) (decimal n) ≡ Ok n = in_field (2 ^ 64 - 1) n (omega arith) (omega arith) in
-    let numeral = is_answer (is_numeral (decimal n)) (nat_le (value_of (decimal n)) (2 ^ 64 - 1)) (is_negative (decimal n)) (value_of (decimal n)) n read in
-    let parts = and_parts (list_all is_ascii_digit (decimal n)) _ numeral in
-    let filled = is_filled (decimal n) parts.1 in
-    record { numeral = numeral; digits = parts.0; filled = filled; first = first_from (decimal n) filled parts.0 }
+use Rattle.bpf_text_insns.proofs.Bounds.{InBound}
 
 -- digits have no sign
 no_minus : (word : List ℕ) → 48 ≤ get_or word 0 0 → is_negative word ≡ false
 no_minus word low =
     let other : (get_or word 0 0 == 45) ≡ false = ne_eqb (get_or word 0 0) 45 (λ e. absurd (omega (arith, e, low))) in
     rw other refl
-
--- a result is Ok of one value
-pub same_ok : {A E : Type 0} (a b : A) (r : Result A E) → r ≡ Ok a → r ≡ Ok b → a ≡ b
-same_ok a b (Ok c) e h = (let left : c ≡ a = cc in let right : c ≡ b = cc in sym left ∙ right)
-same_ok a b (Err fault) e h = absurd cc
 
 -- ---- registers
 
@@ -69,7 +40,7 @@ register_decimal r le = let d = decimal_digits r (omega arith) in register_back 
 
 -- ---- numbers with a sign
 
-minus_back : (bound n : ℕ) → bound < 2 ^ 64 → suc n ≤ bound → (x : Result ℤ Fault) → cond (is_negative (45 ∷ decimal (suc n))) (back (number_in bound (decimal (suc n)))) x ≡ Ok (negsuc n)
+minus_back : (bound n : ℕ) → bound < 2 ^ 64 → suc n ≤ bound → (x : Result ℤ TextFault) → cond (is_negative (45 ∷ decimal (suc n))) (back (number_in bound (decimal (suc n)))) x ≡ Ok (negsuc n)
 minus_back bound n small le x =
     let fits : suc n < 2 ^ 64 = omega arith in
     let d = decimal_digits (suc n) fits in
@@ -83,19 +54,6 @@ signed_back (pos n) fits =
     cond-false (is_negative (decimal n)) (back (number_in (2 ^ 31) (drop 1 (decimal n)))) (ahead (number_in (2 ^ 31 - 1) (decimal n))) (no_minus (decimal n) d.first)
     ∙ ap ahead (in_field (2 ^ 31 - 1) n (omega arith) (omega (arith, fits.sfits)))
 signed_back (negsuc n) fits = minus_back (2 ^ 31) n (omega arith) (omega (arith, fits.sfits)) _
-
--- the sign of a distance, and its digits
-abbrev pub InBound : ℕ → ℤ → Type 0
-InBound bound (pos n) = n < bound
-InBound bound (negsuc n) = n < bound
-
-pub near_bound : (z : ℤ) → FitsSigned w16 z → InBound (2 ^ 15) z
-near_bound (pos n) fits = fits.sfits
-near_bound (negsuc n) fits = fits.sfits
-
-pub far_bound : (z : ℤ) → FitsSigned w32 z → InBound (2 ^ 31) z
-far_bound (pos n) fits = fits.sfits
-far_bound (negsuc n) fits = fits.sfits
 
 pub offset_back : (bound : ℕ) (z : ℤ) → bound < 2 ^ 64 → InBound bound z → offset_at bound (distance_spelling z) ≡ Ok z
 offset_back bound (pos n) small lt =
@@ -145,7 +103,7 @@ inside_is text =
     ap (λ n. take n (text ++ 93 ∷ [])) at ∙ take-append_seam text (93 ∷ [])
 
 -- what is read between brackets
-abbrev memory : List ℕ → Result Value Fault
+abbrev memory : List ℕ → Result Value TextFault
 memory text = as_address (pair (register_at (base_of text)) (offset_at (2 ^ 15) (offset_of text)))
 
 memory_back : (digits rest : List ℕ) (s r : ℕ) (z : ℤ) → list_all is_ascii_digit digits ≡ true → is_sign s ≡ true → register_at (114 ∷ digits) ≡ Ok r → offset_at (2 ^ 15) (s ∷ rest) ≡ Ok z →

@@ -5,9 +5,10 @@ use Rattle.bpf_insn_form.specs.declared.insn.ImmKind.TheVariants as load
 use Rattle.bpf_text_lines.specs.Lines.{trim}
 use Rattle.bpf_text_lines.specs.Names.{is_name}
 use Rattle.bpf_text_lines.specs.Numbers.{is_number}
-use Rattle.bpf_text_fields.specs.declared.error.Fault.{Fault}
-use Rattle.bpf_text_fields.specs.declared.error.Fault.TheVariants as faults
-use Rattle.bpf_text_fields.specs.Fields.{field_of}
+use Rattle.bpf_text_lines.specs.declared.text_error.TextFault.{TextFault}
+use Rattle.bpf_text_lines.specs.declared.text_error.TextFault.TheVariants as faults
+use Rattle.bpf_text_lines.specs.FaultNumbers.{fault_number}
+use Rattle.bpf_text_lines.specs.Fields.{field_of}
 use Rattle.bpf_text_insns.specs.declared.mnemonic.Mnemonic.{Mnemonic}
 use Rattle.bpf_text_insns.specs.declared.mnemonic.Mnemonic.TheVariants as mnemonic
 use Rattle.bpf_text_insns.specs.declared.value.Value.{Value}
@@ -44,49 +45,39 @@ kinds_of (mnemonic.LoadImm load.Code) = kinds.Two kind.Reg kind.FarDistance
 kinds_of (mnemonic.LoadImm load.Map) = kinds.Two kind.Reg kind.Imm
 kinds_of (mnemonic.LoadImm load.MapValue) = kinds.Three kind.Reg kind.Imm kind.Imm
 
--- a fault's number
-abbrev pub fault_number : Fault → ℕ
-fault_number faults.Form = 1
-fault_number faults.Field = 2
-fault_number faults.Register = 3
-fault_number faults.UnknownLabel = 4
-fault_number faults.RepeatedLabel = 5
-fault_number faults.TooLong = 6
-fault_number faults.Limits = 7
-
 -- the least of two faults
-abbrev pub least : Fault → Fault → Fault
+abbrev pub least : TextFault → TextFault → TextFault
 least a b = if nat_le (fault_number a) (fault_number b) then a else b
 
 -- both, or the least fault
-abbrev pub pair : {A B : Type 0} → Result A Fault → Result B Fault → Result (A × B) Fault
+abbrev pub pair : {A B : Type 0} → Result A TextFault → Result B TextFault → Result (A × B) TextFault
 pair (Ok a) (Ok b) = Ok (a, b)
 pair (Ok a) (Err fault) = Err fault
 pair (Err fault) (Ok b) = Err fault
 pair (Err fault) (Err other) = Err (least fault other)
 
 -- what is read, as an operand
-abbrev pub as_reg : Result ℕ Fault → Result Value Fault
+abbrev pub as_reg : Result ℕ TextFault → Result Value TextFault
 as_reg (Ok r) = Ok (value.Reg r)
 as_reg (Err fault) = Err fault
 
-abbrev pub as_imm : Result ℤ Fault → Result Value Fault
+abbrev pub as_imm : Result ℤ TextFault → Result Value TextFault
 as_imm (Ok n) = Ok (value.Imm n)
 as_imm (Err fault) = Err fault
 
-abbrev pub as_wide : Result ℕ Fault → Result Value Fault
+abbrev pub as_wide : Result ℕ TextFault → Result Value TextFault
 as_wide (Ok n) = Ok (value.Wide n)
 as_wide (Err fault) = Err fault
 
-abbrev pub as_distance : Result ℤ Fault → Result Value Fault
+abbrev pub as_distance : Result ℤ TextFault → Result Value TextFault
 as_distance (Ok d) = Ok (value.Distance d)
 as_distance (Err fault) = Err fault
 
-abbrev pub as_far_distance : Result ℤ Fault → Result Value Fault
+abbrev pub as_far_distance : Result ℤ TextFault → Result Value TextFault
 as_far_distance (Ok d) = Ok (value.FarDistance d)
 as_far_distance (Err fault) = Err fault
 
-abbrev pub as_address : Result (ℕ × ℤ) Fault → Result Value Fault
+abbrev pub as_address : Result (ℕ × ℤ) TextFault → Result Value TextFault
 as_address (Ok a) = Ok (value.Address a.0 a.1)
 as_address (Err fault) = Err fault
 
@@ -109,13 +100,13 @@ abbrev pub offset_of : List ℕ → List ℕ
 offset_of text = drop (position_or_len is_sign text) text
 
 -- the memory that a word names: a register and an offset with its sign, between brackets
-abbrev pub address_at : List ℕ → Result Value Fault
+abbrev pub address_at : List ℕ → Result Value TextFault
 address_at word =
     if is_bracketed word then as_address (pair (register_at (base_of (inside word))) (offset_at (2 ^ 15) (offset_of (inside word))))
     else Err faults.Form
 
 -- the operand that a word of a kind is, at a slot, where labels are found by this function
-abbrev pub value_at : (List ℕ → Option ℕ) → ℕ → Kind → List ℕ → Result Value Fault
+abbrev pub value_at : (List ℕ → Option ℕ) → ℕ → Kind → List ℕ → Result Value TextFault
 value_at find slot kind.Reg word = as_reg (register_at word)
 value_at find slot kind.RegOrImm word = if is_register word then as_reg (register_at word) else as_imm (signed_at (2 ^ 31) word)
 value_at find slot kind.Imm word = as_imm (signed_at (2 ^ 31) word)
@@ -134,30 +125,30 @@ abbrev pub cut_comma : List ℕ → Option (List ℕ × List ℕ)
 cut_comma text = cut text (position (λ b. b == 44) text)
 
 -- operands of which one, two or three were read
-abbrev pub one : Result Value Fault → Result Operands Fault
+abbrev pub one : Result Value TextFault → Result Operands TextFault
 one (Ok a) = Ok (operands.One a)
 one (Err fault) = Err fault
 
-abbrev pub two : Result (Value × Value) Fault → Result Operands Fault
+abbrev pub two : Result (Value × Value) TextFault → Result Operands TextFault
 two (Ok x) = Ok (operands.Two x.0 x.1)
 two (Err fault) = Err fault
 
-abbrev pub three : Result (Value × (Value × Value)) Fault → Result Operands Fault
+abbrev pub three : Result (Value × (Value × Value)) TextFault → Result Operands TextFault
 three (Ok x) = Ok (operands.Three x.0 x.1.0 x.1.1)
 three (Err fault) = Err fault
 
 -- two operands on both sides of a comma
-abbrev pub both_at : (List ℕ → Option ℕ) → ℕ → Kind → Kind → Option (List ℕ × List ℕ) → Result (Value × Value) Fault
+abbrev pub both_at : (List ℕ → Option ℕ) → ℕ → Kind → Kind → Option (List ℕ × List ℕ) → Result (Value × Value) TextFault
 both_at find slot a b None = Err faults.Form
 both_at find slot a b (Some parts) = pair (value_at find slot a (trim parts.0)) (value_at find slot b (trim parts.1))
 
 -- an operand, and two behind the first comma
-abbrev pub three_at : (List ℕ → Option ℕ) → ℕ → Kind → Kind → Kind → Option (List ℕ × List ℕ) → Result (Value × (Value × Value)) Fault
+abbrev pub three_at : (List ℕ → Option ℕ) → ℕ → Kind → Kind → Kind → Option (List ℕ × List ℕ) → Result (Value × (Value × Value)) TextFault
 three_at find slot a b c None = Err faults.Form
 three_at find slot a b c (Some parts) = pair (value_at find slot a (trim parts.0)) (both_at find slot b c (cut_comma parts.1))
 
 -- the operands of these kinds that a text is, parted by commas with blanks round them
-abbrev pub operands_at : (List ℕ → Option ℕ) → ℕ → Kinds → List ℕ → Result Operands Fault
+abbrev pub operands_at : (List ℕ → Option ℕ) → ℕ → Kinds → List ℕ → Result Operands TextFault
 operands_at find slot kinds.Zero text = if length text == 0 then Ok operands.Zero else Err faults.Form
 operands_at find slot (kinds.One a) text = one (value_at find slot a (trim text))
 operands_at find slot (kinds.Two a b) text = two (both_at find slot a b (cut_comma text))

@@ -5,34 +5,34 @@ use Rattle.std.specs.List.{list_all}
 use Rattle.bpf_text_lines.specs.declared.numbers.NumberError.{NumberError}
 use Rattle.bpf_text_lines.specs.Names.{is_name}
 use Rattle.bpf_text_lines.specs.Numbers.{is_numeral, is_negative, number_in}
-use Rattle.bpf_text_fields.specs.declared.error.Fault.{Fault}
-use Rattle.bpf_text_fields.specs.declared.error.Fault.TheVariants as faults
-use Rattle.bpf_text_fields.specs.Fields.{fault_of}
+use Rattle.bpf_text_lines.specs.declared.text_error.TextFault.{TextFault}
+use Rattle.bpf_text_lines.specs.declared.text_error.TextFault.TheVariants as faults
+use Rattle.bpf_text_lines.specs.Fields.{fault_of}
 
 -- an `r` and digits
 abbrev pub is_register : List ℕ → Bool
 is_register word = (slice_index word 0 == 114) && (nat_lt 1 (length word) && list_all is_ascii_digit (drop 1 word))
 
 -- a number as a register's
-abbrev pub as_register : Result ℕ NumberError → Result ℕ Fault
+abbrev pub as_register : Result ℕ NumberError → Result ℕ TextFault
 as_register (Ok n) = Ok n
 as_register (Err error) = Err faults.Register
 
 -- the register that a word names
-abbrev pub register_at : List ℕ → Result ℕ Fault
+abbrev pub register_at : List ℕ → Result ℕ TextFault
 register_at word = if is_register word then as_register (number_in 10 (drop 1 word)) else Err faults.Form
 
 -- a number with a plus sign or without a sign, and one with a minus sign
-abbrev pub ahead : Result ℕ NumberError → Result ℤ Fault
+abbrev pub ahead : Result ℕ NumberError → Result ℤ TextFault
 ahead (Ok n) = Ok (pos n)
 ahead (Err error) = Err (fault_of error)
 
-abbrev pub back : Result ℕ NumberError → Result ℤ Fault
+abbrev pub back : Result ℕ NumberError → Result ℤ TextFault
 back (Ok n) = Ok (neg_ℤ (pos n))
 back (Err error) = Err (fault_of error)
 
 -- the number of a word, in a field of -bound to bound - 1
-abbrev pub signed_at : ℕ → List ℕ → Result ℤ Fault
+abbrev pub signed_at : ℕ → List ℕ → Result ℤ TextFault
 signed_at bound word = if is_negative word then back (number_in bound (drop 1 word)) else ahead (number_in (bound - 1) word)
 
 -- a plus sign and a number of any size
@@ -44,23 +44,23 @@ abbrev pub is_offset : List ℕ → Bool
 is_offset word = is_negative word || is_ahead word
 
 -- the number of a word, which has a sign, in a field of -bound to bound - 1
-abbrev pub offset_at : ℕ → List ℕ → Result ℤ Fault
+abbrev pub offset_at : ℕ → List ℕ → Result ℤ TextFault
 offset_at bound word =
     if is_negative word then back (number_in bound (drop 1 word))
     else if is_ahead word then ahead (number_in (bound - 1) (drop 1 word))
     else Err faults.Form
 
 -- the distance from the slot behind one slot to another, in a field of -bound to bound - 1
-abbrev pub distance_to : (bound slot target : ℕ) → Result ℤ Fault
+abbrev pub distance_to : (bound slot target : ℕ) → Result ℤ TextFault
 distance_to bound slot target =
     if nat_lt slot target then (if nat_lt (target - slot - 1) bound then Ok (pos (target - slot - 1)) else Err faults.Field)
     else (if nat_le (slot + 1 - target) bound then Ok (neg_ℤ (pos (slot + 1 - target))) else Err faults.Field)
 
 -- the distance to a label's slot, if there is one
-abbrev pub to_label : (bound slot : ℕ) → Option ℕ → Result ℤ Fault
+abbrev pub to_label : (bound slot : ℕ) → Option ℕ → Result ℤ TextFault
 to_label bound slot None = Err faults.UnknownLabel
 to_label bound slot (Some target) = distance_to bound slot target
 
 -- the distance of a word: a label, or a number with its sign
-abbrev pub distance_at : (List ℕ → Option ℕ) → (bound slot : ℕ) → List ℕ → Result ℤ Fault
+abbrev pub distance_at : (List ℕ → Option ℕ) → (bound slot : ℕ) → List ℕ → Result ℤ TextFault
 distance_at find bound slot word = if is_name word then to_label bound slot (find word) else offset_at bound word

@@ -10,8 +10,8 @@ use Rattle.bpf_insn_form.specs.declared.insn.Operand.TheVariants as operand
 use Rattle.bpf_insn_form.specs.declared.insn.Insn.{Insn}
 use Rattle.bpf_insn_form.specs.declared.insn.Insn.TheVariants as insn
 use Rattle.bpf_text_lines.specs.Lines.{is_blank, trim_start}
-use Rattle.bpf_text_fields.specs.declared.error.Fault.{Fault}
-use Rattle.bpf_text_fields.specs.declared.error.Fault.TheVariants as faults
+use Rattle.bpf_text_lines.specs.declared.text_error.TextFault.{TextFault}
+use Rattle.bpf_text_lines.specs.declared.text_error.TextFault.TheVariants as faults
 use Rattle.bpf_text_insns.specs.declared.mnemonic.Mnemonic.{Mnemonic}
 use Rattle.bpf_text_insns.specs.declared.mnemonic.Mnemonic.TheVariants as mnemonic
 use Rattle.bpf_text_insns.specs.declared.value.Value.TheVariants as value
@@ -29,25 +29,25 @@ two_slots_of kind (Three (value.Reg dst) (value.Imm imm) (value.Imm next)) = Som
 two_slots_of kind _ = None
 
 -- the instruction of a mnemonic and operands of its kinds
-abbrev pub insn_of : Mnemonic → Operands → Option Insn
-insn_of (mnemonic.Alu w o) (Two (value.Reg dst) (value.Imm imm)) = Some (insn.Alu w o dst (operand.Imm imm))
-insn_of (mnemonic.Alu w o) (Two (value.Reg dst) (value.Reg src)) = Some (insn.Alu w o dst (operand.Reg src))
-insn_of (mnemonic.Neg w) (One (value.Reg dst)) = Some (insn.Neg w dst)
-insn_of (mnemonic.Movsx w bits) (Two (value.Reg dst) (value.Reg src)) = Some (insn.Movsx w bits dst src)
-insn_of (mnemonic.Endian o bits) (One (value.Reg dst)) = Some (insn.Endian o bits dst)
-insn_of mnemonic.Ja (One (value.Distance d)) = Some (insn.Ja d)
-insn_of mnemonic.Ja32 (One (value.FarDistance d)) = Some (insn.Ja32 d)
-insn_of (mnemonic.Jump w c) (Three (value.Reg dst) (value.Imm imm) (value.Distance d)) = Some (insn.Jump w c dst (operand.Imm imm) d)
-insn_of (mnemonic.Jump w c) (Three (value.Reg dst) (value.Reg src) (value.Distance d)) = Some (insn.Jump w c dst (operand.Reg src) d)
-insn_of (mnemonic.Call c) (One (value.Imm imm)) = Some (insn.Call c imm)
-insn_of mnemonic.Exit Zero = Some insn.Exit
-insn_of (mnemonic.Load s) (Two (value.Reg dst) (value.Address base offset)) = Some (insn.Load s dst base offset)
-insn_of (mnemonic.LoadSx s) (Two (value.Reg dst) (value.Address base offset)) = Some (insn.LoadSx s dst base offset)
-insn_of (mnemonic.StoreImm s) (Two (value.Address base offset) (value.Imm imm)) = Some (insn.StoreImm s base offset imm)
-insn_of (mnemonic.Store s) (Two (value.Address base offset) (value.Reg src)) = Some (insn.Store s base src offset)
-insn_of (mnemonic.Atomic w o) (Two (value.Address base offset) (value.Reg src)) = Some (insn.Atomic w o base src offset)
-insn_of (mnemonic.LoadImm k) values = two_slots_of k values
-insn_of m values = None
+abbrev pub insn_of_mnemonic : Mnemonic → Operands → Option Insn
+insn_of_mnemonic (mnemonic.Alu w o) (Two (value.Reg dst) (value.Imm imm)) = Some (insn.Alu w o dst (operand.Imm imm))
+insn_of_mnemonic (mnemonic.Alu w o) (Two (value.Reg dst) (value.Reg src)) = Some (insn.Alu w o dst (operand.Reg src))
+insn_of_mnemonic (mnemonic.Neg w) (One (value.Reg dst)) = Some (insn.Neg w dst)
+insn_of_mnemonic (mnemonic.Movsx w bits) (Two (value.Reg dst) (value.Reg src)) = Some (insn.Movsx w bits dst src)
+insn_of_mnemonic (mnemonic.Endian o bits) (One (value.Reg dst)) = Some (insn.Endian o bits dst)
+insn_of_mnemonic mnemonic.Ja (One (value.Distance d)) = Some (insn.Ja d)
+insn_of_mnemonic mnemonic.Ja32 (One (value.FarDistance d)) = Some (insn.Ja32 d)
+insn_of_mnemonic (mnemonic.Jump w c) (Three (value.Reg dst) (value.Imm imm) (value.Distance d)) = Some (insn.Jump w c dst (operand.Imm imm) d)
+insn_of_mnemonic (mnemonic.Jump w c) (Three (value.Reg dst) (value.Reg src) (value.Distance d)) = Some (insn.Jump w c dst (operand.Reg src) d)
+insn_of_mnemonic (mnemonic.Call c) (One (value.Imm imm)) = Some (insn.Call c imm)
+insn_of_mnemonic mnemonic.Exit Zero = Some insn.Exit
+insn_of_mnemonic (mnemonic.Load s) (Two (value.Reg dst) (value.Address base offset)) = Some (insn.Load s dst base offset)
+insn_of_mnemonic (mnemonic.LoadSx s) (Two (value.Reg dst) (value.Address base offset)) = Some (insn.LoadSx s dst base offset)
+insn_of_mnemonic (mnemonic.StoreImm s) (Two (value.Address base offset) (value.Imm imm)) = Some (insn.StoreImm s base offset imm)
+insn_of_mnemonic (mnemonic.Store s) (Two (value.Address base offset) (value.Reg src)) = Some (insn.Store s base src offset)
+insn_of_mnemonic (mnemonic.Atomic w o) (Two (value.Address base offset) (value.Reg src)) = Some (insn.Atomic w o base src offset)
+insn_of_mnemonic (mnemonic.LoadImm k) values = two_slots_of k values
+insn_of_mnemonic m values = None
 
 -- a text up to its first blank, and what stands behind that blank and those that follow it
 abbrev pub first_word : List ℕ → List ℕ
@@ -76,23 +76,23 @@ abbrev pub statement_at : List ℕ → Option (Mnemonic × List ℕ)
 statement_at line = by_width (atomic_width (first_word line)) (first_word line) (behind_word line)
 
 -- an instruction where there is one
-abbrev pub some_insn : Option Insn → Result Insn Fault
+abbrev pub some_insn : Option Insn → Result Insn TextFault
 some_insn None = Err faults.Form
 some_insn (Some i) = Ok i
 
 -- the instruction of a mnemonic and what was read of its operands
-abbrev pub built : Mnemonic → Result Operands Fault → Result Insn Fault
+abbrev pub built : Mnemonic → Result Operands TextFault → Result Insn TextFault
 built m (Err fault) = Err fault
-built m (Ok values) = some_insn (insn_of m values)
+built m (Ok values) = some_insn (insn_of_mnemonic m values)
 
 -- the instruction of a mnemonic and a text of operands
-abbrev pub with_operands : (List ℕ → Option ℕ) → ℕ → Option (Mnemonic × List ℕ) → Result Insn Fault
+abbrev pub with_operands : (List ℕ → Option ℕ) → ℕ → Option (Mnemonic × List ℕ) → Result Insn TextFault
 with_operands find slot None = Err faults.Form
 with_operands find slot (Some s) = built s.0 (operands_at find slot (kinds_of s.0) s.1)
 
 -- the instruction that a line is at a slot, where labels are found by this function, or the least fault
-unfoldable pub insn_at : (List ℕ → Option ℕ) → ℕ → List ℕ → Result Insn Fault
-insn_at find slot line = with_operands find slot (statement_at line)
+unfoldable pub insn_of_line : (List ℕ → Option ℕ) → ℕ → List ℕ → Result Insn TextFault
+insn_of_line find slot line = with_operands find slot (statement_at line)
 
 -- how many slots the instructions of a mnemonic take
 abbrev pub mnemonic_slots : Mnemonic → ℕ

@@ -1,5 +1,6 @@
 -- What words say: the mnemonic whose word it is.
 use Rattle.std.specs.Prelude.{ℕ, ◌-◌, if◌then◌else◌, List, [], ◌∷◌, length, take, drop, codes, Option, Some, None}
+use Rattle.std.specs.Option.{option_or}
 use Rattle.std.specs.Str.{bytes_eq}
 use Rattle.bpf_insn_form.specs.declared.insn.Width.{Width}
 use Rattle.bpf_insn_form.specs.declared.insn.Width.TheVariants as width
@@ -104,14 +105,9 @@ sized_at word =
     else if bytes_eq (ending 1 word) (codes "8") then sized (first_stem (front 1 word) stems) size.B
     else None
 
--- the first that is there
-abbrev pub or_else : Option Mnemonic → Option Mnemonic → Option Mnemonic
-or_else (Some m) other = Some m
-or_else None other = other
-
 -- the mnemonic that a word is
 abbrev pub mnemonic_at : List ℕ → Option Mnemonic
-mnemonic_at word = or_else (whole (first_stem word stems)) (sized_at word)
+mnemonic_at word = option_or (whole (first_stem word stems)) (sized_at word)
 
 -- the width of an atomic's first word
 abbrev pub atomic_width : List ℕ → Option Width

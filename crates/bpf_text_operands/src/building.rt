@@ -1,7 +1,7 @@
 //! An instruction from its mnemonic and its operands.
 
 ghost use Rattle.std.specs.Prelude.{◌≡◌, Some};
-ghost use Rattle.bpf_text_operands.specs.Statements.{two_slots_of, insn_of};
+ghost use Rattle.bpf_text_operands.specs.Statements.{two_slots_of, insn_of_mnemonic};
 
 use bpf_insn_form::{AluOp, AtomicOp, ByteOrder, Callee, Compare, EndianBits, ImmKind, Insn, MovsxBits, Operand, Reg, Size, Width};
 use bpf_text_insns::{Mnemonic, Operands, Value};
@@ -50,7 +50,7 @@ fn two_slots_of(kind: ImmKind, operands: &Operands) -> Option<Insn>
 
 /// Arithmetic with two operands.
 fn alu(width: Width, op: AluOp, operands: &Operands) -> Option<Insn>
-    ensures { result ≡ insn_of (Mnemonic.Alu width op) operands.now }
+    ensures { result ≡ insn_of_mnemonic (Mnemonic.Alu width op) operands.now }
 {
     match operands {
         Operands::Two(Value::Reg(dst), Value::Imm(imm)) => Some(Insn::Alu {
@@ -71,7 +71,7 @@ fn alu(width: Width, op: AluOp, operands: &Operands) -> Option<Insn>
 
 /// The negative of a register.
 fn neg(width: Width, operands: &Operands) -> Option<Insn>
-    ensures { result ≡ insn_of (Mnemonic.Neg width) operands.now }
+    ensures { result ≡ insn_of_mnemonic (Mnemonic.Neg width) operands.now }
 {
     match operands {
         Operands::One(Value::Reg(dst)) => Some(Insn::Neg { width, dst: *dst }),
@@ -81,7 +81,7 @@ fn neg(width: Width, operands: &Operands) -> Option<Insn>
 
 /// A sign-extending move.
 fn movsx(width: Width, bits: MovsxBits, operands: &Operands) -> Option<Insn>
-    ensures { result ≡ insn_of (Mnemonic.Movsx width bits) operands.now }
+    ensures { result ≡ insn_of_mnemonic (Mnemonic.Movsx width bits) operands.now }
 {
     match operands {
         Operands::Two(Value::Reg(dst), Value::Reg(src)) => Some(Insn::Movsx {
@@ -96,7 +96,7 @@ fn movsx(width: Width, bits: MovsxBits, operands: &Operands) -> Option<Insn>
 
 /// A byte order.
 fn endian(order: ByteOrder, bits: EndianBits, operands: &Operands) -> Option<Insn>
-    ensures { result ≡ insn_of (Mnemonic.Endian order bits) operands.now }
+    ensures { result ≡ insn_of_mnemonic (Mnemonic.Endian order bits) operands.now }
 {
     match operands {
         Operands::One(Value::Reg(dst)) => Some(Insn::Endian {
@@ -110,7 +110,7 @@ fn endian(order: ByteOrder, bits: EndianBits, operands: &Operands) -> Option<Ins
 
 /// A jump by an offset.
 fn ja(operands: &Operands) -> Option<Insn>
-    ensures { result ≡ insn_of (Mnemonic.Ja) operands.now }
+    ensures { result ≡ insn_of_mnemonic (Mnemonic.Ja) operands.now }
 {
     match operands {
         Operands::One(Value::Distance(offset)) => Some(Insn::Ja { offset: *offset }),
@@ -120,7 +120,7 @@ fn ja(operands: &Operands) -> Option<Insn>
 
 /// A jump by an immediate.
 fn ja32(operands: &Operands) -> Option<Insn>
-    ensures { result ≡ insn_of (Mnemonic.Ja32) operands.now }
+    ensures { result ≡ insn_of_mnemonic (Mnemonic.Ja32) operands.now }
 {
     match operands {
         Operands::One(Value::FarDistance(imm)) => Some(Insn::Ja32 { imm: *imm }),
@@ -130,7 +130,7 @@ fn ja32(operands: &Operands) -> Option<Insn>
 
 /// A conditional jump.
 fn jump(width: Width, compare: Compare, operands: &Operands) -> Option<Insn>
-    ensures { result ≡ insn_of (Mnemonic.Jump width compare) operands.now }
+    ensures { result ≡ insn_of_mnemonic (Mnemonic.Jump width compare) operands.now }
 {
     match operands {
         Operands::Three(Value::Reg(dst), Value::Imm(imm), Value::Distance(offset)) => Some(
@@ -157,7 +157,7 @@ fn jump(width: Width, compare: Compare, operands: &Operands) -> Option<Insn>
 
 /// A call.
 fn call(callee: Callee, operands: &Operands) -> Option<Insn>
-    ensures { result ≡ insn_of (Mnemonic.Call callee) operands.now }
+    ensures { result ≡ insn_of_mnemonic (Mnemonic.Call callee) operands.now }
 {
     match operands {
         Operands::One(Value::Imm(imm)) => Some(Insn::Call { callee, imm: *imm }),
@@ -167,7 +167,7 @@ fn call(callee: Callee, operands: &Operands) -> Option<Insn>
 
 /// The end of a function.
 fn exit(operands: &Operands) -> Option<Insn>
-    ensures { result ≡ insn_of (Mnemonic.Exit) operands.now }
+    ensures { result ≡ insn_of_mnemonic (Mnemonic.Exit) operands.now }
 {
     match operands {
         Operands::Zero => Some(Insn::Exit),
@@ -177,7 +177,7 @@ fn exit(operands: &Operands) -> Option<Insn>
 
 /// A load.
 fn load(size: Size, operands: &Operands) -> Option<Insn>
-    ensures { result ≡ insn_of (Mnemonic.Load size) operands.now }
+    ensures { result ≡ insn_of_mnemonic (Mnemonic.Load size) operands.now }
 {
     match operands {
         Operands::Two(Value::Reg(dst), Value::Address(src, offset)) => Some(Insn::Load {
@@ -192,7 +192,7 @@ fn load(size: Size, operands: &Operands) -> Option<Insn>
 
 /// A sign-extending load.
 fn load_sx(size: Size, operands: &Operands) -> Option<Insn>
-    ensures { result ≡ insn_of (Mnemonic.LoadSx size) operands.now }
+    ensures { result ≡ insn_of_mnemonic (Mnemonic.LoadSx size) operands.now }
 {
     match operands {
         Operands::Two(Value::Reg(dst), Value::Address(src, offset)) => Some(Insn::LoadSx {
@@ -207,7 +207,7 @@ fn load_sx(size: Size, operands: &Operands) -> Option<Insn>
 
 /// A store of an immediate.
 fn store_imm(size: Size, operands: &Operands) -> Option<Insn>
-    ensures { result ≡ insn_of (Mnemonic.StoreImm size) operands.now }
+    ensures { result ≡ insn_of_mnemonic (Mnemonic.StoreImm size) operands.now }
 {
     match operands {
         Operands::Two(Value::Address(dst, offset), Value::Imm(imm)) => Some(Insn::StoreImm {
@@ -222,7 +222,7 @@ fn store_imm(size: Size, operands: &Operands) -> Option<Insn>
 
 /// A store of a register.
 fn store(size: Size, operands: &Operands) -> Option<Insn>
-    ensures { result ≡ insn_of (Mnemonic.Store size) operands.now }
+    ensures { result ≡ insn_of_mnemonic (Mnemonic.Store size) operands.now }
 {
     match operands {
         Operands::Two(Value::Address(dst, offset), Value::Reg(src)) => Some(Insn::Store {
@@ -237,7 +237,7 @@ fn store(size: Size, operands: &Operands) -> Option<Insn>
 
 /// An atomic.
 fn atomic(width: Width, op: AtomicOp, operands: &Operands) -> Option<Insn>
-    ensures { result ≡ insn_of (Mnemonic.Atomic width op) operands.now }
+    ensures { result ≡ insn_of_mnemonic (Mnemonic.Atomic width op) operands.now }
 {
     match operands {
         Operands::Two(Value::Address(dst, offset), Value::Reg(src)) => Some(Insn::Atomic {
@@ -252,8 +252,8 @@ fn atomic(width: Width, op: AtomicOp, operands: &Operands) -> Option<Insn>
 }
 
 /// The instruction of a mnemonic and operands of its kinds.
-pub fn insn_of(mnemonic: Mnemonic, operands: &Operands) -> Option<Insn>
-    ensures { result ≡ insn_of mnemonic operands.now }
+pub fn insn_of_mnemonic(mnemonic: Mnemonic, operands: &Operands) -> Option<Insn>
+    ensures { result ≡ insn_of_mnemonic mnemonic operands.now }
 {
     match mnemonic {
         Mnemonic::Alu(width, op) => alu(width, op, operands),

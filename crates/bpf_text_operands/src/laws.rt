@@ -5,14 +5,14 @@ ghost use Rattle.bpf_insn_form.specs.declared.insn.Insn.{Insn};
 ghost use Rattle.bpf_insn.specs.declared.slot.Slot.{Slot};
 ghost use Rattle.bpf_insn.specs.Spelling.{spelling};
 ghost use Rattle.bpf_insn_form.specs.Values.{InsnFits};
-ghost use Rattle.bpf_text_insns.specs.UnitText.{insn_spelling};
-ghost use Rattle.bpf_text_operands.specs.Statements.{insn_at};
+ghost use Rattle.bpf_text_insns.specs.PrintedLines.{insn_spelling};
+ghost use Rattle.bpf_text_operands.specs.Statements.{insn_of_line};
 
 /// The line of an instruction that has bytes is read back as it, at any slot and whatever the labels
 /// are.
 pub fn line_is_read_back()
     ensures { (i : Insn) (slots : List Slot) (find : List ℕ → Option ℕ) (slot : ℕ) → InsnFits i
-        → spelling i ≡ Ok slots → insn_at find slot (insn_spelling i) ≡ Ok i }
+        → spelling i ≡ Ok slots → insn_of_line find slot (insn_spelling i) ≡ Ok i }
 {}
 
 /// No two instructions that have bytes have one line.

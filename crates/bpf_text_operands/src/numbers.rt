@@ -1,23 +1,14 @@
 //! Registers, numbers with a sign, and distances.
 
 ghost use Rattle.std.specs.Prelude.{◌≡◌, ◌≤◌, ◌<◌, ◌-◌, ◌^◌, pos, neg_ℤ, IfOk, FitsSigned};
-ghost use Rattle.std.specs.List.{list_all};
-ghost use Rattle.std.specs.Char.{is_ascii_digit};
 ghost use Rattle.std.specs.Int.{w16};
 ghost use Rattle.bpf_text_lines.specs.Numbers.{number_in};
-ghost use Rattle.bpf_text_fields.specs.Fields.{fault_of};
+ghost use Rattle.bpf_text_lines.specs.Fields.{fault_of};
 ghost use Rattle.bpf_text_operands.specs.SignedNumbers.{is_register, register_at, ahead, back, signed_at, is_ahead, is_offset, offset_at, distance_to};
 
 use bpf_insn_form::Reg;
-use bpf_text_fields::Fault;
-use bpf_text_lines::{NumberError, is_negative, is_numeral, read_number};
-
-/// Whether all bytes are decimal digits.
-fn has_only_digits(word: &[u8]) -> bool
-    ensures { result ≡ list_all is_ascii_digit word.now }
-{
-    word.iter().all(|b| b.is_ascii_digit())
-}
+use bpf_text_lines::TextFault;
+use bpf_text_lines::{NumberError, has_only_digits, is_negative, is_numeral, read_number};
 
 /// Whether a word is an `r` and digits.
 pub fn is_register(word: &[u8]) -> bool
@@ -30,30 +21,30 @@ pub fn is_register(word: &[u8]) -> bool
 }
 
 /// The register that a word names.
-pub fn register_at(word: &[u8]) -> Result<Reg, Fault>
+pub fn register_at(word: &[u8]) -> Result<Reg, TextFault>
     ensures { result ≡ register_at word.now }
 {
     if !is_register(word) {
-        return Err(Fault::Form);
+        return Err(TextFault::Form);
     }
     match read_number(&word[1..], 10) {
-        Ok(number) => Reg::new(number as u8).ok_or(Fault::Register),
-        Err(_) => Err(Fault::Register),
+        Ok(number) => Reg::new(number as u8).ok_or(TextFault::Register),
+        Err(_) => Err(TextFault::Register),
     }
 }
 
 /// The fault of a word that is no number of its field.
-pub fn fault_of(error: NumberError) -> Fault
+pub fn fault_of(error: NumberError) -> TextFault
     ensures { result ≡ fault_of error }
 {
     match error {
-        NumberError::Form => Fault::Form,
-        NumberError::Field => Fault::Field,
+        NumberError::Form => TextFault::Form,
+        NumberError::Field => TextFault::Field,
     }
 }
 
 /// A number without a minus sign, up to a limit.
-fn ahead(digits: &[u8], limit: u64) -> Result<i32, Fault>
+fn ahead(digits: &[u8], limit: u64) -> Result<i32, TextFault>
     requires { limit < 2 ^ 31 }
     ensures value { result ≡ ahead (number_in limit digits.now) }
     ensures small { IfOk result (λ n. limit < 2 ^ 15 → FitsSigned w16 n) }
@@ -73,7 +64,7 @@ fn minus(number: u64) -> i32
 }
 
 /// The digits behind a minus sign as a number down to a limit.
-fn back(digits: &[u8], limit: u64) -> Result<i32, Fault>
+fn back(digits: &[u8], limit: u64) -> Result<i32, TextFault>
     requires { limit ≤ 2 ^ 31 }
     ensures value { result ≡ back (number_in limit digits.now) }
     ensures small { IfOk result (λ n. limit ≤ 2 ^ 15 → FitsSigned w16 n) }
@@ -85,7 +76,7 @@ fn back(digits: &[u8], limit: u64) -> Result<i32, Fault>
 }
 
 /// The number of a word, in a field of 32 bits.
-pub fn signed_at(word: &[u8]) -> Result<i32, Fault>
+pub fn signed_at(word: &[u8]) -> Result<i32, TextFault>
     ensures { result ≡ signed_at (2 ^ 31) word.now }
 {
     if is_negative(word) {
@@ -112,7 +103,7 @@ pub fn is_offset(word: &[u8]) -> bool
 }
 
 /// The number of a word, which has a sign, in a field of -bound to bound - 1.
-pub fn offset_at(word: &[u8], bound: u64) -> Result<i32, Fault>
+pub fn offset_at(word: &[u8], bound: u64) -> Result<i32, TextFault>
     requires low { 0 < bound }
     requires high { bound ≤ 2 ^ 31 }
     ensures value { result ≡ offset_at bound word.now }
@@ -124,11 +115,11 @@ pub fn offset_at(word: &[u8], bound: u64) -> Result<i32, Fault>
     if is_ahead(word) {
         return ahead(&word[1..], bound - 1);
     }
-    Err(Fault::Form)
+    Err(TextFault::Form)
 }
 
 /// The distance from the slot behind one slot to another, in a field of -bound to bound - 1.
-pub fn distance_to(target: u32, bound: u64, slot: u32) -> Result<i32, Fault>
+pub fn distance_to(target: u32, bound: u64, slot: u32) -> Result<i32, TextFault>
     requires high { bound ≤ 2 ^ 31 }
     ensures value { result ≡ distance_to bound slot target }
     ensures small { IfOk result (λ n. bound ≤ 2 ^ 15 → FitsSigned w16 n) }
@@ -145,5 +136,5 @@ pub fn distance_to(target: u32, bound: u64, slot: u32) -> Result<i32, Fault>
             return Ok(minus(distance));
         }
     }
-    Err(Fault::Field)
+    Err(TextFault::Field)
 }

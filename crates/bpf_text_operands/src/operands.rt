@@ -2,10 +2,10 @@
 
 ghost use Rattle.std.specs.Prelude.{◌≡◌, ◌<◌, ◌≤◌, ◌-◌, ◌^◌, Some, None, IfSome, IfNone, IfOk, FitsSigned, length, position, ◌==◌};
 ghost use Rattle.std.specs.Int.{w16};
-ghost use Rattle.bpf_text_operands.specs.LabelTable.{slots_of};
+ghost use Rattle.bpf_text_operands.specs.LabelTable.{label_slots};
 ghost use Rattle.bpf_text_operands.specs.SignedNumbers.{register_at, signed_at, offset_at, distance_at};
 ghost use Rattle.bpf_text_operands.specs.Operands.{pair, as_reg, as_imm, as_wide, as_distance, as_far_distance, is_sign, is_bracketed, inside, base_of, offset_of, address_at, value_at, cut_comma, both_at, three_at, operands_at, stands, both_stand, three_stand, all_stand};
-ghost use Rattle.bpf_text_fields.specs.Fields.{field_of};
+ghost use Rattle.bpf_text_lines.specs.Fields.{field_of};
 
 use crate::kind::{Kind, Kinds};
 use crate::labels::Labels;
@@ -14,7 +14,7 @@ use crate::numbers::{
 };
 use crate::pairs::pair;
 use bpf_insn_form::Reg;
-use bpf_text_fields::Fault;
+use bpf_text_lines::TextFault;
 use bpf_text_insns::{Operands, Value};
 use bpf_text_lines::{is_name, is_number, read_number, trim};
 
@@ -69,7 +69,7 @@ fn split_address(word: &[u8]) -> (&[u8], &[u8])
 }
 
 /// The register and the offset that a word between brackets names.
-fn base_and_offset(word: &[u8]) -> Result<(Reg, i16), Fault>
+fn base_and_offset(word: &[u8]) -> Result<(Reg, i16), TextFault>
     requires { 2 ≤ length word.now }
     ensures { result ≡ pair (register_at (base_of (inside word.now))) (offset_at (2 ^ 15) (offset_of (inside word.now))) }
 {
@@ -78,7 +78,7 @@ fn base_and_offset(word: &[u8]) -> Result<(Reg, i16), Fault>
 }
 
 /// A distance of 16 bits.
-fn near(distance: Result<i32, Fault>) -> Result<i16, Fault>
+fn near(distance: Result<i32, TextFault>) -> Result<i16, TextFault>
     requires { IfOk distance (λ d. FitsSigned w16 d) }
     ensures { result ≡ distance }
 {
@@ -89,11 +89,11 @@ fn near(distance: Result<i32, Fault>) -> Result<i16, Fault>
 }
 
 /// The memory that a word names.
-fn address_at(word: &[u8]) -> Result<Value, Fault>
+fn address_at(word: &[u8]) -> Result<Value, TextFault>
     ensures { result ≡ address_at word.now }
 {
     if !is_bracketed(word) {
-        return Err(Fault::Form);
+        return Err(TextFault::Form);
     }
     match base_and_offset(word) {
         Ok((base, offset)) => Ok(Value::Address(base, offset)),
@@ -102,10 +102,10 @@ fn address_at(word: &[u8]) -> Result<Value, Fault>
 }
 
 /// The distance of a word from a slot: a label, or a number with its sign.
-fn distance_at(word: &[u8], bound: u64, labels: &Labels<'_>, slot: u32) -> Result<i32, Fault>
+fn distance_at(word: &[u8], bound: u64, labels: &Labels<'_>, slot: u32) -> Result<i32, TextFault>
     requires low { 0 < bound }
     requires high { bound ≤ 2 ^ 31 }
-    ensures value { result ≡ distance_at (slots_of labels.now) bound slot word.now }
+    ensures value { result ≡ distance_at (label_slots labels.now) bound slot word.now }
     ensures small { IfOk result (λ n. bound ≤ 2 ^ 15 → FitsSigned w16 n) }
 {
     if !is_name(word) {
@@ -113,12 +113,12 @@ fn distance_at(word: &[u8], bound: u64, labels: &Labels<'_>, slot: u32) -> Resul
     }
     match labels.get(word) {
         Some(label) => distance_to(label.slot, bound, slot),
-        None => Err(Fault::UnknownLabel),
+        None => Err(TextFault::UnknownLabel),
     }
 }
 
 /// The register that a word names, as an operand.
-fn reg_at(word: &[u8]) -> Result<Value, Fault>
+fn reg_at(word: &[u8]) -> Result<Value, TextFault>
     ensures { result ≡ as_reg (register_at word.now) }
 {
     match register_at(word) {
@@ -128,7 +128,7 @@ fn reg_at(word: &[u8]) -> Result<Value, Fault>
 }
 
 /// The number of 32 bits that a word is, as an operand.
-fn imm_at(word: &[u8]) -> Result<Value, Fault>
+fn imm_at(word: &[u8]) -> Result<Value, TextFault>
     ensures { result ≡ as_imm (signed_at (2 ^ 31) word.now) }
 {
     match signed_at(word) {
@@ -138,7 +138,7 @@ fn imm_at(word: &[u8]) -> Result<Value, Fault>
 }
 
 /// The number of 64 bits that a word is, as an operand.
-fn wide_at(word: &[u8]) -> Result<Value, Fault>
+fn wide_at(word: &[u8]) -> Result<Value, TextFault>
     ensures { result ≡ as_wide (field_of (2 ^ 64 - 1) word.now) }
 {
     match read_number(word, u64::MAX) {
@@ -148,8 +148,8 @@ fn wide_at(word: &[u8]) -> Result<Value, Fault>
 }
 
 /// The distance of 16 bits that a word is, as an operand.
-fn near_at(word: &[u8], labels: &Labels<'_>, slot: u32) -> Result<Value, Fault>
-    ensures { result ≡ as_distance (distance_at (slots_of labels.now) (2 ^ 15) slot word.now) }
+fn near_at(word: &[u8], labels: &Labels<'_>, slot: u32) -> Result<Value, TextFault>
+    ensures { result ≡ as_distance (distance_at (label_slots labels.now) (2 ^ 15) slot word.now) }
 {
     match near(distance_at(word, NEAR, labels, slot)) {
         Ok(distance) => Ok(Value::Distance(distance)),
@@ -158,8 +158,8 @@ fn near_at(word: &[u8], labels: &Labels<'_>, slot: u32) -> Result<Value, Fault>
 }
 
 /// The distance of 32 bits that a word is, as an operand.
-fn far_at(word: &[u8], labels: &Labels<'_>, slot: u32) -> Result<Value, Fault>
-    ensures { result ≡ as_far_distance (distance_at (slots_of labels.now) (2 ^ 31) slot word.now) }
+fn far_at(word: &[u8], labels: &Labels<'_>, slot: u32) -> Result<Value, TextFault>
+    ensures { result ≡ as_far_distance (distance_at (label_slots labels.now) (2 ^ 31) slot word.now) }
 {
     match distance_at(word, FAR, labels, slot) {
         Ok(distance) => Ok(Value::FarDistance(distance)),
@@ -168,8 +168,8 @@ fn far_at(word: &[u8], labels: &Labels<'_>, slot: u32) -> Result<Value, Fault>
 }
 
 /// The operand of a kind that a word is at a slot.
-fn value_at(kind: Kind, word: &[u8], labels: &Labels<'_>, slot: u32) -> Result<Value, Fault>
-    ensures { result ≡ value_at (slots_of labels.now) slot kind word.now }
+fn value_at(kind: Kind, word: &[u8], labels: &Labels<'_>, slot: u32) -> Result<Value, TextFault>
+    ensures { result ≡ value_at (label_slots labels.now) slot kind word.now }
 {
     match kind {
         Kind::Reg => reg_at(word),
@@ -206,15 +206,15 @@ fn both_at(
     text: &[u8],
     labels: &Labels<'_>,
     slot: u32,
-) -> Result<(Value, Value), Fault>
-    ensures { result ≡ both_at (slots_of labels.now) slot kinds.0 kinds.1 (cut_comma text.now) }
+) -> Result<(Value, Value), TextFault>
+    ensures { result ≡ both_at (label_slots labels.now) slot kinds.0 kinds.1 (cut_comma text.now) }
 {
     match cut_comma(text) {
         Some((first, second)) => pair(
             value_at(kinds.0, trim(first), labels, slot),
             value_at(kinds.1, trim(second), labels, slot),
         ),
-        None => Err(Fault::Form),
+        None => Err(TextFault::Form),
     }
 }
 
@@ -225,15 +225,15 @@ fn three_at(
     text: &[u8],
     labels: &Labels<'_>,
     slot: u32,
-) -> Result<(Value, (Value, Value)), Fault>
-    ensures { result ≡ three_at (slots_of labels.now) slot first others.0 others.1 (cut_comma text.now) }
+) -> Result<(Value, (Value, Value)), TextFault>
+    ensures { result ≡ three_at (label_slots labels.now) slot first others.0 others.1 (cut_comma text.now) }
 {
     match cut_comma(text) {
         Some((front, behind)) => pair(
             value_at(first, trim(front), labels, slot),
             both_at(others, behind, labels, slot),
         ),
-        None => Err(Fault::Form),
+        None => Err(TextFault::Form),
     }
 }
 
@@ -243,12 +243,12 @@ pub fn operands_at(
     text: &[u8],
     labels: &Labels<'_>,
     slot: u32,
-) -> Result<Operands, Fault>
-    ensures { result ≡ operands_at (slots_of labels.now) slot kinds text.now }
+) -> Result<Operands, TextFault>
+    ensures { result ≡ operands_at (label_slots labels.now) slot kinds text.now }
 {
     match kinds {
         Kinds::Zero if text.is_empty() => Ok(Operands::Zero),
-        Kinds::Zero => Err(Fault::Form),
+        Kinds::Zero => Err(TextFault::Form),
         Kinds::One(kind) => match value_at(kind, trim(text), labels, slot) {
             Ok(value) => Ok(Operands::One(value)),
             Err(fault) => Err(fault),

@@ -1,26 +1,18 @@
 //! A line that isn't a label.
 
-ghost use Rattle.std.specs.Prelude.{◌≡◌, Some, None, IfSome, IfNone, position, ◌≤◌};
-ghost use Rattle.bpf_text_lines.specs.Lines.{is_blank};
-ghost use Rattle.bpf_text_operands.specs.LabelTable.{slots_of};
-ghost use Rattle.bpf_text_operands.specs.Statements.{first_word, behind_word, statement_at, insn_at, mnemonic_slots, slots_at, built};
+ghost use Rattle.std.specs.Prelude.{◌≡◌, Some, None, IfSome, IfNone, ◌≤◌};
+ghost use Rattle.bpf_text_operands.specs.LabelTable.{label_slots};
+ghost use Rattle.bpf_text_operands.specs.Statements.{first_word, behind_word, statement_at, insn_of_line, mnemonic_slots, slots_at, built};
 
-use crate::building::insn_of;
+use crate::building::insn_of_mnemonic;
 use crate::kind::kinds_of;
 use crate::labels::Labels;
 use crate::operands::{all_stand, operands_at};
 use crate::tables::{atomic_at, atomic_width, mnemonic_at};
 use bpf_insn_form::Insn;
-use bpf_text_fields::Fault;
+use bpf_text_lines::TextFault;
 use bpf_text_insns::{Mnemonic, Operands};
-use bpf_text_lines::{is_blank, trim_start};
-
-/// Where a text has its first blank.
-fn blank_at(text: &[u8]) -> Option<usize>
-    ensures { result ≡ position is_blank text.now }
-{
-    text.iter().position(|b| is_blank(*b))
-}
+use bpf_text_lines::{blank_at, trim_start};
 
 /// A text up to its first blank, and what stands behind its blanks there.
 fn split_word(text: &[u8]) -> (&[u8], &[u8])
@@ -56,13 +48,13 @@ fn statement_at(line: &[u8]) -> Option<(Mnemonic, &[u8])>
 }
 
 /// The instruction of a mnemonic and what was read of its operands.
-fn built(mnemonic: Mnemonic, operands: Result<Operands, Fault>) -> Result<Insn, Fault>
+fn built(mnemonic: Mnemonic, operands: Result<Operands, TextFault>) -> Result<Insn, TextFault>
     ensures { result ≡ built mnemonic operands }
 {
     match operands {
-        Ok(operands) => match insn_of(mnemonic, &operands) {
+        Ok(operands) => match insn_of_mnemonic(mnemonic, &operands) {
             Some(insn) => Ok(insn),
-            None => Err(Fault::Form),
+            None => Err(TextFault::Form),
         },
         Err(fault) => Err(fault),
     }
@@ -71,9 +63,9 @@ fn built(mnemonic: Mnemonic, operands: Result<Operands, Fault>) -> Result<Insn, 
 /// The instruction that a line is, where its slot is this, or the least of its faults: `Form`,
 /// `Field` for a number or a distance outside its field, `Register`, or `UnknownLabel`. The line has
 /// no comment and no blanks round it.
-#[tactic(auto, unfolding(crate::specs::Statements::insn_at))]
-pub fn read_insn(line: &[u8], labels: &Labels<'_>, slot: u32) -> Result<Insn, Fault>
-    ensures { result ≡ insn_at (slots_of labels.now) slot line.now }
+#[tactic(auto, unfolding(crate::specs::Statements::insn_of_line))]
+pub fn read_insn(line: &[u8], labels: &Labels<'_>, slot: u32) -> Result<Insn, TextFault>
+    ensures { result ≡ insn_of_line (label_slots labels.now) slot line.now }
 {
     match statement_at(line) {
         Some((mnemonic, text)) => {
@@ -82,7 +74,7 @@ pub fn read_insn(line: &[u8], labels: &Labels<'_>, slot: u32) -> Result<Insn, Fa
                 operands_at(kinds_of(mnemonic), text, labels, slot),
             )
         }
-        None => Err(Fault::Form),
+        None => Err(TextFault::Form),
     }
 }
 

@@ -1,7 +1,3 @@
 pub mod ReadingLaws
-pub mod SolidWords
-pub mod MnemonicFronts
-pub mod PrintedInsns
-pub mod PrintedLines
-pub mod PrintedHead
+pub mod PrintedLabels
 pub mod UnitBack

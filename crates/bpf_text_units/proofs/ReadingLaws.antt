@@ -2,48 +2,42 @@
 use Rattle.std.proofs.Common.{◌≡◌, ℕ, ◌+◌, List, [], ◌∷◌, ◌++◌, Option, Some, None, Result, Ok, Err, refl, sym, ap, ◌∙◌, subst, arith}
 use Rattle.bpf_insn_form.specs.declared.insn.Insn.{Insn}
 use Rattle.bpf_text_lines.specs.Words.{words_of}
-use Rattle.bpf_text_fields.specs.declared.error.Fault.TheVariants as faults
-use Rattle.bpf_text_fields.specs.declared.error.TextError.{TextError}
-use Rattle.bpf_text_fields.specs.declared.error.TextError.TheVariants as errors
-use Rattle.bpf_text_fields.specs.Refusals.{at_line, ◌>>=◌, Fails}
-use Rattle.bpf_text_fields.specs.Head.{head_of}
-use Rattle.bpf_text_fields.proofs.RefusalLaws.{bind_fails}
+use Rattle.bpf_text_lines.specs.declared.text_error.TextFault.TheVariants as faults
+use Rattle.bpf_text_lines.specs.declared.text_error.TextError.{TextError}
+use Rattle.bpf_text_lines.specs.declared.text_error.TextError.TheVariants as errors
+use Rattle.bpf_insn_form.specs.Outcome.{Refuses}
+use Rattle.bpf_text_lines.specs.Refusals.{at_line, ◌>>=◌, text_refusal}
+use Rattle.bpf_text_lines.specs.Head.{head_of}
+use Rattle.bpf_text_lines.proofs.RefusalLaws.{bind_fails}
 use Rattle.bpf_text_operands.specs.declared.labels.Label.{Label}
-use Rattle.bpf_text_operands.specs.LabelTable.{or_this}
+use Rattle.std.specs.Option.{option_or}
+use Rattle.bpf_text_operands.proofs.LabelLaws.{option_or-none}
 use Rattle.bpf_insn_form.specs.Program.{slot_count, Program}
-use Rattle.bpf_text_units.specs.UnitReading.{line_slots, line_label, labels_from, line_at, insns_behind, unit_of}
+use Rattle.bpf_text_units.specs.AssemblerText.{line_slots, line_label, labels_from, line_at, insns_behind, unit_of}
 
 -- ---- labels
 
-or_this-assoc : (a b c : Option Label) → or_this (or_this a b) c ≡ or_this a (or_this b c)
-or_this-assoc (Some label) b c = refl
-or_this-assoc None b c = refl
-
-or_this-none : (a : Option Label) → or_this a None ≡ a
-or_this-none (Some label) = refl
-or_this-none None = refl
+option_or-assoc : (a b c : Option Label) → option_or (option_or a b) c ≡ option_or a (option_or b c)
+option_or-assoc (Some label) b c = refl
+option_or-assoc None b c = refl
 
 -- one more line defines its label, if it is one
 pub labels_move : (before after whole : Option Label) (slot next : ℕ) (line : ℕ × List ℕ) (lines all : List (ℕ × List ℕ)) (name : List ℕ) →
-    next ≡ slot + line_slots line.1 → after ≡ or_this before (line_label slot line.0 line.1 name) → all ≡ line ∷ lines →
-    or_this before (labels_from slot all name) ≡ whole → or_this after (labels_from next lines name) ≡ whole
+    next ≡ slot + line_slots line.1 → after ≡ option_or before (line_label slot line.0 line.1 name) → all ≡ line ∷ lines →
+    option_or before (labels_from slot all name) ≡ whole → option_or after (labels_from next lines name) ≡ whole
 unfolding labels_from
 labels_move before after whole slot next line lines all name step put same so_far =
-    let here : or_this before (or_this (line_label slot line.0 line.1 name) (labels_from (slot + line_slots line.1) lines name)) ≡ whole = rw same at so_far in
-    rw (step, put) (or_this-assoc before (line_label slot line.0 line.1 name) (labels_from (slot + line_slots line.1) lines name) ∙ here)
+    let here : option_or before (option_or (line_label slot line.0 line.1 name) (labels_from (slot + line_slots line.1) lines name)) ≡ whole = rw same at so_far in
+    rw (step, put) (option_or-assoc before (line_label slot line.0 line.1 name) (labels_from (slot + line_slots line.1) lines name) ∙ here)
 
 -- no line is left
-pub labels_end : (before whole : Option Label) (slot : ℕ) (all : List (ℕ × List ℕ)) (name : List ℕ) → all ≡ [] → or_this before (labels_from slot all name) ≡ whole → before ≡ whole
+pub labels_end : (before whole : Option Label) (slot : ℕ) (all : List (ℕ × List ℕ)) (name : List ℕ) → all ≡ [] → option_or before (labels_from slot all name) ≡ whole → before ≡ whole
 unfolding labels_from
 labels_end before whole slot all name none so_far =
-    let here : or_this before None ≡ whole = rw none at so_far in
-    sym (or_this-none before) ∙ here
+    let here : option_or before None ≡ whole = rw none at so_far in
+    option_or-none before ∙ here
 
 -- ---- instructions
-
-pub slot_count-append : (before more : List Insn) → slot_count (before ++ more) ≡ slot_count before + slot_count more
-slot_count-append [] more = omega arith
-slot_count-append (i ∷ is) more = let h = slot_count-append is more in omega (arith, h)
 
 pub insns_behind-line : (labels : List ℕ → Option Label) (before : List Insn) (slot : ℕ) (line : ℕ × List ℕ) (lines : List (ℕ × List ℕ)) (more : List Insn) → slot ≡ slot_count before →
     at_line line.0 (line_at labels slot line.0 line.1) ≡ Ok more → insns_behind labels before (line ∷ lines) ≡ insns_behind labels (before ++ more) lines
@@ -53,11 +47,11 @@ insns_behind-line labels before slot line lines more same read =
     ap (λ (r : Result (List Insn) TextError). r >>= λ m. insns_behind labels (before ++ m) lines) here
 
 pub insns_behind-fails : (labels : List ℕ → Option Label) (e : TextError) (before : List Insn) (slot : ℕ) (line : ℕ × List ℕ) (lines : List (ℕ × List ℕ)) → slot ≡ slot_count before →
-    Fails e (at_line line.0 (line_at labels slot line.0 line.1)) → Fails e (insns_behind labels before (line ∷ lines))
+    Refuses (text_refusal e) (at_line line.0 (line_at labels slot line.0 line.1)) → Refuses (text_refusal e) (insns_behind labels before (line ∷ lines))
 unfolding insns_behind
 insns_behind-fails labels e before slot line lines same fails =
     bind_fails e (at_line line.0 (line_at labels (slot_count before) line.0 line.1)) (λ m. insns_behind labels (before ++ m) lines)
-    (subst (λ n. Fails e (at_line line.0 (line_at labels n line.0 line.1))) same fails)
+    (subst (λ n. Refuses (text_refusal e) (at_line line.0 (line_at labels n line.0 line.1))) same fails)
 
 pub insns_behind-end : (labels : List ℕ → Option Label) (before : List Insn) → insns_behind labels before [] ≡ Ok before
 unfolding insns_behind
@@ -70,7 +64,7 @@ unfolding unit_of
 no_head contents none = rw none refl
 
 pub head_fails : (e : TextError) (contents : List (ℕ × List ℕ)) (line : ℕ × List ℕ) (lines : List (ℕ × List ℕ)) → contents ≡ line ∷ lines →
-    Fails e (at_line line.0 (head_of (words_of line.1))) → Fails e (unit_of contents)
+    Refuses (text_refusal e) (at_line line.0 (head_of (words_of line.1))) → Refuses (text_refusal e) (unit_of contents)
 unfolding unit_of
 head_fails e contents line lines same fails = rw same (bind_fails e (at_line line.0 (head_of (words_of line.1))) _ fails)
 
@@ -86,9 +80,9 @@ head_read contents line lines sizes labels same read table =
     ∙ ap (λ (t : List ℕ → Option Label). with_insns sizes (insns_behind t [] lines)) (sym (λ i name. table name i))
 
 pub insns_fail : (e : TextError) (contents : List (ℕ × List ℕ)) (line : ℕ × List ℕ) (lines : List (ℕ × List ℕ)) (sizes : List ℕ) (labels : List ℕ → Option Label) → contents ≡ line ∷ lines →
-    at_line line.0 (head_of (words_of line.1)) ≡ Ok sizes → ((name : List ℕ) → labels name ≡ labels_from 0 lines name) → Fails e (insns_behind labels [] lines) → Fails e (unit_of contents)
+    at_line line.0 (head_of (words_of line.1)) ≡ Ok sizes → ((name : List ℕ) → labels name ≡ labels_from 0 lines name) → Refuses (text_refusal e) (insns_behind labels [] lines) → Refuses (text_refusal e) (unit_of contents)
 insns_fail e contents line lines sizes labels same read table fails =
-    let P : Result Program TextError → Type 0 = λ r. Fails e r in
+    let P : Result Program TextError → Type 0 = λ r. Refuses (text_refusal e) r in
     subst P (sym (head_read contents line lines sizes labels same read table)) (bind_fails e (insns_behind labels [] lines) (λ insns. Ok (record { sizes = sizes; insns = insns })) fails)
 
 pub insns_read : (contents : List (ℕ × List ℕ)) (line : ℕ × List ℕ) (lines : List (ℕ × List ℕ)) (sizes : List ℕ) (insns : List Insn) (labels : List ℕ → Option Label) → contents ≡ line ∷ lines →

@@ -12,23 +12,25 @@ use Rattle.bpf_insn.specs.Spelling.{spelling, bytes_at, spelling_from, program_s
 use Rattle.bpf_insn_form.specs.Values.{InsnFits, AreInsns}
 use Rattle.bpf_insn.proofs.Programs.{joined_ok, bytes_ok}
 use Rattle.bpf_text_lines.specs.Lines.{lines_of, contents_from, contents_of}
-use Rattle.bpf_text_fields.specs.declared.error.Fault.TheVariants as faults
-use Rattle.bpf_text_fields.specs.declared.error.TextError.TheVariants as errors
-use Rattle.bpf_text_fields.specs.Refusals.{at_line}
-use Rattle.bpf_text_insns.specs.UnitText.{insn_spelling, insn_line, head_spelling, where_spelled}
-use Rattle.bpf_text_insns.specs.UnitText.{unit_text as printed_text}
+use Rattle.bpf_text_lines.specs.declared.text_error.TextFault.TheVariants as faults
+use Rattle.bpf_text_lines.specs.declared.text_error.TextError.TheVariants as errors
+use Rattle.bpf_text_lines.specs.Refusals.{at_line}
+use Rattle.bpf_text_insns.specs.PrintedLines.{insn_spelling, insn_line, head_spelling, head_line}
 use Rattle.bpf_text_operands.specs.declared.labels.Label.{Label}
 use Rattle.bpf_text_operands.specs.LabelTable.{slot_in}
-use Rattle.bpf_text_operands.specs.Statements.{insn_at}
+use Rattle.bpf_text_operands.specs.Statements.{insn_of_line}
 use Rattle.bpf_text_operands.proofs.InsnBack.{insn_back}
-use Rattle.bpf_text_operands.proofs.ValueLaws.{same_ok}
+use Rattle.bpf_text_lines.proofs.ResultLaws.{same_ok, mapped}
 use Rattle.bpf_insn_form.specs.Program.{slot_count, Program}
-use Rattle.bpf_text_units.specs.UnitReading.{name_of, is_label, labels_from, label_at, in_limit, line_at, insns_behind, unit_of, unit_text}
-use Rattle.bpf_text_units.specs.UnitLaw.{these_parts, AreParts}
-use Rattle.bpf_text_units.proofs.ReadingLaws.{slot_count-append, insns_behind-line, insns_behind-end, insns_read}
-use Rattle.bpf_text_units.proofs.PrintedInsns.{insn_is_line}
-use Rattle.bpf_text_units.proofs.PrintedLines.{contents-line, no_label}
-use Rattle.bpf_text_units.proofs.PrintedHead.{head_line, head_back, head_is_line, head_short}
+use Rattle.bpf_text_units.specs.AssemblerText.{name_of, is_label, labels_from, label_at, in_limit, line_at, insns_behind, unit_of, assembler_text}
+use Rattle.bpf_insn_form.specs.Limits.{IsUnit}
+use Rattle.bpf_text_units.specs.AssemblerForm.{assembler_lines, assembler_form}
+use Rattle.bpf_insn_form.proofs.ProgramLaws.{slots_some, slot_count-append}
+use Rattle.bpf_text_units.proofs.ReadingLaws.{insns_behind-line, insns_behind-end, insns_read}
+use Rattle.bpf_text_insns.proofs.PrintedInsns.{insn_is_line}
+use Rattle.bpf_text_insns.proofs.LineLaws.{contents-line}
+use Rattle.bpf_text_units.proofs.PrintedLabels.{no_label}
+use Rattle.bpf_text_insns.proofs.PrintedHead.{head_back, head_is_line, head_short}
 
 -- ---- what has bytes
 
@@ -63,7 +65,7 @@ line_read labels slot n i ss fits e le =
     let line = insn_spelling i in
     let find : List ℕ → Option ℕ = λ name. slot_in (labels name) in
     ap (at_line n)
-    (cond-false (is_label line) (label_at n (labels (name_of line))) (in_limit slot (insn_at find slot line)) (no_label line (insn_is_line i fits).line)
+    (cond-false (is_label line) (label_at n (labels (name_of line))) (in_limit slot (insn_of_line find slot line)) (no_label line (insn_is_line i fits).line)
     ∙ ap (in_limit slot) (insn_back find slot i ss fits e)
     ∙ cond-true (nat_le (slot + slots_of i) 4096) (Ok (i ∷ [])) (Err faults.TooLong) (le-leb _ _ le))
 
@@ -79,75 +81,40 @@ insns_back labels before (i ∷ is) n fit spelled le =
 
 -- ---- the whole text
 
-takes_a_slot : (i : Insn) → 1 ≤ slots_of i
-takes_a_slot (insn.Alu w o dst src) = omega arith
-takes_a_slot (insn.Neg w dst) = omega arith
-takes_a_slot (insn.Movsx w bits dst src) = omega arith
-takes_a_slot (insn.Endian o bits dst) = omega arith
-takes_a_slot (insn.Ja offset) = omega arith
-takes_a_slot (insn.Ja32 imm) = omega arith
-takes_a_slot (insn.Jump w c dst src offset) = omega arith
-takes_a_slot (insn.Call c imm) = omega arith
-takes_a_slot insn.Exit = omega arith
-takes_a_slot (insn.Load s dst src offset) = omega arith
-takes_a_slot (insn.LoadSx s dst src offset) = omega arith
-takes_a_slot (insn.StoreImm s dst offset imm) = omega arith
-takes_a_slot (insn.Store s dst src offset) = omega arith
-takes_a_slot (insn.Atomic w o dst src offset) = omega arith
-takes_a_slot (insn.LoadImm k dst imm next) = omega arith
-
 lines_short : (insns : List Insn) → AreInsns insns → length (flat_map insn_line insns) ≤ 181 * slot_count insns
 lines_short [] fit = omega arith
 lines_short (i ∷ is) fit =
     let here = (insn_is_line i fit.0).short in
-    let some = takes_a_slot i in
+    let some = slots_some i in
     let others = lines_short is fit.1 in
     let line : length (insn_spelling i ++ 10 ∷ []) ≡ length (insn_spelling i) + 1 = length-append (insn_spelling i) (10 ∷ []) in
     let long : length ((insn_spelling i ++ 10 ∷ []) ++ flat_map insn_line is) ≡ length (insn_spelling i ++ 10 ∷ []) + length (flat_map insn_line is) = length-append (insn_spelling i ++ 10 ∷ []) (flat_map insn_line is) in
     omega (arith, here, some, others, line, long)
 
--- the canonical text
-abbrev whole : List ℕ → List Insn → List ℕ
-whole sizes insns = head_spelling sizes ++ flat_map insn_line insns
-
-whole_short : (sizes : List ℕ) (insns : List Insn) → AreParts sizes insns → length (whole sizes insns) ≤ 1048576
-whole_short sizes insns u =
-    let head = head_short sizes u.sizes_stand in
-    let lines = lines_short insns u.insns_fit in
-    let few = u.in_limit in
-    let long : length (whole sizes insns) ≡ length (head_line sizes ++ 10 ∷ []) + length (flat_map insn_line insns) = length-append (head_line sizes ++ 10 ∷ []) (flat_map insn_line insns) in
+whole_short : (p : Program) → IsUnit p → length (assembler_lines p) ≤ 1048576
+whole_short p u =
+    let head = head_short p.sizes u.sizes in
+    let lines = lines_short p.insns u.insns in
+    let few = u.slots in
+    let long : length (assembler_lines p) ≡ length (head_spelling p.sizes ++ 10 ∷ []) + length (flat_map insn_line p.insns) = length-append (head_spelling p.sizes ++ 10 ∷ []) (flat_map insn_line p.insns) in
     omega (arith, head, lines, few, long)
 
-whole_back : (sizes : List ℕ) (insns : List Insn) → AreParts sizes insns → Spelled insns → unit_of (contents_of (whole sizes insns)) ≡ Ok (these_parts sizes insns)
-whole_back sizes insns u spelled =
-    let lines = numbered 2 insns in
-    let few = u.in_limit in
-    insns_read (contents_of (whole sizes insns)) (1, head_line sizes) lines sizes insns (labels_from 0 lines)
-    (contents-line 1 (head_line sizes) (flat_map insn_line insns) (head_is_line sizes u.sizes_stand) ∙ ap (λ (ls : List (ℕ × List ℕ)). (1, head_line sizes) ∷ ls) (contents_of-insns 2 insns u.insns_fit))
-    (ap (at_line 1) (head_back sizes u.sizes_stand))
+whole_back : (p : Program) → IsUnit p → Spelled p.insns → unit_of (contents_of (assembler_lines p)) ≡ Ok p
+whole_back p u spelled =
+    let lines = numbered 2 p.insns in
+    let few = u.slots in
+    insns_read (contents_of (assembler_lines p)) (1, head_spelling p.sizes) lines p.sizes p.insns (labels_from 0 lines)
+    (contents-line 1 (head_spelling p.sizes) (flat_map insn_line p.insns) (head_is_line p.sizes u.sizes) ∙ ap (λ (ls : List (ℕ × List ℕ)). (1, head_spelling p.sizes) ∷ ls) (contents_of-insns 2 p.insns u.insns))
+    (ap (at_line 1) (head_back p.sizes u.sizes))
     (λ name. refl)
-    (insns_back (labels_from 0 lines) [] insns 2 u.insns_fit spelled (omega (arith, few)))
+    (insns_back (labels_from 0 lines) [] p.insns 2 u.insns spelled (omega (arith, few)))
 
--- a text that stands is that of bytes
-pub record Printed (text_of : List ℕ → List ℕ) (spelled : Result (List ℕ) CodecError) (text : List ℕ) : Type 0 where
-  pub bytes : List ℕ
-  pub are_spelled : spelled ≡ Ok bytes
-  pub is_text : text_of bytes ≡ text
+pub unit_back : (p : Program) (text : List ℕ) → IsUnit p → assembler_form p ≡ Ok text → assembler_text text ≡ Ok p
+unit_back p text u e =
+    let printed = mapped (λ bytes. assembler_lines p) (program_spelling p.insns) text e in
+    ap assembler_text (sym printed.is_image)
+    ∙ cond-false (nat_lt 1048576 (length (assembler_lines p))) (Err (errors.Refused faults.TooLong 0)) (unit_of (contents_of (assembler_lines p))) (le-ltb _ _ (whole_short p u))
+    ∙ whole_back p u (spelled_from 0 p.insns printed.value printed.is_there)
 
-pub printed : (text_of : List ℕ → List ℕ) (spelled : Result (List ℕ) CodecError) (text : List ℕ) → where_spelled spelled text_of ≡ Ok text → Printed text_of spelled text
-printed text_of (Ok bytes) text e = record { bytes = bytes; are_spelled = refl; is_text = cc }
-printed text_of (Err error) text e = absurd cc
-
-pub unit_back : (sizes : List ℕ) (insns : List Insn) (text : List ℕ) → AreParts sizes insns → printed_text sizes insns ≡ Ok text → unit_text text ≡ Ok (these_parts sizes insns)
-unit_back sizes insns text u e =
-    let p = printed (λ bytes. whole sizes insns) (program_spelling insns) text e in
-    let short = whole_short sizes insns u in
-    ap unit_text (sym p.is_text)
-    ∙ cond-false (nat_lt 1048576 (length (whole sizes insns))) (Err (errors.Refused faults.TooLong 0)) (unit_of (contents_of (whole sizes insns))) (le-ltb _ _ short)
-    ∙ whole_back sizes insns u (spelled_from 0 insns p.bytes p.are_spelled)
-
-pub one_unit : (sizes others : List ℕ) (insns also : List Insn) (text : List ℕ) → AreParts sizes insns → AreParts others also → printed_text sizes insns ≡ Ok text → printed_text others also ≡ Ok text →
-    (sizes ≡ others) × (insns ≡ also)
-one_unit sizes others insns also text u v e h =
-    let same = same_ok (these_parts sizes insns) (these_parts others also) (unit_text text) (unit_back sizes insns text u e) (unit_back others also text v h) in
-    (ap (λ (p : Program). p.sizes) same, ap (λ (p : Program). p.insns) same)
+pub one_unit : (p q : Program) (text : List ℕ) → IsUnit p → IsUnit q → assembler_form p ≡ Ok text → assembler_form q ≡ Ok text → p ≡ q
+one_unit p q text u v e h = same_ok p q (assembler_text text) (unit_back p text u e) (unit_back q text v h)

@@ -1,2 +1,2 @@
-pub mod UnitReading
-pub mod UnitLaw
+pub mod AssemblerText
+pub mod AssemblerForm

@@ -2,8 +2,9 @@
 
 ghost use Rattle.std.specs.Prelude.{◌≡◌, ◌≤◌, ◌<◌, ◌+◌, ◌^◌, ℕ, List, IfSome, IfNone, IfOk, OnOk, length, true, false};
 ghost use Rattle.bpf_text_lines.specs.Lines.{contents_from, lines_of};
-ghost use Rattle.bpf_text_operands.specs.LabelTable.{or_this, found};
-ghost use Rattle.bpf_text_units.specs.UnitReading.{name_of, is_label, line_slots, line_label, labels_from};
+ghost use Rattle.std.specs.Option.{option_or};
+ghost use Rattle.bpf_text_operands.specs.LabelTable.{found};
+ghost use Rattle.bpf_text_units.specs.AssemblerText.{name_of, is_label, line_slots, line_label, labels_from};
 
 use bpf_text_lines::{is_name, next_line};
 use bpf_text_operands::{Label, Labels, line_slots};
@@ -35,7 +36,7 @@ fn define_line<'a>(
     requires { slot ≤ 2097152 }
     ensures slot { IfOk result (λ next. next ≡ slot + line_slots content.now) }
     ensures bound { IfOk result (λ next. next ≤ slot + 2) }
-    ensures labels { OnOk result ((name : List ℕ) → found labels.new name ≡ or_this (found labels.old name) (line_label slot number content.now name)) }
+    ensures labels { OnOk result ((name : List ℕ) → found labels.new name ≡ option_or (found labels.old name) (line_label slot number content.now name)) }
 {
     let Some(name) = label_name(content) else {
         return Ok(slot + line_slots(content));

@@ -1,12 +1,11 @@
-//! Units as assembler text, read.
+//! Units as assembler text, read and printed.
 #![tactic(auto)]
 
 mod label;
 pub mod laws;
+mod printing;
 mod program;
-mod unit_text;
+mod reading;
 
-pub use unit_text::parse_unit;
-
-#[cfg(test)]
-mod tests;
+pub use printing::print_unit;
+pub use reading::parse_unit;

@@ -1,24 +1,24 @@
 //! The instructions of a unit's lines.
 
 ghost use Rattle.std.specs.Prelude.{◌≡◌, ◌≤◌, ◌<◌, ◌+◌, ◌^◌, [], IfOk, length, if◌then◌else◌, Ok, Err};
-ghost use Rattle.bpf_text_fields.specs.Refusals.{at_line, Gives};
+ghost use Rattle.bpf_insn_form.specs.Outcome.{Gives};
+ghost use Rattle.bpf_text_lines.specs.Refusals.{at_line, text_refusal};
 ghost use Rattle.bpf_text_lines.specs.Lines.{contents_from, lines_of};
 ghost use Rattle.bpf_text_operands.specs.LabelTable.{found};
-ghost use Rattle.bpf_text_operands.specs.Statements.{insn_at};
-ghost use Rattle.bpf_text_operands.specs.LabelTable.{slots_of};
+ghost use Rattle.bpf_text_operands.specs.Statements.{insn_of_line};
+ghost use Rattle.bpf_text_operands.specs.LabelTable.{label_slots};
 ghost use Rattle.bpf_insn_form.specs.Program.{slot_count};
-ghost use Rattle.bpf_text_units.specs.UnitReading.{label_at, in_limit, line_at, insns_behind, Adds};
+ghost use Rattle.bpf_text_units.specs.AssemblerText.{label_at, in_limit, line_at, insns_behind, Adds};
 
 use crate::label::label_name;
-use bpf_insn_form::{Insn, slots};
-use bpf_text_fields::{Fault, MAX_SLOTS, TextError};
-use bpf_text_lines::next_line;
+use bpf_insn_form::{Insn, MAX_SLOTS, slots};
+use bpf_text_lines::{TextError, TextFault, next_line};
 use bpf_text_operands::{Labels, read_insn};
 use std::alloc::Global;
 
 /// Whether the label line of this number repeats the label of another line.
 fn repeats(labels: &Labels<'_>, name: &[u8], number: u32) -> bool
-    ensures { (if result then Err Fault.RepeatedLabel else Ok []) ≡ label_at number (found labels.now name.now) }
+    ensures { (if result then Err TextFault.RepeatedLabel else Ok []) ≡ label_at number (found labels.now name.now) }
 {
     match labels.get(name) {
         Some(label) => label.line != number,
@@ -35,7 +35,7 @@ fn add_insn(
     slot: u32,
 ) -> Result<u32, TextError>
     requires { slot ≤ 4096 }
-    ensures adds { Adds insns.old.items insns.new.items slot result (at_line number (in_limit slot (insn_at (slots_of labels.now) slot content.now))) }
+    ensures adds { Adds insns.old.items insns.new.items slot result (at_line number (in_limit slot (insn_of_line (label_slots labels.now) slot content.now))) }
     ensures bound { IfOk result (λ next. next ≤ 4096) }
 {
     let insn = match read_insn(content, labels, slot) {
@@ -43,8 +43,8 @@ fn add_insn(
         Err(fault) => return Err(fault.at(number)),
     };
     let next = slot + slots(&insn);
-    if next as usize > MAX_SLOTS {
-        return Err(Fault::TooLong.at(number));
+    if next > MAX_SLOTS {
+        return Err(TextFault::TooLong.at(number));
     }
     insns.extend_from_slice(&[insn])?;
     Ok(next)
@@ -63,7 +63,7 @@ fn add_line(
     ensures bound { IfOk result (λ next. next ≤ 4096) }
 {
     match label_name(content) {
-        Some(name) if repeats(labels, name, number) => Err(Fault::RepeatedLabel.at(number)),
+        Some(name) if repeats(labels, name, number) => Err(TextFault::RepeatedLabel.at(number)),
         Some(_) => Ok(slot),
         None => add_insn(insns, content, number, labels, slot),
     }
@@ -77,7 +77,7 @@ pub fn read_insns(
     labels: &Labels<'_>,
 ) -> Result<Vec<Insn>, TextError>
     requires { first + length text.now < 2 ^ 32 }
-    ensures { Gives (λ v. v.items) result (insns_behind (found labels.now) [] (contents_from first (lines_of text.now))) }
+    ensures { Gives text_refusal (λ v. v.items) result (insns_behind (found labels.now) [] (contents_from first (lines_of text.now))) }
 {
     let mut insns = Vec::new(alloc);
     let mut slot = 0;

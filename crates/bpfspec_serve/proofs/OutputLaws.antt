@@ -7,7 +7,7 @@ use Rattle.std.specs.Prelude.{nat_lt, nat_le}
 use Rattle.std.specs.Str.{IsUtf8, is_utf8}
 use Rattle.std.proofs.lemmas.Bool.Decides.{nat_tests}
 use Rattle.std.proofs.lemmas.Str.{IsUtf8-from_is_utf8, is_utf8-from_IsUtf8}
-use Rattle.bpf_text_fields.specs.declared.error.Fault.TheVariants as text_faults
+use Rattle.bpf_text_lines.specs.declared.text_error.TextFault.TheVariants as text_faults
 use Rattle.bpfspec_serve.specs.declared.refusal.Section.TheVariants as sections
 use Rattle.bpfspec_serve.specs.declared.refusal.Refusal.TheVariants as refusals
 use Rattle.bpfspec_streams.specs.Streams.{ReadsToEnd}

@@ -7,14 +7,16 @@ use Rattle.bpf_insn_form.specs.declared.insn.Insn.{Insn}
 use Rattle.bpf_insn.specs.declared.codec_error.CodecError.{CodecError}
 use Rattle.bpf_insn.specs.declared.codec_error.CodecError.TheVariants as codec
 use Rattle.bpf_insn.specs.Reading.{reading}
-use Rattle.bpf_text_fields.specs.declared.error.Fault.TheVariants as text_faults
-use Rattle.bpf_text_fields.specs.declared.error.TextError.{TextError}
-use Rattle.bpf_text_fields.specs.declared.error.TextError.TheVariants as text
-use Rattle.bpf_text.specs.HexText.{HexParts, hex_text}
+use Rattle.bpf_text_lines.specs.declared.text_error.TextFault.TheVariants as text_faults
+use Rattle.bpf_text_lines.specs.declared.text_error.TextError.{TextError}
+use Rattle.bpf_text_lines.specs.declared.text_error.TextError.TheVariants as text
+use Rattle.bpf_text_hex.specs.SizesAndBytes.{SizesAndBytes}
+use Rattle.bpf_text_hex.specs.HexText.{hex_text}
 use Rattle.bpf_text.specs.MapsText.{maps_text}
-use Rattle.bpf_text_insns.specs.UnitText.{unit_text as assembler_form, unit_hex as hex_form}
+use Rattle.bpf_text_hex.specs.HexForm.{hex_form}
+use Rattle.bpf_text_units.specs.AssemblerForm.{assembler_form}
 use Rattle.bpf_insn_form.specs.Program.{Program}
-use Rattle.bpf_text_units.specs.UnitReading.{unit_text as assembler_text}
+use Rattle.bpf_text_units.specs.AssemblerText.{assembler_text}
 use Rattle.array_maps.specs.MapList.{lengths}
 use Rattle.bpf_insn_form.specs.Program.{Program}
 use Rattle.bpf_step_model.specs.Run.{Ended}
@@ -67,7 +69,7 @@ with_sizes sizes (Ok insns) = Ok (record { sizes = sizes; insns = insns })
 with_sizes sizes (Err error) = Err (code_failure error)
 
 -- the program of a unit in hex form
-abbrev pub of_hex : Result HexParts Failure → Result Program Failure
+abbrev pub of_hex : Result SizesAndBytes Failure → Result Program Failure
 of_hex (Err failure) = Err failure
 of_hex (Ok parts) = with_sizes parts.sizes (reading parts.bytes)
 
@@ -89,8 +91,8 @@ as_outcome (Err error) = Err (code_failure error)
 -- a unit in the other form
 abbrev pub written : UnitForm → Result Program Failure → Outcome
 written form (Err failure) = Err failure
-written Assembler (Ok program) = as_outcome (assembler_form program.sizes program.insns)
-written Hex (Ok program) = as_outcome (hex_form program.sizes program.insns)
+written Assembler (Ok program) = as_outcome (assembler_form program)
+written Hex (Ok program) = as_outcome (hex_form program)
 
 -- an accepted program is told with its functions, another is refused by its first fault
 abbrev pub judged : Program → Option BrokenRule → Outcome

@@ -1,10 +1,10 @@
 -- The line that tells why an input has no result.
 use Rattle.std.specs.Prelude.{ℕ, List, ◌++◌, codes}
 use Rattle.std.specs.Fmt.{decimal}
-use Rattle.bpf_insn.specs.declared.codec_error.Fault.{Fault as CodeFault}
-use Rattle.bpf_insn.specs.declared.codec_error.Fault.TheVariants as code_faults
-use Rattle.bpf_text_fields.specs.declared.error.Fault.{Fault as TextFault}
-use Rattle.bpf_text_fields.specs.declared.error.Fault.TheVariants as text_faults
+use Rattle.bpf_insn.specs.declared.codec_error.CodecFault.{CodecFault}
+use Rattle.bpf_insn.specs.declared.codec_error.CodecFault.TheVariants as code_faults
+use Rattle.bpf_text_lines.specs.declared.text_error.TextFault.{TextFault}
+use Rattle.bpf_text_lines.specs.declared.text_error.TextFault.TheVariants as text_faults
 use Rattle.bpf_verify_model.specs.declared.rule.Rule.{Rule}
 use Rattle.bpf_verify_model.specs.declared.rule.Rule.TheVariants as rules
 use Rattle.bpfspec_serve.specs.declared.refusal.Section.{Section}
@@ -23,14 +23,16 @@ text_number text_faults.TooLong = codes "A6"
 text_number text_faults.Limits = codes "A7"
 
 -- the number of what is wrong with an instruction's bytes
-abbrev pub code_number : CodeFault → List ℕ
-code_number code_faults.I1 = codes "I1"
-code_number code_faults.I2 = codes "I2"
-code_number code_faults.I3 = codes "I3"
-code_number code_faults.I4 = codes "I4"
-code_number code_faults.I5 = codes "I5"
-code_number code_faults.I6 = codes "I6"
-code_number code_faults.I7 = codes "I7"
+abbrev pub code_number : CodecFault → List ℕ
+code_number code_faults.Incomplete = codes "I1"
+code_number code_faults.UnknownOpcode = codes "I2"
+code_number code_faults.RegisterNumber = codes "I3"
+code_number code_faults.FieldNotZero = codes "I4"
+code_number code_faults.CallSource = codes "I4"
+code_number code_faults.LoadKind = codes "I4"
+code_number code_faults.Immediate = codes "I5"
+code_number code_faults.Offset = codes "I6"
+code_number code_faults.SecondSlot = codes "I7"
 
 -- the number of a rule that is broken
 abbrev pub rule_number : Rule → List ℕ

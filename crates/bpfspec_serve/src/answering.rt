@@ -190,11 +190,11 @@ fn readable(input: &[u8]) -> Result<&str, Failure>
     ensures { Met (λ s. s.now) (λ outcome. outcome ≡ readable input.now) result }
 {
     if input.len() > MAX_INPUT {
-        return Err(unit_refusal(bpf_text::Fault::TooLong));
+        return Err(unit_refusal(bpf_text::TextFault::TooLong));
     }
     match str::from_utf8(input) {
         Ok(text) => Ok(text),
-        Err(_) => Err(unit_refusal(bpf_text::Fault::Form)),
+        Err(_) => Err(unit_refusal(bpf_text::TextFault::Form)),
     }
 }
 
@@ -212,7 +212,7 @@ pub fn outcome(alloc: Global, mode: &Mode, input: &[u8]) -> Result<String, Failu
 }
 
 /// A fault of the unit's text as a whole.
-fn unit_refusal(fault: bpf_text::Fault) -> Failure
+fn unit_refusal(fault: bpf_text::TextFault) -> Failure
     ensures { result ≡ Refused (Text fault Section.Unit 0) }
 {
     Failure::Refused(Refusal::Text {

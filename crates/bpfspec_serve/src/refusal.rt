@@ -21,13 +21,13 @@ pub enum Section {
 pub enum Refusal {
     /// A section is no text of its form.
     Text {
-        fault: bpf_text::Fault,
+        fault: bpf_text::TextFault,
         section: Section,
         line: u32,
     },
     /// The bytes of the instructions spell no program.
     Code {
-        fault: bpf_insn::Fault,
+        fault: bpf_insn::CodecFault,
         slot: usize,
     },
     /// The program breaks a rule of the verifier.
@@ -42,32 +42,34 @@ pub enum Refusal {
 }
 
 /// The number of what is wrong with a text.
-fn text_number(fault: bpf_text::Fault) -> &'static str
+fn text_number(fault: bpf_text::TextFault) -> &'static str
     ensures { result.now ≡ text_number fault }
 {
     match fault {
-        bpf_text::Fault::Form => "A1",
-        bpf_text::Fault::Field => "A2",
-        bpf_text::Fault::Register => "A3",
-        bpf_text::Fault::UnknownLabel => "A4",
-        bpf_text::Fault::RepeatedLabel => "A5",
-        bpf_text::Fault::TooLong => "A6",
-        bpf_text::Fault::Limits => "A7",
+        bpf_text::TextFault::Form => "A1",
+        bpf_text::TextFault::Field => "A2",
+        bpf_text::TextFault::Register => "A3",
+        bpf_text::TextFault::UnknownLabel => "A4",
+        bpf_text::TextFault::RepeatedLabel => "A5",
+        bpf_text::TextFault::TooLong => "A6",
+        bpf_text::TextFault::Limits => "A7",
     }
 }
 
 /// The number of what is wrong with an instruction's bytes.
-fn code_number(fault: bpf_insn::Fault) -> &'static str
+fn code_number(fault: bpf_insn::CodecFault) -> &'static str
     ensures { result.now ≡ code_number fault }
 {
     match fault {
-        bpf_insn::Fault::I1 => "I1",
-        bpf_insn::Fault::I2 => "I2",
-        bpf_insn::Fault::I3 => "I3",
-        bpf_insn::Fault::I4 => "I4",
-        bpf_insn::Fault::I5 => "I5",
-        bpf_insn::Fault::I6 => "I6",
-        bpf_insn::Fault::I7 => "I7",
+        bpf_insn::CodecFault::Incomplete => "I1",
+        bpf_insn::CodecFault::UnknownOpcode => "I2",
+        bpf_insn::CodecFault::RegisterNumber => "I3",
+        bpf_insn::CodecFault::FieldNotZero
+        | bpf_insn::CodecFault::CallSource
+        | bpf_insn::CodecFault::LoadKind => "I4",
+        bpf_insn::CodecFault::Immediate => "I5",
+        bpf_insn::CodecFault::Offset => "I6",
+        bpf_insn::CodecFault::SecondSlot => "I7",
     }
 }
 

@@ -2,18 +2,14 @@
 use Rattle.std.proofs.Common.{◌≡◌, ◌∙◌, ℕ, ◌+◌, ◌-◌, ◌*◌, ◌/◌, ◌%◌, ◌^◌, ◌<◌, ◌≤◌, min, max, refl, sym, ap, subst, arith, inl, inr, ⊎_elim}
 use Rattle.std.specs.Prelude.{◌⊎◌, bit_and, bit_or, bit_xor}
 use Rattle.std.specs.Int.{w64, leading_zeros}
-use Rattle.std.proofs.Math.Nat.{min-le_left, min-le_right, le-min, max-le, div-mul-le_self, zero-div, mod-eq_of_lt, pow-suc}
-use Rattle.std.proofs.lemmas.Nat.{mul-le, pow_pos, and_le_l, and_le_r, or_lt, xor_lt, le_or_l, le_or_r, and_mod, or_mod, xor_mod, leading_length, leading_le, le-div, field_of, shl_whole}
-use Rattle.std.proofs.lemmas.Nat.Bits.{ones_shr}
+use Rattle.std.proofs.Math.Nat.{min-le_left, min-le_right, le-min, max-le, div-mul-le_self, zero-div, pow-suc}
+use Rattle.std.proofs.lemmas.Nat.{mul-le, pow_pos, and_le_l, and_le_r, or_lt, xor_lt, le_or_l, le_or_r, and_mod, or_mod, xor_mod, leading_length, le-div, field_of}
 use Rattle.std.proofs.Math.Pow.{pow_mono}
-use Rattle.std.proofs.lemmas.Bool.{cases_lt, cond-true, lt-ltb}
-use Rattle.bpf_insn_form.specs.declared.insn.Width.{Width}
-use Rattle.bpf_insn_words.specs.Words.{modulus}
-use Rattle.bpf_insn_words.proofs.WordLaws.{modulus-most}
+use Rattle.std.proofs.lemmas.Bool.{cases_lt}
 use Rattle.value_range_model.specs.Spans.{Span, IsSpan, Contains, rounded_up, norm}
 use Rattle.value_range_model.proofs.Multiples.{coarser, zero-multiple, multiple-zero, multiple-add, multiple-sub, multiple-mul, pow-multiple, up-most}
 use Rattle.value_range_model.proofs.SpanLaws.{norm-contains, lo-in, max-one}
-use Rattle.value_range_model.specs.AluRows.{filled, shifted_left_by}
+use Rattle.value_range_model.specs.AluRows.{filled}
 
 -- a number lies between bounds, and is a multiple
 abbrev pub Between : ℕ → ℕ → ℕ → ℕ → Type 0

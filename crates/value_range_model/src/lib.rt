@@ -16,6 +16,3 @@ pub use condition::Condition;
 pub use laws::{alu_law, refine_law, span_law};
 pub use operation::Operation;
 pub use range::{Range, exact, join, norm, top};
-
-#[cfg(test)]
-mod tests;

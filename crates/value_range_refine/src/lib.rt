@@ -6,6 +6,3 @@ mod rows;
 mod table;
 
 pub use table::refine;
-
-#[cfg(test)]
-mod tests;

@@ -11,6 +11,3 @@ mod table;
 mod widths;
 
 pub use table::alu;
-
-#[cfg(test)]
-mod tests;

@@ -1,7 +1,7 @@
 use Rattle.std.proofs.Common.{◌+◌, arith}
 use Rattle.bpf_text_lines.specs.Lines.{contents_from, lines_of}
 use Rattle.bpf_text_operands.specs.LabelTable.{found}
-use Rattle.bpf_text_units.specs.UnitReading.{labels_from}
+use Rattle.bpf_text_units.specs.AssemblerText.{labels_from}
 use Rattle.bpf_text_units.proofs.ReadingLaws.{labels_move, labels_end}
 use Rattle.bpf_text_units.proofs.label.read_labels.Goals as goal
 

@@ -2,4 +2,4 @@ use Rattle.bpf_text_units.proofs.UnitBack.{one_unit}
 use Rattle.bpf_text_units.proofs.laws.text_of_one_unit.Goals as goal
 
 pub returns : goal.returns
-returns c sizes others insns also text stands also_stands printed also_printed = one_unit sizes others insns also text stands also_stands printed also_printed
+returns c = one_unit

@@ -2,4 +2,4 @@ use Rattle.bpf_text_units.proofs.UnitBack.{unit_back}
 use Rattle.bpf_text_units.proofs.laws.unit_is_read_back.Goals as goal
 
 pub returns : goal.returns
-returns c sizes insns text stands printed = unit_back sizes insns text stands printed
+returns c = unit_back

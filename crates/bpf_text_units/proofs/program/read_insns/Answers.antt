@@ -3,8 +3,9 @@ use Rattle.std.proofs.lemmas.Result.{err_from_is_err_and}
 use Rattle.bpf_text_lines.specs.Lines.{contents_from, lines_of}
 use Rattle.bpf_text_operands.specs.LabelTable.{found}
 use Rattle.bpf_insn_form.specs.Program.{slot_count}
-use Rattle.bpf_text_units.specs.UnitReading.{insns_behind}
-use Rattle.bpf_text_units.proofs.ReadingLaws.{slot_count-append, insns_behind-line, insns_behind-fails, insns_behind-end}
+use Rattle.bpf_text_units.specs.AssemblerText.{insns_behind}
+use Rattle.bpf_insn_form.proofs.ProgramLaws.{slot_count-append}
+use Rattle.bpf_text_units.proofs.ReadingLaws.{insns_behind-line, insns_behind-fails, insns_behind-end}
 use Rattle.bpf_text_units.proofs.program.read_insns.Goals as goal
 
 pub returns-in_err-slot : goal.returns-in_err-slot

@@ -2,7 +2,7 @@ use Rattle.std.proofs.Common.{◌≡◌, ◌≤◌, ◌+◌, [], length}
 use Rattle.bpf_text_lines.specs.Lines.{contents_from, lines_of}
 use Rattle.bpf_text_operands.specs.LabelTable.{found}
 use Rattle.bpf_insn_form.specs.Program.{slot_count}
-use Rattle.bpf_text_units.specs.UnitReading.{insns_behind}
+use Rattle.bpf_text_units.specs.AssemblerText.{insns_behind}
 use Rattle.bpf_text_units.proofs.program.read_insns.Given as goal
 
 abbrev pub invariant-loop-line : goal.invariant-loop-line

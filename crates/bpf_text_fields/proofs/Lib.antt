@@ -1,3 +1,0 @@
-pub mod RefusalLaws
-pub mod FieldLaws
-pub mod HeadLaws

@@ -1,3 +1,0 @@
-pub mod Refusals
-pub mod Fields
-pub mod Head

@@ -1,0 +1,4 @@
+pub mod HexLines
+pub mod HexLaws
+pub mod SpelledBytes
+pub mod HexBack

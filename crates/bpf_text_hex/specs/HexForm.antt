@@ -1,0 +1,21 @@
+-- The hex form of a unit.
+use Rattle.std.specs.Prelude.{ℕ, List, [], ◌∷◌, ◌++◌, codes, Result}
+use Rattle.std.specs.Result.{result_map_both}
+use Rattle.hex.specs.Hex.{encode_lower}
+use Rattle.bpf_insn_form.specs.Program.{Program}
+use Rattle.bpf_insn.specs.declared.codec_error.CodecError.{CodecError}
+use Rattle.bpf_insn.specs.Spelling.{program_spelling}
+use Rattle.bpf_text_insns.specs.PrintedLines.{head_line}
+
+-- slots of 8 bytes, a line of hex digits each
+unfoldable pub slot_lines : List ℕ → List ℕ
+slot_lines (a ∷ b ∷ c ∷ d ∷ e ∷ f ∷ g ∷ h ∷ rest) = encode_lower (a ∷ b ∷ c ∷ d ∷ e ∷ f ∷ g ∷ h ∷ []) ++ codes "\n" ++ slot_lines rest
+slot_lines _ = []
+
+-- the first line and a line for each slot of these bytes
+abbrev pub hex_lines : (sizes bytes : List ℕ) → List ℕ
+hex_lines sizes bytes = head_line sizes ++ slot_lines bytes
+
+-- the same of a program's bytes, refused as they are
+abbrev pub hex_form : Program → Result (List ℕ) CodecError
+hex_form program = result_map_both (hex_lines program.sizes) (λ e. e) (program_spelling program.insns)

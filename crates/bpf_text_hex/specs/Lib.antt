@@ -1,0 +1,3 @@
+pub mod SizesAndBytes
+pub mod HexText
+pub mod HexForm

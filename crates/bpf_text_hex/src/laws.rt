@@ -1,0 +1,21 @@
+//! Laws of the hex form, as functions that do nothing: what they ensure is the law.
+
+ghost use Rattle.std.specs.Prelude.{◌≡◌, ℕ, List, Ok};
+ghost use Rattle.bpf_insn_form.specs.Limits.{IsUnit};
+ghost use Rattle.bpf_insn_form.specs.Program.{Program};
+ghost use Rattle.bpf_insn.specs.Spelling.{program_spelling};
+ghost use Rattle.bpf_text_hex.specs.HexForm.{hex_form};
+ghost use Rattle.bpf_text_hex.specs.HexText.{hex_text};
+
+/// The hex form of a unit is read back as its sizes and the bytes of its instructions.
+pub fn hex_is_read_back()
+    ensures { (program : Program) (bytes text : List ℕ) → IsUnit program
+        → program_spelling program.insns ≡ Ok bytes → hex_form program ≡ Ok text
+        → hex_text text ≡ Ok (record { sizes = program.sizes; bytes = bytes }) }
+{}
+
+/// No two units have one hex form: it gives sizes and bytes, and bytes spell one program at most.
+pub fn hex_of_one_unit()
+    ensures { (p q : Program) (text : List ℕ) → IsUnit p → IsUnit q
+        → hex_form p ≡ Ok text → hex_form q ≡ Ok text → p ≡ q }
+{}

@@ -1,0 +1,48 @@
+//! Rows of text, and texts of many lines.
+
+use bpf_text::TextError;
+use std::alloc::{AllocError, Global};
+use std::process::Abort;
+use std::test::Fail;
+
+/// The text of a row.
+pub fn text_of(alloc: Global, row: &str) -> Result<String, AllocError> {
+    let lines = row.trim().replace(alloc, " | ", "\n")?;
+    let lines = lines.as_str().replace(alloc, "<tab>", "\t")?;
+    lines.as_str().replace(alloc, "<cr>", "\r")
+}
+
+/// What an error says, or `accepted`.
+pub fn told(alloc: Global, error: Option<TextError>) -> Result<String, AllocError> {
+    match error {
+        Some(error) => error.to_string(alloc),
+        None => String::from_str(alloc, "accepted"),
+    }
+}
+
+/// Asserts what a reader says of the texts of a table.
+pub fn are_told<F: Fn(Global, &str) -> Option<TextError>>(
+    rt: &impl Abort,
+    alloc: Global,
+    table: &str,
+    error_of: F,
+) -> Result<(), Fail>
+    requires { F.IsAlwaysCallable error_of }
+{
+    for row in table.trim().lines() {
+        let (text, want) = row.split_once("=>").ok_or("a row has an answer")?;
+        let text = text_of(alloc, text)?;
+        let told = told(alloc, error_of(alloc, &text))?;
+        assert_eq!(rt; told.as_str(), want.trim(), "{row}");
+    }
+    Ok(())
+}
+
+/// A front and so many lines, each this one.
+pub fn repeated(alloc: Global, front: &str, line: &str, count: u32) -> Result<String, AllocError> {
+    let mut text = String::from_str(alloc, front)?;
+    for _ in 0..count {
+        text.push_str(line)?;
+    }
+    Ok(text)
+}
