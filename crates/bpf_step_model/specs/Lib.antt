@@ -10,5 +10,6 @@ pub mod Lines
 pub mod ProgramRows
 pub mod LoopRows
 pub mod StepRows
+pub mod MapRows
 pub mod Steps
 pub mod Bounds

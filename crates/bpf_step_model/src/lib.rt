@@ -4,6 +4,7 @@
 
 ghost use Rattle.bpf_step_model.specs.Bounds.{GreaterBoundAgrees};
 ghost use Rattle.bpf_step_model.specs.LoopRows.{LoopRows};
+ghost use Rattle.bpf_step_model.specs.MapRows.{MapRows};
 ghost use Rattle.bpf_step_model.specs.ProgramRows.{ProgramRows};
 ghost use Rattle.bpf_step_model.specs.StepRows.{StepRows};
 ghost use Rattle.bpf_step_model.specs.Steps.{RunIsListOfStates, RunIsStuck};
@@ -24,6 +25,12 @@ pub fn worked_loops()
 /// accesses, addresses, jumps, calls and callbacks.
 pub fn worked_steps()
     ensures { StepRows }
+{}
+
+/// The definitions give what accesses of maps do: elements of two maps, and halves of elements, each
+/// with what it reads, writes or reduces.
+pub fn worked_maps()
+    ensures { MapRows }
 {}
 
 /// The law of runs: a run that ends within its bound is a list of states from its entry, each the

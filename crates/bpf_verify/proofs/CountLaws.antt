@@ -1,4 +1,4 @@
--- The longest paths, from the end of a program on.
+-- The longest paths in a list of numbers, filled from the end of a program on.
 use Rattle.std.proofs.Common.{◌≡◌, ◌≢◌, ℕ, zero, suc, ◌+◌, ◌-◌, ◌<◌, ◌≤◌, max, Bool, true, false, List, [], ◌∷◌, length, get_or, set, refl, ap, sym, ◌∙◌, arith, Option, Some, None, take, replicate, map}
 use Rattle.std.specs.Prelude.{nat_eq, nat_lt}
 use Rattle.std.proofs.lemmas.Bool.Decides.{nat_tests}
@@ -7,71 +7,12 @@ use Rattle.bpf_insn_form.specs.declared.insn.Insn.{Insn}
 use Rattle.bpf_insn_form.specs.declared.insn.Insn.TheVariants.{Ja, Ja32, Jump, Exit}
 use Rattle.bpf_insn_form.specs.Slots.{slots_of}
 use Rattle.bpf_insn_form.specs.Program.{slot_count, insn_at, moved, callback_starts}
-use Rattle.bpf_verify_rules.specs.Rules.{jump_distance, jump_target}
-use Rattle.bpf_verify_flow.specs.Count.{behind_jump, through, longest, count_of}
-use Rattle.bpf_verify.specs.Counting.{JumpsForward, slice_index_or_zero}
+use Rattle.bpf_verify_model.specs.Rules.{jump_distance, jump_target}
+use Rattle.bpf_verify_model.specs.Count.{behind_jump, through, longest, count_of}
+use Rattle.bpf_verify_model.specs.Count.{JumpsForward}
+use Rattle.bpf_verify_model.proofs.LongestLaws.{through-congr, longest-end, longest-step, longest-small}
+use Rattle.bpf_verify.specs.Counting.{most_at}
 use Rattle.bpf_insn_form.proofs.ProgramLaws.{slots_some, insn_at-end, slot_count-more, slot_count-front, insn_at-index, insn_at-index_inner}
-
-behind-congr : (f g : ℕ → ℕ) (slot : ℕ) (t : Option ℕ) → ((k : ℕ) → slot + 1 ≤ k → f k ≡ g k) → ((target : ℕ) → t ≡ Some target → slot < target) →
-    behind_jump f t ≡ behind_jump g t
-behind-congr f g slot None same forward = refl
-behind-congr f g slot (Some target) same forward =
-    let later : slot < target = forward target refl in
-    same target (omega (arith, later))
-
--- what is known of later slots alone matters
-pub through-congr : (f g : ℕ → ℕ) (slot : ℕ) (insn : Insn) → ((k : ℕ) → slot + slots_of insn ≤ k → f k ≡ g k) →
-    ((target : ℕ) → jump_target slot (jump_distance insn) ≡ Some target → slot < target) → through f slot (Some insn) ≡ through g slot (Some insn)
-through-congr f g slot (Ja offset) same forward = ap (λ (n : ℕ). 1 + n) (behind-congr f g slot (moved (slot + 1) offset) same forward)
-through-congr f g slot (Ja32 imm) same forward = ap (λ (n : ℕ). 1 + n) (behind-congr f g slot (moved (slot + 1) imm) same forward)
-through-congr f g slot (Jump width compare dst operand offset) same forward =
-    ap (λ (n : ℕ). 1 + max n (behind_jump f (moved (slot + 1) offset))) (same (slot + 1) (omega arith))
-    ∙ ap (λ (n : ℕ). 1 + max (g (slot + 1)) n) (behind-congr f g slot (moved (slot + 1) offset) same forward)
-through-congr f g slot Exit same forward = refl
-through-congr f g slot insn same forward = ap (λ (n : ℕ). 1 + n) (same (slot + slots_of insn) (omega arith))
-
-through-congr-any : (insns : List Insn) (f g : ℕ → ℕ) (slot : ℕ) (i : Option Insn) → i ≡ insn_at insns slot → JumpsForward insns →
-    ((k : ℕ) → slot < k → f k ≡ g k) → through f slot i ≡ through g slot i
-through-congr-any insns f g slot None here forward same = refl
-through-congr-any insns f g slot (Some insn) here forward same =
-    through-congr f g slot insn (λ k h. same k (omega (arith, slots_some insn, h))) (λ target jumps. forward.later slot insn target (sym here) jumps)
-
--- past the end there is none
-pub longest-end : (insns : List Insn) (left slot : ℕ) → slot_count insns ≤ slot → longest insns left slot ≡ 0
-longest-end insns zero slot h = refl
-longest-end insns (suc left) slot h = ap (through (longest insns left) slot) (insn_at-end insns slot h)
-
--- more slots than are left give nothing more
-longest-stable : (insns : List Insn) (left slot : ℕ) → JumpsForward insns → slot_count insns ≤ left + slot → longest insns left slot ≡ longest insns (suc left) slot
-longest-stable insns zero slot forward h = sym (longest-end insns 1 slot (omega arith))
-longest-stable insns (suc left) slot forward h =
-    through-congr-any insns (longest insns left) (longest insns (suc left)) slot (insn_at insns slot) refl forward
-    (λ k m. longest-stable insns left k forward (omega (arith, h, m)))
-
--- one step from a slot on
-pub longest-step : (insns : List Insn) (n slot : ℕ) (i : Option Insn) → JumpsForward insns → slot_count insns ≡ n → 0 < n → insn_at insns slot ≡ i →
-    longest insns n slot ≡ through (longest insns n) slot i
-longest-step insns zero slot i forward counted some here = absurd (omega arith)
-longest-step insns (suc m) slot i forward counted some here =
-    through-congr-any insns (longest insns m) (longest insns (suc m)) slot (insn_at insns slot) refl forward (λ k h. longest-stable insns m k forward (omega (arith, h, counted)))
-    ∙ ap (through (longest insns (suc m)) slot) here
-
--- it isn't more than the slots
-behind-small : (f : ℕ → ℕ) (m : ℕ) (t : Option ℕ) → ((k : ℕ) → f k ≤ m) → behind_jump f t ≤ m
-behind-small f m None small = omega arith
-behind-small f m (Some target) small = small target
-
-through-small : (f : ℕ → ℕ) (m slot : ℕ) (i : Option Insn) → ((k : ℕ) → f k ≤ m) → through f slot i ≤ suc m
-through-small f m slot None small = omega arith
-through-small f m slot (Some (Ja offset)) small = omega (arith, behind-small f m (moved (slot + 1) offset) small)
-through-small f m slot (Some (Ja32 imm)) small = omega (arith, behind-small f m (moved (slot + 1) imm) small)
-through-small f m slot (Some (Jump width compare dst operand offset)) small = omega (arith, small (slot + 1), behind-small f m (moved (slot + 1) offset) small)
-through-small f m slot (Some Exit) small = omega arith
-through-small f m slot (Some insn) small = omega (arith, small (slot + slots_of insn))
-
-pub longest-small : (insns : List Insn) (left slot : ℕ) → longest insns left slot ≤ left
-longest-small insns zero slot = omega arith
-longest-small insns (suc left) slot = through-small (longest insns left) left slot (insn_at insns slot) (longest-small insns left)
 
 -- an instruction at an index from the end
 pub record Back (insns : List Insn) (n slot slot' i : ℕ) (x : Insn) : Type 0 where
@@ -111,15 +52,15 @@ longest-none insns n k forward counted some none = longest-step insns n k None f
 
 -- an instruction's number
 most-is : (insns : List Insn) (n slot slot' i most : ℕ) (x : Insn) (xs : List ℕ) → JumpsForward insns → slot_count insns ≡ n →
-    Back insns n slot slot' i x → CountsFrom insns n slot xs → most ≡ through (slice_index_or_zero xs) slot' (Some x) → most ≡ longest insns n slot'
+    Back insns n slot slot' i x → CountsFrom insns n slot xs → most ≡ through (most_at xs) slot' (Some x) → most ≡ longest insns n slot'
 most-is insns n slot slot' i most x xs forward counted back counts is =
-    is ∙ through-congr (slice_index_or_zero xs) (longest insns n) slot' x (λ k h. counts.done k (omega (arith, back.step, h)))
-    (λ target jumps. forward.later slot' x target back.here jumps)
+    is ∙ through-congr (most_at xs) (longest insns n) slot' x (λ k h. counts.done k (omega (arith, back.step, h)))
+    (λ target jump_outflow. forward.later slot' x target back.here jump_outflow)
     ∙ sym (longest-step insns n slot' (Some x) forward counted (omega (arith, back.inside, back.step, back.some)) back.here)
 
 -- the numbers from the slot before on
 pub counts-more : (insns : List Insn) (n slot slot' i most : ℕ) (x : Insn) (xs xs' : List ℕ) → JumpsForward insns → slot_count insns ≡ n → n ≤ 4096 →
-    Back insns n slot slot' i x → length xs ≡ n → CountsFrom insns n slot xs → most ≡ through (slice_index_or_zero xs) slot' (Some x) →
+    Back insns n slot slot' i x → length xs ≡ n → CountsFrom insns n slot xs → most ≡ through (most_at xs) slot' (Some x) →
     xs' ≡ set xs slot' most → CountsFrom insns n slot' xs'
 counts-more insns n slot slot' i most x xs xs' forward counted few back size counts is written =
     let inside : slot' < length xs = omega (arith, back.inside, back.step, back.some) in

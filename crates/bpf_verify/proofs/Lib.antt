@@ -1,5 +1,4 @@
-pub mod MarkLaws
+pub mod FlagLaws
 pub mod PassLaws
 pub mod StartLaws
 pub mod CountLaws
-pub mod JumpLaws

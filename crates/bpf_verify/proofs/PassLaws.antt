@@ -5,14 +5,14 @@ use Rattle.std.proofs.lemmas.Bool.Decides.{nat_tests}
 use Rattle.bpf_insn_form.specs.Slots.{slots_of}
 use Rattle.bpf_insn_form.specs.declared.insn.Insn.{Insn}
 use Rattle.bpf_insn_form.specs.Program.{Program, insn_at, slot_count, named_by, function_of}
-use Rattle.bpf_verify_rules.specs.declared.rule.Rule.{Rule}
-use Rattle.bpf_verify_state.specs.declared.state.State.{State}
-use Rattle.bpf_verify_state.specs.Abstract.{main_entry}
-use Rattle.bpf_verify_rules.specs.Rules.{named_at, with_target, targets_in, slot_fault, insn_fault, state_fault, callback_fault, exit_fault, or_else, reached, fault_of}
-use Rattle.bpf_verify_flow.specs.declared.outflow.Outflow.{Outflow}
-use Rattle.bpf_verify_flow.specs.Flow.{flow}
-use Rattle.bpf_verify_flow.specs.Inflow.{flow_unless, flow_if_reached, flow_from, received, received_all, entry, incoming}
-use Rattle.bpf_verify_flow.specs.Accepted.{Fault, unless_earlier, fault_at_insn, fault_within}
+use Rattle.bpf_verify_model.specs.declared.rule.Rule.{Rule}
+use Rattle.bpf_verify_model.specs.declared.state.State.{State}
+use Rattle.bpf_verify_model.specs.States.{known_main_entry}
+use Rattle.bpf_verify_model.specs.Rules.{named_at, with_target, targets_in, slot_fault, insn_fault, state_fault, callback_fault, exit_fault, or_else, reached, fault_of}
+use Rattle.bpf_verify_model.specs.declared.outflow.Outflow.{Outflow}
+use Rattle.bpf_verify_model.specs.Flow.{flow}
+use Rattle.bpf_verify_model.specs.Inflow.{flow_unless, flow_if_reached, flow_from, received, received_all, entry, incoming}
+use Rattle.bpf_verify_model.specs.Accepted.{BrokenRule, unless_earlier, fault_at_insn, fault_within}
 use Rattle.bpf_verify.specs.declared.error.VerifyError.{VerifyError}
 use Rattle.bpf_verify.specs.declared.error.VerifyError.TheVariants.{Refused, Memory}
 use Rattle.bpf_verify.specs.declared.layout.Layout.{Layout}
@@ -50,12 +50,12 @@ pub fault_within-more : (program : Program) (slot : ℕ) (insn : Insn) (before :
 unfolding fault_within
 fault_within-more program slot insn before fine here known =
     let more : fault_within program (slot + 1) ≡ fault_within program (suc slot) = ap (fault_within program) (add-one slot) in
-    more ∙ ap (λ (f : Option Fault). unless_earlier f slot (fault_at_insn program slot (insn_at program.insns slot))) fine
+    more ∙ ap (λ (f : Option BrokenRule). unless_earlier f slot (fault_at_insn program slot (insn_at program.insns slot))) fine
     ∙ ap (λ (i : Option Insn). unless_earlier None slot (fault_at_insn program slot i)) here
     ∙ ap (λ (b : Option State). unless_earlier None slot (fault_of program slot insn b)) (sym known)
 
 -- a fault stays the first
-fault_within-steps : (program : Program) (slot n : ℕ) (fault : Fault) → fault_within program slot ≡ Some fault → fault_within program (n + slot) ≡ Some fault
+fault_within-steps : (program : Program) (slot n : ℕ) (fault : BrokenRule) → fault_within program slot ≡ Some fault → fault_within program (n + slot) ≡ Some fault
 unfolding fault_within
 fault_within-steps program slot zero fault found =
     let e : 0 + slot ≡ slot = omega arith in
@@ -63,9 +63,9 @@ fault_within-steps program slot zero fault found =
 fault_within-steps program slot (suc n) fault found =
     let e : suc n + slot ≡ suc (n + slot) = omega arith in
     ap (fault_within program) e
-    ∙ ap (λ (f : Option Fault). unless_earlier f (n + slot) (fault_at_insn program (n + slot) (insn_at program.insns (n + slot)))) (fault_within-steps program slot n fault found)
+    ∙ ap (λ (f : Option BrokenRule). unless_earlier f (n + slot) (fault_at_insn program (n + slot) (insn_at program.insns (n + slot)))) (fault_within-steps program slot n fault found)
 
-pub fault_within-later : (program : Program) (slot n : ℕ) (fault : Fault) → fault_within program slot ≡ Some fault → slot ≤ n →
+pub fault_within-later : (program : Program) (slot n : ℕ) (fault : BrokenRule) → fault_within program slot ≡ Some fault → slot ≤ n →
     fault_within program n ≡ Some fault
 fault_within-later program slot n fault found later =
     let e : n ≡ (n - slot) + slot = omega arith in
@@ -116,7 +116,7 @@ unfolding incoming fault_within
 passed-skip program slot targets table passed none =
     let more : slot + 1 ≡ suc slot = add-one slot in
     record {
-      fine = ap (fault_within program) more ∙ ap (λ (f : Option Fault). unless_earlier f slot (fault_at_insn program slot (insn_at program.insns slot))) passed.fine
+      fine = ap (fault_within program) more ∙ ap (λ (f : Option BrokenRule). unless_earlier f slot (fault_at_insn program slot (insn_at program.insns slot))) passed.fine
           ∙ ap (λ (i : Option Insn). unless_earlier None slot (fault_at_insn program slot i)) none;
       listed = passed.listed ∙ sym (ap (λ (i : Option Insn). with_target (targets_in program.insns slot) (named_at slot i)) none) ∙ sym (ap (targets_in program.insns) more);
       known = λ t h. passed.known t h
@@ -149,7 +149,7 @@ first-more table table' i some size so_far pushed k h = ap (λ (l : List (Option
         get_or-push-at table None None k (omega arith) ∙ later k (omega arith)
 
 -- the first slot alone
-pub first-one : (table : List (Option State)) (state : State) → state ≡ main_entry → table ≡ [] ++ (Some state ∷ []) →
+pub first-one : (table : List (Option State)) (state : State) → state ≡ known_main_entry → table ≡ [] ++ (Some state ∷ []) →
     (k : ℕ) → k < 1 → get_or table k None ≡ entry k
 first-one table state is pushed zero h = ap (λ (l : List (Option State)). get_or l 0 None) pushed ∙ ap Some is
 first-one table state is pushed (suc k) h = absurd (omega arith)

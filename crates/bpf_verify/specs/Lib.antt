@@ -1,4 +1,4 @@
-pub mod Marks
+pub mod SlotFlags
 pub mod Layout
 pub mod Passing
 pub mod Counting

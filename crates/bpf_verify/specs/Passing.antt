@@ -2,12 +2,12 @@
 use Rattle.std.specs.Prelude.{◌≡◌, ℕ, ◌<◌, true, List, length, slice_index_or, Option, Some, None, is_some}
 use Rattle.bpf_insn_form.specs.declared.insn.Insn.{Insn}
 use Rattle.bpf_insn_form.specs.Program.{Program, insn_at}
-use Rattle.bpf_verify_state.specs.declared.state.State.{State}
-use Rattle.bpf_verify_rules.specs.Rules.{targets_in}
-use Rattle.bpf_verify_flow.specs.declared.outflow.Outflow.{Outflow}
-use Rattle.bpf_verify_flow.specs.Flow.{flow}
-use Rattle.bpf_verify_flow.specs.Inflow.{incoming, no_way, entry}
-use Rattle.bpf_verify_flow.specs.Accepted.{Fault, fault_within}
+use Rattle.bpf_verify_model.specs.declared.state.State.{State}
+use Rattle.bpf_verify_model.specs.Rules.{targets_in}
+use Rattle.bpf_verify_model.specs.declared.outflow.Outflow.{Outflow}
+use Rattle.bpf_verify_model.specs.Flow.{flow}
+use Rattle.bpf_verify_model.specs.Inflow.{incoming, no_way, entry}
+use Rattle.bpf_verify_model.specs.Accepted.{BrokenRule, fault_within}
 use Rattle.bpf_verify.specs.declared.error.VerifyError.{VerifyError}
 use Rattle.bpf_verify.specs.declared.error.VerifyError.TheVariants.{Refused, Memory}
 use Rattle.bpf_verify.specs.declared.layout.Layout.{Layout}
@@ -41,6 +41,6 @@ pub record IsFirst (count : ℕ) (table : List (Option State)) : Type 0 where
   pub known : (slot : ℕ) → slot < count → slice_index_or table slot None ≡ entry slot
 
 -- an error is this fault, unless memory ran out
-abbrev pub IsFault : Option Fault → VerifyError → Type 0
+abbrev pub IsFault : Option BrokenRule → VerifyError → Type 0
 IsFault fault Memory = Unit {0}
 IsFault fault (Refused rule slot) = fault ≡ Some (record { rule = rule; slot = slot })

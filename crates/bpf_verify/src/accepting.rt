@@ -1,9 +1,8 @@
 //! The verifier.
 
 ghost use Rattle.std.specs.Prelude.{◌≡◌, IfOk, IfErr};
-ghost use Rattle.bpf_verify_flow.specs.Accepted.{first_fault, Accepted};
+ghost use Rattle.bpf_verify_model.specs.Accepted.{first_fault, Accepted, WithinLimits};
 ghost use Rattle.bpf_verify.specs.Passing.{IsFault};
-ghost use Rattle.bpf_verify.specs.Counting.{HasCount};
 
 use crate::counting::counts_of;
 use crate::error::VerifyError;
@@ -11,30 +10,30 @@ use crate::layout::layout_of;
 use crate::passing::{Code, pass};
 use crate::verified::Verified;
 use bpf_insn_form::{Unit, elements_of, slot_count};
-use bpf_verify_rules::Rule;
+use bpf_verify_model::Rule;
 use std::alloc::Global;
 
-// How many slots a unit has within the limits, or why it is refused (V1, V2).
-#[tactic(auto, unfolding(bpf_verify_flow::specs::Accepted::first_fault))]
-fn count_of(unit: &Unit) -> Result<u32, VerifyError>
-    ensures ok { IfOk result (HasCount unit.now) }
+/// How many slots a unit has within the limits, or why it is refused (V1, V2).
+#[tactic(auto, unfolding(bpf_verify_model::specs::Accepted::first_fault))]
+fn slots_within(unit: &Unit) -> Result<u32, VerifyError>
+    ensures ok { IfOk result (WithinLimits unit.now) }
     ensures err { IfErr result (IsFault (first_fault unit.now)) }
 {
     match slot_count(&unit.insns) {
         Some(0) => Err(VerifyError::Refused {
-            rule: Rule::V1,
+            rule: Rule::NoSlot,
             slot: 0,
         }),
         Some(count) => if elements_of(&unit.sizes).is_some() {
             Ok(count)
         } else {
             Err(VerifyError::Refused {
-                rule: Rule::V2,
+                rule: Rule::OverLimits,
                 slot: 0,
             })
         },
         None => Err(VerifyError::Refused {
-            rule: Rule::V2,
+            rule: Rule::OverLimits,
             slot: 0,
         }),
     }
@@ -48,7 +47,7 @@ pub fn verify(alloc: Global, unit: Unit) -> Result<Verified, VerifyError>
     // What is refused is refused by its first fault.
     ensures err { IfErr result (IsFault (first_fault unit)) }
 {
-    let count = count_of(&unit)?;
+    let count = slots_within(&unit)?;
     let layout = layout_of(alloc, &unit.insns, count)?;
     let code = Code {
         sizes: unit.sizes.as_slice(),

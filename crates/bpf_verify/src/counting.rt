@@ -2,18 +2,18 @@
 
 ghost use Rattle.std.specs.Prelude.{◌≡◌, ℕ, ◌<◌, ◌≤◌, ◌∷◌, [], ◌++◌, map, length, replicate, slice_set, slice_index_or, IfOk, IfErr, OnOk};
 ghost use Rattle.bpf_insn_form.specs.Program.{slot_count};
-ghost use Rattle.bpf_verify_flow.specs.Count.{behind_jump, through, longest};
-ghost use Rattle.bpf_verify.specs.Counting.{slice_index_or_zero, JumpsForward, AreLongest};
+ghost use Rattle.bpf_verify_model.specs.Count.{behind_jump, through, longest, JumpsForward};
+ghost use Rattle.bpf_verify.specs.Counting.{most_at, AreLongest};
 
 use crate::error::VerifyError;
 use bpf_insn_form::{Insn, slots};
-use bpf_verify_flow::moved;
+use bpf_verify_state::slot_beyond;
 use std::alloc::Global;
 
-// The most instructions from a slot on.
+/// The most instructions from a slot on.
 fn behind(longest: &[u32], slot: Option<u32>) -> u32
     requires { (k : ℕ) → slice_index_or longest.now k 0 ≤ 4096 }
-    ensures most { result ≡ behind_jump (slice_index_or_zero longest.now) slot }
+    ensures most { result ≡ behind_jump (most_at longest.now) slot }
     ensures small { result ≤ 4096 }
 {
     match slot {
@@ -25,17 +25,17 @@ fn behind(longest: &[u32], slot: Option<u32>) -> u32
     }
 }
 
-// The most instructions from an instruction on, by those behind later slots.
+/// The most instructions from an instruction on, by those behind later slots.
 fn through(longest: &[u32], slot: u32, insn: Insn) -> u32
     requires low { slot < 4096 }
     requires small { (k : ℕ) → slice_index_or longest.now k 0 ≤ 4096 }
-    ensures { result ≡ through (slice_index_or_zero longest.now) slot (Some insn) }
+    ensures { result ≡ through (most_at longest.now) slot (Some insn) }
 {
     match insn {
-        Insn::Ja { offset } => 1 + behind(longest, moved(slot, offset as i32)),
-        Insn::Ja32 { imm } => 1 + behind(longest, moved(slot, imm)),
+        Insn::Ja { offset } => 1 + behind(longest, slot_beyond(slot, offset as i32)),
+        Insn::Ja32 { imm } => 1 + behind(longest, slot_beyond(slot, imm)),
         Insn::Jump { offset, .. } => {
-            let jumping = behind(longest, moved(slot, offset as i32));
+            let jumping = behind(longest, slot_beyond(slot, offset as i32));
             1 + behind(longest, Some(slot + 1)).max(jumping)
         }
         Insn::Exit => 1,
@@ -57,7 +57,7 @@ fn zeros(alloc: Global, count: u32) -> Result<Vec<u32>, VerifyError>
     Ok(vec![in alloc; 0u32; count as usize]?)
 }
 
-// The most instructions from each slot on.
+/// The most instructions from each slot on.
 fn longest(alloc: Global, insns: &[Insn], count: u32) -> Result<Vec<u32>, VerifyError>
     requires slots { slot_count insns.now ≡ count }
     requires few { count ≤ 4096 }

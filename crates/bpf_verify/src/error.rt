@@ -3,7 +3,7 @@
 ghost use Rattle.std.specs.Prelude.{◌≡◌};
 ghost use Rattle.bpf_verify.specs.declared.error.VerifyError.TheVariants.{Memory};
 
-use bpf_verify_rules::Rule;
+use bpf_verify_model::Rule;
 use std::alloc::{AllocError, AllocFailed};
 use thiserror::Error;
 

@@ -1,13 +1,13 @@
 //! Where instructions stand, and in which functions.
 
 ghost use Rattle.std.specs.Prelude.{◌≡◌, ◌<◌, ◌≤◌, ◌&&◌, false, if◌then◌else◌, ◌++◌, ◌∷◌, [], length, slice_index_or, option_to_list, IfSome, IfNone, IfOk, IfErr, OnOk};
-ghost use Rattle.bpf_insn_form.specs.Program.{slot_count, named_by, code_target};
-ghost use Rattle.bpf_verify.specs.Marks.{marked, BeginMarks, NamedMarks};
+ghost use Rattle.bpf_insn_form.specs.Program.{slot_count};
+ghost use Rattle.bpf_verify.specs.SlotFlags.{flagged, StartFlags, NamedFlags};
 ghost use Rattle.bpf_verify.specs.Layout.{IsLayout};
 
 use crate::error::VerifyError;
-use bpf_insn_form::{ImmKind, Insn, slots};
-use bpf_verify_flow::code_target;
+use bpf_insn_form::{Insn, slots};
+use bpf_verify_state::named_by;
 use std::alloc::Global;
 
 /// The function of the instruction that starts at each slot, if one does, and where the callbacks
@@ -18,30 +18,9 @@ pub struct Layout {
     pub starts: Vec<u32>,
 }
 
-/// The slot that an instruction at a slot names, if it is the load of a code address.
-pub fn named_by(slot: u32, insn: Insn) -> Option<u32>
-    requires { slot ≤ 4096 }
-    ensures { result ≡ named_by slot insn }
-{
-    match insn {
-        Insn::LoadImm { kind, imm, .. } => target_of(kind, slot, imm),
-        _ => None,
-    }
-}
-
-fn target_of(kind: ImmKind, slot: u32, imm: i32) -> Option<u32>
-    requires { slot ≤ 4096 }
-    ensures { result ≡ code_target kind slot imm }
-{
-    match kind {
-        ImmKind::Code => code_target(slot, imm),
-        _ => None,
-    }
-}
-
-// Marks a slot, if it is one of the marks'.
+/// Marks a slot, if it is one of the marks'.
 fn mark(marks: &mut Vec<bool>, slot: Option<u32>)
-    ensures { marks.new.items ≡ marked marks.old.items slot }
+    ensures { marks.new.items ≡ flagged marks.old.items slot }
 {
     let Some(slot) = slot else {
         return;
@@ -52,11 +31,11 @@ fn mark(marks: &mut Vec<bool>, slot: Option<u32>)
     }
 }
 
-// Marks the slots where instructions start.
+/// Marks the slots where instructions start.
 fn begins(alloc: Global, insns: &[Insn], count: u32) -> Result<Vec<bool>, VerifyError>
     requires slots { slot_count insns.now ≡ count }
     requires few { count ≤ 4096 }
-    ensures ok { IfOk result (λ marks. BeginMarks insns.now marks.items) }
+    ensures ok { IfOk result (λ marks. StartFlags insns.now marks.items) }
     ensures err { IfErr result (λ e. e ≡ VerifyError.Memory) }
 {
     let mut marks = vec![in alloc; false; count as usize]?;
@@ -68,11 +47,11 @@ fn begins(alloc: Global, insns: &[Insn], count: u32) -> Result<Vec<bool>, Verify
     Ok(marks)
 }
 
-// Marks the slots that code addresses name.
+/// Marks the slots that code addresses name.
 fn named(alloc: Global, insns: &[Insn], count: u32) -> Result<Vec<bool>, VerifyError>
     requires slots { slot_count insns.now ≡ count }
     requires few { count ≤ 4096 }
-    ensures ok { IfOk result (λ marks. NamedMarks insns.now marks.items) }
+    ensures ok { IfOk result (λ marks. NamedFlags insns.now marks.items) }
     ensures err { IfErr result (λ e. e ≡ VerifyError.Memory) }
 {
     let mut marks = vec![in alloc; false; count as usize]?;
@@ -84,7 +63,7 @@ fn named(alloc: Global, insns: &[Insn], count: u32) -> Result<Vec<bool>, VerifyE
     Ok(marks)
 }
 
-// The slot, if a callback starts there.
+/// The slot, if a callback starts there.
 fn start_at(begins: &[bool], named: &[bool], slot: usize) -> Option<u32>
     requires begins { slot < length begins.now }
     requires named { slot < length named.now }
@@ -108,7 +87,7 @@ fn add_start(starts: &mut Vec<u32>, start: Option<u32>) -> Result<(), VerifyErro
     }
 }
 
-// A function, if an instruction starts at the slot.
+/// A function, if an instruction starts at the slot.
 fn place_at(begins: &[bool], slot: usize, function: u32) -> Option<u32>
     requires { slot < length begins.now }
     ensures { result ≡ if slice_index_or begins.now slot false then Some function else None }
@@ -123,15 +102,15 @@ fn add_place(places: &mut Vec<Option<u32>>, place: Option<u32>) -> Result<(), Ve
     Ok(places.push(place)?)
 }
 
-// Numbers the functions from slot to slot.
+/// Numbers the functions from slot to slot.
 fn numbered(
     alloc: Global,
     insns: &[Insn],
     begins: &[bool],
     named: &[bool],
 ) -> Result<Layout, VerifyError>
-    requires begins { BeginMarks insns.now begins.now }
-    requires named { NamedMarks insns.now named.now }
+    requires begins { StartFlags insns.now begins.now }
+    requires named { NamedFlags insns.now named.now }
     requires few { slot_count insns.now ≤ 4096 }
     ensures ok { IfOk result (λ layout. IsLayout insns.now layout) }
     ensures err { IfErr result (λ e. e ≡ VerifyError.Memory) }

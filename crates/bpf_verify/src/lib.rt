@@ -10,7 +10,7 @@ mod passing;
 mod verified;
 
 pub use accepting::verify;
-pub use bpf_verify_rules::Rule;
+pub use bpf_verify_model::Rule;
 pub use error::VerifyError;
 pub use verified::Verified;
 

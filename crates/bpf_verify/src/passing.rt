@@ -3,20 +3,21 @@
 ghost use Rattle.std.specs.Prelude.{◌≡◌, ℕ, ◌+◌, ◌<◌, ◌≤◌, ◌++◌, ◌∷◌, [], length, nat_eq, slice_index_or, IfOk, IfErr, OnOk};
 ghost use Rattle.std.specs.List.{list_any};
 ghost use Rattle.bpf_insn_form.specs.Program.{slot_count, insn_at, function_of, leads_to};
-ghost use Rattle.bpf_verify_rules.specs.Rules.{leads_later, jumps_astray, falls_off, starts, names_none, targets_in, with_target, slot_fault, or_else, reached, state_fault, exit_fault, fault_of};
-ghost use Rattle.bpf_verify_flow.specs.Inflow.{met, received};
-ghost use Rattle.bpf_verify_flow.specs.Accepted.{fault_within};
+ghost use Rattle.bpf_verify_model.specs.Rules.{leads_later, jumps_astray, falls_off, starts, names_none, targets_in, with_target, slot_fault, or_else, reached, state_fault, exit_fault, fault_of};
+ghost use Rattle.bpf_verify_model.specs.Inflow.{met, received};
+ghost use Rattle.bpf_verify_model.specs.Accepted.{fault_within};
 ghost use Rattle.bpf_verify.specs.Layout.{IsLayout, place_of};
 ghost use Rattle.bpf_verify.specs.Passing.{program_of, Stands, out_of, Passed, IsFirst, IsFault};
 
 use crate::error::VerifyError;
-use crate::layout::{Layout, named_by};
+use crate::layout::Layout;
 use bpf_insn_form::{Insn, slots};
-use bpf_verify_flow::{Edge, Outflow, flow, moved};
+use bpf_verify_flow::{flow, main_entry};
+use bpf_verify_model::{Edge, Outflow, Rule, State};
 use bpf_verify_rules::{
-    Rule, callback_fault, exit_fault, goes_on, insn_fault, is_code_load, jump_distance, state_fault,
+    callback_fault, exit_fault, goes_on, insn_fault, is_code_load, jump_distance, state_fault,
 };
-use bpf_verify_state::State;
+use bpf_verify_state::{meet_states, named_by, slot_beyond};
 use std::alloc::Global;
 
 /// A program with its layout.
@@ -27,7 +28,7 @@ pub struct Code<'a> {
     pub layout: &'a Layout,
 }
 
-// The function of the instruction at a slot, if one starts there.
+/// The function of the instruction at a slot, if one starts there.
 fn place(code: &Code, slot: u32) -> Option<u32>
     requires { IsLayout code.now.insns.now code.now.layout.now }
     ensures { result ≡ place_of code.now.insns.now slot }
@@ -38,7 +39,7 @@ fn place(code: &Code, slot: u32) -> Option<u32>
     }
 }
 
-// The function of an instruction.
+/// The function of an instruction.
 fn function_at(code: &Code, slot: u32) -> u32
     requires { Stands code.now.insns.now code.now.layout.now slot }
     ensures { result ≡ function_of code.now.insns.now slot }
@@ -49,7 +50,7 @@ fn function_at(code: &Code, slot: u32) -> u32
     }
 }
 
-// Whether an instruction of the same function starts at another slot.
+/// Whether an instruction of the same function starts at another slot.
 fn leads_to(code: &Code, slot: u32, target: u32) -> bool
     requires { Stands code.now.insns.now code.now.layout.now slot }
     ensures { result ≡ leads_to code.now.insns.now slot target }
@@ -60,7 +61,7 @@ fn leads_to(code: &Code, slot: u32, target: u32) -> bool
     }
 }
 
-// A later slot, where an instruction of the same function starts.
+/// A later slot, where an instruction of the same function starts.
 fn leads_later(code: &Code, slot: u32, target: Option<u32>) -> bool
     requires { Stands code.now.insns.now code.now.layout.now slot }
     ensures { result ≡ leads_later code.now.insns.now slot target }
@@ -71,18 +72,18 @@ fn leads_later(code: &Code, slot: u32, target: Option<u32>) -> bool
     }
 }
 
-// V3: a jump's target isn't a later slot where an instruction of the same function starts.
+/// V3: a jump's target isn't a later slot where an instruction of the same function starts.
 fn jumps_astray(code: &Code, slot: u32, insn: Insn) -> bool
     requires { Stands code.now.insns.now code.now.layout.now slot }
     ensures { result ≡ jumps_astray code.now.insns.now slot insn }
 {
     match jump_distance(insn) {
         None => false,
-        Some(distance) => !leads_later(code, slot, moved(slot, distance)),
+        Some(distance) => !leads_later(code, slot, slot_beyond(slot, distance)),
     }
 }
 
-// V4: it goes on, but no instruction of the same function follows.
+/// V4: it goes on, but no instruction of the same function follows.
 fn falls_off(code: &Code, slot: u32, insn: &Insn) -> bool
     requires { Stands code.now.insns.now code.now.layout.now slot }
     ensures { result ≡ falls_off code.now.insns.now slot insn.now }
@@ -90,7 +91,7 @@ fn falls_off(code: &Code, slot: u32, insn: &Insn) -> bool
     goes_on(*insn) && !leads_to(code, slot, slot + slots(insn))
 }
 
-// Whether an instruction starts at a slot.
+/// Whether an instruction starts at a slot.
 fn starts(code: &Code, slot: Option<u32>) -> bool
     requires { IsLayout code.now.insns.now code.now.layout.now }
     ensures { result ≡ starts code.now.insns.now slot }
@@ -101,7 +102,7 @@ fn starts(code: &Code, slot: Option<u32>) -> bool
     }
 }
 
-// V5: a code address's target isn't the first slot of an instruction past the load.
+/// V5: a code address's target isn't the first slot of an instruction past the load.
 fn names_none(code: &Code, slot: u32, insn: &Insn) -> bool
     requires { Stands code.now.insns.now code.now.layout.now slot }
     ensures { result ≡ names_none code.now.insns.now slot insn.now }
@@ -109,8 +110,8 @@ fn names_none(code: &Code, slot: u32, insn: &Insn) -> bool
     is_code_load(*insn) && !starts(code, named_by(slot, *insn))
 }
 
-// The least of V3 to V6; so many targets are named up to this slot.
-#[tactic(auto, unfolding(bpf_verify_rules::specs::Rules::slot_fault))]
+/// The least of V3 to V6; so many targets are named up to this slot.
+#[tactic(auto, unfolding(bpf_verify_model::specs::Rules::slot_fault))]
 fn slot_fault(code: &Code, slot: u32, insn: &Insn, targets: usize) -> Option<Rule>
     requires stands { Stands code.now.insns.now code.now.layout.now slot }
     requires targets { targets ≡ length (targets_in code.now.insns.now (slot + 1)) }
@@ -120,19 +121,19 @@ fn slot_fault(code: &Code, slot: u32, insn: &Insn, targets: usize) -> Option<Rul
     let off = falls_off(code, slot, insn);
     let none = names_none(code, slot, insn);
     if astray {
-        Some(Rule::V3)
+        Some(Rule::JumpTarget)
     } else if off {
-        Some(Rule::V4)
+        Some(Rule::FallThrough)
     } else if none {
-        Some(Rule::V5)
+        Some(Rule::CodeTarget)
     } else if targets > 15 {
-        Some(Rule::V6)
+        Some(Rule::TooManyCallbacks)
     } else {
         None
     }
 }
 
-// The first of two.
+/// The first of two.
 fn or_else(first: Option<Rule>, later: Option<Rule>) -> Option<Rule>
     ensures { result ≡ or_else first later }
 {
@@ -160,8 +161,8 @@ fn reached_exit_fault(function: u32, before: &Option<State>, insn: &Insn) -> Opt
     }
 }
 
-// The least rule that an instruction breaks at a slot; so many targets are named up to this slot.
-#[tactic(auto, unfolding(bpf_verify_rules::specs::Rules::fault_of))]
+/// The least rule that an instruction breaks at a slot; so many targets are named up to this slot.
+#[tactic(auto, unfolding(bpf_verify_model::specs::Rules::fault_of))]
 fn fault_of(
     code: &Code,
     slot: u32,
@@ -189,20 +190,20 @@ fn fault_of(
     )
 }
 
-// What is known where one more way comes in.
+/// What is known where one more way comes in.
 fn met(before: Option<State>, state: &State) -> Option<State>
     ensures { result ≡ met before state.now }
 {
     match before {
         None => Some(*state),
         Some(mut known) => {
-            known.meet(state);
+            meet_states(&mut known, state);
             Some(known)
         }
     }
 }
 
-// One more way comes in.
+/// One more way comes in.
 fn receive(table: &mut Vec<Option<State>>, edge: &Option<Edge>)
     ensures size { length table.new.items ≡ length table.old.items }
     ensures received { (slot : ℕ) → slot < length table.old.items
@@ -217,7 +218,7 @@ fn receive(table: &mut Vec<Option<State>>, edge: &Option<Edge>)
     }
 }
 
-// What flows from an instruction that breaks no rule.
+/// What flows from an instruction that breaks no rule.
 fn out_of(sizes: &[u32], slot: u32, insn: &Insn, before: &Option<State>) -> Outflow
     requires { slot < 4096 }
     ensures { result ≡ out_of sizes.now slot insn.now before.now }
@@ -237,7 +238,7 @@ fn is_among(targets: &[u32], target: u32) -> bool
     targets.iter().any(|known| target == *known)
 }
 
-// A target, if it is a new one.
+/// A target, if it is a new one.
 fn add_target(targets: &mut Vec<u32>, target: Option<u32>) -> Result<(), VerifyError>
     ensures ok { OnOk result (targets.new.items ≡ with_target targets.old.items target) }
     ensures err { IfErr result (λ e. e ≡ VerifyError.Memory) }
@@ -251,7 +252,7 @@ fn add_target(targets: &mut Vec<u32>, target: Option<u32>) -> Result<(), VerifyE
     Ok(targets.push(target)?)
 }
 
-// What is known before a slot.
+/// What is known before a slot.
 fn known(table: &Vec<Option<State>>, slot: u32) -> Option<State>
     requires { slot < length table.now.items }
     ensures { result ≡ slice_index_or table.now.items slot None }
@@ -260,7 +261,7 @@ fn known(table: &Vec<Option<State>>, slot: u32) -> Option<State>
     states[slot as usize]
 }
 
-// Passes over one instruction.
+/// Passes over one instruction.
 fn visit(
     code: &Code,
     slot: u32,
@@ -287,7 +288,7 @@ fn visit(
     Ok(())
 }
 
-// By a slice of one: the borrow checker has no plan yet for a push of a struct within an enum.
+/// By a slice of one: the borrow checker has no plan yet for a push of a struct within an enum.
 fn add_state(table: &mut Vec<Option<State>>, state: Option<State>) -> Result<(), VerifyError>
     ensures ok { OnOk result (table.new.items ≡ table.old.items ++ state ∷ []) }
     ensures err { IfErr result (λ e. e ≡ VerifyError.Memory) }
@@ -295,14 +296,14 @@ fn add_state(table: &mut Vec<Option<State>>, state: Option<State>) -> Result<(),
     Ok(table.extend_from_slice(&[state])?)
 }
 
-// What is known before each slot where nothing flowed yet.
+/// What is known before each slot where nothing flowed yet.
 fn first_table(alloc: Global, count: u32) -> Result<Vec<Option<State>>, VerifyError>
     requires { 0 < count }
     ensures ok { IfOk result (λ table. IsFirst count table.items) }
     ensures err { IfErr result (λ e. e ≡ VerifyError.Memory) }
 {
     let mut table = Vec::new(alloc);
-    add_state(&mut table, Some(State::main_entry()))?;
+    add_state(&mut table, Some(main_entry()))?;
     for slot in 1..count {
         add_state(&mut table, None)?;
     }

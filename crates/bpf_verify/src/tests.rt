@@ -80,8 +80,8 @@ fn an_accepted_unit_is_told(rt: HostRuntime) -> Result<(), Fail> {
 
 #[test]
 fn a_unit_has_slots(rt: HostRuntime) {
-    breaks(&rt, rt.alloc(), &[1], &[], Some((Rule::V1, 0)));
-    breaks(&rt, rt.alloc(), &[], &[], Some((Rule::V1, 0)));
+    breaks(&rt, rt.alloc(), &[1], &[], Some((Rule::NoSlot, 0)));
+    breaks(&rt, rt.alloc(), &[], &[], Some((Rule::NoSlot, 0)));
 }
 
 #[test]
@@ -98,7 +98,7 @@ fn maps_have_limits(rt: HostRuntime) -> Result<(), Fail> {
         &[65_537],
         &[65_536, 1],
     ] {
-        breaks(&rt, rt.alloc(), sizes, &end, Some((Rule::V2, 0)));
+        breaks(&rt, rt.alloc(), sizes, &end, Some((Rule::OverLimits, 0)));
     }
     Ok(())
 }
@@ -112,8 +112,8 @@ fn a_unit_has_at_most_4096_slots(rt: HostRuntime) -> Result<(), Fail> {
     }
     for (last, rule) in [
         (Insn::Exit, None),
-        (mov(0, Operand::Imm(0))?, Some((Rule::V4, 4095))),
-        (load(ImmKind::Number, 0, 0)?, Some((Rule::V2, 0))),
+        (mov(0, Operand::Imm(0))?, Some((Rule::FallThrough, 4095))),
+        (load(ImmKind::Number, 0, 0)?, Some((Rule::OverLimits, 0))),
     ] {
         insns.push(last)?;
         breaks(&rt, alloc, &[1], &insns, rule);
@@ -121,7 +121,7 @@ fn a_unit_has_at_most_4096_slots(rt: HostRuntime) -> Result<(), Fail> {
     }
     insns.push(Insn::Exit)?;
     insns.push(Insn::Exit)?;
-    breaks(&rt, alloc, &[1], &insns, Some((Rule::V2, 0)));
+    breaks(&rt, alloc, &[1], &insns, Some((Rule::OverLimits, 0)));
     Ok(())
 }
 
@@ -130,8 +130,8 @@ fn a_unit_has_at_most_4096_slots(rt: HostRuntime) -> Result<(), Fail> {
 fn an_instruction_without_bytes_is_judged(rt: HostRuntime) -> Result<(), Fail> {
     for (offset, rule) in [
         (0, None),
-        (4, Some((Rule::V18, 2))),
-        (8, Some((Rule::V19, 2))),
+        (4, Some((Rule::AccessAlignment, 2))),
+        (8, Some((Rule::AccessBounds, 2))),
     ] {
         let whole = Insn::LoadSx {
             size: Size::Dw,

@@ -1,13 +1,10 @@
-//! What flows from a slot to later ones: the ways out of an instruction with what is known on each.
-//! What is known before a slot, which programs are accepted, and how many instructions a function
-//! takes at most stand in `specs/`.
+//! What flows from an instruction to later slots: what is known behind it, and on each way out of it.
 #![tactic(auto)]
 
-mod behind;
-mod flowing;
-mod outflow;
-mod ways;
+mod behind_insn;
+mod comparisons;
+mod entries;
+mod outflows;
 
-pub use behind::{code_target, moved};
-pub use flowing::flow;
-pub use outflow::{Edge, Outflow};
+pub use entries::main_entry;
+pub use outflows::flow;

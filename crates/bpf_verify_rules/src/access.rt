@@ -1,57 +1,15 @@
 //! Which memory an instruction accesses.
 
 ghost use Rattle.std.specs.Prelude.{◌≡◌, ◌≤◌, IfSome};
-ghost use Rattle.bpf_step_model.specs.Memory.{bytes_of, atomic_bytes};
-ghost use Rattle.bpf_verify_rules.specs.Accesses.{access_of, reads, writes};
+ghost use Rattle.bpf_verify_model.specs.Accesses.{memory_access_of, kind_reads, kind_writes};
 
-use bpf_insn_form::{Insn, Reg, Size, Width};
-
-/// What an access does.
-#[derive(Clone, Copy)]
-pub enum AccessKind {
-    Reads,
-    Writes,
-    /// Reads and writes at once.
-    Changes,
-}
-
-/// An access of so many bytes at a base register and an offset.
-#[derive(Clone, Copy)]
-pub struct Access {
-    pub kind: AccessKind,
-    pub base: Reg,
-    pub offset: i16,
-    pub size: u32,
-}
-
-/// The bytes of a size (RFC 9669, section 5).
-pub fn bytes_of(size: Size) -> u32
-    ensures bytes { result ≡ bytes_of size }
-    ensures some { 1 ≤ result }
-    ensures most { result ≤ 8 }
-{
-    match size {
-        Size::B => 1,
-        Size::H => 2,
-        Size::W => 4,
-        Size::Dw => 8,
-    }
-}
-
-/// The bytes of an atomic access (RFC 9669, section 5.3).
-fn atomic_bytes(width: Width) -> u32
-    ensures bytes { result ≡ atomic_bytes width }
-    ensures some { 1 ≤ result }
-{
-    match width {
-        Width::W32 => 4,
-        Width::W64 => 8,
-    }
-}
+use bpf_insn_form::Insn;
+use bpf_verify_model::{AccessKind, MemoryAccess};
+use bpf_verify_state::{atomic_bytes, bytes_of};
 
 /// The access of memory that an instruction makes, if it makes one.
-pub fn access_of(insn: Insn) -> Option<Access>
-    ensures access { result ≡ access_of insn }
+pub fn access_of(insn: Insn) -> Option<MemoryAccess>
+    ensures access { result ≡ memory_access_of insn }
     ensures size { IfSome result (λ access. 1 ≤ access.size) }
 {
     let (kind, base, offset, size) = match insn {
@@ -87,7 +45,7 @@ pub fn access_of(insn: Insn) -> Option<Access>
         } => (AccessKind::Changes, dst, offset, atomic_bytes(width)),
         _ => return None,
     };
-    Some(Access {
+    Some(MemoryAccess {
         kind,
         base,
         offset,
@@ -97,7 +55,7 @@ pub fn access_of(insn: Insn) -> Option<Access>
 
 /// Whether an access reads.
 pub fn reads(kind: AccessKind) -> bool
-    ensures { result ≡ reads kind }
+    ensures { result ≡ kind_reads kind }
 {
     match kind {
         AccessKind::Reads | AccessKind::Changes => true,
@@ -107,7 +65,7 @@ pub fn reads(kind: AccessKind) -> bool
 
 /// Whether an access writes.
 pub fn writes(kind: AccessKind) -> bool
-    ensures { result ≡ writes kind }
+    ensures { result ≡ kind_writes kind }
 {
     match kind {
         AccessKind::Writes | AccessKind::Changes => true,

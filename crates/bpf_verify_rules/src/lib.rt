@@ -1,16 +1,12 @@
-//! The rules that an instruction breaks at a slot, by their numbers, where this is known before it. The
-//! rules are `specs/Rules.antt`.
+//! The rules that an instruction breaks, by what is known of registers and frames before it. What each
+//! rule says stands in `bpf_verify_model`; the rules on the slot of an instruction (V3 to V6) need its
+//! function, and are in `bpf_verify`.
 #![tactic(auto)]
 
 mod access;
-mod helper;
+mod insn_rules;
 mod places;
-mod rule;
-mod slot_rules;
 mod state_rules;
 
-pub use access::bytes_of;
-pub use helper::{Helper, helper_of};
-pub use rule::Rule;
-pub use slot_rules::{callback_fault, goes_on, insn_fault, is_code_load, jump_distance};
+pub use insn_rules::{callback_fault, goes_on, insn_fault, is_code_load, jump_distance};
 pub use state_rules::{exit_fault, state_fault};

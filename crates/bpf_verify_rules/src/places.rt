@@ -1,10 +1,11 @@
 //! Where an access may go, by what is known of its base.
 
-ghost use Rattle.std.specs.Prelude.{◌≡◌, ◌+ℤ◌, ◌*◌, ◌-◌, ◌≤◌, pos, slice_get};
-ghost use Rattle.bpf_verify_rules.specs.Accesses.{is_memory, is_part_of_value, is_misaligned, is_spread, misses_alignment, is_outside_frame, is_outside_map, is_outside, lacks, caller_lacks, is_unwritten, is_ctx};
+ghost use Rattle.std.specs.Prelude.{◌≡◌, ◌+ℤ◌, ◌*◌, ◌^◌, ◌≤◌, pos, slice_get};
+ghost use Rattle.bpf_verify_model.specs.Accesses.{is_memory, is_part_of_half, is_misaligned, is_spread, misses_alignment, is_outside_frame, is_outside_map, is_outside, lacks, caller_lacks, has_unwritten_byte, is_ctx};
 
-use bpf_verify_state::{AbstractValue, Marks, State};
-use value_range::Range;
+use bpf_verify_model::{AbstractValue, State};
+use value_range_model::Range;
+use written_bytes::WrittenBytes;
 
 /// Whether it is the address of memory.
 pub fn is_memory(base: AbstractValue) -> bool
@@ -16,12 +17,12 @@ pub fn is_memory(base: AbstractValue) -> bool
     }
 }
 
-/// Whether an access of so many bytes is of a map's values, and not of 8 bytes.
-pub fn is_part_of_value(size: u32, base: AbstractValue) -> bool
-    ensures { result ≡ is_part_of_value size base }
+/// Whether an access of so many bytes is of a map's values, and neither of a value nor of a half.
+pub fn is_part_of_half(size: u32, base: AbstractValue) -> bool
+    ensures { result ≡ is_part_of_half size base }
 {
     match base {
-        AbstractValue::Area(_, _) => size != 8,
+        AbstractValue::Area(_, _) => size != 8 && size != 4,
         _ => false,
     }
 }
@@ -36,21 +37,21 @@ pub fn is_ctx(base: AbstractValue) -> bool
     }
 }
 
-// A place in a frame, which may lie outside.
+/// A place in a frame, which may lie outside.
 fn place(position: u32, offset: i16) -> i64
     ensures { result ≡ pos position +ℤ offset }
 {
     position as i64 + offset as i64
 }
 
-// A place among a map's values, which may lie outside.
+/// A place among a map's values, which may lie outside.
 fn area_place(place: u64, offset: i16) -> i128
     ensures { result ≡ pos place +ℤ offset }
 {
     place as i128 + offset as i128
 }
 
-// Whether a place in a frame isn't a multiple of a size.
+/// Whether a place in a frame isn't a multiple of a size.
 fn is_misaligned(size: u32, place: i64) -> bool
     requires { 1 ≤ size }
     ensures { result ≡ is_misaligned size place }
@@ -58,17 +59,26 @@ fn is_misaligned(size: u32, place: i64) -> bool
     place % size as i64 != 0
 }
 
-// Whether a place among a map's values, at an offset from another, isn't a multiple of 8.
-fn is_part(lo: u64, offset: i16) -> bool
-    ensures { result ≡ is_misaligned 8 (pos lo +ℤ offset) }
+/// Whether a place among a map's values, at an offset from another, isn't a multiple of a size.
+fn is_area_misaligned(size: u32, lo: u64, offset: i16) -> bool
+    requires { 1 ≤ size }
+    ensures { result ≡ is_misaligned size (pos lo +ℤ offset) }
 {
-    area_place(lo, offset) % 8 != 0
+    area_place(lo, offset) % size as i128 != 0
 }
 
-fn is_spread(range: Range) -> bool
-    ensures { result ≡ is_spread range }
+/// Whether a range has more than one offset, and not all of them are multiples of a size.
+fn is_spread(size: u32, range: Range) -> bool
+    ensures { result ≡ is_spread size range }
 {
-    range.lo() < range.hi() && range.zeros() < 3
+    range.lo() < range.hi() && multiple_of(range) < size as u128
+}
+
+/// The power of two of which all numbers of a range are multiples.
+fn multiple_of(range: Range) -> u128
+    ensures { result ≡ 2 ^ range.zeros }
+{
+    1u128 << range.zeros()
 }
 
 /// Whether an access of so many bytes at an offset from this base isn't aligned.
@@ -79,12 +89,14 @@ pub fn misses_alignment(size: u32, offset: i16, base: AbstractValue) -> bool
     match base {
         AbstractValue::Frame(position) => is_misaligned(size, place(position, offset)),
         AbstractValue::Ctx(position) => is_misaligned(size, place(position, offset)),
-        AbstractValue::Area(_, range) => is_part(range.lo(), offset) || is_spread(range),
+        AbstractValue::Area(_, range) => {
+            is_area_misaligned(size, range.lo(), offset) || is_spread(size, range)
+        }
         _ => false,
     }
 }
 
-// Whether so many bytes from a place on aren't all of a frame's 512.
+/// Whether so many bytes from a place on aren't all of a frame's 512.
 fn is_outside_frame(size: u32, position: u32, offset: i16) -> bool
     ensures { result ≡ is_outside_frame size (pos position +ℤ offset) }
 {
@@ -100,59 +112,58 @@ pub fn is_outside(sizes: &[u32], size: u32, offset: i16, base: AbstractValue) ->
     match base {
         AbstractValue::Frame(position) => is_outside_frame(size, position, offset),
         AbstractValue::Ctx(position) => is_outside_frame(size, position, offset),
-        AbstractValue::Area(map, range) => is_outside_area(sizes, map, offset, range),
+        AbstractValue::Area(map, range) => {
+            is_outside_map(size_of_map(sizes, map), size, offset, range)
+        }
         _ => false,
     }
 }
 
-fn is_outside_area(sizes: &[u32], map: u32, offset: i16, range: Range) -> bool
-    ensures { result ≡ is_outside_map (slice_get sizes.now map) offset range }
+/// How many values a map has, if there is one of this number.
+fn size_of_map(sizes: &[u32], map: u32) -> Option<u32>
+    ensures { result ≡ slice_get sizes.now map }
 {
-    match sizes.get(map as usize) {
+    sizes.get(map as usize).copied()
+}
+
+/// Whether so many bytes at an offset from places of a range aren't all of a map's values, if there is
+/// such a map.
+fn is_outside_map(count: Option<u32>, size: u32, offset: i16, range: Range) -> bool
+    ensures { result ≡ is_outside_map count size offset range }
+{
+    match count {
         None => true,
-        Some(count) => is_outside_values(*count, offset, range),
+        Some(count) => {
+            area_place(range.lo(), offset) < 0
+                || 8 * (count as i128) < area_place(range.hi(), offset) + size as i128
+        }
     }
 }
 
-// Whether one of so many values isn't at an offset from each place of a range.
-fn is_outside_values(count: u32, offset: i16, range: Range) -> bool
-    ensures { result ≡ is_outside_map (Some count) offset range }
-{
-    area_place(range.lo(), offset) < 0
-        || (last_place(count) as i128) < area_place(range.hi(), offset)
-}
-
-// Where the last of so many values stands.
-fn last_place(count: u32) -> u64
-    ensures { result ≡ 8 * count - 8 }
-{
-    (8 * count as u64).saturating_sub(8)
-}
-
-// Whether one of the bytes from a place in a frame on isn't written.
-fn lacks(marks: &Marks, size: u32, position: u32, offset: i16) -> bool
-    ensures { result ≡ lacks marks.now size (pos position +ℤ offset) }
+/// Whether one of the bytes from a place in a frame on isn't written.
+fn lacks(written: &WrittenBytes, size: u32, position: u32, offset: i16) -> bool
+    ensures { result ≡ lacks written.now size (pos position +ℤ offset) }
 {
     let place = place(position, offset);
     if place < 0 || 512 < place + size as i64 {
         return false;
     }
-    !marks.all_written(place as usize, size as usize)
+    !written.all_written(place as usize, size as usize)
 }
 
-fn caller_lacks(marks: &Option<Marks>, size: u32, position: u32, offset: i16) -> bool
-    ensures { result ≡ caller_lacks marks.now size (pos position +ℤ offset) }
+fn caller_lacks(written: &Option<WrittenBytes>, size: u32, position: u32, offset: i16) -> bool
+    ensures { result ≡ caller_lacks written.now size (pos position +ℤ offset) }
 {
-    match marks {
+    match written {
         None => true,
-        Some(marks) => lacks(marks, size, position, offset),
+        Some(written) => lacks(written, size, position, offset),
     }
 }
 
 /// Whether so many bytes at an offset from this base lie within a frame, and one of them isn't
 /// written.
-pub fn is_unwritten_at(state: &State, size: u32, offset: i16, base: AbstractValue) -> bool
-    ensures { result ≡ is_unwritten state.now size offset base }
+pub fn has_unwritten_byte(state: &State, size: u32, offset: i16, base: AbstractValue) -> bool
+    ensures { result ≡ has_unwritten_byte state.now size offset base }
 {
     match base {
         AbstractValue::Frame(position) => lacks(&state.own, size, position, offset),

@@ -1,23 +1,20 @@
 //! The rules that an instruction breaks by what is known of registers.
 
 ghost use Rattle.std.specs.Prelude.{◌≡◌, ◌≤◌};
-ghost use Rattle.bpf_verify_rules.specs.declared.helper.Helper.TheVariants.{Lookup, Loop};
-ghost use Rattle.bpf_verify_rules.specs.Accesses.{access_of};
-ghost use Rattle.bpf_verify_rules.specs.Rules.{unwritten, unwritten_operand, unwritten_compared, unwritten_arguments, unwritten_operands, reads_unwritten, mistakes_arithmetic, mistakes_comparison, mistakes_compared, mistakes_stored, place_fault, bytes_fault, access_fault, is_key_position, is_key, is_map, is_code, is_ctx_argument, mistakes_loop, helper_fault, call_fault, operand_fault, state_fault, is_bit, end_fault, exit_fault, or_else};
+ghost use Rattle.bpf_verify_model.specs.declared.helper.Helper.TheVariants.{Lookup, Loop};
+ghost use Rattle.bpf_verify_model.specs.Accesses.{memory_access_of};
+ghost use Rattle.bpf_verify_model.specs.Rules.{unwritten_register, unwritten_operand, unwritten_compared, unwritten_arguments, unwritten_operands, reads_unwritten, mistakes_arithmetic, mistakes_comparison, mistakes_compared, mistakes_stored, place_fault, bytes_fault, access_fault, is_key_position, is_key, is_map, is_code, is_ctx_argument, mistakes_loop, helper_fault, call_fault, operand_fault, state_fault, is_bit, end_fault, exit_fault, or_else};
 
-use crate::access::{Access, access_of, reads, writes};
-use crate::helper::{Helper, helper_of};
+use crate::access::{access_of, reads, writes};
 use crate::places::{
-    is_ctx, is_memory, is_outside, is_part_of_value, is_unwritten_at, misses_alignment,
+    has_unwritten_byte, is_ctx, is_memory, is_outside, is_part_of_half, misses_alignment,
 };
-use crate::rule::Rule;
 use bpf_insn_form::{AluOp, AtomicOp, Insn, Operand, Reg};
-use bpf_verify_state::{
-    AbstractValue, State, compares, is_number, is_unwritten, operand_value, reg, result_of,
-};
+use bpf_verify_model::{AbstractValue, Helper, MemoryAccess, Rule, State, reg};
+use bpf_verify_state::{compares, helper_of, is_number, is_unwritten, operand_value, result_of};
 
 fn unwritten(state: &State, reg: Reg) -> bool
-    ensures { result ≡ unwritten state.now reg }
+    ensures { result ≡ unwritten_register state.now reg }
 {
     is_unwritten(state.register(reg))
 }
@@ -55,7 +52,7 @@ fn unwritten_arguments(state: &State, helper: Option<Helper>) -> bool
     }
 }
 
-// What arithmetic reads: a move its operand alone.
+/// What arithmetic reads: a move its operand alone.
 fn unwritten_operands(state: &State, op: AluOp, dst: Reg, operand: Operand) -> bool
     ensures { result ≡ unwritten_operands state.now op dst operand }
 {
@@ -157,7 +154,7 @@ fn mistakes_stored(state: &State, insn: Insn) -> bool
     }
 }
 
-// V12 to V15: what an instruction reads.
+/// V12 to V15: what an instruction reads.
 fn operand_fault(state: &State, insn: &Insn) -> Option<Rule>
     ensures { result ≡ operand_fault state.now insn.now }
 {
@@ -166,58 +163,58 @@ fn operand_fault(state: &State, insn: &Insn) -> Option<Rule>
     let comparison = mistakes_comparison(state, *insn);
     let stored = mistakes_stored(state, *insn);
     if unwritten {
-        Some(Rule::V12)
+        Some(Rule::UnwrittenRegister)
     } else if arithmetic {
-        Some(Rule::V13)
+        Some(Rule::ArithmeticOperand)
     } else if comparison {
-        Some(Rule::V14)
+        Some(Rule::ComparisonOperand)
     } else if stored {
-        Some(Rule::V15)
+        Some(Rule::StoredOperand)
     } else {
         None
     }
 }
 
-// V16 to V19: where an access goes.
-fn place_fault(sizes: &[u32], access: &Access, base: &AbstractValue) -> Option<Rule>
+/// V16 to V19: where an access goes.
+fn place_fault(sizes: &[u32], access: &MemoryAccess, base: &AbstractValue) -> Option<Rule>
     requires { 1 ≤ access.now.size }
     ensures { result ≡ place_fault sizes.now access.now base.now }
 {
     let offset = access.offset;
     let size = access.size;
     let memory = is_memory(*base);
-    let part = is_part_of_value(size, *base);
+    let part = is_part_of_half(size, *base);
     let misaligned = misses_alignment(size, offset, *base);
     let outside = is_outside(sizes, size, offset, *base);
     if !memory {
-        Some(Rule::V16)
+        Some(Rule::AccessBase)
     } else if part {
-        Some(Rule::V17)
+        Some(Rule::AreaAccessSize)
     } else if misaligned {
-        Some(Rule::V18)
+        Some(Rule::AccessAlignment)
     } else if outside {
-        Some(Rule::V19)
+        Some(Rule::AccessBounds)
     } else {
         None
     }
 }
 
-// V20 of an access: a byte that is read isn't written. V21: a callback writes main's frame.
-fn bytes_fault(state: &State, access: &Access, base: &AbstractValue) -> Option<Rule>
+/// V20 of an access: a byte that is read isn't written. V21: a callback writes main's frame.
+fn bytes_fault(state: &State, access: &MemoryAccess, base: &AbstractValue) -> Option<Rule>
     ensures { result ≡ bytes_fault state.now access.now base.now }
 {
-    let unwritten = is_unwritten_at(state, access.size, access.offset, *base);
+    let unwritten = has_unwritten_byte(state, access.size, access.offset, *base);
     let of_main = is_ctx(*base);
     if reads(access.kind) && unwritten {
-        Some(Rule::V20)
+        Some(Rule::UnwrittenByte)
     } else if writes(access.kind) && of_main {
-        Some(Rule::V21)
+        Some(Rule::CtxWrite)
     } else {
         None
     }
 }
 
-// The first of two.
+/// The first of two.
 fn or_else(first: Option<Rule>, later: Option<Rule>) -> Option<Rule>
     ensures { result ≡ or_else first later }
 {
@@ -227,7 +224,7 @@ fn or_else(first: Option<Rule>, later: Option<Rule>) -> Option<Rule>
     }
 }
 
-fn fault_of_access(sizes: &[u32], state: &State, access: &Access) -> Option<Rule>
+fn fault_of_access(sizes: &[u32], state: &State, access: &MemoryAccess) -> Option<Rule>
     requires { 1 ≤ access.now.size }
     ensures { result ≡ access_fault sizes.now state.now (Some access.now) }
 {
@@ -238,9 +235,9 @@ fn fault_of_access(sizes: &[u32], state: &State, access: &Access) -> Option<Rule
     )
 }
 
-// V16 to V21: the access that an instruction makes.
+/// V16 to V21: the access that an instruction makes.
 fn access_fault(sizes: &[u32], state: &State, insn: Insn) -> Option<Rule>
-    ensures { result ≡ access_fault sizes.now state.now (access_of insn) }
+    ensures { result ≡ access_fault sizes.now state.now (memory_access_of insn) }
 {
     match access_of(insn) {
         None => None,
@@ -254,7 +251,7 @@ fn is_key_position(position: u32) -> bool
     position % 4 == 0 && position <= 508
 }
 
-// The address of a key.
+/// The address of a key.
 fn is_key(value: AbstractValue) -> bool
     ensures { result ≡ is_key value }
 {
@@ -283,7 +280,7 @@ fn is_code(value: AbstractValue) -> bool
     }
 }
 
-// A loop's ctx: an address of main's frame, or the number 0.
+/// A loop's ctx: an address of main's frame, or the number 0.
 fn is_ctx_argument(value: AbstractValue) -> bool
     ensures { result ≡ is_ctx_argument value }
 {
@@ -294,16 +291,16 @@ fn is_ctx_argument(value: AbstractValue) -> bool
     }
 }
 
-// V20 and V22 of a lookup.
+/// V20 and V22 of a lookup.
 fn lookup_fault(state: &State) -> Option<Rule>
     ensures { result ≡ helper_fault state.now (Some Lookup) }
 {
-    let unwritten = is_unwritten_at(state, 4, 0, state.register(reg(2)));
+    let unwritten = has_unwritten_byte(state, 4, 0, state.register(reg(2)));
     let mistaken = !is_map(state.register(reg(1))) || !is_key(state.register(reg(2)));
     if unwritten {
-        Some(Rule::V20)
+        Some(Rule::UnwrittenByte)
     } else if mistaken {
-        Some(Rule::V22)
+        Some(Rule::HelperArgument)
     } else {
         None
     }
@@ -318,18 +315,18 @@ fn mistakes_loop(state: &State) -> bool
         || !is_number(state.register(reg(4)))
 }
 
-// V22 of a loop.
+/// V22 of a loop.
 fn loop_fault(state: &State) -> Option<Rule>
     ensures { result ≡ helper_fault state.now (Some Loop) }
 {
     if mistakes_loop(state) {
-        Some(Rule::V22)
+        Some(Rule::HelperArgument)
     } else {
         None
     }
 }
 
-// V20 and V22 of a helper.
+/// V20 and V22 of a helper.
 fn helper_fault(state: &State, helper: Option<Helper>) -> Option<Rule>
     ensures { result ≡ helper_fault state.now helper }
 {
@@ -350,7 +347,7 @@ fn call_fault(state: &State, insn: Insn) -> Option<Rule>
 }
 
 /// The least of V12 to V22 that an instruction breaks in a state.
-#[tactic(auto, unfolding(crate::specs::Rules::state_fault))]
+#[tactic(auto, unfolding(bpf_verify_model::specs::Rules::state_fault))]
 pub fn state_fault(sizes: &[u32], state: &State, insn: &Insn) -> Option<Rule>
     ensures { result ≡ state_fault sizes.now state.now insn.now }
 {
@@ -369,7 +366,7 @@ fn is_bit(value: AbstractValue) -> bool
     }
 }
 
-// V24: a callback doesn't end with 0 or 1. V25: main doesn't end with a number.
+/// V24: a callback doesn't end with 0 or 1. V25: main doesn't end with a number.
 fn end_fault(function: u32, value: AbstractValue) -> Option<Rule>
     ensures { result ≡ end_fault function value }
 {
@@ -377,10 +374,10 @@ fn end_fault(function: u32, value: AbstractValue) -> Option<Rule>
         if is_number(value) {
             None
         } else {
-            Some(Rule::V25)
+            Some(Rule::MainResult)
         }
     } else {
-        if is_bit(value) { None } else { Some(Rule::V24) }
+        if is_bit(value) { None } else { Some(Rule::CallbackResult) }
     }
 }
 

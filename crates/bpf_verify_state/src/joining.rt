@@ -1,15 +1,16 @@
 //! What is known where two ways meet.
 
-ghost use Rattle.std.specs.Prelude.{◌≡◌, ◌==◌, if◌then◌else◌};
-ghost use Rattle.bpf_verify_state.specs.declared.abstract_value.AbstractValue.TheVariants.{Unwritten, Number, Frame, Ctx, Map, Area, AreaOrNull, Code};
-ghost use Rattle.bpf_verify_state.specs.Abstract.{joined};
+ghost use Rattle.std.specs.Prelude.{◌≡◌, ◌==◌, if◌then◌else◌, length};
+ghost use Rattle.bpf_verify_model.specs.declared.abstract_value.AbstractValue.TheVariants.{Unwritten, Number, Frame, Ctx, Map, Area, AreaOrNull, Code};
+ghost use Rattle.bpf_verify_model.specs.States.{joined_values, joined_registers, joined_callers, joined_states};
 
-use crate::abstract_value::AbstractValue;
-use value_range::{Range, join};
+use bpf_verify_model::{AbstractValue, Registers, State, reg};
+use value_range_model::{Range, join};
+use written_bytes::WrittenBytes;
 
 /// What is known of a register where two ways meet.
 pub fn join_values(a: AbstractValue, b: AbstractValue) -> AbstractValue
-    ensures { result ≡ joined a b }
+    ensures { result ≡ joined_values a b }
 {
     match a {
         AbstractValue::Unwritten => AbstractValue::Unwritten,
@@ -24,7 +25,7 @@ pub fn join_values(a: AbstractValue, b: AbstractValue) -> AbstractValue
 }
 
 fn with_number(range: Range, b: AbstractValue) -> AbstractValue
-    ensures { result ≡ joined (Number range) b }
+    ensures { result ≡ joined_values (Number range) b }
 {
     match b {
         AbstractValue::Number(other) => AbstractValue::Number(join(range, other)),
@@ -33,7 +34,7 @@ fn with_number(range: Range, b: AbstractValue) -> AbstractValue
 }
 
 fn with_frame(position: u32, b: AbstractValue) -> AbstractValue
-    ensures { result ≡ joined (Frame position) b }
+    ensures { result ≡ joined_values (Frame position) b }
 {
     match b {
         AbstractValue::Frame(other) => same(position, other, AbstractValue::Frame(position)),
@@ -42,7 +43,7 @@ fn with_frame(position: u32, b: AbstractValue) -> AbstractValue
 }
 
 fn with_ctx(position: u32, b: AbstractValue) -> AbstractValue
-    ensures { result ≡ joined (Ctx position) b }
+    ensures { result ≡ joined_values (Ctx position) b }
 {
     match b {
         AbstractValue::Ctx(other) => same(position, other, AbstractValue::Ctx(position)),
@@ -51,7 +52,7 @@ fn with_ctx(position: u32, b: AbstractValue) -> AbstractValue
 }
 
 fn with_map(map: u32, b: AbstractValue) -> AbstractValue
-    ensures { result ≡ joined (Map map) b }
+    ensures { result ≡ joined_values (Map map) b }
 {
     match b {
         AbstractValue::Map(other) => same(map, other, AbstractValue::Map(map)),
@@ -60,7 +61,7 @@ fn with_map(map: u32, b: AbstractValue) -> AbstractValue
 }
 
 fn with_area(map: u32, range: Range, b: AbstractValue) -> AbstractValue
-    ensures { result ≡ joined (Area map range) b }
+    ensures { result ≡ joined_values (Area map range) b }
 {
     match b {
         AbstractValue::Area(other, r) => same(map, other, AbstractValue::Area(map, join(range, r))),
@@ -72,7 +73,7 @@ fn with_area(map: u32, range: Range, b: AbstractValue) -> AbstractValue
 }
 
 fn with_area_or_null(map: u32, range: Range, b: AbstractValue) -> AbstractValue
-    ensures { result ≡ joined (AreaOrNull map range) b }
+    ensures { result ≡ joined_values (AreaOrNull map range) b }
 {
     match b {
         AbstractValue::Area(other, r) | AbstractValue::AreaOrNull(other, r) => {
@@ -83,7 +84,7 @@ fn with_area_or_null(map: u32, range: Range, b: AbstractValue) -> AbstractValue
 }
 
 fn with_code(start: u32, b: AbstractValue) -> AbstractValue
-    ensures { result ≡ joined (Code start) b }
+    ensures { result ≡ joined_values (Code start) b }
 {
     match b {
         AbstractValue::Code(other) => same(start, other, AbstractValue::Code(start)),
@@ -91,7 +92,7 @@ fn with_code(start: u32, b: AbstractValue) -> AbstractValue
     }
 }
 
-// A value, where two constants are equal.
+/// A value, where two constants are equal.
 fn same(a: u32, b: u32, value: AbstractValue) -> AbstractValue
     ensures { result ≡ if a == b then value else Unwritten }
 {
@@ -100,4 +101,38 @@ fn same(a: u32, b: u32, value: AbstractValue) -> AbstractValue
     } else {
         AbstractValue::Unwritten
     }
+}
+
+/// Keeps what is known of each register in others too.
+fn meet_registers(registers: &mut Registers, others: &Registers)
+    ensures { registers.new ≡ joined_registers registers.old others.now }
+{
+    for number in 0..registers.len().min(others.len()) {
+        let reg = reg(number as u8);
+        registers.set(reg, join_values(registers.get(reg), others.get(reg)));
+    }
+}
+
+/// The bytes of main's frame that are written on both ways.
+fn meet_callers(
+    written: Option<WrittenBytes>,
+    others: &Option<WrittenBytes>,
+) -> Option<WrittenBytes>
+    ensures { result ≡ joined_callers written others.now }
+{
+    let (Some(mut written), Some(others)) = (written, others) else {
+        return None;
+    };
+    written.meet(others);
+    Some(written)
+}
+
+/// Keeps what is known on another way too.
+#[tactic(auto, unfolding(bpf_verify_model::specs::States::joined_states))]
+pub fn meet_states(state: &mut State, other: &State)
+    ensures { state.new ≡ joined_states state.old other.now }
+{
+    meet_registers(&mut state.registers, &other.registers);
+    state.own.meet(&other.own);
+    state.caller = meet_callers(state.caller, &other.caller);
 }

@@ -1,16 +1,16 @@
-//! What a verifier knows of registers and frames before a slot: the abstract values, what operators
-//! make of them, and what is known where two ways meet.
+//! What operators make of what is known of registers, and what is known where two ways meet; and what
+//! rules and flow both ask of an instruction: its helper, the bytes of its access, the slots that it
+//! names.
 #![tactic(auto)]
 
-mod abstract_value;
+mod helpers;
 mod joining;
-mod marks;
-mod registers;
-mod state;
+mod sizes;
+mod targets;
 mod values;
 
-pub use abstract_value::{AbstractValue, is_number, is_unwritten};
-pub use marks::Marks;
-pub use registers::{Registers, reg};
-pub use state::State;
-pub use values::{compares, on_number, operand_value, result_of};
+pub use helpers::helper_of;
+pub use joining::meet_states;
+pub use sizes::{atomic_bytes, bytes_of};
+pub use targets::{code_target, named_by, slot_beyond};
+pub use values::{compares, is_number, is_unwritten, on_number, operand_value, result_of};

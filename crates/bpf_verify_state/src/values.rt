@@ -1,19 +1,40 @@
 //! What operators give on what is known of registers.
 
-ghost use Rattle.std.specs.Prelude.{◌≡◌, ◌≤◌, IfSome};
+ghost use Rattle.std.specs.Prelude.{◌≡◌};
+ghost use Rattle.std.specs.Option.{option_map};
 ghost use Rattle.bpf_insn_form.specs.declared.insn.Width.TheVariants.{W64};
-ghost use Rattle.bpf_verify_state.specs.declared.abstract_value.AbstractValue.TheVariants.{Number};
-ghost use Rattle.bpf_verify_state.specs.Values.{operand_value, on_number, on_numbers, copied, moved_position, frame_address, ctx_address, area_sum, added, taken_away, sum_of, difference_of, result_of, is_null_check, compares};
+ghost use Rattle.bpf_verify_model.specs.declared.abstract_value.AbstractValue.TheVariants.{Number, Frame, Ctx, Area};
+ghost use Rattle.bpf_verify_model.specs.Values.{known_operand, known_of_number, known_of_numbers, known_copy, known_position, known_area, known_moved, known_sum, known_result, is_number, is_unwritten, is_null_check, compares};
 
-use crate::abstract_value::{AbstractValue, is_number};
-use crate::state::State;
 use bpf_insn_form::{AluOp, Compare, Operand, Width};
 use bpf_insn_words::alu_word;
-use value_range::{Operation, Range, alu, exact};
+use bpf_verify_model::{AbstractValue, State};
+use value_range_model::{Operation, Range, exact};
+use value_range_rows::alu;
+
+/// Whether it is a number.
+pub fn is_number(value: AbstractValue) -> bool
+    ensures { result ≡ is_number value }
+{
+    match value {
+        AbstractValue::Number(_) => true,
+        _ => false,
+    }
+}
+
+/// Whether it can't be read.
+pub fn is_unwritten(value: AbstractValue) -> bool
+    ensures { result ≡ is_unwritten value }
+{
+    match value {
+        AbstractValue::Unwritten => true,
+        _ => false,
+    }
+}
 
 /// What is known of an operand: an immediate is sign-extended.
 pub fn operand_value(state: &State, operand: Operand) -> AbstractValue
-    ensures { result ≡ operand_value state.now operand }
+    ensures { result ≡ known_operand state.now operand }
 {
     match operand {
         Operand::Imm(imm) => AbstractValue::Number(exact((imm as i64).cast_unsigned())),
@@ -23,7 +44,7 @@ pub fn operand_value(state: &State, operand: Operand) -> AbstractValue
 
 /// What an operation on one number gives.
 pub fn on_number(operation: Operation, width: Width, value: AbstractValue) -> Option<AbstractValue>
-    ensures { result ≡ on_number operation width value }
+    ensures { result ≡ known_of_number operation width value }
 {
     match value {
         AbstractValue::Number(a) => {
@@ -34,9 +55,9 @@ pub fn on_number(operation: Operation, width: Width, value: AbstractValue) -> Op
     }
 }
 
-// What an operator gives on two numbers.
+/// What an operator gives on two numbers.
 fn on_numbers(width: Width, op: AluOp, a: AbstractValue, b: AbstractValue) -> Option<AbstractValue>
-    ensures { result ≡ on_numbers width op a b }
+    ensures { result ≡ known_of_numbers width op a b }
 {
     match a {
         AbstractValue::Number(a) => on_number_and(width, op, a, b),
@@ -45,7 +66,7 @@ fn on_numbers(width: Width, op: AluOp, a: AbstractValue, b: AbstractValue) -> Op
 }
 
 fn on_number_and(width: Width, op: AluOp, a: Range, b: AbstractValue) -> Option<AbstractValue>
-    ensures { result ≡ on_numbers width op (Number a) b }
+    ensures { result ≡ known_of_numbers width op (Number a) b }
 {
     match b {
         AbstractValue::Number(b) => {
@@ -56,9 +77,9 @@ fn on_number_and(width: Width, op: AluOp, a: Range, b: AbstractValue) -> Option<
     }
 }
 
-// What a move gives: of 64 bits any value that is written, of 32 bits a number.
+/// What a move gives: of 64 bits any value that is written, of 32 bits a number.
 fn copied(width: Width, value: AbstractValue) -> Option<AbstractValue>
-    ensures { result ≡ copied width value }
+    ensures { result ≡ known_copy width value }
 {
     match width {
         Width::W32 => on_number(Operation::Alu(AluOp::Mov), Width::W32, value),
@@ -67,7 +88,7 @@ fn copied(width: Width, value: AbstractValue) -> Option<AbstractValue>
 }
 
 fn written(value: AbstractValue) -> Option<AbstractValue>
-    ensures { result ≡ copied W64 value }
+    ensures { result ≡ known_copy W64 value }
 {
     match value {
         AbstractValue::Unwritten => None,
@@ -75,9 +96,9 @@ fn written(value: AbstractValue) -> Option<AbstractValue>
     }
 }
 
-// The position that a known number leads to from another, within a frame and its end.
+/// The position that a known number leads to from another, within a frame and its end.
 fn moved_position(op: AluOp, position: u32, n: Range) -> Option<u32>
-    ensures { result ≡ moved_position op position n }
+    ensures { result ≡ known_position op position n }
 {
     if n.lo() != n.hi() {
         return None;
@@ -91,7 +112,7 @@ fn moved_position(op: AluOp, position: u32, n: Range) -> Option<u32>
 }
 
 fn frame_address(position: Option<u32>) -> Option<AbstractValue>
-    ensures { result ≡ frame_address position }
+    ensures { result ≡ option_map Frame position }
 {
     match position {
         Some(position) => Some(AbstractValue::Frame(position)),
@@ -100,7 +121,7 @@ fn frame_address(position: Option<u32>) -> Option<AbstractValue>
 }
 
 fn ctx_address(position: Option<u32>) -> Option<AbstractValue>
-    ensures { result ≡ ctx_address position }
+    ensures { result ≡ option_map Ctx position }
 {
     match position {
         Some(position) => Some(AbstractValue::Ctx(position)),
@@ -108,9 +129,9 @@ fn ctx_address(position: Option<u32>) -> Option<AbstractValue>
     }
 }
 
-// A number moves an area address up, to at most 524,288.
+/// A number moves an area address up, to at most 524,288.
 fn area_sum(map: u32, offset: Range, n: Range) -> Option<AbstractValue>
-    ensures { result ≡ area_sum map offset n }
+    ensures { result ≡ known_area map offset n }
 {
     if offset.hi() <= 524_288 && n.hi() <= 524_288 - offset.hi() {
         let range = alu(Operation::Alu(AluOp::Add), Width::W64, offset, n);
@@ -120,70 +141,47 @@ fn area_sum(map: u32, offset: Range, n: Range) -> Option<AbstractValue>
     }
 }
 
-// A number added at 64 bits.
-fn added(a: AbstractValue, n: Range) -> Option<AbstractValue>
-    ensures { result ≡ added a n }
+fn area_moved(op: AluOp, map: u32, offset: Range, n: Range) -> Option<AbstractValue>
+    ensures { result ≡ known_moved op (Area map offset) n }
+{
+    match op {
+        AluOp::Add => area_sum(map, offset, n),
+        _ => None,
+    }
+}
+
+/// A number added or taken away at 64 bits.
+fn moved(op: AluOp, a: AbstractValue, n: Range) -> Option<AbstractValue>
+    ensures { result ≡ known_moved op a n }
 {
     match a {
         AbstractValue::Number(a) => {
-            let range = alu(Operation::Alu(AluOp::Add), Width::W64, a, n);
+            let range = alu(Operation::Alu(op), Width::W64, a, n);
             Some(AbstractValue::Number(range))
         }
-        AbstractValue::Frame(position) => frame_address(moved_position(AluOp::Add, position, n)),
-        AbstractValue::Ctx(position) => ctx_address(moved_position(AluOp::Add, position, n)),
-        AbstractValue::Area(map, offset) => area_sum(map, offset, n),
+        AbstractValue::Frame(position) => frame_address(moved_position(op, position, n)),
+        AbstractValue::Ctx(position) => ctx_address(moved_position(op, position, n)),
+        AbstractValue::Area(map, offset) => area_moved(op, map, offset, n),
         _ => None,
     }
 }
 
-// A number taken away at 64 bits.
-fn taken_away(a: AbstractValue, n: Range) -> Option<AbstractValue>
-    ensures { result ≡ taken_away a n }
-{
-    match a {
-        AbstractValue::Number(a) => {
-            let range = alu(Operation::Alu(AluOp::Sub), Width::W64, a, n);
-            Some(AbstractValue::Number(range))
-        }
-        AbstractValue::Frame(position) => frame_address(moved_position(AluOp::Sub, position, n)),
-        AbstractValue::Ctx(position) => ctx_address(moved_position(AluOp::Sub, position, n)),
-        _ => None,
-    }
-}
-
-fn wide_sum(a: AbstractValue, b: AbstractValue) -> Option<AbstractValue>
-    ensures { result ≡ sum_of W64 a b }
+fn wide_sum(op: AluOp, a: AbstractValue, b: AbstractValue) -> Option<AbstractValue>
+    ensures { result ≡ known_sum W64 op a b }
 {
     match b {
-        AbstractValue::Number(n) => added(a, n),
+        AbstractValue::Number(n) => moved(op, a, n),
         _ => None,
     }
 }
 
-fn wide_difference(a: AbstractValue, b: AbstractValue) -> Option<AbstractValue>
-    ensures { result ≡ difference_of W64 a b }
-{
-    match b {
-        AbstractValue::Number(n) => taken_away(a, n),
-        _ => None,
-    }
-}
-
-fn sum_of(width: Width, a: AbstractValue, b: AbstractValue) -> Option<AbstractValue>
-    ensures { result ≡ sum_of width a b }
+/// A sum or a difference.
+fn sum(width: Width, op: AluOp, a: AbstractValue, b: AbstractValue) -> Option<AbstractValue>
+    ensures { result ≡ known_sum width op a b }
 {
     match width {
-        Width::W32 => on_numbers(Width::W32, AluOp::Add, a, b),
-        Width::W64 => wide_sum(a, b),
-    }
-}
-
-fn difference_of(width: Width, a: AbstractValue, b: AbstractValue) -> Option<AbstractValue>
-    ensures { result ≡ difference_of width a b }
-{
-    match width {
-        Width::W32 => on_numbers(Width::W32, AluOp::Sub, a, b),
-        Width::W64 => wide_difference(a, b),
+        Width::W32 => on_numbers(Width::W32, op, a, b),
+        Width::W64 => wide_sum(op, a, b),
     }
 }
 
@@ -194,12 +192,12 @@ pub fn result_of(
     a: AbstractValue,
     b: AbstractValue,
 ) -> Option<AbstractValue>
-    ensures { result ≡ result_of width op a b }
+    ensures { result ≡ known_result width op a b }
 {
     match op {
         AluOp::Mov => copied(width, b),
-        AluOp::Add => sum_of(width, a, b),
-        AluOp::Sub => difference_of(width, a, b),
+        AluOp::Add => sum(width, AluOp::Add, a, b),
+        AluOp::Sub => sum(width, AluOp::Sub, a, b),
         _ => on_numbers(width, op, a, b),
     }
 }

@@ -3,40 +3,11 @@ use Rattle.std.specs.Prelude.{ℕ, List, ◌++◌, codes}
 use Rattle.std.specs.Fmt.{decimal}
 use Rattle.bpf_insn.specs.FaultNumbers.{fault_number as codec_fault_number}
 use Rattle.bpf_text_lines.specs.FaultNumbers.{fault_number as text_fault_number}
-use Rattle.bpf_verify_rules.specs.declared.rule.Rule.{Rule}
-use Rattle.bpf_verify_rules.specs.declared.rule.Rule.TheVariants as rules
+use Rattle.bpf_verify_model.specs.RuleNumbers.{rule_number}
 use Rattle.bpfspec_answers.specs.declared.refusal.Section.{Section}
 use Rattle.bpfspec_answers.specs.declared.refusal.Section.TheVariants as sections
 use Rattle.bpfspec_answers.specs.declared.refusal.Refusal.{Refusal}
 use Rattle.bpfspec_answers.specs.declared.refusal.Refusal.TheVariants as refusals
-
--- the number of a rule that is broken
-abbrev pub rule_number : Rule → List ℕ
-rule_number rules.V1 = codes "V1"
-rule_number rules.V2 = codes "V2"
-rule_number rules.V3 = codes "V3"
-rule_number rules.V4 = codes "V4"
-rule_number rules.V5 = codes "V5"
-rule_number rules.V6 = codes "V6"
-rule_number rules.V7 = codes "V7"
-rule_number rules.V8 = codes "V8"
-rule_number rules.V9 = codes "V9"
-rule_number rules.V10 = codes "V10"
-rule_number rules.V11 = codes "V11"
-rule_number rules.V12 = codes "V12"
-rule_number rules.V13 = codes "V13"
-rule_number rules.V14 = codes "V14"
-rule_number rules.V15 = codes "V15"
-rule_number rules.V16 = codes "V16"
-rule_number rules.V17 = codes "V17"
-rule_number rules.V18 = codes "V18"
-rule_number rules.V19 = codes "V19"
-rule_number rules.V20 = codes "V20"
-rule_number rules.V21 = codes "V21"
-rule_number rules.V22 = codes "V22"
-rule_number rules.V23 = codes "V23"
-rule_number rules.V24 = codes "V24"
-rule_number rules.V25 = codes "V25"
 
 -- a section's name
 abbrev pub section_name : Section → List ℕ
@@ -47,7 +18,7 @@ section_name sections.Maps = codes "maps"
 abbrev pub what_is_refused : Refusal → List ℕ
 what_is_refused (refusals.Text fault section line) = codes "A" ++ decimal (text_fault_number fault) ++ codes " at " ++ section_name section ++ codes " line " ++ decimal line
 what_is_refused (refusals.Codec fault slot) = codes "I" ++ decimal (codec_fault_number fault) ++ codes " at slot " ++ decimal slot
-what_is_refused (refusals.Rule rule slot) = rule_number rule ++ codes " at slot " ++ decimal slot
+what_is_refused (refusals.Rule rule slot) = codes "V" ++ decimal (rule_number rule) ++ codes " at slot " ++ decimal slot
 what_is_refused refusals.NotThin = codes "V0 at slot 0"
 what_is_refused refusals.Sizes = codes "P1"
 

@@ -3,11 +3,11 @@
 ghost use Rattle.std.specs.Prelude.{◌≡◌, ◌++◌, IfOk, OnOk};
 ghost use Rattle.std.specs.String.{string_bytes};
 ghost use Rattle.bpfspec_answers.specs.declared.refusal.Refusal.TheVariants.{Text, Codec};
-ghost use Rattle.bpfspec_answers.specs.Refusals.{rule_number, section_name, what_is_refused, refusal_line};
+ghost use Rattle.bpfspec_answers.specs.Refusals.{section_name, what_is_refused, refusal_line};
 
 use bpf_insn::CodecFault;
 use bpf_text_lines::TextFault;
-use bpf_verify_rules::Rule;
+use bpf_verify_model::Rule;
 use std::alloc::{AllocError, Global};
 
 /// The line that tells that memory ran out.
@@ -41,39 +41,6 @@ pub enum Refusal {
     Sizes,
 }
 
-/// The number of a rule that is broken.
-fn rule_number(rule: Rule) -> &'static str
-    ensures { result.now ≡ rule_number rule }
-{
-    match rule {
-        Rule::V1 => "V1",
-        Rule::V2 => "V2",
-        Rule::V3 => "V3",
-        Rule::V4 => "V4",
-        Rule::V5 => "V5",
-        Rule::V6 => "V6",
-        Rule::V7 => "V7",
-        Rule::V8 => "V8",
-        Rule::V9 => "V9",
-        Rule::V10 => "V10",
-        Rule::V11 => "V11",
-        Rule::V12 => "V12",
-        Rule::V13 => "V13",
-        Rule::V14 => "V14",
-        Rule::V15 => "V15",
-        Rule::V16 => "V16",
-        Rule::V17 => "V17",
-        Rule::V18 => "V18",
-        Rule::V19 => "V19",
-        Rule::V20 => "V20",
-        Rule::V21 => "V21",
-        Rule::V22 => "V22",
-        Rule::V23 => "V23",
-        Rule::V24 => "V24",
-        Rule::V25 => "V25",
-    }
-}
-
 /// A section's name.
 fn section_name(section: Section) -> &'static str
     ensures { result.now ≡ section_name section }
@@ -99,7 +66,7 @@ fn print_what(out: &mut String, refusal: Refusal) -> Result<(), AllocError>
             write!(out, "A{number} at {section} line {line}")
         }
         Refusal::Codec { fault, slot } => write!(out, "I{} at slot {slot}", fault.number()),
-        Refusal::Rule { rule, slot } => write!(out, "{} at slot {slot}", rule_number(rule)),
+        Refusal::Rule { rule, slot } => write!(out, "V{} at slot {slot}", rule.number()),
         Refusal::NotThin => out.push_str("V0 at slot 0"),
         Refusal::Sizes => out.push_str("P1"),
     }

@@ -37,8 +37,8 @@ use Rattle.bpfspec_serve.specs.declared.answer_error.AnswerError.{AnswerError}
 use Rattle.bpfspec_serve.specs.declared.answer_error.AnswerError.TheVariants as errors
 use Rattle.bpfspec_serve.specs.declared.serving.Served.{Served}
 use Rattle.bpfspec_serve.specs.declared.serving.Served.TheVariants as served
-use Rattle.bpf_verify_flow.specs.Accepted.{Fault, first_fault}
-use Rattle.bpf_verify_flow.specs.Count.{start_of, count_of}
+use Rattle.bpf_verify_model.specs.Accepted.{BrokenRule, first_fault}
+use Rattle.bpf_verify_model.specs.Count.{start_of, count_of}
 use Rattle.bpfspec_serve.specs.Sections.{unit_section, maps_section}
 
 -- what comes of an input: a text, or an error

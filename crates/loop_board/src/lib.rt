@@ -16,6 +16,3 @@ mod view;
 pub use board::{Board, Tally};
 pub use error::BoardError;
 pub use seat::BoardSeat;
-
-#[cfg(test)]
-mod tests;

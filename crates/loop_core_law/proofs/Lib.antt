@@ -3,6 +3,7 @@ pub mod Turns
 pub mod RunAgain
 pub mod Least
 pub mod LoopAgain
-pub mod MarkLaws
-pub mod ClashPairs
+pub mod FlowLaws
+pub mod FailingPairs
+pub mod ScanLaws
 pub mod VerdictLaws

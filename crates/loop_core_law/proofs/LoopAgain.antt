@@ -3,19 +3,22 @@ use Rattle.std.proofs.Common.{◌≡◌, ℕ, zero, suc, ◌+◌, ◌≤◌, Boo
 use Rattle.std.specs.Prelude.{if◌then◌else◌, ◌==◌, is_none}
 use Rattle.std.specs.List.{AllByRecursion, range_with_len}
 use Rattle.std.proofs.lemmas.List.{append-nil}
-use Rattle.array_maps.specs.Accesses.{Access, words_after_all}
+use Rattle.array_maps.specs.Accesses.{Action, Access, words_after_all}
 use Rattle.array_maps.proofs.ElementLaws.{length-words_after_all}
 use Rattle.bpf_insn_form.specs.Program.{Program}
 use Rattle.bpf_step_model.specs.State.{LoopCall}
 use Rattle.bpf_step_model.specs.Run.{Ending, Ended, Stuck, Unfinished}
 use Rattle.bpf_step_model.specs.Iteration.{Iterated, iteration}
-use Rattle.bpf_step_model.specs.LoopInOrder.{Looped, behind, loop_from}
-use Rattle.loop_core_law.specs.Marks.{joined, only_operator}
+use Rattle.bpf_step_model.specs.LoopInOrder.{Looped, behind, loop_from, loop_in_order}
+use Rattle.loop_core_law.specs.declared.loop_test.Test.{Test}
+use Rattle.loop_core_law.specs.declared.loop_test.Test.TheVariants.{Lrpd, Flow}
+use Rattle.loop_core_law.specs.Actions.{joined, only_operator}
 use Rattle.loop_core_law.specs.Conflict.{clash, harm, conflicts, at_element, conflicting}
-use Rattle.loop_core_law.specs.LeastBreak.{is_break, counted, counted_iterations, one_ended_more, all_ended, accesses_of_all, counted_runs}
-use Rattle.loop_core_law.specs.Law.{IsInOrder, IsUnharmed}
-use Rattle.loop_core_law.proofs.OneElement.{harm-clash}
-use Rattle.loop_core_law.proofs.Turns.{Saws, InTurn, words_after_all-append, in_turn_at_start, all_committed}
+use Rattle.loop_core_law.specs.LeastBreak.{is_break, counted, counted_iterations, mapped, all_ended, accesses_of_each, counted_runs}
+use Rattle.loop_core_law.specs.Committed.{committed_words}
+use Rattle.loop_core_law.specs.Law.{LoopLaw}
+use Rattle.loop_core_law.proofs.OneElement.{and_false, Unharmed, harm-clash}
+use Rattle.loop_core_law.proofs.Turns.{Saws, InTurn, UnharmedEach, words_after_all-append, in_turn_at_start, all_committed}
 use Rattle.loop_core_law.proofs.RunAgain.{iteration_local}
 use Rattle.loop_core_law.proofs.Least.{EndsAt, ends_here, ends_next, ends_somewhere, ends_at_zero, counts_to, filter_none}
 
@@ -36,7 +39,7 @@ pub record AreEnded (endings : List (Ending Iterated)) (runs : List (List Access
   pub each : AllByRecursion IsEnded endings
   pub made : map accesses_of endings ≡ runs
 
-one_more_from : (it : Iterated) (rest : Ending (List Iterated)) (its : List Iterated) → one_ended_more it rest ≡ Ended its →
+one_more_from : (it : Iterated) (rest : Ending (List Iterated)) (its : List Iterated) → mapped (λ others. it ∷ others) rest ≡ Ended its →
     (others : List Iterated) × (rest ≡ Ended others) × (its ≡ it ∷ others)
 one_more_from it Stuck its h = absurd (cc)
 one_more_from it Unfinished its h = absurd (cc)
@@ -54,13 +57,13 @@ are_ended (Ended it ∷ endings) its h =
       made = ap (λ runs. it.accesses ∷ runs) rest.made ∙ ap (map (λ (i : Iterated). i.accesses)) (sym parts.2);
     }
 
-accesses_from : (ending : Ending (List Iterated)) (runs : List (List Access)) → accesses_of_all ending ≡ Ended runs →
+accesses_from : (ending : Ending (List Iterated)) (runs : List (List Access)) → mapped accesses_of_each ending ≡ Ended runs →
     (its : List Iterated) × (ending ≡ Ended its) × (map (λ (it : Iterated). it.accesses) its ≡ runs)
 accesses_from Stuck runs h = absurd (cc)
 accesses_from Unfinished runs h = absurd (cc)
 accesses_from (Ended its) runs h = (its, refl, cc)
 
-runs_ended : (endings : List (Ending Iterated)) (runs : List (List Access)) → accesses_of_all (all_ended endings) ≡ Ended runs → AreEnded endings runs
+runs_ended : (endings : List (Ending Iterated)) (runs : List (List Access)) → mapped accesses_of_each (all_ended endings) ≡ Ended runs → AreEnded endings runs
 runs_ended endings runs h =
     let parts = accesses_from (all_ended endings) runs h in
     subst (AreEnded endings) parts.2 (are_ended endings parts.0 parts.1)
@@ -143,10 +146,16 @@ module _ (program : Program) (bound : ℕ) (call : LoopCall) (start : List ℕ) 
       go Unfinished same h = absurd h
       go (Ended it) same h = (iteration_local program bound call index).saw start it same
 
+-- the loop in order answers the number of counted iterations and leaves what is committed of their accesses
+abbrev pub IsInOrder : Program → ℕ → LoopCall → List ℕ → List (List Access) → Type 0
+IsInOrder program bound call words runs =
+    loop_in_order program bound call words
+    ≡ Ended (record { answer = counted program bound call words; words = committed_words runs words })
+
 -- where all counted iterations ended and no writer stands before a reader, the loop in order is what was speculated
 all_in_order : (program : Program) (bound : ℕ) (call : LoopCall) (words : List ℕ) →
     AllByRecursion IsEnded (counted_iterations program bound call words) →
-    IsUnharmed (map accesses_of (counted_iterations program bound call words)) (length words) →
+    UnharmedEach (map accesses_of (counted_iterations program bound call words)) (length words) →
     IsInOrder program bound call words (map accesses_of (counted_iterations program bound call words))
 all_in_order program bound call words ended unharmed =
     let runs : List (List Access) = map accesses_of (counted_iterations program bound call words) in
@@ -159,19 +168,25 @@ all_in_order program bound call words ended unharmed =
     ∙ ap (loop_end count) (all_committed runs words unharmed)
 
 -- the same of the accesses of the counted iterations
-pub unharmed_in_order : (program : Program) (bound : ℕ) (call : LoopCall) (words : List ℕ) (runs : List (List Access)) →
-    counted_runs program bound call words ≡ Ended runs → IsUnharmed runs (length words) → IsInOrder program bound call words runs
+unharmed_in_order : (program : Program) (bound : ℕ) (call : LoopCall) (words : List ℕ) (runs : List (List Access)) →
+    counted_runs program bound call words ≡ Ended runs → UnharmedEach runs (length words) → IsInOrder program bound call words runs
 unharmed_in_order program bound call words runs same unharmed =
     let are = runs_ended (counted_iterations program bound call words) runs same in
     subst (IsInOrder program bound call words) are.made
-    (all_in_order program bound call words are.each (subst (λ (rs : List (List Access)). IsUnharmed rs (length words)) (sym are.made) unharmed))
+    (all_in_order program bound call words are.each (subst (λ (rs : List (List Access)). UnharmedEach rs (length words)) (sym are.made) unharmed))
 
-and_false : (b c d : Bool) → (c ≡ false → d ≡ false) → (b && c) ≡ false → (b && d) ≡ false
-and_false true c d f h = f h
-and_false false c d f h = refl
+-- what doesn't conflict by either test is unharmed
+not_harmed : (test : Test) (iterations : List (List Action)) → conflicts test iterations ≡ false → Unharmed iterations
+not_harmed Lrpd iterations h =
+    and_false (is_none (only_operator (joined iterations))) (clash iterations) (harm iterations) (harm-clash iterations) h
+not_harmed Flow iterations h = h
 
 -- what passes is unharmed
-pub passes_unharmed : (runs : List (List Access)) (elements : ℕ) → conflicting runs elements ≡ [] → IsUnharmed runs elements
-passes_unharmed runs elements none e inside =
-    and_false (is_none (only_operator (joined (at_element e runs)))) (clash (at_element e runs)) (harm (at_element e runs)) (harm-clash (at_element e runs))
-    (filter_none (λ e. conflicts (at_element e runs)) 0 elements none e (omega arith) (omega arith))
+passes_unharmed : (test : Test) (runs : List (List Access)) (elements : ℕ) → conflicting test runs elements ≡ [] → UnharmedEach runs elements
+passes_unharmed test runs elements none e inside =
+    not_harmed test (at_element e runs)
+    (filter_none (λ e. conflicts test (at_element e runs)) 0 elements none e (omega arith) (omega arith))
+
+pub loop_law : LoopLaw
+loop_law test program bound call words runs same none =
+    unharmed_in_order program bound call words runs same (passes_unharmed test runs (length words) none)

@@ -5,9 +5,9 @@ use Rattle.std.specs.Prelude.{if◌then◌else◌, is_none}
 use Rattle.std.specs.Option.{option_or}
 use Rattle.std.specs.List.{list_any, list_all, fold}
 use Rattle.array_maps.specs.declared.access.Op.{Op}
-use Rattle.array_maps.specs.declared.access.Op.TheVariants.{Add, Or, And, Xor}
+use Rattle.array_maps.specs.declared.access.Op.TheVariants.{Add, Or, And, Xor, AddH}
 use Rattle.array_maps.specs.Accesses.{Action, Read, Write, ReadWrite, Reduce, combined, left_by, left_by_all, SawEach}
-use Rattle.loop_core_law.specs.Marks.{writes, exposed, is_same, reduces_by, joined, only_operator, operands}
+use Rattle.loop_core_law.specs.Actions.{writes, exposed, is_same, reduces_by, joined, only_operator, operands}
 use Rattle.loop_core_law.specs.Conflict.{clash, harm}
 use Rattle.loop_core_law.specs.Committed.{last_that, left_by_last, committed_by, committed}
 
@@ -27,6 +27,10 @@ and_true_left false b h = h
 pub and_true_right : (a b : Bool) → (a && b) ≡ true → b ≡ true
 and_true_right true b h = h
 and_true_right false b h = absurd (cc)
+
+pub and_false : (b c d : Bool) → (c ≡ false → d ≡ false) → (b && c) ≡ false → (b && d) ≡ false
+and_false true c d f h = f h
+and_false false c d f h = refl
 
 -- where the iteration doesn't look at the word first, it sees the same whatever stood there
 pub sealed_saw : (actions : List Action) (word other : ℕ) → exposed actions ≡ false → SawEach actions word → SawEach actions other
@@ -65,6 +69,7 @@ same_op Add Add h = refl
 same_op Or Or h = refl
 same_op And And h = refl
 same_op Xor Xor h = refl
+same_op AddH AddH h = refl
 same_op _ _ h = absurd (cc)
 
 -- reduces by one operator leave the word combined with their operands
@@ -159,11 +164,12 @@ picked_at_start : (o : Option (List Action)) (start : ℕ) → picked o start st
 picked_at_start None start = refl
 picked_at_start (Some actions) start = refl
 
-is_same-refl : (op : Op) → is_same op op ≡ true
+pub is_same-refl : (op : Op) → is_same op op ≡ true
 is_same-refl Add = refl
 is_same-refl Or = refl
 is_same-refl And = refl
 is_same-refl Xor = refl
+is_same-refl AddH = refl
 
 chosen : (b : Bool) (a op : Op) → (if b then Some a else None) ≡ Some op → (b ≡ true) × (a ≡ op)
 chosen true a op h = (refl, cc)

@@ -6,7 +6,7 @@ use Rattle.std.specs.List.{AllByRecursion}
 use Rattle.std.proofs.lemmas.List.FromFn.{fill_by_all}
 use Rattle.array_maps.specs.Accesses.{Access, left_by_all, SawEach, actions_at, words_after_all}
 use Rattle.array_maps.proofs.ElementLaws.{element_after_all, length-words_after_all}
-use Rattle.loop_core_law.specs.Marks.{joined}
+use Rattle.loop_core_law.specs.Actions.{joined}
 use Rattle.loop_core_law.specs.Conflict.{at_element}
 use Rattle.loop_core_law.specs.Committed.{committed, committed_words}
 use Rattle.loop_core_law.proofs.OneElement.{Holds, Unharmed, holds_saw, holds_next, holds_at_start, left-committed}

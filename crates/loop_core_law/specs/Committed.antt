@@ -4,7 +4,7 @@ use Rattle.std.specs.List.{fold, range_with_len}
 use Rattle.std.specs.Option.{option_or}
 use Rattle.array_maps.specs.declared.access.Op.{Op}
 use Rattle.array_maps.specs.Accesses.{Action, Access, combined, left_by_all}
-use Rattle.loop_core_law.specs.Marks.{writes, joined, only_operator, operands}
+use Rattle.loop_core_law.specs.Actions.{writes, joined, only_operator, operands}
 use Rattle.loop_core_law.specs.Conflict.{at_element}
 
 -- the last iteration that passes a test

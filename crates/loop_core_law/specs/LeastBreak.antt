@@ -1,5 +1,5 @@
 -- Which iterations of a speculative loop count. Each of them runs on the words as they stood when the loop began.
-use Rattle.std.specs.Prelude.{ℕ, zero, suc, ◌+◌, Bool, false, ◌==◌, if◌then◌else◌, List, [], ◌∷◌, map, Option, Some, None}
+use Rattle.std.specs.Prelude.{ℕ, zero, suc, ◌+◌, Bool, false, ◌==◌, min, if◌then◌else◌, List, [], ◌∷◌, map, Option, Some, None}
 use Rattle.std.specs.List.{range_with_len}
 use Rattle.std.specs.Option.{option_or}
 use Rattle.array_maps.specs.Accesses.{Access}
@@ -12,6 +12,12 @@ use Rattle.bpf_step_model.specs.Iteration.{Iterated, iteration}
 abbrev pub least_below : (ℕ → Bool) → ℕ → Option ℕ
 least_below test zero = None
 least_below test (suc n) = option_or (least_below test n) (if test n then Some n else None)
+
+-- the lesser of two numbers that may be there
+abbrev pub lesser : Option ℕ → Option ℕ → Option ℕ
+lesser None other = other
+lesser (Some a) None = Some a
+lesser (Some a) (Some b) = Some (min a b)
 
 -- an iteration ended and returned 1
 abbrev pub is_break : Ending Iterated → Bool
@@ -37,25 +43,23 @@ abbrev pub counted_iterations : Program → ℕ → LoopCall → List ℕ → Li
 counted_iterations program bound call words =
     map (λ index. iteration program bound call index words) (range_with_len 0 (counted program bound call words))
 
--- one ended thing more in front
-abbrev pub one_ended_more : {A : Type 0} → A → Ending (List A) → Ending (List A)
-one_ended_more a Stuck = Stuck
-one_ended_more a Unfinished = Unfinished
-one_ended_more a (Ended rest) = Ended (a ∷ rest)
+-- a value made of one that ended
+abbrev pub mapped : {A B : Type 0} → (A → B) → Ending A → Ending B
+mapped make (Ended a) = Ended (make a)
+mapped make Stuck = Stuck
+mapped make Unfinished = Unfinished
 
 -- what all of a list gave, where each ended; else how the first that didn't stands
 abbrev pub all_ended : {A : Type 0} → List (Ending A) → Ending (List A)
 all_ended [] = Ended []
 all_ended (Stuck ∷ rest) = Stuck
 all_ended (Unfinished ∷ rest) = Unfinished
-all_ended (Ended a ∷ rest) = one_ended_more a (all_ended rest)
+all_ended (Ended a ∷ rest) = mapped (λ others. a ∷ others) (all_ended rest)
 
--- the accesses of each iteration
-abbrev pub accesses_of_all : Ending (List Iterated) → Ending (List (List Access))
-accesses_of_all Stuck = Stuck
-accesses_of_all Unfinished = Unfinished
-accesses_of_all (Ended iterations) = Ended (map (λ (it : Iterated). it.accesses) iterations)
+-- the accesses of some iterations
+abbrev pub accesses_of_each : List Iterated → List (List Access)
+accesses_of_each iterations = map (λ (it : Iterated). it.accesses) iterations
 
 -- the accesses of each counted iteration on the start words, where all of them end
 abbrev pub counted_runs : Program → ℕ → LoopCall → List ℕ → Ending (List (List Access))
-counted_runs program bound call words = accesses_of_all (all_ended (counted_iterations program bound call words))
+counted_runs program bound call words = mapped accesses_of_each (all_ended (counted_iterations program bound call words))

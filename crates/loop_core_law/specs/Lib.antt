@@ -1,9 +1,9 @@
-pub mod Marks
+pub mod Actions
 pub mod Conflict
 pub mod LeastBreak
+pub mod Scan
 pub mod Committed
 pub mod Report
 pub mod Law
-pub mod PlaneMarks
 pub mod VerdictRows
 pub mod VerdictBounds

@@ -3,6 +3,7 @@ use Rattle.std.specs.Prelude.{ℕ, ◌≤◌, List}
 use Rattle.bpf_insn_form.specs.Program.{Program}
 use Rattle.bpf_step_model.specs.State.{LoopCall}
 use Rattle.bpf_step_model.specs.Bounds.{Extends}
+use Rattle.loop_core_law.specs.declared.loop_test.Test.{Test}
 use Rattle.loop_core_law.specs.LeastBreak.{counted_runs}
 use Rattle.loop_core_law.specs.Report.{verdict, report, report_in_order}
 
@@ -10,9 +11,9 @@ use Rattle.loop_core_law.specs.Report.{verdict, report, report_in_order}
 pub record VerdictsAgree : Type 0 where
   pub runs : (program : Program) (low high : ℕ) → low ≤ high → (call : LoopCall) (words : List ℕ) →
       Extends (counted_runs program low call words) (counted_runs program high call words)
-  pub verdicts : (program : Program) (low high : ℕ) → low ≤ high → (call : LoopCall) (words : List ℕ) →
-      Extends (verdict program low call words) (verdict program high call words)
-  pub reports : (program : Program) (low high : ℕ) → low ≤ high → (argument : ℕ) (words : List ℕ) →
-      Extends (report program low argument words) (report program high argument words)
+  pub verdicts : (test : Test) (program : Program) (low high : ℕ) → low ≤ high → (call : LoopCall) (words : List ℕ) →
+      Extends (verdict test program low call words) (verdict test program high call words)
+  pub reports : (test : Test) (program : Program) (low high : ℕ) → low ≤ high → (argument : ℕ) (words : List ℕ) →
+      Extends (report test program low argument words) (report test program high argument words)
   pub reports_in_order : (program : Program) (low high : ℕ) → low ≤ high → (argument : ℕ) (words : List ℕ) →
       Extends (report_in_order program low argument words) (report_in_order program high argument words)

@@ -1,4 +1,1 @@
-pub mod ConditionLaws
 pub mod RefineLaws
-pub mod Containment
-pub mod RefineSpans

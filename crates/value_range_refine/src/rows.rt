@@ -1,14 +1,13 @@
 //! The rows of conditions, a function a row.
 
 ghost use Rattle.std.specs.Prelude.{◌≡◌, ◌≢◌};
-ghost use Rattle.value_range_refine.specs.RefineRows.{equal, without, different, greater, not_less, exchanged, tested};
+ghost use Rattle.value_range_model.specs.RefineRows.{equal, without, different, greater, not_less, exchanged, tested};
 
-use crate::condition::Condition;
 use bpf_insn_form::Width;
-use value_range_spans::{Range, norm, round_down};
+use value_range_model::{Condition, Range, norm, round_down};
 
 /// Equal: what both have in common.
-#[tactic(auto, unfolding(crate::specs::RefineRows::equal))]
+#[tactic(auto, unfolding(value_range_model::specs::RefineRows::equal))]
 pub fn equal(a: Range, b: Range) -> Option<(Range, Range)>
     ensures { result ≡ equal a b }
 {
@@ -23,7 +22,7 @@ pub fn equal(a: Range, b: Range) -> Option<(Range, Range)>
 }
 
 /// Unequal: an exact one is cut off an end of the other.
-#[tactic(auto, unfolding(crate::specs::RefineRows::different))]
+#[tactic(auto, unfolding(value_range_model::specs::RefineRows::different))]
 pub fn different(a: Range, b: Range) -> Option<(Range, Range)>
     ensures { result ≡ different a b }
 {
@@ -41,7 +40,7 @@ pub fn different(a: Range, b: Range) -> Option<(Range, Range)>
 }
 
 // A range of several words without a number at one of its ends.
-#[tactic(auto, unfolding(crate::specs::RefineRows::without))]
+#[tactic(auto, unfolding(value_range_model::specs::RefineRows::without))]
 fn without(number: u64, range: Range) -> Range
     requires { range.lo ≢ range.hi }
     ensures { result ≡ without number range }
@@ -56,7 +55,7 @@ fn without(number: u64, range: Range) -> Range
 }
 
 /// Greater: the first is above the second's least word, the second below the first's greatest.
-#[tactic(auto, unfolding(crate::specs::RefineRows::greater))]
+#[tactic(auto, unfolding(value_range_model::specs::RefineRows::greater))]
 pub fn greater(a: Range, b: Range) -> Option<(Range, Range)>
     ensures { result ≡ greater a b }
 {
@@ -69,7 +68,7 @@ pub fn greater(a: Range, b: Range) -> Option<(Range, Range)>
 }
 
 /// Not less: the first isn't below the second's least word, nor the second above the first's greatest.
-#[tactic(auto, unfolding(crate::specs::RefineRows::not_less))]
+#[tactic(auto, unfolding(value_range_model::specs::RefineRows::not_less))]
 pub fn not_less(a: Range, b: Range) -> Option<(Range, Range)>
     ensures { result ≡ not_less a b }
 {
@@ -92,7 +91,7 @@ pub fn exchanged(refined: Option<(Range, Range)>) -> Option<(Range, Range)>
 }
 
 /// Any condition: whether two exact ranges meet it.
-#[tactic(auto, unfolding(crate::specs::RefineRows::tested))]
+#[tactic(auto, unfolding(value_range_model::specs::RefineRows::tested))]
 pub fn tested(condition: Condition, width: Width, a: Range, b: Range) -> Option<(Range, Range)>
     ensures { result ≡ tested condition width a b }
 {

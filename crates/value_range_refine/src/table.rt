@@ -1,14 +1,12 @@
 //! The table of conditions on ranges.
 
 ghost use Rattle.std.specs.Prelude.{◌≡◌, ℕ, ◌^◌, true, false, ◌&&◌, nat_lt, IfSome, IfNone};
-ghost use Rattle.value_range_spans.specs.Spans.{IsSpan, Contains};
-ghost use Rattle.value_range_refine.specs.RefineLaw.{RefineLaw};
-ghost use Rattle.value_range_refine.specs.RefineRows.{says, refine_row, refined};
+ghost use Rattle.value_range_model.specs.Spans.{IsSpan, Contains};
+ghost use Rattle.value_range_model.specs.RefineRows.{says, refine_row, refined};
 
-use crate::condition::Condition;
 use crate::rows::{different, equal, exchanged, greater, not_less, tested};
 use bpf_insn_form::{Compare, Width};
-use value_range_spans::Range;
+use value_range_model::{Condition, Range};
 
 /// The ranges of both operands where the condition holds. They contain every pair of words of a and b
 /// that meets it; None where no pair does.
@@ -21,13 +19,8 @@ pub fn refine(condition: Condition, width: Width, a: Range, b: Range) -> Option<
     refined(condition, width, a, b)
 }
 
-/// The law of conditions on ranges, of the definitions alone. Nothing runs here.
-pub fn refine_law()
-    ensures { RefineLaw }
-{}
-
 // The row of a condition; of ranges that aren't of 32 bits, at 32 bits, whether exact ones meet it.
-#[tactic(auto, unfolding(crate::specs::RefineRows::refined))]
+#[tactic(auto, unfolding(value_range_model::specs::RefineRows::refined))]
 fn refined(condition: Condition, width: Width, a: Range, b: Range) -> Option<(Range, Range)>
     ensures equal { result ≡ refined condition width a b }
     ensures first { IsSpan a }

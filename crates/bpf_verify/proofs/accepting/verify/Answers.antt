@@ -1,17 +1,17 @@
 use Rattle.std.proofs.Common.{◌≡◌, ℕ, ◌∷◌, List, Option, None, map, length, refl, ap, sym, ◌∙◌, subst, arith}
 use Rattle.bpf_insn_form.specs.declared.insn.Insn.{Insn}
 use Rattle.bpf_insn_form.specs.Program.{Program, slot_count, callback_starts}
-use Rattle.bpf_verify_flow.specs.Accepted.{Fault, fault_within}
-use Rattle.bpf_verify_flow.specs.Count.{longest}
+use Rattle.bpf_verify_model.specs.Accepted.{BrokenRule, fault_within}
+use Rattle.bpf_verify_model.specs.Count.{longest}
 use Rattle.bpf_verify.specs.Passing.{IsFault}
-use Rattle.bpf_verify.specs.Counting.{JumpsForward}
+use Rattle.bpf_verify_model.specs.Count.{JumpsForward}
 use Rattle.bpf_verify.proofs.StartLaws.{starts-few}
-use Rattle.bpf_verify.proofs.JumpLaws.{jumps_forward, first_fault-within, program-is}
+use Rattle.bpf_verify_model.proofs.JumpLaws.{jumps_forward, first_fault-within, program-is}
 use Rattle.bpf_verify.proofs.accepting.verify.Goals as goal
 
 pub returns-in-Err-clause-err : goal.returns-in-Err-clause-err
 returns-in-Err-clause-err c =
-    subst (λ (f : Option Fault). IsFault f c.in-Err.error) (sym (first_fault-within c.args.unit c.in_ok-count.count c.in_ok-count.ensures.ok))
+    subst (λ (f : Option BrokenRule). IsFault f c.in-Err.error) (sym (first_fault-within c.args.unit c.in_ok-count.count c.in_ok-count.ensures.ok))
     (subst (λ (program : Program). IsFault (fault_within program c.in_ok-count.count) c.in-Err.error)
     (program-is c.args.unit c.as_slice.result.now c.as_slice-2.result.now (c.as_slice.ensures.value ∙ ap (λ (p : Program). p.sizes) c.unit.view_is) (c.as_slice-2.ensures.value ∙ ap (λ (p : Program). p.insns) c.unit.view_is)) c.in-Err.ensures.err)
 

@@ -1,6 +1,6 @@
 use Rattle.std.proofs.Common.{◌≡◌, ◌∷◌, map, take}
 use Rattle.bpf_insn_form.specs.Program.{slot_count}
-use Rattle.bpf_verify_flow.specs.Count.{longest}
+use Rattle.bpf_verify_model.specs.Count.{longest}
 use Rattle.bpf_verify.proofs.counting.counts_of.Given as goal
 
 abbrev pub invariant-loop-start : goal.invariant-loop-start

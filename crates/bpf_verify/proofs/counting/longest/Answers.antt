@@ -2,8 +2,8 @@ use Rattle.std.proofs.Common.{ℕ, ◌-◌, List, length, ap, sym, ◌∙◌, ar
 use Rattle.std.proofs.Math.ListN.{length-set}
 use Rattle.std.proofs.lemmas.List.{length-replicate}
 use Rattle.bpf_insn_form.specs.Program.{slot_count}
-use Rattle.bpf_verify_flow.specs.Count.{through}
-use Rattle.bpf_verify.specs.Counting.{slice_index_or_zero}
+use Rattle.bpf_verify_model.specs.Count.{through}
+use Rattle.bpf_verify.specs.Counting.{most_at}
 use Rattle.bpf_insn_form.proofs.ProgramLaws.{take-whole}
 use Rattle.bpf_verify.proofs.CountLaws.{Back, back-index, counts-more, counts-none, get_or-zeros}
 use Rattle.bpf_verify.proofs.counting.longest.Goals as goal
@@ -49,5 +49,5 @@ loop-left-preserved c =
       size = ap length c.set.ensures ∙ length-set c.loop-left.longest.items (c.loop-left.slot - c.slots-slot.result) c.through-most.result ∙ c.loop-left.invariant.size;
       counts = counts-more c.args.insns.now c.args.count c.loop-left.slot (c.loop-left.slot - c.slots-slot.result) (c.loop-left.left - 1) c.through-most.result c.index-insns-left.result
           c.loop-left.longest.items c.set.new.longest.items c.requires.forward c.requires.slots c.requires.few back c.loop-left.invariant.size c.loop-left.invariant.counts
-          (c.through-most.ensures ∙ ap (λ (xs : List ℕ). through (slice_index_or_zero xs) (c.loop-left.slot - c.slots-slot.result) (Some c.index-insns-left.result)) c.as_slice.ensures.value) c.set.ensures;
+          (c.through-most.ensures ∙ ap (λ (xs : List ℕ). through (most_at xs) (c.loop-left.slot - c.slots-slot.result) (Some c.index-insns-left.result)) c.as_slice.ensures.value) c.set.ensures;
     }

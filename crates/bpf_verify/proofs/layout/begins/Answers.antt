@@ -3,7 +3,7 @@ use Rattle.std.proofs.Math.ListN.{length-set}
 use Rattle.bpf_insn_form.specs.declared.insn.Insn.{Insn}
 use Rattle.bpf_insn_form.specs.Program.{slot_count, insn_at}
 use Rattle.bpf_insn_form.proofs.ProgramLaws.{slots_some, slot_count-more, slot_count-front, take-more}
-use Rattle.bpf_verify.proofs.MarkLaws.{begin-step}
+use Rattle.bpf_verify.proofs.FlagLaws.{begin-step}
 use Rattle.bpf_verify.proofs.layout.begins.Goals as goal
 
 pub overflow_add-slot : goal.overflow_add-slot

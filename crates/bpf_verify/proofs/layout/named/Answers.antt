@@ -4,7 +4,7 @@ use Rattle.std.specs.List.{list_any, cons_option}
 use Rattle.bpf_insn_form.specs.declared.insn.Insn.{Insn}
 use Rattle.bpf_insn_form.specs.Program.{slot_count, named_by, named_from}
 use Rattle.bpf_insn_form.proofs.ProgramLaws.{slot_count-more, slot_count-front, take-more, named_from-push}
-use Rattle.bpf_verify.proofs.MarkLaws.{named-marked, length-marked}
+use Rattle.bpf_verify.proofs.FlagLaws.{named-marked, length-marked}
 use Rattle.bpf_verify.proofs.layout.named.Goals as goal
 
 pub named_by-requires : goal.named_by-requires

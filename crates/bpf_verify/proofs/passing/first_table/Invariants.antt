@@ -1,5 +1,5 @@
 use Rattle.std.proofs.Common.{◌≡◌, ℕ, ◌<◌, length, get_or, None}
-use Rattle.bpf_verify_flow.specs.Inflow.{entry}
+use Rattle.bpf_verify_model.specs.Inflow.{entry}
 use Rattle.bpf_verify.proofs.passing.first_table.Given as goal
 
 abbrev pub invariant-loop-slot : goal.invariant-loop-slot

@@ -1,5 +1,5 @@
 use Rattle.std.proofs.Common.{ℕ, ap, sym, ◌∙◌, None}
-use Rattle.bpf_verify_flow.specs.Accepted.{unless_earlier}
+use Rattle.bpf_verify_model.specs.Accepted.{unless_earlier}
 use Rattle.bpf_verify.specs.Passing.{program_of}
 use Rattle.bpf_verify.proofs.PassLaws.{fault_within-more, known-here, passed-more}
 use Rattle.bpf_verify.proofs.passing.visit.Goals as goal

@@ -1,4 +1,0 @@
-pub mod Flow
-pub mod Inflow
-pub mod Accepted
-pub mod Count

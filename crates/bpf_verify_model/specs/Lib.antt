@@ -1,0 +1,10 @@
+pub mod RuleNumbers
+pub mod States
+pub mod Values
+pub mod Accesses
+pub mod Helpers
+pub mod Rules
+pub mod Flow
+pub mod Inflow
+pub mod Accepted
+pub mod Count

@@ -1,0 +1,21 @@
+//! The verifier's definitions: what is known of registers and frames before a slot, the rules that an
+//! instruction breaks by what is known, what flows from it to later slots, which programs are
+//! accepted, and how many instructions a function takes at most. They stand in `specs/`, and here the
+//! types that they speak of; the verifier's code is in the crates above.
+#![tactic(auto)]
+
+mod abstract_value;
+mod helper;
+mod memory_access;
+mod outflow;
+mod registers;
+mod rule;
+mod state;
+
+pub use abstract_value::AbstractValue;
+pub use helper::Helper;
+pub use memory_access::{AccessKind, MemoryAccess};
+pub use outflow::{Edge, Outflow, Ways};
+pub use registers::{Registers, reg};
+pub use rule::Rule;
+pub use state::State;

@@ -1,0 +1,36 @@
+//! What is known before a slot.
+
+ghost use Rattle.std.specs.Prelude.{◌≡◌};
+ghost use Rattle.bpf_verify_model.specs.States.{known_register, with_known};
+
+use crate::abstract_value::AbstractValue;
+use crate::registers::Registers;
+use bpf_insn_form::Reg;
+use written_bytes::WrittenBytes;
+
+/// What is known before a slot: each register, the written bytes of the own frame, and in a callback
+/// those of main's frame at the call.
+#[derive(Clone, Copy)]
+pub struct State {
+    pub registers: Registers,
+    pub own: WrittenBytes,
+    pub caller: Option<WrittenBytes>,
+}
+
+impl State {
+    /// What is known of a register.
+    pub fn register(&self, reg: Reg) -> AbstractValue
+        ensures { result ≡ known_register self.now reg }
+    {
+        self.registers.get(reg)
+    }
+
+    /// The same, but for what is known of a register.
+    pub fn with(&self, reg: Reg, value: AbstractValue) -> State
+        ensures { result ≡ with_known self.now reg value }
+    {
+        let mut state = *self;
+        state.registers.set(reg, value);
+        state
+    }
+}

@@ -1,3 +1,0 @@
-pub mod Accesses
-pub mod Helpers
-pub mod Rules

@@ -1,0 +1,214 @@
+//! Whole boards in one thread and in several, the limits, and refused growths.
+
+ghost use Rattle.std.specs.Prelude.{◌≡◌, ◌≤◌};
+
+use loop_board::{Board, BoardError, BoardSeat, Tally};
+use std::alloc::Global;
+use std::test::Fail;
+use std::thread;
+use std::thread::Threads;
+
+/// After which of its steps a worker stops for good.
+#[derive(Clone, Copy)]
+enum StopsAfter {
+    Claim,
+    Look,
+    Post,
+}
+
+const NO_POST: u32 = 4_294_967_295;
+
+#[test]
+fn a_look_sees_what_another_seat_posted(rt: HostRuntime) -> Result<(), Fail> {
+    let (board, mut seats) = Board::new(rt.alloc(), 4, 2)?;
+    assert_eq!(rt; seats.len(), 2);
+    assert_eq!(rt; board.look(&mut seats[0]), NO_POST);
+    board.post(&mut seats[1], 3);
+    assert_eq!(rt; board.look(&mut seats[0]), 3);
+    assert_eq!(rt;
+        board.gather(seats)?,
+        Tally {
+            claimed: 0,
+            least: 3
+        }
+    );
+    Ok(())
+}
+
+#[test]
+fn claims_are_the_blocks_in_turn(rt: HostRuntime) -> Result<(), Fail> {
+    let (board, mut seats) = Board::new(rt.alloc(), 3, 2)?;
+    assert_eq!(rt; seats.len(), 2);
+    assert_eq!(rt; board.claim(&mut seats[0]), Some(0));
+    assert_eq!(rt; board.claim(&mut seats[1]), Some(1));
+    assert_eq!(rt; board.claim(&mut seats[0]), Some(2));
+    assert_eq!(rt; board.claim(&mut seats[0]), None);
+    assert_eq!(rt; board.claim(&mut seats[0]), None);
+    assert_eq!(rt; board.claim(&mut seats[1]), None);
+    assert_eq!(rt;
+        board.gather(seats)?,
+        Tally {
+            claimed: 3,
+            least: NO_POST
+        }
+    );
+    Ok(())
+}
+
+#[test]
+fn limits_are_refused(rt: HostRuntime) -> Result<(), Fail> {
+    for (blocks, workers) in [(0, 1), (65, 1), (1, 0), (1, 17), (u32::MAX, u32::MAX)] {
+        let made = Board::new(rt.alloc(), blocks, workers);
+        assert!(rt;
+            matches!(made, Err(BoardError::Limits)),
+            "{blocks} blocks, {workers} workers"
+        );
+    }
+    let (board, seats) = Board::new(rt.alloc(), 64, 16)?;
+    assert_eq!(rt; seats.len(), 16);
+    assert_eq!(rt;
+        board.gather(seats)?,
+        Tally {
+            claimed: 0,
+            least: NO_POST
+        }
+    );
+    Ok(())
+}
+
+#[test]
+fn a_missing_seat_is_refused(rt: HostRuntime) -> Result<(), Fail> {
+    let (board, mut seats) = Board::new(rt.alloc(), 1, 3)?;
+    drop(seats.pop());
+    assert_eq!(rt; board.gather(seats), Err(BoardError::Seats));
+    Ok(())
+}
+
+// Where a growth was refused, a second try has the memory. Gather takes none.
+#[test]
+fn a_refused_growth_leaves_nothing_behind(rt: HostRuntime) -> Result<(), Fail> {
+    let (board, mut seats) = match Board::new(rt.alloc(), 2, 2) {
+        Err(BoardError::Memory) => Board::new(rt.alloc(), 2, 2)?,
+        made => made?,
+    };
+    assert_eq!(rt; seats.len(), 2);
+    assert_eq!(rt; board.claim(&mut seats[1]), Some(0));
+    board.post(&mut seats[1], 8_388_607);
+    assert_eq!(rt;
+        board.gather(seats)?,
+        Tally {
+            claimed: 1,
+            least: 8_388_607
+        }
+    );
+    Ok(())
+}
+
+// Claims until none is left, and posts the index.
+fn drain_and_post(board: &Board, seat: &mut BoardSeat, index: u32)
+    requires board { seat.old.board ≡ board.now }
+    requires index { index ≤ 8_388_607 }
+    ensures { seat.new.board ≡ seat.old.board }
+{
+    for _ in 0..=64 {
+        if board.claim(seat).is_none() {
+            break;
+        }
+    }
+    board.post(seat, index);
+}
+
+// An index to post, for each of four workers.
+fn break_of(worker: usize) -> u32
+    ensures { result ≤ 8_388_607 }
+{
+    match worker {
+        0 => 40,
+        1 => 10,
+        2 => 8_388_607,
+        _ => 20,
+    }
+}
+
+#[test]
+fn four_threads_share_64_blocks(rt: HostRuntime) -> Result<(), Fail> {
+    let (board, mut seats) = Board::new(rt.alloc(), 64, 4)?;
+    let shared = &board;
+    thread::for_each_mut(
+        &rt,
+        &mut seats,
+        4,
+        &|number, seat| {
+            drain_and_post(shared, seat, break_of(number));
+        },
+    );
+    assert_eq!(rt;
+        board.gather(seats)?,
+        Tally {
+            claimed: 64,
+            least: 10
+        }
+    );
+    Ok(())
+}
+
+// Looks, claims until none is left, and posts the index.
+fn work(board: &Board, seat: &mut BoardSeat, index: u32)
+    requires board { seat.old.board ≡ board.now }
+    requires index { index ≤ 8_388_607 }
+    ensures { seat.new.board ≡ seat.old.board }
+{
+    board.look(seat);
+    drain_and_post(board, seat, index);
+}
+
+// A claim, a look and a post, or no more than the first one or two of them.
+fn work_until(board: &Board, seat: &mut BoardSeat, index: u32, stops: StopsAfter)
+    requires board { seat.old.board ≡ board.now }
+    requires index { index ≤ 8_388_607 }
+    ensures { seat.new.board ≡ seat.old.board }
+{
+    board.claim(seat);
+    if let StopsAfter::Claim = stops {
+        return;
+    }
+    board.look(seat);
+    if let StopsAfter::Look = stops {
+        return;
+    }
+    board.post(seat, index);
+}
+
+// Three threads on four blocks, of which the last stops early.
+fn tally_where_one_stops<R: Threads + Sync>(
+    rt: &R,
+    alloc: Global,
+    stops: StopsAfter,
+) -> Result<Tally, BoardError> {
+    let (board, mut seats) = Board::new(alloc, 4, 3)?;
+    let shared = &board;
+    thread::for_each_mut(
+        rt,
+        &mut seats,
+        3,
+        &|number, seat| match number {
+            0 => work(shared, seat, 30),
+            1 => work(shared, seat, 20),
+            _ => work_until(shared, seat, 10, stops),
+        },
+    );
+    board.gather(seats)
+}
+
+#[test]
+fn one_of_three_threads_stops(rt: HostRuntime) -> Result<(), Fail> {
+    for (stops, least) in [
+        (StopsAfter::Claim, 20),
+        (StopsAfter::Look, 20),
+        (StopsAfter::Post, 10),
+    ] {
+        let tally = tally_where_one_stops(&rt, rt.alloc(), stops)?;
+        assert_eq!(rt; tally, Tally { claimed: 4, least });
+    }
+    Ok(())
+}

@@ -1,4 +1,0 @@
-pub mod RowLaws
-pub mod RowContains
-pub mod Containment
-pub mod RowSpans

@@ -1,0 +1,6 @@
+pub mod Spans
+pub mod SpanLaw
+pub mod RefineRows
+pub mod RefineLaw
+pub mod AluRows
+pub mod AluLaw

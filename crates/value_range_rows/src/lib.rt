@@ -1,0 +1,13 @@
+//! What operations leave of ranges: each is a row of `AluRows` in `value_range_model`, and contains the result of
+//! every pair of words in its operands.
+#![tactic(auto)]
+
+mod bits;
+mod moves;
+mod quotients;
+mod shifts;
+mod sums;
+mod table;
+mod widths;
+
+pub use table::alu;

@@ -1,0 +1,46 @@
+//! Sums, differences and products.
+
+ghost use Rattle.std.specs.Prelude.{◌≡◌, ◌<◌};
+ghost use Rattle.bpf_insn_words.specs.Words.{modulus};
+ghost use Rattle.value_range_model.specs.AluRows.{added, subtracted, multiplied};
+
+use crate::widths::{spread, within};
+use bpf_insn_form::Width;
+use value_range_model::{Range, norm};
+
+/// Where no sum wraps, from the least to the greatest.
+#[tactic(auto, using(value_range_model::proofs::RowBounds::added_some), unfolding(value_range_model::specs::AluRows::added))]
+pub fn added(width: Width, a: Range, b: Range) -> Range
+    ensures { result ≡ added width a b }
+{
+    let zeros = a.zeros().min(b.zeros());
+    match within(width, a.hi() as u128 + b.hi() as u128) {
+        Some(hi) => norm(a.lo() + b.lo(), hi, zeros),
+        None => spread(width, zeros),
+    }
+}
+
+/// Where no difference wraps, from the least to the greatest.
+#[tactic(auto, using(value_range_model::proofs::RowBounds::subtracted_some), unfolding(value_range_model::specs::AluRows::subtracted))]
+pub fn subtracted(width: Width, a: Range, b: Range) -> Range
+    ensures { result ≡ subtracted width a b }
+{
+    let zeros = a.zeros().min(b.zeros());
+    if a.lo() >= b.hi() {
+        norm(a.lo() - b.hi(), a.hi() - b.lo(), zeros)
+    } else {
+        spread(width, zeros)
+    }
+}
+
+/// Where no product wraps, from the least to the greatest.
+#[tactic(auto, using(value_range_model::proofs::RowBounds::multiplied_some), unfolding(value_range_model::specs::AluRows::multiplied))]
+pub fn multiplied(width: Width, a: Range, b: Range) -> Range
+    ensures { result ≡ multiplied width a b }
+{
+    let zeros = (a.zeros() + b.zeros()).min(64);
+    match within(width, a.hi() as u128 * b.hi() as u128) {
+        Some(hi) => norm(a.lo() * b.lo(), hi, zeros),
+        None => spread(width, zeros),
+    }
+}

@@ -1,0 +1,29 @@
+//! What depends on the width of an operation alone.
+
+ghost use Rattle.std.specs.Prelude.{◌≡◌, ◌-◌, ◌<◌, ◌≤◌, IfSome, IfNone};
+ghost use Rattle.bpf_insn_words.specs.Words.{modulus};
+ghost use Rattle.value_range_model.specs.Spans.{norm};
+
+use bpf_insn_form::Width;
+use value_range_model::{Range, norm, top};
+
+/// The number, where it is one of the width.
+pub fn within(width: Width, number: u128) -> Option<u64>
+    ensures some { IfSome result (λ n. (n ≡ number) × (n < modulus width)) }
+    ensures none { IfNone result (modulus width ≤ number) }
+{
+    if number <= top(width).hi() as u128 {
+        Some(number as u64)
+    } else {
+        None
+    }
+}
+
+#[tactic(auto, using(value_range_model::proofs::RowBounds::zero_some))]
+/// Every number of the width that has so many trailing zeros.
+pub fn spread(width: Width, zeros: u32) -> Range
+    requires { zeros ≤ 64 }
+    ensures { result ≡ norm 0 (modulus width - 1) zeros }
+{
+    norm(0, top(width).hi(), zeros)
+}

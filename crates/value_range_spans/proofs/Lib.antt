@@ -1,2 +1,0 @@
-pub mod Multiples
-pub mod SpanLaws
