@@ -4,7 +4,7 @@ ghost use Rattle.std.specs.Prelude.{◌≡◌, ℕ, ◌^◌, true, false, ◌&&�
 ghost use Rattle.value_range_model.specs.Spans.{IsSpan, Contains};
 ghost use Rattle.value_range_model.specs.RefineRows.{says, refine_row, refined};
 
-use crate::rows::{different, equal, exchanged, greater, not_less, tested};
+use crate::comparisons::{different, equal, exchanged, greater, not_less, tested};
 use bpf_insn_form::{Compare, Width};
 use value_range_model::{Condition, Range};
 
@@ -19,7 +19,7 @@ pub fn refine(condition: Condition, width: Width, a: Range, b: Range) -> Option<
     refined(condition, width, a, b)
 }
 
-// The row of a condition; of ranges that aren't of 32 bits, at 32 bits, whether exact ones meet it.
+/// The row of a condition; of ranges that aren't of 32 bits, at 32 bits, whether exact ones meet it.
 #[tactic(auto, unfolding(value_range_model::specs::RefineRows::refined))]
 fn refined(condition: Condition, width: Width, a: Range, b: Range) -> Option<(Range, Range)>
     ensures equal { result ≡ refined condition width a b }
@@ -39,7 +39,7 @@ fn refined(condition: Condition, width: Width, a: Range, b: Range) -> Option<(Ra
     }
 }
 
-// The row of a condition.
+/// The row of a condition.
 fn refine_row(condition: Condition, width: Width, a: Range, b: Range) -> Option<(Range, Range)>
     ensures { result ≡ refine_row condition width a b }
 {

@@ -39,7 +39,7 @@ pub fn different(a: Range, b: Range) -> Option<(Range, Range)>
     }
 }
 
-// A range of several words without a number at one of its ends.
+/// A range of several words without a number at one of its ends.
 #[tactic(auto, unfolding(value_range_model::specs::RefineRows::without))]
 fn without(number: u64, range: Range) -> Range
     requires { range.lo ≢ range.hi }

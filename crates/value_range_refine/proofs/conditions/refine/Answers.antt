@@ -1,6 +1,6 @@
 -- Every pair that meets the condition is kept.
 use Rattle.value_range_model.proofs.RefineContains.{kept, empty}
-use Rattle.value_range_refine.proofs.table.refine.Goals as goal
+use Rattle.value_range_refine.proofs.conditions.refine.Goals as goal
 
 pub returns-clause-some : goal.returns-clause-some
 returns-clause-some c =

@@ -1,7 +1,7 @@
 -- Rounded inward, the bounds cross where nothing lies between.
 use Rattle.std.proofs.Common.{◌∙◌, min, max}
 use Rattle.value_range_refine.proofs.RefineLaws.{equal-none, equal-some, equal-within}
-use Rattle.value_range_refine.proofs.rows.equal.Goals as goal
+use Rattle.value_range_refine.proofs.comparisons.equal.Goals as goal
 
 pub returns-then-hi-lo : goal.returns-then-hi-lo
 returns-then-hi-lo c =

@@ -1,7 +1,7 @@
 -- The first's greatest and the second's least number stay.
 use Rattle.std.proofs.Common.{arith, ◌≤◌}
 use Rattle.value_range_model.proofs.RefineSpans.{not_less-first, not_less-second}
-use Rattle.value_range_refine.proofs.rows.not_less.Goals as goal
+use Rattle.value_range_refine.proofs.comparisons.not_less.Goals as goal
 
 pub norm-first-requires-clause-some : goal.norm-first-requires-clause-some
 norm-first-requires-clause-some c =

@@ -1,7 +1,7 @@
 -- The first's greatest and the second's least number stay.
 use Rattle.std.proofs.Common.{arith, ◌<◌}
 use Rattle.value_range_model.proofs.RefineSpans.{greater-first, greater-second}
-use Rattle.value_range_refine.proofs.rows.greater.Goals as goal
+use Rattle.value_range_refine.proofs.comparisons.greater.Goals as goal
 
 pub norm-first-requires-clause-some : goal.norm-first-requires-clause-some
 norm-first-requires-clause-some c =

@@ -2,7 +2,7 @@
 use Rattle.std.proofs.Common.{subst}
 use Rattle.value_range_model.specs.Spans.{Span, IsSpan}
 use Rattle.value_range_model.proofs.AluContains.{span_of-contains}
-use Rattle.value_range_rows.proofs.table.alu.Goals as goal
+use Rattle.value_range_rows.proofs.operations.alu.Goals as goal
 
 pub returns-clause-contains : goal.returns-clause-contains
 returns-clause-contains c =

@@ -1,7 +1,7 @@
 -- A range of several words goes on a step past its least, and ends a step before its greatest.
 use Rattle.value_range_model.proofs.RefineSpans.{without-least, without-greatest}
 use Rattle.value_range_refine.proofs.RefineLaws.{step-shifted}
-use Rattle.value_range_refine.proofs.rows.without.Goals as goal
+use Rattle.value_range_refine.proofs.comparisons.without.Goals as goal
 
 pub norm-requires-clause-some : goal.norm-requires-clause-some
 norm-requires-clause-some c =

@@ -25,7 +25,7 @@ pub fn alu(operation: Operation, width: Width, a: Range, b: Range) -> Range
     of_operands(operation, width, first, second)
 }
 
-// An operand, save of byte orders a number of the width.
+/// An operand, save of byte orders a number of the width.
 fn operand(operation: Operation, width: Width, range: Range) -> Range
     ensures { result ≡ operand operation width range }
 {
@@ -46,7 +46,7 @@ fn operand_of(width: Width, range: Range) -> Range
     }
 }
 
-// Of exact operands the meaning, else the row.
+/// Of exact operands the meaning, else the row.
 #[tactic(auto, unfolding(value_range_model::specs::AluRows::of_operands))]
 fn of_operands(operation: Operation, width: Width, a: Range, b: Range) -> Range
     ensures equal { result ≡ of_operands operation width a b }
@@ -60,7 +60,7 @@ fn of_operands(operation: Operation, width: Width, a: Range, b: Range) -> Range
     }
 }
 
-// What an operation gives of two words.
+/// What an operation gives of two words.
 fn meaning(operation: Operation, width: Width, a: u64, b: u64) -> u64
     ensures { result ≡ meant operation width a b }
 {
@@ -72,7 +72,7 @@ fn meaning(operation: Operation, width: Width, a: u64, b: u64) -> u64
     }
 }
 
-// Whether all operands that an operation reads are exact.
+/// Whether all operands that an operation reads are exact.
 fn reads_exact(operation: Operation, a: Range, b: Range) -> bool
     ensures equal { result ≡ reads_exact operation a b }
     ensures first { IsSpan a }
@@ -89,7 +89,7 @@ fn reads_exact(operation: Operation, a: Range, b: Range) -> bool
     }
 }
 
-// The row of an operation.
+/// The row of an operation.
 fn row(operation: Operation, width: Width, a: Range, b: Range) -> Range
     ensures { result ≡ row operation width a b }
 {
@@ -101,7 +101,7 @@ fn row(operation: Operation, width: Width, a: Range, b: Range) -> Range
     }
 }
 
-// The row of an operator.
+/// The row of an operator.
 fn alu_row(op: AluOp, width: Width, a: Range, b: Range) -> Range
     ensures { result ≡ alu_row op width a b }
 {
