@@ -14,3 +14,4 @@ pub mod MapRows
 pub mod Steps
 pub mod Bounds
 pub mod Atomics
+pub mod SoundMachine
