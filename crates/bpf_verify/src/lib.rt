@@ -13,6 +13,3 @@ pub use accepting::verify;
 pub use bpf_verify_model::Rule;
 pub use error::VerifyError;
 pub use verified::Verified;
-
-#[cfg(test)]
-mod tests;

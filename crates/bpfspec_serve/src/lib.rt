@@ -18,5 +18,3 @@ pub use serving::{Served, serve};
 mod serving_tests;
 #[cfg(test)]
 mod stumbling;
-#[cfg(test)]
-mod verify_tests;

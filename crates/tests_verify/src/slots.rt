@@ -1,6 +1,6 @@
 //! V1 and V3 to V11, which hold at every slot, and the limits of a unit.
 
-use super::{are_answered, is_answered};
+use crate::units::{are_answered, is_answered};
 use std::alloc::Global;
 use std::test::Fail;
 
@@ -178,7 +178,7 @@ fn fifteen(alloc: Global, count: u32, first: u8) -> Result<String, Fail> {
     Ok(answer)
 }
 
-// A callback may be named again.
+/// A callback may be named again.
 #[test]
 fn a_unit_has_at_most_15_callbacks(rt: HostRuntime) -> Result<(), Fail> {
     let alloc = rt.alloc();
@@ -221,7 +221,7 @@ const LOADS: &str = "
     mov64 r0, 0 | exit | ldvar r1, 0 | exit  => refused V9 at slot 2
 ";
 
-// The maps are of 1 and 2 elements.
+/// The maps are of 1 and 2 elements.
 const LOADS_OF_MAPS: &str = "
     ldmap r1, 1 | mov64 r0, 0 | exit        => accepted | function 0 at 0 count 3
     ldmap r1, 2 | exit                      => refused V10 at slot 0
@@ -268,7 +268,7 @@ const FRAME_POINTER: &str = "
     mov64 r0, 0 | exit | mov64 r10, 0 | exit => refused V11 at slot 2
 ";
 
-// An atomic operation without a fetch leaves its source, and cmpxchg writes R0.
+/// An atomic operation without a fetch leaves its source, and cmpxchg writes R0.
 const FRAME_POINTER_READ: &str = "
     mov64 r2, r10 | mov64 r0, 0 | exit                 => accepted | function 0 at 0 count 3
     st64 [r10-8], 1 | atomic64 add_fetch [r10-8], r1 | mov64 r0, r1 | exit \

@@ -1,6 +1,6 @@
 //! What is known where ways meet and where a callback starts, and how long a function takes.
 
-use super::{are_answered, is_answered};
+use crate::units::{are_answered, is_answered};
 use std::alloc::Global;
 use std::test::Fail;
 
@@ -23,7 +23,7 @@ const JOINS: &str = "
         mov64 r0, 0 | exit | cc: | mov64 r0, 0 | exit => refused V12 at slot 5
 ";
 
-// The maps are of 2 elements.
+/// The maps are of 2 elements.
 const JOINED_OFFSETS: &str = "
     ldmapval r2, 0, 0 | jeq64 r1, 0, +2 | ldmapval r2, 0, 8 | ldx64 r0, [r2+0] | exit \
         => accepted | function 0 at 0 count 5
@@ -71,7 +71,7 @@ const INDEX: &str =
     "maps 1 | .. | ldcode r2, cb | mov64 r3, 0 | mov64 r4, 0 | call 181 | exit | cb: | \
     mov64 r0, r1 | exit";
 
-// The number is of 32 bits.
+/// The number is of 32 bits.
 const FEW_ITERATIONS: &str = "
     mov64 r1, 0         => accepted | function 0 at 0 count 6 | function 1 at 7 count 2
     mov64 r1, 1         => accepted | function 0 at 0 count 6 | function 1 at 7 count 2
@@ -91,7 +91,7 @@ const UPPER_BITS: &str =
     "maps 1 | .. | ldcode r2, cb | mov64 r3, 0 | mov64 r4, 0 | call 181 | exit | cb: | \
     mov64 r0, r1 | rsh64 r0, 22 | exit";
 
-// An index is below 8388608.
+/// An index is below 8388608.
 const MANY_ITERATIONS: &str = "
     mov64 r1, 8388608  => accepted | function 0 at 0 count 6 | function 1 at 7 count 3
     mov64 r1, 8388609  => accepted | function 0 at 0 count 6 | function 1 at 7 count 3
@@ -132,7 +132,7 @@ fn two_calls(alloc: Global, first: &str, second: &str, callback: &str) -> Result
     )?)
 }
 
-// What each call passes as R1 and R3.
+/// What each call passes as R1 and R3.
 const ONCE: &str = "mov64 r1, 1 | mov64 r3, 0";
 
 const TWICE: &str = "mov64 r1, 2 | mov64 r3, 0";
@@ -145,7 +145,7 @@ const WITH_LOWER_CTX: &str = "mov64 r1, 4 | mov64 r3, r10 | add64 r3, -16";
 
 const WITH_WRITTEN_CTX: &str = "st64 [r10-8], 5 | mov64 r1, 4 | mov64 r3, r10 | add64 r3, -8";
 
-// What a callback does.
+/// What a callback does.
 const RETURN_INDEX: &str = "mov64 r0, r1 | exit";
 
 const READ_CTX: &str = "ldx64 r4, [r2+0] | mov64 r0, 0 | exit";
@@ -158,7 +158,7 @@ const OTHER_WAY: &str = "exit | other: | mov64 r1, 4 | mov64 r3, r10 | add64 r3,
 const WRITTEN_ON_THE_OTHER_WAY: &str =
     "exit | other: | st64 [r10-8], 6 | mov64 r1, 4 | mov64 r3, r10 | add64 r3, -8";
 
-// The lines before each call, the callback, and the answer.
+/// The lines before each call, the callback, and the answer.
 const TWO_CALLS: &[(&str, &str, &str, &str)] = &[
     (
         ONCE,
@@ -211,7 +211,7 @@ fn calls_of_a_callback_meet(rt: HostRuntime) -> Result<(), Fail> {
     Ok(())
 }
 
-// A count is over all jumps, whether they can be taken or not.
+/// A count is over all jumps, whether they can be taken or not.
 const COUNTS: &str = "
     mov64 r0, 0 | jeq64 r0, 0, out | mov64 r0, 1 | out: | exit => accepted | function 0 at 0 count 4
     mov64 r0, 0 | jeq64 r1, 0, +2 | mov64 r0, 1 | exit | mov64 r0, 2 | mov64 r0, 3 | exit \

@@ -1,69 +1,71 @@
-//! What verify answers to units that break a rule, and to units that only just keep it.
+//! What the verifier says of units of text that break a rule, and of units that only just keep it.
 //!
 //! In the tables ` | ` parts the lines of a unit and of an answer.
 
-mod accesses;
-mod joins;
-mod loops;
-mod operands;
-mod ranges;
-mod slots;
-mod ways;
-
-use crate::serving_tests::{is_done, served_as};
-use crate::{Mode, Served, UnitForm};
-use std::alloc::Global;
+use bpf_text_lines::TextError;
+use bpf_text_units::parse_unit;
+use bpf_verify::{Verified, VerifyError, verify};
+use std::alloc::{AllocError, Global};
 use std::process::Abort;
 use std::test::Fail;
 
-/// Verifies a unit of assembler text.
-const VERIFY: Mode = Mode::Verify {
-    form: UnitForm::Assembler,
-};
-
 /// A lookup of element 3 and a line at slot 6.
-const LOOKUP: &str =
+pub const LOOKUP: &str =
     "maps 4 | st32 [r10-4], 3 | ldmap r1, 0 | mov64 r2, r10 | add64 r2, -4 | call 1 | ..";
 
 /// A loop of 4 iterations whose ctx is the address of 8 bytes that main wrote, and its callback at
 /// slot 9.
-const CTX: &str =
+pub const CTX: &str =
     "maps 1 | st64 [r10-8], 5 | mov64 r1, 4 | ldcode r2, cb | mov64 r3, r10 | add64 r3, -8 | \
     mov64 r4, 0 | call 181 | exit | cb: | ..";
 
 /// A loop of 4 iterations without ctx, and its callback at slot 7.
-const LOOP: &str =
+pub const LOOP: &str =
     "maps 1 | mov64 r1, 4 | ldcode r2, cb | mov64 r3, 0 | mov64 r4, 0 | call 181 | exit | cb: | ..";
 
-/// How a unit with this answer is served.
-fn served_with(answer: &str) -> Served {
-    if answer.starts_with("accepted") {
-        Served::Done
-    } else if answer.starts_with("refused V") {
-        Served::Refused
-    } else {
-        Served::Text
+/// An accepted unit, told by the starts and counts of its functions.
+fn accepted(alloc: Global, verified: &Verified) -> Result<String, AllocError> {
+    let mut told = String::from_str(alloc, "accepted")?;
+    for function in 0..verified.callbacks() + 1 {
+        let start = verified.start(function);
+        let count = verified.count(function);
+        write!(told, " | function {function} at {start} count {count}")?;
+    }
+    Ok(told)
+}
+
+/// What is said of a unit of text.
+fn answer(alloc: Global, unit: &str) -> Result<String, AllocError> {
+    let mut told = String::from_str(alloc, "refused ")?;
+    let unit = match parse_unit(alloc, unit) {
+        Ok(unit) => unit,
+        Err(TextError::Memory) => return Err(AllocError),
+        Err(TextError::Refused { fault, line }) => {
+            write!(told, "A{} at unit line {line}", fault.number())?;
+            return Ok(told);
+        }
+    };
+    match verify(alloc, unit) {
+        Ok(verified) => accepted(alloc, &verified),
+        Err(VerifyError::Memory) => Err(AllocError),
+        Err(VerifyError::Refused { rule, slot }) => {
+            write!(told, "V{} at slot {slot}", rule.number())?;
+            Ok(told)
+        }
     }
 }
 
-/// Asserts what verify answers to a unit.
-fn is_answered(rt: &impl Abort, alloc: Global, unit: &str, answer: &str) -> Result<(), Fail> {
+/// Asserts what is said of a unit.
+pub fn is_answered(rt: &impl Abort, alloc: Global, unit: &str, wanted: &str) -> Result<(), Fail> {
     let text = unit.replace(alloc, " | ", "\n")?;
-    let mut expected = answer.replace(alloc, " | ", "\n")?;
-    expected.push_str("\n")?;
-    let (served, written) = served_as(alloc, VERIFY, text.as_bytes());
-    assert_eq!(rt;
-        str::from_utf8(written.as_slice()),
-        Ok(expected.as_str()),
-        "of {unit}"
-    );
-    assert!(rt; served == served_with(answer), "of {unit}");
+    let told = answer(alloc, &text)?;
+    assert_eq!(rt; told.as_str(), wanted, "of {unit}");
     Ok(())
 }
 
-/// Asserts what verify answers to units that differ where `unit` has two dots. A row of the table has
+/// Asserts what is said of units that differ where `unit` has two dots. A row of the table has
 /// the lines that stand there and, behind `=>`, the answer.
-fn are_answered(rt: &impl Abort, alloc: Global, unit: &str, table: &str) -> Result<(), Fail> {
+pub fn are_answered(rt: &impl Abort, alloc: Global, unit: &str, table: &str) -> Result<(), Fail> {
     for row in table.trim().lines() {
         let (lines, answer) = row.split_once("=>").ok_or("a row has an answer")?;
         let whole = unit.replace(alloc, "..", lines.trim())?;
@@ -72,7 +74,7 @@ fn are_answered(rt: &impl Abort, alloc: Global, unit: &str, table: &str) -> Resu
     Ok(())
 }
 
-// The least slot, and there the least number.
+/// The least slot, and there the least number.
 const FIRST_FAULTS: &str = "
     mov64 r0, r2 | ja -1                                       => refused V12 at slot 0
     jeq64 r2, 0, -1 | exit                                     => refused V3 at slot 0
@@ -85,7 +87,7 @@ const FIRST_FAULTS: &str = "
     jeq64 r10, r2, +0 | exit                                   => refused V12 at slot 0
     stx64 [r1+0], r2 | exit                                    => refused V12 at slot 0
     stx64 [r1+0], r10 | exit                                   => refused V15 at slot 0
-    ldmapval r3, 0, 0 | ldx32 r0, [r3-6] | exit                => refused V17 at slot 2
+    ldmapval r3, 0, 0 | ldx16 r0, [r3-7] | exit                => refused V17 at slot 2
     ldmapval r3, 0, 0 | ldx64 r0, [r3-6] | exit                => refused V18 at slot 2
     ldx64 r0, [r10-516] | exit                                 => refused V18 at slot 0
     ldx64 r0, [r10-520] | exit                                 => refused V19 at slot 0
@@ -97,31 +99,18 @@ fn the_first_fault_is_named(rt: HostRuntime) -> Result<(), Fail> {
     are_answered(&rt, rt.alloc(), "maps 1 | ..", FIRST_FAULTS)
 }
 
+// Where a growth is refused there is no answer, and a second try has the memory.
 #[test]
-fn a_unit_in_hex_form_is_accepted(rt: HostRuntime) {
-    let hex = Mode::Verify {
-        form: UnitForm::Hex,
-    };
-    let seven = "maps 1\nb700000007000000\n9500000000000000\n";
-    let accepted = "accepted\nfunction 0 at 0 count 2\n";
-    assert!(rt; is_done(rt.alloc(), hex, seven, accepted));
-}
-
-// Where a growth was refused the memory line is written, and a second try has the memory.
-#[test]
-fn a_refused_growth_is_told(rt: HostRuntime) {
+fn a_refused_growth_is_told(rt: HostRuntime) -> Result<(), Fail> {
     let alloc = rt.alloc();
-    let unit = b"maps 1\nmov64 r0, 7\nout:\nexit\n";
-    let mut first = served_as(alloc, VERIFY, unit);
-    if first.0 == Served::Memory {
-        assert_eq!(rt; first.1.as_slice(), b"refused memory\n".as_slice());
-    }
-    if first.0 != Served::Done {
-        first = served_as(alloc, VERIFY, unit);
-    }
-    assert!(rt; first.0 == Served::Done);
+    let unit = "maps 1\nldcode r2, cb\nmov64 r0, 7\nexit\ncb:\nmov64 r0, 0\nexit\n";
+    let told = match answer(alloc, unit) {
+        Ok(told) => told,
+        Err(AllocError) => answer(alloc, unit)?,
+    };
     assert_eq!(rt;
-        first.1.as_slice(),
-        b"accepted\nfunction 0 at 0 count 2\n".as_slice()
+        told.as_str(),
+        "accepted | function 0 at 0 count 3 | function 1 at 4 count 2"
     );
+    Ok(())
 }

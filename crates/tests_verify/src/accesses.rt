@@ -1,6 +1,6 @@
-//! V16 to V21, of accesses.
+//! V16 to V21, of accesses of memory.
 
-use super::{CTX, LOOKUP, are_answered, is_answered};
+use crate::units::{CTX, LOOKUP, are_answered, is_answered};
 use std::test::Fail;
 
 const BASES: &str = "
@@ -15,7 +15,7 @@ const BASES: &str = "
     ldcode r2, cb | ldx64 r0, [r2+0] | exit | cb: | mov64 r0, 0 | exit => refused V16 at slot 2
 ";
 
-// What is found may be null, also in a copy of what was checked.
+/// What is found may be null, also in a copy of what was checked.
 const FOUND: &str = "
     jeq64 r0, 0, out | ldx64 r0, [r0+0] | out: | exit => accepted | function 0 at 0 count 8
     ldx64 r0, [r0+0] | exit                                         => refused V16 at slot 6
@@ -34,27 +34,66 @@ fn accesses_have_an_address(rt: HostRuntime) -> Result<(), Fail> {
 
 const SIZES_IN_MAPS: &str = "
     ldx64 r0, [r3+0] | exit                      => accepted | function 0 at 0 count 3
-    ldx32 r0, [r3+0] | exit                      => refused V17 at slot 2
+    ldx32 r0, [r3+0] | exit                      => accepted | function 0 at 0 count 3
     ldx16 r0, [r3+0] | exit                      => refused V17 at slot 2
     ldx8 r0, [r3+0] | exit                       => refused V17 at slot 2
-    ldxs32 r0, [r3+0] | exit                     => refused V17 at slot 2
-    ldx32 r0, [r3-6] | exit                      => refused V17 at slot 2
+    ldxs32 r0, [r3+4] | exit                     => accepted | function 0 at 0 count 3
+    ldxs16 r0, [r3+0] | exit                     => refused V17 at slot 2
+    ldx16 r0, [r3-7] | exit                      => refused V17 at slot 2
     st64 [r3+0], 1 | mov64 r0, 0 | exit          => accepted | function 0 at 0 count 4
-    st32 [r3+0], 1 | exit                        => refused V17 at slot 2
+    st32 [r3+4], 1 | mov64 r0, 0 | exit          => accepted | function 0 at 0 count 4
+    st16 [r3+0], 1 | exit                        => refused V17 at slot 2
     stx64 [r3+0], r1 | mov64 r0, 0 | exit        => accepted | function 0 at 0 count 4
+    stx32 [r3+4], r1 | mov64 r0, 0 | exit        => accepted | function 0 at 0 count 4
     stx8 [r3+0], r1 | exit                       => refused V17 at slot 2
     atomic64 add [r3+0], r1 | mov64 r0, 0 | exit => accepted | function 0 at 0 count 4
-    atomic32 add [r3+0], r1 | exit               => refused V17 at slot 2
+    atomic32 add [r3+4], r1 | mov64 r0, 0 | exit => accepted | function 0 at 0 count 4
 ";
 
 #[test]
-fn values_of_maps_are_accessed_whole(rt: HostRuntime) -> Result<(), Fail> {
+fn values_of_maps_are_accessed_whole_or_by_halves(rt: HostRuntime) -> Result<(), Fail> {
     are_answered(
         &rt,
         rt.alloc(),
         "maps 1 | ldmapval r3, 0, 0 | ..",
         SIZES_IN_MAPS,
     )
+}
+
+/// A loop of 100 iterations whose callback accesses a half that its index chooses.
+const HALVES: &str =
+    "mov64 r1, 100 | ldcode r2, cb | mov64 r3, 0 | mov64 r4, 0 | call 181 | exit | cb: | \
+    and64 r1, 7 | .. | mov64 r0, 0 | exit";
+
+const HALVES_BY_INDEX: &str = "
+    maps 4 | lsh64 r1, 2 | ldx32 r4, [r3+0] \
+        => accepted | function 0 at 0 count 6 | function 1 at 7 count 7
+    maps 3 | lsh64 r1, 2 | ldx32 r4, [r3+0] => refused V19 at slot 12
+    maps 4 | lsh64 r1, 1 | ldx32 r4, [r3+0] => refused V18 at slot 12
+    maps 4 | lsh64 r1, 2 | ldx16 r4, [r3+0] => refused V17 at slot 12
+    maps 4 | lsh64 r1, 2 | ldx64 r4, [r3+0] => refused V18 at slot 12
+    maps 4 | lsh64 r1, 2 | atomic32 add [r3+0], r1 \
+        => accepted | function 0 at 0 count 6 | function 1 at 7 count 7
+    maps 4 | lsh64 r1, 2 | stx32 [r3+4], r1 => refused V19 at slot 12
+    maps 4 | lsh64 r1, 2 | stx32 [r3-4], r1 => refused V19 at slot 12
+    maps 4 | lsh64 r1, 2 | stx32 [r3+2], r1 => refused V18 at slot 12
+";
+
+#[test]
+fn halves_are_chosen_by_an_index(rt: HostRuntime) -> Result<(), Fail> {
+    for row in HALVES_BY_INDEX.trim().lines() {
+        let (given, wanted) = row.split_once("=>").ok_or("a row has an answer")?;
+        let (maps, lines) = given.trim().split_once(" | ").ok_or("a row has maps")?;
+        let (shift, access) = lines.split_once(" | ").ok_or("a row has an access")?;
+        let alloc = rt.alloc();
+        let mut callback = String::from_str(alloc, shift)?;
+        write!(callback, " | ldmapval r3, 0, 0 | add64 r3, r1 | {access}")?;
+        let mut unit = String::from_str(alloc, maps)?;
+        unit.push_str(" | ")?;
+        unit.push_str(HALVES.replace(alloc, "..", &callback)?.as_str())?;
+        is_answered(&rt, alloc, &unit, wanted.trim())?;
+    }
+    Ok(())
 }
 
 const ALIGNMENT_IN_FRAMES: &str = "
@@ -84,7 +123,7 @@ const ALIGNMENT_IN_CTX: &str = "
     ldx64 r4, [r2-508] | exit => refused V18 at slot 9
 ";
 
-// One address has to be aligned; of several, each step between them too.
+/// One address has to be aligned; of several, each step between them too.
 const ALIGNMENT_IN_MAPS: &str = "
     ldmapval r3, 0, 4 | ldx64 r0, [r3+4] | exit  => accepted | function 0 at 0 count 3
     ldmapval r3, 0, 4 | ldx64 r0, [r3+0] | exit  => refused V18 at slot 2
@@ -96,6 +135,18 @@ const ALIGNMENT_IN_MAPS: &str = "
     and64 r1, 12 | ldmapval r3, 0, 0 | add64 r3, r1 | ldx64 r0, [r3+0] | exit \
         => refused V18 at slot 4
     and64 r1, 8 | ldmapval r3, 0, 4 | add64 r3, r1 | ldx64 r0, [r3+4] | exit \
+        => refused V18 at slot 4
+    ldmapval r3, 0, 2 | ldx32 r0, [r3+2] | exit  => accepted | function 0 at 0 count 3
+    ldmapval r3, 0, 2 | ldx32 r0, [r3+0] | exit  => refused V18 at slot 2
+    ldmapval r3, 0, 0 | ldx32 r0, [r3+2] | exit  => refused V18 at slot 2
+    ldmapval r3, 0, 0 | st32 [r3-2], 1 | exit    => refused V18 at slot 2
+    and64 r1, 12 | ldmapval r3, 0, 0 | add64 r3, r1 | ldx32 r0, [r3+0] | exit \
+        => accepted | function 0 at 0 count 5
+    and64 r1, 10 | ldmapval r3, 0, 0 | add64 r3, r1 | ldx32 r0, [r3+0] | exit \
+        => refused V18 at slot 4
+    and64 r1, 8 | ldmapval r3, 0, 4 | add64 r3, r1 | ldx32 r0, [r3+0] | exit \
+        => accepted | function 0 at 0 count 5
+    and64 r1, 8 | ldmapval r3, 0, 2 | add64 r3, r1 | ldx32 r0, [r3+2] | exit \
         => refused V18 at slot 4
 ";
 
@@ -159,14 +210,34 @@ const BOUNDS_OF_MAPS: &str = "
         => accepted | function 0 at 0 count 5
     and64 r1, 24 | ldmapval r3, 0, 0 | add64 r3, r1 | ldx64 r0, [r3-8] | exit \
         => refused V19 at slot 4
+    ldmapval r3, 0, 0 | ldx32 r0, [r3+28] | exit  => accepted | function 0 at 0 count 3
+    ldmapval r3, 0, 0 | ldx32 r0, [r3+32] | exit  => refused V19 at slot 2
+    ldmapval r3, 0, 0 | ldx32 r0, [r3-4] | exit   => refused V19 at slot 2
+    ldmapval r3, 0, 4 | st32 [r3-4], 1 | mov64 r0, 0 | exit \
+        => accepted | function 0 at 0 count 4
+    ldmapval r3, 1, 0 | stx32 [r3+4], r1 | mov64 r0, 0 | exit \
+        => accepted | function 0 at 0 count 4
+    ldmapval r3, 1, 0 | atomic32 or [r3+8], r1 | exit => refused V19 at slot 2
+    and64 r1, 28 | ldmapval r3, 0, 0 | add64 r3, r1 | ldx32 r0, [r3+0] | exit \
+        => accepted | function 0 at 0 count 5
+    and64 r1, 28 | ldmapval r3, 0, 0 | add64 r3, r1 | ldx32 r0, [r3+4] | exit \
+        => refused V19 at slot 4
+    and64 r1, 28 | ldmapval r3, 0, 4 | add64 r3, r1 | ldx32 r0, [r3-4] | exit \
+        => accepted | function 0 at 0 count 5
+    and64 r1, 28 | ldmapval r3, 0, 0 | add64 r3, r1 | ldx32 r0, [r3-4] | exit \
+        => refused V19 at slot 4
 ";
 
-// What is found is any of the map's 4 elements.
+/// What is found is any of the map's 4 elements.
 const BOUNDS_OF_WHAT_IS_FOUND: &str = "
     jeq64 r0, 0, out | ldx64 r0, [r0+0] | out: | exit => accepted | function 0 at 0 count 8
     jeq64 r0, 0, out | ldx64 r0, [r0+8] | out: | exit => refused V19 at slot 7
     jeq64 r0, 0, out | ldx64 r0, [r0-8] | out: | exit => refused V19 at slot 7
     jeq64 r0, 0, out | ldx64 r0, [r0+4] | out: | exit => refused V18 at slot 7
+    jeq64 r0, 0, out | ldx32 r0, [r0+4] | out: | exit => accepted | function 0 at 0 count 8
+    jeq64 r0, 0, out | ldx32 r0, [r0+8] | out: | exit => refused V19 at slot 7
+    jeq64 r0, 0, out | ldx32 r0, [r0-4] | out: | exit => refused V19 at slot 7
+    jeq64 r0, 0, out | ldx32 r0, [r0+2] | out: | exit => refused V18 at slot 7
 ";
 
 #[test]
@@ -200,7 +271,7 @@ const READ_BYTES: &str = "
         => accepted | function 0 at 0 count 5
 ";
 
-// A byte is written where it is on each way, and a callback's frame is its own.
+/// A byte is written where it is on each way, and a callback's frame is its own.
 const READ_BYTES_ON_WAYS: &str = "
     jeq64 r1, 0, +1 | st64 [r10-8], 1 | ldx64 r0, [r10-8] | exit => refused V20 at slot 2
     jeq64 r1, 0, +2 | st64 [r10-8], 1 | ja +1 | st64 [r10-8], 2 | ldx64 r0, [r10-8] | exit \
@@ -215,7 +286,7 @@ const READ_BYTES_IN_A_CALLBACK: &str = "
     st64 [r10-16], 1 | ldx64 r4, [r2-8] | exit => refused V20 at slot 10
 ";
 
-// Main didn't write the bytes of ctx.
+/// Main didn't write the bytes of ctx.
 const UNWRITTEN_CTX: &str =
     "maps 1 | mov64 r1, 4 | ldcode r2, cb | mov64 r3, r10 | add64 r3, -8 | mov64 r4, 0 | \
     call 181 | exit | cb: | ldx64 r1, [r2+0] | mov64 r0, 0 | exit";

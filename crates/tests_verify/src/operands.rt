@@ -1,6 +1,6 @@
 //! V12 to V15, of what an instruction reads.
 
-use super::{CTX, LOOKUP, LOOP, are_answered};
+use crate::units::{CTX, LOOKUP, LOOP, are_answered};
 use std::test::Fail;
 
 const WRITTEN: &str = "
@@ -39,7 +39,7 @@ const UNWRITTEN: &str = "
     st64 [r10-8], 1 | atomic64 cmpxchg [r10-8], r1 | exit => refused V12 at slot 1
 ";
 
-// A lookup reads two registers, and a loop four. Both leave R1 to R5 unwritten.
+/// A lookup reads two registers, and a loop four. Both leave R1 to R5 unwritten.
 const ARGUMENTS: &str = "
     ldmap r1, 0 | call 1 | exit                 => refused V12 at slot 2
     ldcode r2, cb | mov64 r3, 0 | mov64 r4, 0 | call 181 | exit | cb: | mov64 r0, 0 | exit \
@@ -74,7 +74,7 @@ const AFTER_A_LOOKUP: &str = "
     mov64 r0, r9 | exit => accepted | function 0 at 0 count 12
 ";
 
-// R1, R2 and R10 alone are written where a callback starts.
+/// R1, R2 and R10 alone are written where a callback starts.
 const IN_A_CALLBACK: &str = "
     mov64 r3, r1 | mov64 r4, r2 | mov64 r5, r10 | mov64 r0, 0 | exit \
         => accepted | function 0 at 0 count 6 | function 1 at 7 count 5
@@ -146,7 +146,7 @@ const MAP_ADDRESSES: &str = "
     ldmapval r3, 0, 0 | mov32 r4, r3 | exit                    => refused V13 at slot 2
 ";
 
-// A 64-bit move copies any value; other arithmetic takes no other address.
+/// A 64-bit move copies any value; other arithmetic takes no other address.
 const ARITHMETIC_ON_ADDRESSES: &str = "
     mov32 r0, r10 | exit                            => refused V13 at slot 0
     mov64s32 r0, r10 | exit                         => refused V13 at slot 0
@@ -197,7 +197,7 @@ const COMPARISONS: &str = "
     ldcode r2, cb | jeq64 r2, 0, +0 | exit | cb: | mov64 r0, 0 | exit => refused V14 at slot 2
 ";
 
-// Once: an address that is known to be no null is no longer compared, and a null is a number.
+/// Once: an address that is known to be no null is no longer compared, and a null is a number.
 const NULL_CHECKS: &str = "
     jeq64 r0, 0, +0 | mov64 r0, 0 | exit => accepted | function 0 at 0 count 8
     jne64 r0, 0, +0 | mov64 r0, 0 | exit => accepted | function 0 at 0 count 8

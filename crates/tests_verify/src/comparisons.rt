@@ -1,6 +1,6 @@
 //! What comparisons tell of numbers, and which ways are followed.
 
-use super::are_answered;
+use crate::units::are_answered;
 use std::test::Fail;
 
 /// Some maps, lines that jump over it or not, and an access of element R1 of map 0.
@@ -107,7 +107,7 @@ const MINUS_ONE: &str = "
     mov64 r2, -1 | jlt32 r2, 0   => refused V12 at slot 2
 ";
 
-// In 32 bits the number is -1.
+/// In 32 bits the number is -1.
 const LOWER_HALF: &str = "
     lddw r2, 4294967295 | jeq32 r2, -1 => accepted | function 0 at 0 count 5
     lddw r2, 4294967295 | jeq64 r2, -1 => refused V12 at slot 3

@@ -1,6 +1,6 @@
 //! What is known of numbers after arithmetic, seen by V13, V18 and V19 where they are offsets.
 
-use super::are_answered;
+use crate::units::are_answered;
 use std::test::Fail;
 
 /// Some maps, lines that leave a number in R1, and an access of map 0 at this number.

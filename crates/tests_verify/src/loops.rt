@@ -1,6 +1,6 @@
 //! V22 to V25: what helpers are called with, what callbacks may do, and what functions end with.
 
-use super::{CTX, LOOKUP, LOOP, are_answered};
+use crate::units::{CTX, LOOKUP, LOOP, are_answered};
 use std::test::Fail;
 
 const KEYS: &str = "
@@ -31,7 +31,7 @@ const MAPS: &str = "
     ldmap r1, 0 | call 1 | mov64 r0, 0 | exit => accepted | function 0 at 0 count 7
 ";
 
-// A callback looks up by main's bytes, and by its own.
+/// A callback looks up by main's bytes, and by its own.
 const KEYS_OF_CALLBACKS: &str = "
     ldmap r1, 0 | call 1 | mov64 r0, 0 | exit \
         => accepted | function 0 at 0 count 8 | function 1 at 9 count 4
@@ -121,7 +121,7 @@ const ENDS_OF_CALLBACKS: &str = "
         => accepted | function 0 at 0 count 8 | function 1 at 9 count 2
 ";
 
-// Its callback is given no ctx, but the number 0.
+/// Its callback is given no ctx, but the number 0.
 const NO_CTX: &str = "
     mov64 r0, r2 | exit     => accepted | function 0 at 0 count 6 | function 1 at 7 count 2
     ldx64 r0, [r2+0] | exit => refused V16 at slot 7

@@ -1,8 +1,7 @@
-//! What `verify` says of units that are built, and what is told of an accepted one. Units of text that
-//! break each rule, or only just keep it, are tests of `bpfspec_serve`.
+//! What the verifier says of units that no text spells, and what is told of an accepted one.
 
-use super::*;
 use bpf_insn_form::{AluOp, Callee, ImmKind, Insn, Operand, Reg, Size, Unit, Width};
+use bpf_verify::{Rule, Verified, VerifyError, verify};
 use std::alloc::Global;
 use std::process::Abort;
 use std::test::Fail;
@@ -125,7 +124,7 @@ fn a_unit_has_at_most_4096_slots(rt: HostRuntime) -> Result<(), Fail> {
     Ok(())
 }
 
-// A sign-extending load of 8 bytes has no encoding, and is an access of 8 bytes.
+/// A sign-extending load of 8 bytes has no encoding, and is an access of 8 bytes.
 #[test]
 fn an_instruction_without_bytes_is_judged(rt: HostRuntime) -> Result<(), Fail> {
     for (offset, rule) in [
