@@ -5,6 +5,7 @@
 mod accepting;
 mod counting;
 mod error;
+mod fields;
 mod layout;
 mod passing;
 mod verified;
