@@ -83,16 +83,14 @@ flow-fine program slot insn None fine = refl
 flow-fine program slot insn (Some state) fine = ap (λ (r : Option Rule). flow_unless r (flow program.sizes slot state insn)) fine
 
 -- one instruction more has been passed
-pub passed-more : (program : Program) (slot : ℕ) (insn : Insn) (before : Option State) (named : Option ℕ) (out : Outflow)
-    (targets targets' : List ℕ) (table between table' : List (Option State)) →
+pub passed-more : (program : Program) (slot : ℕ) (insn : Insn) (before : Option State) (named : Option ℕ)
+    (targets targets' : List ℕ) (table table' : List (Option State)) →
     Passed program slot targets table → insn_at program.insns slot ≡ Some insn → slot < length table → before ≡ get_or table slot None →
     fault_of program slot insn before ≡ None → named ≡ named_by slot insn → targets' ≡ with_target targets named →
-    out ≡ out_of program.sizes slot insn before →
-    ((t : ℕ) → t < length table → get_or between t None ≡ received t (get_or table t None) out.ahead) →
-    ((t : ℕ) → t < length between → get_or table' t None ≡ received t (get_or between t None) out.aside) →
-    length between ≡ length table → length table' ≡ length between → Passed program (slot + 1) targets' table'
+    ((t : ℕ) → t < length table → get_or table' t None ≡ received_all t (get_or table t None) (out_of program.sizes slot insn before)) →
+    length table' ≡ length table → Passed program (slot + 1) targets' table'
 unfolding incoming
-passed-more program slot insn before named out targets targets' table between table' passed here inside known fine names listed flows ahead aside size size' =
+passed-more program slot insn before named targets targets' table table' passed here inside known fine names listed handed size =
     let at : before ≡ incoming program slot slot = known-here program slot before targets table passed inside known in
     let more : slot + 1 ≡ suc slot = add-one slot in
     record {
@@ -100,11 +98,9 @@ passed-more program slot insn before named out targets targets' table between ta
       listed = listed ∙ ap (λ (ts : List ℕ). with_target ts named) passed.listed ∙ ap (with_target (targets_in program.insns slot)) (names ∙ sym (ap (named_at slot) here))
           ∙ sym (ap (targets_in program.insns) more);
       known = λ t h.
-          let in_between : t < length between = omega (arith, size, size', h) in
-          let in_table : t < length table = omega (arith, size, size', h) in
-          aside t in_between ∙ ap (λ (b : Option State). received t b out.aside) (ahead t in_table)
-          ∙ ap (λ (b : Option State). received_all t b out) (passed.known t in_table)
-          ∙ ap (received_all t (incoming program slot t)) (flows ∙ sym (flow-fine program slot insn before fine) ∙ ap (flow_if_reached program slot insn) at
+          let in_table : t < length table = omega (arith, size, h) in
+          handed t in_table ∙ ap (λ (b : Option State). received_all t b (out_of program.sizes slot insn before)) (passed.known t in_table)
+          ∙ ap (received_all t (incoming program slot t)) (sym (flow-fine program slot insn before fine) ∙ ap (flow_if_reached program slot insn) at
           ∙ sym (ap (λ (i : Option Insn). flow_from program slot i (incoming program slot slot)) here))
           ∙ sym (ap (λ (n : ℕ). incoming program n t) more);
     }

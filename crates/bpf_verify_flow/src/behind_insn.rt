@@ -6,7 +6,7 @@ ghost use Rattle.bpf_insn_form.specs.declared.insn.ImmKind.TheVariants.{Code as 
 ghost use Rattle.bpf_insn_form.specs.Program.{code_target};
 ghost use Rattle.bpf_insn_form.specs.Sizes.{bytes_of};
 ghost use Rattle.bpf_verify_model.specs.States.{known_register};
-ghost use Rattle.bpf_verify_model.specs.Values.{known_operand, known_result};
+ghost use Rattle.bpf_verify_model.specs.Values.{known_operand, known_of_number, known_result};
 ghost use Rattle.bpf_verify_model.specs.Flow.{with_known_result, number_of_size, with_written, with_store, with_fetched, known_code, known_wide, known_after_call, address_in, known_lookup, known_answer, known_behind};
 
 use bpf_insn_form::{AluOp, AtomicOp, ImmKind, Insn, Operand, Reg, Size, Width};
@@ -15,12 +15,11 @@ use bpf_verify_state::{bytes_of, code_target, helper_of, on_number, operand_valu
 use value_range_model::{Operation, exact, norm, top};
 
 /// A register gets what is given, if anything is.
-fn with_known_result(state: &State, reg: Reg, value: Option<AbstractValue>) -> State
-    ensures { result ≡ with_known_result state.now reg value }
+fn with_known_result(state: &mut State, reg: Reg, value: Option<AbstractValue>)
+    ensures { state.new ≡ with_known_result state.old reg value }
 {
-    match value {
-        None => *state,
-        Some(value) => state.with(reg, value),
+    if let Some(value) = value {
+        state.set(reg, value);
     }
 }
 
@@ -37,37 +36,35 @@ fn number_of_size(size: Size) -> AbstractValue
     AbstractValue::Number(norm(0, greatest, 0))
 }
 
-/// A store to the frame marks its bytes.
-fn with_written(state: &State, size: u32, position: u32, offset: i16) -> State
-    ensures { result ≡ with_written state.now size (pos position +ℤ offset) }
+/// A store to the frame writes its bytes.
+fn with_written(state: &mut State, size: u32, position: u32, offset: i16)
+    ensures { state.new ≡ with_written state.old size (pos position +ℤ offset) }
 {
     let place = position as i64 + offset as i64;
-    let mut after = *state;
     if place < 0 || 512 < place + size as i64 {
-        return after;
+        return;
     }
-    after.own.write(place as usize, size as usize);
-    after
+    state.own.write(place as usize, size as usize);
 }
 
-fn with_store(state: &State, size: Size, dst: Reg, offset: i16) -> State
-    ensures { result ≡ with_store state.now (bytes_of size) offset (known_register state.now dst) }
+fn with_store(state: &mut State, size: Size, dst: Reg, offset: i16)
+    ensures { state.new ≡ with_store state.old (bytes_of size) offset (known_register state.old dst) }
 {
     match state.register(dst) {
         AbstractValue::Frame(position) => with_written(state, bytes_of(size), position, offset),
-        _ => *state,
+        _ => {}
     }
 }
 
 /// An atomic operation puts the old number into a register (RFC 9669, section 5.3).
-fn with_fetched(state: &State, width: Width, op: AtomicOp, src: Reg) -> State
-    ensures { result ≡ with_fetched state.now width op src }
+fn with_fetched(state: &mut State, width: Width, op: AtomicOp, src: Reg)
+    ensures { state.new ≡ with_fetched state.old width op src }
 {
     let old = AbstractValue::Number(top(width));
     match op {
-        AtomicOp::Simple(_) => *state,
-        AtomicOp::Fetch(_) | AtomicOp::Xchg => state.with(src, old),
-        AtomicOp::Cmpxchg => state.with(reg(0), old),
+        AtomicOp::Simple(_) => {}
+        AtomicOp::Fetch(_) | AtomicOp::Xchg => state.set(src, old),
+        AtomicOp::Cmpxchg => state.set(reg(0), old),
     }
 }
 
@@ -105,17 +102,15 @@ fn known_wide(slot: u32, kind: ImmKind, imm: i32, next_imm: i32) -> AbstractValu
 }
 
 /// After a call R0 has the answer, and R1 to R5 are unwritten.
-fn known_after_call(state: &State, answer: AbstractValue) -> State
-    ensures { result ≡ known_after_call state.now answer }
+fn known_after_call(state: &mut State, answer: AbstractValue)
+    ensures { state.new ≡ known_after_call state.old answer }
 {
-    let mut after = *state;
-    after.registers.set(reg(0), answer);
-    after.registers.set(reg(1), AbstractValue::Unwritten);
-    after.registers.set(reg(2), AbstractValue::Unwritten);
-    after.registers.set(reg(3), AbstractValue::Unwritten);
-    after.registers.set(reg(4), AbstractValue::Unwritten);
-    after.registers.set(reg(5), AbstractValue::Unwritten);
-    after
+    state.registers.set(reg(0), answer);
+    state.registers.set(reg(1), AbstractValue::Unwritten);
+    state.registers.set(reg(2), AbstractValue::Unwritten);
+    state.registers.set(reg(3), AbstractValue::Unwritten);
+    state.registers.set(reg(4), AbstractValue::Unwritten);
+    state.registers.set(reg(5), AbstractValue::Unwritten);
 }
 
 /// The address of one of a map's values, or 0.
@@ -156,11 +151,36 @@ fn known_answer(sizes: &[u32], state: &State, helper: Option<Helper>) -> Abstrac
     }
 }
 
-/// What is known behind an instruction that doesn't jump.
+/// Behind arithmetic.
+fn behind_alu(state: &mut State, width: Width, op: AluOp, dst: Reg, operand: Operand)
+    ensures { state.new ≡ with_known_result state.old dst (known_result width op (known_register state.old dst) (known_operand state.old operand)) }
+{
+    let first = state.register(dst);
+    let second = operand_value(state, operand);
+    with_known_result(state, dst, result_of(width, op, first, second));
+}
+
+/// Behind an operation on one number.
+fn behind_one(state: &mut State, operation: Operation, width: Width, dst: Reg, src: Reg)
+    ensures { state.new ≡ with_known_result state.old dst (known_of_number operation width (known_register state.old src)) }
+{
+    let value = state.register(src);
+    with_known_result(state, dst, on_number(operation, width, value));
+}
+
+/// Behind a call.
+fn behind_call(sizes: &[u32], state: &mut State, helper: Option<Helper>)
+    ensures { state.new ≡ known_after_call state.old (known_answer sizes.now state.old helper) }
+{
+    let answer = known_answer(sizes, state, helper);
+    known_after_call(state, answer);
+}
+
+/// Leaves what is known behind an instruction that doesn't jump.
 #[tactic(auto, unfolding(bpf_verify_model::specs::Flow::known_behind))]
-pub fn behind(sizes: &[u32], slot: u32, state: &State, insn: Insn) -> State
+pub fn behind(sizes: &[u32], slot: u32, state: &mut State, insn: Insn)
     requires { slot ≤ 4096 }
-    ensures { result ≡ known_behind sizes.now slot state.now insn }
+    ensures { state.new ≡ known_behind sizes.now slot state.old insn }
 {
     match insn {
         Insn::Alu {
@@ -168,34 +188,19 @@ pub fn behind(sizes: &[u32], slot: u32, state: &State, insn: Insn) -> State
             op,
             dst,
             operand,
-        } => alu_behind(state, width, op, dst, operand),
-        Insn::Neg { width, dst } => {
-            with_known_result(
-                state,
-                dst,
-                on_number(Operation::Neg, width, state.register(dst)),
-            )
-        }
+        } => behind_alu(state, width, op, dst, operand),
+        Insn::Neg { width, dst } => behind_one(state, Operation::Neg, width, dst, dst),
         Insn::Movsx {
             width,
             bits,
             dst,
             src,
-        } => with_known_result(
-            state,
-            dst,
-            on_number(Operation::Movsx(bits), width, state.register(src)),
-        ),
+        } => behind_one(state, Operation::Movsx(bits), width, dst, src),
         Insn::Endian { order, bits, dst } => {
-            let operation = Operation::Endian(order, bits);
-            with_known_result(
-                state,
-                dst,
-                on_number(operation, Width::W64, state.register(dst)),
-            )
+            behind_one(state, Operation::Endian(order, bits), Width::W64, dst, dst)
         }
-        Insn::Load { size, dst, .. } => state.with(dst, number_of_size(size)),
-        Insn::LoadSx { dst, .. } => state.with(dst, AbstractValue::Number(top(Width::W64))),
+        Insn::Load { size, dst, .. } => state.set(dst, number_of_size(size)),
+        Insn::LoadSx { dst, .. } => state.set(dst, AbstractValue::Number(top(Width::W64))),
         Insn::StoreImm {
             size,
             dst,
@@ -214,23 +219,8 @@ pub fn behind(sizes: &[u32], slot: u32, state: &State, insn: Insn) -> State
             dst,
             imm,
             next_imm,
-        } => state.with(dst, known_wide(slot, kind, imm, next_imm)),
-        Insn::Call { callee, imm } => {
-            known_after_call(state, known_answer(sizes, state, helper_of(callee, imm)))
-        }
-        _ => *state,
+        } => state.set(dst, known_wide(slot, kind, imm, next_imm)),
+        Insn::Call { callee, imm } => behind_call(sizes, state, helper_of(callee, imm)),
+        _ => {}
     }
-}
-
-/// Behind arithmetic.
-fn alu_behind(state: &State, width: Width, op: AluOp, dst: Reg, operand: Operand) -> State
-    ensures { result ≡ with_known_result state.now dst (known_result width op (known_register state.now dst) (known_operand state.now operand)) }
-{
-    let value = result_of(
-        width,
-        op,
-        state.register(dst),
-        operand_value(state, operand),
-    );
-    with_known_result(state, dst, value)
 }

@@ -6,5 +6,6 @@ mod comparisons;
 mod entries;
 mod outflows;
 
+pub use behind_insn::behind;
 pub use entries::main_entry;
 pub use outflows::flow;

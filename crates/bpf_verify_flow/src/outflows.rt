@@ -72,9 +72,11 @@ fn ahead(sizes: &[u32], slot: u32, state: &State, insn: Insn) -> Option<Edge>
     requires { slot ≤ 4096 }
     ensures { result ≡ way (Some (slot + slots_of insn)) (Some (known_behind sizes.now slot state.now insn)) }
 {
+    let mut after = *state;
+    behind(sizes, slot, &mut after, insn);
     Some(Edge {
         target: slot + slots(&insn),
-        state: behind(sizes, slot, state, insn),
+        state: after,
     })
 }
 

@@ -1,2 +1,3 @@
 pub mod JumpLaws
 pub mod LongestLaws
+pub mod PathLaws

@@ -8,3 +8,4 @@ pub mod Flow
 pub mod Inflow
 pub mod Accepted
 pub mod Count
+pub mod LongestPath

@@ -6,6 +6,7 @@
 
 mod abstract_value;
 mod helper;
+mod laws;
 mod memory_access;
 mod outflow;
 mod registers;
@@ -14,6 +15,7 @@ mod state;
 
 pub use abstract_value::AbstractValue;
 pub use helper::Helper;
+pub use laws::law_of_counts;
 pub use memory_access::{AccessKind, MemoryAccess};
 pub use outflow::{Edge, Outflow, Ways};
 pub use registers::{Registers, reg};

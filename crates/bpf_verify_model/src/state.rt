@@ -25,6 +25,13 @@ impl State {
         self.registers.get(reg)
     }
 
+    /// Something else is known of a register.
+    pub fn set(&mut self, reg: Reg, value: AbstractValue)
+        ensures { self.new ≡ with_known self.old reg value }
+    {
+        self.registers.set(reg, value);
+    }
+
     /// The same, but for what is known of a register.
     pub fn with(&self, reg: Reg, value: AbstractValue) -> State
         ensures { result ≡ with_known self.now reg value }

@@ -20,5 +20,3 @@ pub use serving::{Served, serve};
 mod serving_tests;
 #[cfg(test)]
 mod stumbling;
-#[cfg(test)]
-mod verify_tests;

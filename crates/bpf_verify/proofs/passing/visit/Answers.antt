@@ -12,8 +12,7 @@ returns-in-Some-clause-err c =
 
 pub returns-clause-ok : goal.returns-clause-ok
 returns-clause-ok c =
-    passed-more (program_of c.args.code.now) c.args.slot c.args.insn.now c.known-before.result c.named_by.result c.out_of-out.result
-    c.args.targets.now.items c.add_target.new.targets.items c.args.table.now.items c.receive.new.table.items c.receive-2.new.table.items
+    passed-more (program_of c.args.code.now) c.args.slot c.args.insn.now c.known-before.result c.named_by.result
+    c.args.targets.now.items c.add_target.new.targets.items c.args.table.now.items c.hand_on_reached.new.table.items
     c.requires.passed c.requires.here c.requires.within c.known-before.ensures (sym c.fault_of.ensures ∙ c.in_default.is) c.named_by.ensures
-    c.in_ok-add_target.ensures.ok c.out_of-out.ensures
-    c.receive.ensures.received c.receive-2.ensures.received c.receive.ensures.size c.receive-2.ensures.size
+    c.in_ok-add_target.ensures.ok c.hand_on_reached.ensures.received c.hand_on_reached.ensures.size

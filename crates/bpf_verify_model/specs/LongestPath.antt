@@ -1,0 +1,37 @@
+-- The law of counts: a function's count is its longest path.
+use Rattle.std.specs.Prelude.{◌≡◌, ℕ, ◌+◌, ◌≤◌, Bool, true, nat_eq, List, [], ◌∷◌, length, Option, Some, None, is_some, option_to_list}
+use Rattle.std.specs.List.{list_any}
+use Rattle.bpf_insn_form.specs.declared.insn.Insn.{Insn}
+use Rattle.bpf_insn_form.specs.declared.insn.Insn.TheVariants.{Ja, Ja32, Jump, Exit}
+use Rattle.bpf_insn_form.specs.Slots.{slots_of}
+use Rattle.bpf_insn_form.specs.Program.{Program, insn_at, moved}
+use Rattle.bpf_verify_model.specs.Accepted.{Accepted}
+use Rattle.bpf_verify_model.specs.Count.{start_of, count_of}
+
+-- the slots that an instruction at a slot may lead to, whether the way can be taken or not
+abbrev pub ways_out : ℕ → Option Insn → List ℕ
+ways_out slot None = []
+ways_out slot (Some (Ja offset)) = option_to_list (moved (slot + 1) offset)
+ways_out slot (Some (Ja32 imm)) = option_to_list (moved (slot + 1) imm)
+ways_out slot (Some (Jump width compare dst operand offset)) = (slot + 1) ∷ option_to_list (moved (slot + 1) offset)
+ways_out slot (Some Exit) = []
+ways_out slot (Some insn) = (slot + slots_of insn) ∷ []
+
+-- a path from one of some slots: an instruction starts at each of its slots, and each is a way out of the one before
+abbrev pub IsPath : List Insn → (starts path : List ℕ) → Type 0
+IsPath insns starts [] = Unit {0}
+IsPath insns starts (slot ∷ path) =
+    (list_any (nat_eq slot) starts ≡ true) × (is_some (insn_at insns slot) ≡ true) × IsPath insns (ways_out slot (insn_at insns slot)) path
+
+-- a path from a slot that has so many slots
+pub record PathOf (insns : List Insn) (slot count : ℕ) : Type 0 where
+  pub path : List ℕ
+  pub is_path : IsPath insns (slot ∷ []) path
+  pub long : length path ≡ count
+
+-- of each function of an accepted program some path from its start has its count, and none has more
+pub record CountIsLongestPath : Type 0 where
+  pub some_path : (program : Program) → Accepted program → (function : ℕ) →
+      PathOf program.insns (start_of program.insns function) (count_of program.insns function)
+  pub none_longer : (program : Program) → Accepted program → (function : ℕ) (path : List ℕ) →
+      IsPath program.insns (start_of program.insns function ∷ []) path → length path ≤ count_of program.insns function
