@@ -55,6 +55,11 @@ all_blocks =
 abbrev pub one_block : List Event
 one_block = c 0 ∷ l 0 ∷ (four 0 ++ p 0 ∷ c 0 ∷ l 0 ∷ c 0 ∷ l 0 ∷ c 0 ∷ l 0 ∷ c 0 ∷ s 0 ∷ [])
 
+-- worker 3 posts 12 after worker 0 posted 3; workers 1 and 2 then skip their blocks
+abbrev pub late_post : List Event
+late_post =
+    c 0 ∷ l 0 ∷ c 1 ∷ c 2 ∷ c 3 ∷ l 3 ∷ t 3 ∷ (four 0 ++ p 0 ∷ p 3 ∷ l 1 ∷ l 2 ∷ c 1 ∷ s 1 ∷ c 2 ∷ s 2 ∷ c 0 ∷ s 0 ∷ c 3 ∷ s 3 ∷ [])
+
 -- the outcome of the loop with two breaks over four blocks, by either test
 abbrev pub Replays : Test → List Event → Type 0
 Replays test events =
@@ -72,6 +77,7 @@ pub record ScheduleRows : Type 0 where
   pub all_by_flow : Replays Flow (all_blocks ++ s 0 ∷ [])
   pub one_by_lrpd : Replays Lrpd one_block
   pub one_by_flow : Replays Flow one_block
+  pub posted_late : Replays Flow late_post
   pub not_stopped : Fails all_blocks (Open 26)
   pub no_events : Fails [] (Open 0)
   pub no_look : Fails (c 0 ∷ t 0 ∷ []) (Disabled 1)

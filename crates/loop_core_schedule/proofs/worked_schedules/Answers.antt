@@ -15,6 +15,7 @@ rows = record {
   all_by_flow = refl;
   one_by_lrpd = refl;
   one_by_flow = refl;
+  posted_late = refl;
   not_stopped = refl;
   no_events = refl;
   no_look = refl;
