@@ -2,8 +2,14 @@
 //! loop leaves. Nothing runs here: each function's contract is a law.
 #![tactic(auto)]
 
+pub mod faults;
+
 ghost use Rattle.loop_core_blocks.specs.Block.{ScansFollow};
+ghost use Rattle.loop_core_blocks.specs.Gather.{BlocksGather};
 ghost use Rattle.loop_core_blocks.specs.Kept.{OperatorsAssociate, CommitsOfKept};
+ghost use Rattle.loop_core_blocks.specs.Split.{EvenIsSplit};
+
+pub use faults::{GatherFault, SplitFault};
 
 /// The law of operators: each of the five is associative, so that operands may be combined block by
 /// block.
@@ -21,4 +27,16 @@ pub fn law_of_kept_values()
 /// broke, of the second.
 pub fn law_of_blocks()
     ensures { ScansFollow }
+{}
+
+/// The law of even splits: 1 to 64 blocks of any number of iterations are a split.
+pub fn law_of_even_splits()
+    ensures { EvenIsSplit }
+{}
+
+/// The law of gathering: blocks of a split, of which none is missing that starts at or before their
+/// least break, have the loop's least break, and their iterations are the counted ones, whichever other
+/// blocks were run.
+pub fn law_of_gathering()
+    ensures { BlocksGather }
 {}

@@ -2,7 +2,7 @@
 use Rattle.std.specs.Prelude.{ℕ, ◌+◌, List, [], ◌∷◌, map, length, Option, Some, None}
 use Rattle.bpf_insn_form.specs.Program.{Program}
 use Rattle.bpf_step_model.specs.State.{LoopCall}
-use Rattle.bpf_step_model.specs.Run.{Ending, Ended, Stuck, Unfinished, mapped}
+use Rattle.bpf_step_model.specs.Run.{Ending, Ended, mapped, followed}
 use Rattle.bpf_step_model.specs.ProgramInOrder.{LoopMade, Finished, program_in_order}
 use Rattle.loop_core_law.specs.declared.loop_test.Test.{Test}
 use Rattle.loop_core_law.specs.declared.verdict.Verdict.{Verdict}
@@ -54,11 +54,13 @@ pub record Reported : Type 0 where
 abbrev pub with_lines : Finished → List LoopReport → Reported
 with_lines f lines = record { ret = f.ret; loops = lines; words = f.words }
 
--- the report of a program that finished, line by line
+-- the same, where each line is there
+abbrev pub with_each_line : (LoopMade → Ending LoopReport) → Finished → Ending Reported
+with_each_line line f = mapped (with_lines f) (all_ended (map line f.loops))
+
+-- the report of a program, line by line, where it finished
 abbrev pub reported_with : (LoopMade → Ending LoopReport) → Ending Finished → Ending Reported
-reported_with line Stuck = Stuck
-reported_with line Unfinished = Unfinished
-reported_with line (Ended f) = mapped (with_lines f) (all_ended (map line f.loops))
+reported_with line f = followed (with_each_line line) f
 
 -- the report of a program that may run its loops in parallel
 abbrev pub report : Test → Program → ℕ → ℕ → List ℕ → Ending Reported
