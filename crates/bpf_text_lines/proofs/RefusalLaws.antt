@@ -39,6 +39,3 @@ ends (errors.Refused fault at) line front (Err other) others total fails so_far 
     let refusal : total ≡ Err other = sym so_far in
     let same : errors.Refused other line ≡ errors.Refused fault at = cc in
     ap (at_line line) refusal ∙ ap (λ (error : TextError). Err error) same
-
-pub is_done : {X : Type 0} (line : ℕ) (front : List X) (total : Result (List X) TextFault) → with_front front (Ok []) ≡ total → at_line line total ≡ Ok front
-is_done {X} line front total so_far = ap (at_line line) (sym so_far) ∙ ap (λ (list : List X). Ok list) (append-nil front)
