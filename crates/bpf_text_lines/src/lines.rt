@@ -144,6 +144,7 @@ impl<'a> Lines<'a> {
     pub fn of(text: &'a [u8]) -> Lines<'a>
         requires { length text.now ≤ 1048576 }
         ensures lines { result ≡ contents_of text.now }
+        ensures few { length result ≤ 1048576 }
     {
         Lines { text, number: 1 }
     }
