@@ -8,8 +8,8 @@ ghost use Rattle.bpf_insn_form.specs.Outcome.{Gives};
 ghost use Rattle.bpf_text_lines.specs.Refusals.{at_line, text_refusal};
 ghost use Rattle.bpf_text_lines.specs.Fields.{field_of, numbers_in, fields_of};
 
-use crate::text_error::{TextError, TextFault};
 use crate::numbers::{NumberError, is_number, read_number};
+use crate::text_error::{TextError, TextFault};
 use crate::words::Words;
 use std::alloc::{AllocError, Global};
 
