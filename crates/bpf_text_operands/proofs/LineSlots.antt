@@ -9,7 +9,7 @@ use Rattle.bpf_insn_form.specs.Slots.{slots_of}
 use Rattle.bpf_text_lines.specs.declared.numbers.NumberError.{NumberError}
 use Rattle.bpf_text_lines.specs.declared.text_error.TextFault.{TextFault}
 use Rattle.bpf_text_lines.specs.declared.text_error.TextFault.TheVariants as faults
-use Rattle.bpf_text_lines.specs.Fields.{as_field, field_of}
+use Rattle.bpf_text_lines.specs.Fields.{as_field}
 use Rattle.bpf_text_lines.specs.Lines.{trim}
 use Rattle.bpf_text_lines.specs.Names.{is_name}
 use Rattle.bpf_text_lines.specs.Numbers.{is_numeral, is_negative, is_number, number_in}
@@ -25,7 +25,7 @@ use Rattle.bpf_text_operands.specs.declared.kind.Kind.TheVariants as kind
 use Rattle.bpf_text_operands.specs.declared.kind.Kinds.{Kinds}
 use Rattle.bpf_text_operands.specs.declared.kind.Kinds.TheVariants as kinds
 use Rattle.bpf_text_operands.specs.SignedNumbers.{is_register, register_at, ahead, back, signed_at, is_ahead, is_offset, offset_at, to_label, distance_at}
-use Rattle.bpf_text_operands.specs.Operands.{kinds_of, pair, as_reg, as_imm, as_wide, as_distance, as_far_distance, as_address, is_bracketed, inside, base_of, offset_of, address_at, value_at, cut_comma, one, two, three, both_at, three_at, operands_at, stands, both_stand, three_stand, all_stand}
+use Rattle.bpf_text_operands.specs.Operands.{kinds_of, pair, as_reg, as_imm, as_wide, as_distance, as_far_distance, as_address, is_bracketed, inside, base_of, offset_of, value_at, cut_comma, one, two, three, both_at, three_at, operands_at, stands, both_stand, three_stand, all_stand}
 use Rattle.bpf_text_operands.specs.Statements.{statement_at, two_slots_of, insn_of_mnemonic, some_insn, built, with_operands, insn_of_line, mnemonic_slots, slots_where, slots_at}
 
 -- ---- what is read has its form
