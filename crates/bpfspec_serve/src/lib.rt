@@ -15,10 +15,3 @@ pub use bpfspec_streams::{
 pub use program_end::{ProgramEnd, exit_status};
 pub use program::run;
 pub use serving::{Served, serve};
-
-#[cfg(test)]
-mod serving_tests;
-#[cfg(test)]
-mod stumbling;
-#[cfg(test)]
-mod verify_tests;

@@ -6,6 +6,3 @@ mod verified;
 
 pub use running::{Report, RunError, run_in_order};
 pub use verified::{Verified, thin};
-
-#[cfg(test)]
-mod tests;
