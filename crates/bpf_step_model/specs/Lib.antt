@@ -13,3 +13,4 @@ pub mod StepRows
 pub mod MapRows
 pub mod Steps
 pub mod Bounds
+pub mod Atomics
