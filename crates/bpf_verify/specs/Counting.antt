@@ -1,6 +1,8 @@
 -- The most instructions from each slot on.
 use Rattle.std.specs.Prelude.{◌≡◌, ℕ, ◌<◌, List, length, map, ◌∷◌, slice_index_or, None}
 use Rattle.bpf_insn_form.specs.declared.insn.Insn.{Insn}
+use Rattle.bpf_insn_form.specs.Limits.{AreSizes}
+use Rattle.bpf_insn_form.specs.Values.{AreInsns}
 use Rattle.bpf_insn_form.specs.Program.{Program, slot_count, callback_starts}
 use Rattle.bpf_verify_model.specs.Accepted.{first_fault}
 use Rattle.bpf_verify_model.specs.Count.{longest}
@@ -13,9 +15,12 @@ most_at xs k = slice_index_or xs k 0
 pub record AreLongest (insns : List Insn) (counts : List ℕ) : Type 0 where
   pub at : (slot : ℕ) → slice_index_or counts slot 0 ≡ longest insns (slot_count insns) slot
 
--- what an accepted unit is kept with: where its callbacks start, and the most instructions of each function
+-- what an accepted unit is kept with: its numbers fit, and it has where its callbacks start, and the most instructions
+-- of each function
 pub record IsKept (program : Program) (starts counts : List ℕ) : Type 0 where
   pub accepted : first_fault program ≡ None
+  pub insns_fit : AreInsns program.insns
+  pub sizes_fit : AreSizes program.sizes
   pub starts_are : starts ≡ callback_starts program.insns
   pub counts_are : counts ≡ map (longest program.insns (slot_count program.insns)) (0 ∷ starts)
   pub few : length starts < 4097

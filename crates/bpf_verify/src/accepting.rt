@@ -6,6 +6,7 @@ ghost use Rattle.bpf_verify.specs.Passing.{IsFault};
 
 use crate::counting::counts_of;
 use crate::error::VerifyError;
+use crate::fields::insns_fit;
 use crate::layout::layout_of;
 use crate::passing::{Code, pass};
 use crate::verified::Verified;
@@ -59,6 +60,7 @@ pub fn verify(alloc: Global, unit: Unit) -> Result<Verified, VerifyError>
         Ok(()) => {}
     }
     let counts = counts_of(alloc, &unit.insns, count, &layout.starts)?;
+    insns_fit(&unit.insns);
     Ok(Verified {
         unit,
         starts: layout.starts,

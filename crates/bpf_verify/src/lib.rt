@@ -5,6 +5,7 @@
 mod accepting;
 mod counting;
 mod error;
+mod fields;
 mod layout;
 mod passing;
 mod verified;
@@ -13,6 +14,3 @@ pub use accepting::verify;
 pub use bpf_verify_model::Rule;
 pub use error::VerifyError;
 pub use verified::Verified;
-
-#[cfg(test)]
-mod tests;

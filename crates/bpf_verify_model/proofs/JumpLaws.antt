@@ -1,8 +1,9 @@
 -- What is true of an accepted program: no slot breaks a rule, and jumps lead forward.
-use Rattle.std.proofs.Common.{◌≡◌, ℕ, zero, suc, ◌<◌, ◌≤◌, Bool, true, false, not, ◌&&◌, List, refl, ap, sym, ◌∙◌, arith, Option, Some, None, is_some}
+use Rattle.std.proofs.Common.{◌≡◌, ℕ, zero, suc, ◌<◌, ◌≤◌, Bool, true, false, not, ◌&&◌, ◌||◌, List, refl, ap, sym, ◌∙◌, arith, Option, Some, None, is_some}
 use Rattle.std.specs.Prelude.{nat_lt, nat_eq, if◌then◌else◌}
 use Rattle.std.proofs.lemmas.Bool.Decides.{nat_tests}
 use Rattle.bpf_insn_form.specs.declared.insn.Insn.{Insn}
+use Rattle.bpf_insn_form.specs.Limits.{sizes_fit, AreSizes}
 use Rattle.bpf_insn_form.specs.Program.{Program, slot_count, insn_at, leads_to}
 use Rattle.bpf_verify_model.specs.declared.rule.Rule.{Rule}
 use Rattle.bpf_verify_model.specs.declared.rule.Rule.TheVariants.{NoSlot, OverLimits, JumpTarget}
@@ -99,3 +100,12 @@ pub program-is : (program : Program) (sizes : List ℕ) (insns : List Insn) → 
     record { sizes = sizes; insns = insns } ≡ program
 program-is program sizes insns e f =
     ap (λ (l : List ℕ). record { sizes = l; insns = insns }) e ∙ ap (λ (l : List Insn). record { sizes = program.sizes; insns = l }) f
+
+-- the sizes of a program within the limits are within them
+pub sizes-fit : (sizes : List ℕ) (count : ℕ) → (nat_lt 4096 count || not (sizes_fit sizes)) ≡ false → AreSizes sizes
+sizes-fit sizes count e = by_tests (nat_lt 4096 count) (sizes_fit sizes) e
+  where
+    by_tests : (a b : Bool) → (a || not b) ≡ false → b ≡ true
+    by_tests true b e = cc
+    by_tests false true e = refl
+    by_tests false false e = cc

@@ -1,12 +1,13 @@
 use Rattle.std.proofs.Common.{◌≡◌, ℕ, ◌∷◌, List, Option, None, map, length, refl, ap, sym, ◌∙◌, subst, arith}
 use Rattle.bpf_insn_form.specs.declared.insn.Insn.{Insn}
+use Rattle.bpf_insn_form.specs.Values.{AreInsns}
 use Rattle.bpf_insn_form.specs.Program.{Program, slot_count, callback_starts}
 use Rattle.bpf_verify_model.specs.Accepted.{BrokenRule, fault_within}
 use Rattle.bpf_verify_model.specs.Count.{longest}
 use Rattle.bpf_verify.specs.Passing.{IsFault}
 use Rattle.bpf_verify_model.specs.Count.{JumpsForward}
 use Rattle.bpf_verify.proofs.StartLaws.{starts-few}
-use Rattle.bpf_verify_model.proofs.JumpLaws.{jumps_forward, first_fault-within, program-is}
+use Rattle.bpf_verify_model.proofs.JumpLaws.{jumps_forward, first_fault-within, program-is, sizes-fit}
 use Rattle.bpf_verify.proofs.accepting.verify.Goals as goal
 
 pub returns-in-Err-clause-err : goal.returns-in-Err-clause-err
@@ -30,6 +31,8 @@ invariant_of-result c =
       accepted = first_fault-within c.args.unit c.in_ok-count.count c.in_ok-count.ensures.ok
           ∙ ap (λ (program : Program). fault_within program c.in_ok-count.count)
           (sym (program-is c.args.unit c.as_slice.result.now c.as_slice-2.result.now (c.as_slice.ensures.value ∙ ap (λ (p : Program). p.sizes) c.unit.view_is) (c.as_slice-2.ensures.value ∙ ap (λ (p : Program). p.insns) c.unit.view_is))) ∙ c.in-Ok.ensures.ok;
+      insns_fit = subst AreInsns (c.deref-4.ensures.value ∙ ap (λ (p : Program). p.insns) c.unit.view_is) c.insns_fit.ensures;
+      sizes_fit = sizes-fit c.args.unit.sizes (slot_count c.args.unit.insns) c.in_ok-count.ensures.ok.small;
       starts_are = starts;
       counts_are = c.in_ok-counts.ensures.ok ∙ ap (λ (l : List Insn). map (longest l (slot_count l)) (0 ∷ c.deref-3.result.now)) (c.deref-2.ensures.value ∙ ap (λ (p : Program). p.insns) c.unit.view_is)
           ∙ ap (λ (l : List ℕ). map (longest c.args.unit.insns (slot_count c.args.unit.insns)) (0 ∷ l)) c.deref-3.ensures.value;
