@@ -1,9 +1,8 @@
 -- The scan of adjacent intervals.
 use Rattle.std.proofs.Common.{◌≡◌, ℕ, zero, suc, ◌+◌, Bool, true, false, ◌||◌, List, [], ◌∷◌, ◌++◌, refl, sym, ◌∙◌, ap, arith}
 use Rattle.std.specs.Prelude.{if◌then◌else◌, ◌==◌}
-use Rattle.bpf_step_model.specs.Run.{Ending, Ended, Stuck, Unfinished}
+use Rattle.bpf_step_model.specs.Run.{Ending, Ended, Stuck, Unfinished, mapped}
 use Rattle.bpf_step_model.specs.Iteration.{Iterated}
-use Rattle.loop_core_law.specs.LeastBreak.{mapped}
 use Rattle.loop_core_law.specs.Scan.{up_to_break, scan}
 use Rattle.loop_core_blocks.specs.Block.{has_break, followed, ScansFollow}
 

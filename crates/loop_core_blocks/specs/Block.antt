@@ -4,9 +4,8 @@ use Rattle.std.specs.Prelude.{◌≡◌, ℕ, ◌+◌, ◌-◌, Bool, ◌==◌, 
 use Rattle.std.specs.List.{list_any}
 use Rattle.bpf_insn_form.specs.Program.{Program}
 use Rattle.bpf_step_model.specs.State.{LoopCall}
-use Rattle.bpf_step_model.specs.Run.{Ending, Ended, Stuck, Unfinished}
+use Rattle.bpf_step_model.specs.Run.{Ending, Ended, Stuck, Unfinished, mapped}
 use Rattle.bpf_step_model.specs.Iteration.{Iterated, iteration}
-use Rattle.loop_core_law.specs.LeastBreak.{mapped}
 use Rattle.loop_core_law.specs.Scan.{scan}
 
 -- what is run of the interval from a first index up to, and without, another

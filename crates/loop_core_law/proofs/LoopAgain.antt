@@ -7,14 +7,14 @@ use Rattle.array_maps.specs.Accesses.{Action, Access, words_after_all}
 use Rattle.array_maps.proofs.ElementLaws.{length-words_after_all}
 use Rattle.bpf_insn_form.specs.Program.{Program}
 use Rattle.bpf_step_model.specs.State.{LoopCall}
-use Rattle.bpf_step_model.specs.Run.{Ending, Ended, Stuck, Unfinished}
+use Rattle.bpf_step_model.specs.Run.{Ending, Ended, Stuck, Unfinished, mapped, followed}
 use Rattle.bpf_step_model.specs.Iteration.{Iterated, iteration}
 use Rattle.bpf_step_model.specs.LoopInOrder.{Looped, behind, loop_from, loop_in_order}
 use Rattle.loop_core_law.specs.declared.loop_test.Test.{Test}
 use Rattle.loop_core_law.specs.declared.loop_test.Test.TheVariants.{Lrpd, Flow}
 use Rattle.loop_core_law.specs.Actions.{joined, only_operator}
 use Rattle.loop_core_law.specs.Conflict.{clash, harm, conflicts, at_element, conflicting}
-use Rattle.loop_core_law.specs.LeastBreak.{is_break, counted, counted_iterations, mapped, all_ended, accesses_of_each, counted_runs}
+use Rattle.loop_core_law.specs.LeastBreak.{is_break, counted, counted_iterations, all_ended, accesses_of_each, counted_runs}
 use Rattle.loop_core_law.specs.Committed.{committed_words}
 use Rattle.loop_core_law.specs.Law.{LoopLaw}
 use Rattle.loop_core_law.proofs.OneElement.{and_false, Unharmed, harm-clash}
@@ -92,7 +92,7 @@ module _ (program : Program) (bound : ℕ) (call : LoopCall) (start : List ℕ) 
       loop_from program bound call (suc left) index now
       ≡ (if it.ret == 1 then loop_end (index + 1) (words_after_all it.accesses now) else loop_from program bound call left (index + 1) (words_after_all it.accesses now))
   step_again left index now it same long saws =
-      ap (behind (loop_from program bound call left (index + 1)) index) ((iteration_local program bound call index).again start now it same long saws)
+      ap (followed (behind (loop_from program bound call left (index + 1)) index)) ((iteration_local program bound call index).again start now it same long saws)
 
   -- the first iteration breaks: it is the last
   last_one : (count : ℕ) (left index : ℕ) (now : List ℕ) (it : Iterated) → speculated index ≡ Ended it → (it.ret == 1) ≡ true →

@@ -2,9 +2,9 @@
 use Rattle.std.proofs.Common.{◌≡◌, ℕ, zero, suc, ◌+◌, ◌≤◌, Bool, true, false, List, [], ◌∷◌, map, refl, ◌∙◌, ap, arith}
 use Rattle.std.specs.Prelude.{if◌then◌else◌, ◌==◌}
 use Rattle.std.specs.List.{range_with_len}
-use Rattle.bpf_step_model.specs.Run.{Ending, Ended, Stuck, Unfinished}
+use Rattle.bpf_step_model.specs.Run.{Ending, Ended, Stuck, Unfinished, mapped}
 use Rattle.bpf_step_model.specs.Iteration.{Iterated, iteration}
-use Rattle.loop_core_law.specs.LeastBreak.{is_break, least_below, count_to, mapped, all_ended}
+use Rattle.loop_core_law.specs.LeastBreak.{is_break, least_below, count_to, all_ended}
 use Rattle.loop_core_law.specs.Scan.{up_to_break, scan, CountedAreScanned}
 use Rattle.loop_core_law.proofs.Least.{EndsAt, counts_to, ends_here, ends_next, ends_somewhere, ends_at_zero}
 

@@ -5,7 +5,7 @@ use Rattle.std.specs.Option.{option_or}
 use Rattle.array_maps.specs.Accesses.{Access}
 use Rattle.bpf_insn_form.specs.Program.{Program}
 use Rattle.bpf_step_model.specs.State.{LoopCall}
-use Rattle.bpf_step_model.specs.Run.{Ending, Ended, Stuck, Unfinished}
+use Rattle.bpf_step_model.specs.Run.{Ending, Ended, Stuck, Unfinished, mapped}
 use Rattle.bpf_step_model.specs.Iteration.{Iterated, iteration}
 
 -- the least number below n that passes a test
@@ -42,12 +42,6 @@ counted program bound call words = count_to call.n (least_break program bound ca
 abbrev pub counted_iterations : Program → ℕ → LoopCall → List ℕ → List (Ending Iterated)
 counted_iterations program bound call words =
     map (λ index. iteration program bound call index words) (range_with_len 0 (counted program bound call words))
-
--- a value made of one that ended
-abbrev pub mapped : {A B : Type 0} → (A → B) → Ending A → Ending B
-mapped make (Ended a) = Ended (make a)
-mapped make Stuck = Stuck
-mapped make Unfinished = Unfinished
 
 -- what all of a list gave, where each ended; else how the first that didn't stands
 abbrev pub all_ended : {A : Type 0} → List (Ending A) → Ending (List A)

@@ -2,14 +2,14 @@
 use Rattle.std.specs.Prelude.{ℕ, ◌+◌, List, [], ◌∷◌, map, length, Option, Some, None}
 use Rattle.bpf_insn_form.specs.Program.{Program}
 use Rattle.bpf_step_model.specs.State.{LoopCall}
-use Rattle.bpf_step_model.specs.Run.{Ending, Ended, Stuck, Unfinished}
+use Rattle.bpf_step_model.specs.Run.{Ending, Ended, Stuck, Unfinished, mapped}
 use Rattle.bpf_step_model.specs.ProgramInOrder.{LoopMade, Finished, program_in_order}
 use Rattle.loop_core_law.specs.declared.loop_test.Test.{Test}
 use Rattle.loop_core_law.specs.declared.verdict.Verdict.{Verdict}
 use Rattle.loop_core_law.specs.declared.verdict.Verdict.TheVariants.{Parallel, Conflict, Refused, InOrder}
 use Rattle.loop_core_law.specs.declared.verdict.LoopReport.{LoopReport}
 use Rattle.loop_core_law.specs.Conflict.{conflicting}
-use Rattle.loop_core_law.specs.LeastBreak.{mapped, all_ended, counted_runs}
+use Rattle.loop_core_law.specs.LeastBreak.{all_ended, counted_runs}
 
 -- the verdict on a loop whose conflicting elements are these, rising: it passes where there is none; else they are
 -- counted, and the least is named

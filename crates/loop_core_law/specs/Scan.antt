@@ -2,9 +2,9 @@
 use Rattle.std.specs.Prelude.{◌≡◌, ℕ, zero, suc, ◌+◌, ◌==◌, if◌then◌else◌, List, [], ◌∷◌}
 use Rattle.bpf_insn_form.specs.Program.{Program}
 use Rattle.bpf_step_model.specs.State.{LoopCall}
-use Rattle.bpf_step_model.specs.Run.{Ending, Ended, Stuck, Unfinished}
+use Rattle.bpf_step_model.specs.Run.{Ending, Ended, Stuck, Unfinished, mapped}
 use Rattle.bpf_step_model.specs.Iteration.{Iterated, iteration}
-use Rattle.loop_core_law.specs.LeastBreak.{mapped, all_ended, counted_iterations}
+use Rattle.loop_core_law.specs.LeastBreak.{all_ended, counted_iterations}
 
 -- an iteration, and unless it breaks the ones behind it
 abbrev pub up_to_break : Ending (List Iterated) → Ending Iterated → Ending (List Iterated)
