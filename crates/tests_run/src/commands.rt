@@ -164,7 +164,7 @@ fn an_input_is_utf8_and_has_a_limit(rt: HostRuntime) -> Result<(), Fail> {
 /// A unit of two instructions.
 const SEVEN: &[u8] = b"maps 1\nmov64 r0, 7\nexit\n";
 
-// Nothing is written where a read fails, at whichever.
+/// Nothing is written where a read fails, at whichever.
 #[test]
 fn a_failed_read_ends_with_5(rt: HostRuntime) -> Result<(), Fail> {
     let alloc = rt.alloc();
@@ -187,8 +187,8 @@ fn a_failed_write_leaves_a_beginning(rt: HostRuntime) -> Result<(), Fail> {
     Ok(())
 }
 
-// Where a growth was refused the memory line is written, and a second try has the memory. The
-// sink's own growth may be the refused one: then nothing was taken.
+/// Where a growth was refused the memory line is written, and a second try has the memory. The
+/// sink's own growth may be the refused one: then nothing was taken.
 #[test]
 fn a_refused_growth_is_told(rt: HostRuntime) -> Result<(), Fail> {
     let alloc = rt.alloc();
