@@ -8,6 +8,7 @@ use std::process::Abort;
 use std::test::Fail;
 
 /// The words that a process was started with.
+#[derive(Drop)]
 pub struct Words<'a>(&'a [&'a [u8]]);
 
 impl Env for Words<'_> {
