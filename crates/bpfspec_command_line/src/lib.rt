@@ -6,6 +6,3 @@ mod words;
 
 pub use job::{Job, LineFault, Mode, UnitForm};
 pub use words::{read_command_line, read_words};
-
-#[cfg(test)]
-mod tests;

@@ -99,7 +99,7 @@ abbrev pub functions_of : List Insn → List Function
 functions_of insns = map (function_of insns) (range_with_len 0 (length (callback_starts insns) + 1))
 
 -- an accepted program is told with its functions, another is refused by its first fault
-abbrev pub judged : Program → Option Fault → Outcome
+abbrev pub judged : Program → Option BrokenRule → Outcome
 judged program None = Ok (accepted_text (functions_of program.insns))
 judged program (Some fault) = refused (refusals.Rule fault.rule fault.slot)
 

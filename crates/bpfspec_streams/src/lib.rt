@@ -10,6 +10,3 @@ pub use counting::{Counted, read_outcome, write_outcome};
 pub use reading::{ReadAllError, read_all};
 pub use streams::{DeviceFault, Sink, Source};
 pub use writing::write_all;
-
-#[cfg(test)]
-mod tests;

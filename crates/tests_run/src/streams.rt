@@ -1,8 +1,9 @@
 //! Streams that move a few bytes a call, and of which one call fails.
 
-ghost use Rattle.std.specs.Prelude.{Some};
+ghost use Rattle.std.specs.Prelude.{◌≡◌, Some};
 
-use crate::{DeviceFault, Sink, Source};
+use bpfspec_serve::{DeviceFault, Sink, Source};
+use std::alloc::Global;
 use std::io::Read;
 
 /// How many bytes a call of the streams below moves at most.
@@ -29,6 +30,19 @@ pub struct Stumbling<'a> {
     pub rest: &'a [u8],
     pub until_failure: Option<u64>,
     pub failures: u64,
+}
+
+impl Stumbling<'_> {
+    /// A source of these bytes, of which the read before which so many come fails.
+    pub fn new(bytes: &[u8], until_failure: Option<u64>) -> Stumbling<'_>
+        ensures { result.failures ≡ 0 }
+    {
+        Stumbling {
+            rest: bytes,
+            until_failure,
+            failures: 0,
+        }
+    }
 }
 
 impl Source for Stumbling<'_> {
@@ -62,6 +76,19 @@ pub struct Narrow {
     pub taken: Vec<u8>,
     pub until_failure: Option<u64>,
     pub failures: u64,
+}
+
+impl Narrow {
+    /// An empty sink, of which the write before which so many come fails.
+    pub fn new(alloc: Global, until_failure: Option<u64>) -> Narrow
+        ensures { result.failures ≡ 0 }
+    {
+        Narrow {
+            taken: Vec::new(alloc),
+            until_failure,
+            failures: 0,
+        }
+    }
 }
 
 impl Sink for Narrow {

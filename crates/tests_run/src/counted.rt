@@ -1,9 +1,9 @@
-//! Streams whose calls do what a script says.
+//! Counted readers and writers whose calls do what a script says.
 
 ghost use Rattle.std.specs.Prelude.{◌≡◌};
 ghost use Rattle.bpfspec_streams.specs.Counting.{failures_of};
 
-use crate::{Counted, DeviceFault, ReadAllError, Sink, Source, read_all, write_all};
+use bpfspec_streams::{Counted, DeviceFault, ReadAllError, Sink, Source, read_all, write_all};
 use std::alloc::Global;
 use std::io;
 use std::io::{ErrorKind, Read, Write};
