@@ -358,8 +358,7 @@ fn next(bytes: &[u8], slot: usize) -> Result<(Insn, usize), CodecError>
     }
 }
 
-/// Adds an instruction. By a slice of one, since a push of an enum within an enum isn't covered by
-/// the borrow checker yet.
+/// Adds an instruction, by a slice of one: a push of an enum within an enum isn't covered yet.
 fn add(insns: &mut Vec<Insn>, insn: Insn) -> Result<(), CodecError>
     ensures ok { OnOk result (insns.new.items ≡ insns.old.items ++ insn ∷ []) }
     ensures err { IfErr result (λ e. e ≡ CodecError.Memory) }
@@ -385,9 +384,8 @@ fn all(alloc: Global, bytes: &[u8]) -> Result<Vec<Insn>, CodecError>
     Ok(insns)
 }
 
-/// The program that the bytes spell, 8 bytes a slot, all of the bytes. Where they spell none it
-/// refuses by the first slot with a fault, counted from 0, and there by the least number (see
-/// `CodecFault`). Memory may run out in place of either answer.
+/// The program that the bytes spell, 8 a slot, all of them. Where they spell none it refuses the first
+/// slot with a fault, counted from 0, there by the least number. Memory may run out instead of either.
 pub fn decode(alloc: Global, bytes: &[u8]) -> Result<Vec<Insn>, CodecError>
     // What is read is spelled so.
     ensures found { IfOk result (λ v. AreInsns v.items × (program_spelling v.items ≡ Ok bytes.now)) }

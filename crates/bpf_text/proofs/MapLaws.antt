@@ -1,13 +1,11 @@
 -- Reading maps one after the other, as a loop does.
-use Rattle.std.proofs.Common.{◌≡◌, ℕ, ◌+◌, List, [], ◌∷◌, ◌++◌, length, Result, Ok, Err, refl, ap, subst, ◌<◌, arith}
+use Rattle.std.proofs.Common.{◌≡◌, ℕ, ◌+◌, List, [], ◌∷◌, ◌++◌, length, Result, Ok, refl, ap, subst, arith}
 use Rattle.bpf_text_lines.specs.Words.{words_of}
-use Rattle.bpf_text_lines.specs.declared.text_error.TextFault.TheVariants as faults
 use Rattle.bpf_text_lines.specs.declared.text_error.TextError.{TextError}
-use Rattle.bpf_text_lines.specs.declared.text_error.TextError.TheVariants as errors
 use Rattle.bpf_insn_form.specs.Outcome.{Refuses}
 use Rattle.bpf_text_lines.specs.Refusals.{at_line, ◌>>=◌, text_refusal}
 use Rattle.bpf_text_lines.proofs.RefusalLaws.{bind_fails}
-use Rattle.bpf_text.specs.MapsText.{some_maps, values_of, count_of, maps_behind}
+use Rattle.bpf_text.specs.MapsText.{values_of, count_of, maps_behind}
 
 -- one more map, with its values
 pub count_of-push : (maps : List (List ℕ)) (values : List ℕ) → count_of (maps ++ values ∷ []) ≡ count_of maps + length values

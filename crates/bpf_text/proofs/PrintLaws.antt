@@ -1,9 +1,6 @@
 -- Printing maps one after the other, as a loop does.
-use Rattle.std.proofs.Common.{◌≡◌, ℕ, zero, suc, ◌+◌, ◌<◌, List, [], ◌∷◌, ◌++◌, length, take, drop, get_or, Vec, Global, sym, ap, ◌∙◌, append_assoc, add-one, arith}
-use Rattle.std.specs.List.{flat_map}
-use Rattle.std.proofs.Math.Seq.{take-suc}
-use Rattle.std.proofs.lemmas.List.{append-nil, flat_map_more}
-use Rattle.bpf_text.specs.MapsText.{lists, value_spelling, map_spelling, spelling_from}
+use Rattle.std.proofs.Common.{◌≡◌, ℕ, zero, suc, ◌+◌, ◌<◌, List, [], ◌∷◌, ◌++◌, length, drop, get_or, Vec, Global, sym, ap, append_assoc, arith}
+use Rattle.bpf_text.specs.MapsText.{lists, map_spelling, spelling_from}
 
 -- one more map is printed
 pub prints_next : (out : List ℕ) (number : ℕ) (values : List ℕ) (maps : List (List ℕ)) → out ++ spelling_from number (values ∷ maps) ≡ (out ++ map_spelling number values) ++ spelling_from (number + 1) maps

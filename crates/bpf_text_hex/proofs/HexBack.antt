@@ -16,7 +16,7 @@ use Rattle.bpf_text_lines.specs.declared.text_error.TextFault.TheVariants as fau
 use Rattle.bpf_text_lines.specs.declared.text_error.TextError.TheVariants as errors
 use Rattle.bpf_text_lines.specs.Refusals.{at_line}
 use Rattle.bpf_insn_form.specs.Limits.{AreSizes, IsUnit}
-use Rattle.bpf_text_insns.specs.PrintedLines.{head_spelling, head_line}
+use Rattle.bpf_text_insns.specs.PrintedLines.{head_spelling}
 use Rattle.bpf_text_hex.specs.HexForm.{slot_lines, hex_lines, hex_form}
 use Rattle.bpf_text_hex.proofs.HexLines.{slot_lines-slot}
 use Rattle.bpf_text_lines.proofs.ResultLaws.{same_ok, mapped}

@@ -1,12 +1,10 @@
 -- A unit is read back from its canonical text.
-use Rattle.std.proofs.Common.{◌≡◌, ℕ, ◌+◌, ◌*◌, ◌≤◌, List, [], ◌∷◌, ◌++◌, length, flat_map, Option, Result, Ok, Err, refl, sym, ap, ◌∙◌, append_assoc, append-nil, arith}
+use Rattle.std.proofs.Common.{◌≡◌, ℕ, ◌+◌, ◌*◌, ◌≤◌, List, [], ◌∷◌, ◌++◌, length, flat_map, Option, Ok, Err, refl, sym, ap, ◌∙◌, append_assoc, append-nil, arith}
 use Rattle.std.specs.Prelude.{nat_le, nat_lt}
 use Rattle.std.proofs.lemmas.Bool.{le-leb, le-ltb, cond-true, cond-false}
 use Rattle.std.proofs.lemmas.List.{length-append}
 use Rattle.bpf_insn_form.specs.declared.insn.Insn.{Insn}
-use Rattle.bpf_insn_form.specs.declared.insn.Insn.TheVariants as insn
 use Rattle.bpf_insn.specs.declared.slot.Slot.{Slot}
-use Rattle.bpf_insn.specs.declared.codec_error.CodecError.{CodecError}
 use Rattle.bpf_insn_form.specs.Slots.{slots_of}
 use Rattle.bpf_insn.specs.Spelling.{spelling, bytes_at, spelling_from, program_spelling}
 use Rattle.bpf_insn_form.specs.Values.{InsnFits, AreInsns}
@@ -15,7 +13,7 @@ use Rattle.bpf_text_lines.specs.Lines.{lines_of, contents_from, contents_of}
 use Rattle.bpf_text_lines.specs.declared.text_error.TextFault.TheVariants as faults
 use Rattle.bpf_text_lines.specs.declared.text_error.TextError.TheVariants as errors
 use Rattle.bpf_text_lines.specs.Refusals.{at_line}
-use Rattle.bpf_text_insns.specs.PrintedLines.{insn_spelling, insn_line, head_spelling, head_line}
+use Rattle.bpf_text_insns.specs.PrintedLines.{insn_spelling, insn_line, head_spelling}
 use Rattle.bpf_text_operands.specs.declared.labels.Label.{Label}
 use Rattle.bpf_text_operands.specs.LabelTable.{slot_in}
 use Rattle.bpf_text_operands.specs.Statements.{insn_of_line}

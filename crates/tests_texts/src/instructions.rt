@@ -65,8 +65,16 @@ fn are_bytes(rt: &impl Abort, alloc: Global, assembler: &str, hex: &str) -> Resu
     let unit = parse_unit(alloc, assembler)?;
     let coded = read_hex(alloc, hex)?;
     assert_eq!(rt; unit.sizes.as_slice(), coded.sizes.as_slice());
-    assert_eq!(rt; encode(alloc, &unit.insns)?.as_slice(), coded.bytes.as_slice(), "{hex}");
-    assert_eq!(rt; decode(alloc, &coded.bytes)?.as_slice(), unit.insns.as_slice(), "{hex}");
+    assert_eq!(rt;
+        encode(alloc, &unit.insns)?.as_slice(),
+        coded.bytes.as_slice(),
+        "{hex}"
+    );
+    assert_eq!(rt;
+        decode(alloc, &coded.bytes)?.as_slice(),
+        unit.insns.as_slice(),
+        "{hex}"
+    );
     assert_eq!(rt; write_hex(alloc, &unit)?.as_str(), hex);
     Ok(())
 }
@@ -137,7 +145,10 @@ fn some_instructions_have_no_bytes(rt: HostRuntime) -> Result<(), Fail> {
     ];
     for (insn, want) in rows {
         let unit = unit_with(alloc, load(ImmKind::MapValue, 8), insn)?;
-        assert_eq!(rt; told(alloc, encode(alloc, &unit.insns).err())?.as_str(), want);
+        assert_eq!(rt;
+            told(alloc, encode(alloc, &unit.insns).err())?.as_str(),
+            want
+        );
         assert_eq!(rt; told(alloc, print_unit(alloc, &unit).err())?.as_str(), want);
         assert_eq!(rt; told(alloc, write_hex(alloc, &unit).err())?.as_str(), want);
     }

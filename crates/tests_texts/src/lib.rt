@@ -3,25 +3,18 @@
 #![tactic(auto)]
 
 #[cfg(test)]
-mod rows;
-
-#[cfg(test)]
 mod bytes;
-
 #[cfg(test)]
 mod events;
-
 #[cfg(test)]
 mod growths;
-
 #[cfg(test)]
 mod hex_form;
-
 #[cfg(test)]
 mod instructions;
-
 #[cfg(test)]
 mod maps;
-
+#[cfg(test)]
+mod rows;
 #[cfg(test)]
 mod units;

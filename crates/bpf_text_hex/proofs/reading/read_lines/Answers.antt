@@ -1,4 +1,4 @@
-use Rattle.std.proofs.Common.{◌≡◌, ◌+◌, ◌++◌, length, sym, ap, ◌∙◌, arith}
+use Rattle.std.proofs.Common.{◌≡◌, ◌++◌, length, sym, ap, ◌∙◌, arith}
 use Rattle.std.proofs.lemmas.Result.{err_from_is_err_and}
 use Rattle.bpf_text_hex.specs.HexText.{bytes_behind}
 use Rattle.bpf_text_hex.proofs.HexLaws.{bytes_behind-line, bytes_behind-fails, bytes_behind-end}

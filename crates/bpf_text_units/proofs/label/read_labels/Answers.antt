@@ -1,6 +1,5 @@
 use Rattle.std.proofs.Common.{length, ap, arith}
 use Rattle.bpf_text_operands.specs.LabelTable.{found}
-use Rattle.bpf_text_units.specs.AssemblerText.{labels_from}
 use Rattle.bpf_text_units.proofs.ReadingLaws.{labels_move, labels_end}
 use Rattle.bpf_text_units.proofs.label.read_labels.Goals as goal
 
