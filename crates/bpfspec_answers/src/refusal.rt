@@ -32,9 +32,15 @@ pub enum Refusal {
         line: u32,
     },
     /// The bytes of the instructions spell no program.
-    Codec { fault: CodecFault, slot: usize },
+    Codec {
+        fault: CodecFault,
+        slot: usize,
+    },
     /// The program breaks a rule of the verifier.
-    Rule { rule: Rule, slot: u32 },
+    Rule {
+        rule: Rule,
+        slot: u32,
+    },
     /// V0: the program isn't a thin one.
     NotThin,
     /// P1: the sizes of the maps differ from the program's.

@@ -41,8 +41,7 @@ fn argument_fault(alloc: Global, matches: &ArgMatches<'_>) -> Result<LineFault, 
         .subcommand_matches("order")
         .and_then(|order| order.get_str("arg"))
         .unwrap_or("");
-    let wrong = format!(
-        in alloc;
+    let wrong = format!(in alloc;
         "invalid value '{given}' for '--arg <N>': not a number from 0 to {}",
         u64::MAX
     )?;

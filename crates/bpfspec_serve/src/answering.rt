@@ -164,7 +164,12 @@ fn order(alloc: Global, form: UnitForm, argument: u64, input: &str) -> Result<St
 }
 
 /// What comes of a unit that is written in another form.
-fn translate(alloc: Global, from: UnitForm, to: UnitForm, input: &str) -> Result<String, AnswerError>
+fn translate(
+    alloc: Global,
+    from: UnitForm,
+    to: UnitForm,
+    input: &str,
+) -> Result<String, AnswerError>
     ensures { Met string_bytes (λ outcome. outcome ≡ written to (unit_program from (unit_section input.now))) result }
 {
     let unit = read_unit(alloc, from, part(input).section)?;

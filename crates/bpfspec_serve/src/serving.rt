@@ -6,8 +6,8 @@ ghost use Rattle.bpfspec_serve.specs.HowServed.{AnswersReader, HowWritten, HowSe
 ghost use Rattle.bpfspec_serve.specs.Output.{refused_as, Answers};
 ghost use Rattle.bpfspec_streams.specs.Streams.{ConsumesAtMost};
 
-use crate::answering::{MAX_INPUT, outcome};
 use crate::answer_error::AnswerError;
+use crate::answering::{MAX_INPUT, outcome};
 use bpfspec_answers::{MEMORY_LINE, Refusal, print_refusal};
 use bpfspec_command_line::Mode;
 use bpfspec_streams::{ReadAllError, Sink, Source, read_all, write_all};

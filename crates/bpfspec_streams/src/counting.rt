@@ -54,7 +54,10 @@ pub fn write_outcome(given: io::Result<usize>, piece: &[u8]) -> Result<usize, De
 }
 
 /// The outcome as it is, and one more failure where it is one.
-fn count_failure(outcome: Result<usize, DeviceFault>, failures: &mut u64) -> Result<usize, DeviceFault>
+fn count_failure(
+    outcome: Result<usize, DeviceFault>,
+    failures: &mut u64,
+) -> Result<usize, DeviceFault>
     requires { failures.old < 2 ^ 64 - 1 }
     ensures same { result ≡ outcome }
     ensures ok { OnOk outcome (failures.new ≡ failures.old) }
