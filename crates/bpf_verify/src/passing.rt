@@ -256,13 +256,7 @@ fn hand_ahead(
 
 /// Hands on what is known before an instruction that breaks no rule, to the slots that it leads to.
 #[tactic(auto, unfolding(bpf_verify_model::specs::Flow::flow))]
-fn hand_on(
-    table: &mut Vec<Option<State>>,
-    sizes: &[u32],
-    slot: u32,
-    state: &mut State,
-    insn: Insn,
-)
+fn hand_on(table: &mut Vec<Option<State>>, sizes: &[u32], slot: u32, state: &mut State, insn: Insn)
     requires { slot < 4096 }
     ensures size { length table.new.items ≡ length table.old.items }
     ensures received { (t : ℕ) → t < length table.old.items
