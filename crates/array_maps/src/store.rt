@@ -84,7 +84,7 @@ impl Store for Maps {
     }
 
     fn load(&mut self, e: u32) -> u64 {
-        self.word(e)
+        Maps::word(self, e)
     }
 
     fn store(&mut self, e: u32, value: u64) {

@@ -13,10 +13,14 @@ use crate::codec_error::{CodecError, CodecFault};
 use crate::encoding::has_next_imm;
 use crate::fields::only_its_fields;
 use crate::form::{AluCode, Form, form_of};
-use bpf_insn_form::{AluOp, AtomicOp, ByteOrder, Callee, EndianBits, ImmKind, Insn, MovsxBits, Operand, Reg, SimpleOp, Width, slots};
 use crate::slot::Slot;
+use bpf_insn_form::{
+    AluOp, AtomicOp, ByteOrder, Callee, EndianBits, ImmKind, Insn, MovsxBits, Operand, Reg,
+    SimpleOp, Width, slots,
+};
 use std::alloc::Global;
 
+/// The plain operation at offset 0, the signed one at offset 1.
 fn signed_op(offset: i16, plain: AluOp, signed: AluOp) -> Result<AluOp, CodecFault>
     ensures { result ≡ signed_at offset plain signed }
 {
@@ -27,6 +31,7 @@ fn signed_op(offset: i16, plain: AluOp, signed: AluOp) -> Result<AluOp, CodecFau
     }
 }
 
+/// The operation of a code, which the offset of a division or a modulo tells signed.
 fn op_of(code: AluCode, offset: i16) -> Result<AluOp, CodecFault>
     ensures { result ≡ op_at code offset }
 {
@@ -46,7 +51,14 @@ fn op_of(code: AluCode, offset: i16) -> Result<AluOp, CodecFault>
     }
 }
 
-fn alu(width: Width, code: AluCode, dst: Reg, operand: Operand, offset: i16) -> Result<Insn, CodecFault>
+/// Arithmetic with two operands.
+fn alu(
+    width: Width,
+    code: AluCode,
+    dst: Reg,
+    operand: Operand,
+    offset: i16,
+) -> Result<Insn, CodecFault>
     ensures { result ≡ alu_insn width dst operand (op_at code offset) }
 {
     let op = op_of(code, offset)?;
@@ -58,6 +70,7 @@ fn alu(width: Width, code: AluCode, dst: Reg, operand: Operand, offset: i16) -> 
     })
 }
 
+/// A move of a register, sign-extending where its offset tells how many bits.
 fn mov(width: Width, dst: Reg, src: Reg, offset: i16) -> Result<Insn, CodecFault>
     ensures { result ≡ mov_at width dst src offset }
 {
@@ -83,7 +96,14 @@ fn mov(width: Width, dst: Reg, src: Reg, offset: i16) -> Result<Insn, CodecFault
     })
 }
 
-fn alu_register(width: Width, code: AluCode, dst: Reg, src: Reg, offset: i16) -> Result<Insn, CodecFault>
+/// Arithmetic with a register as its second operand.
+fn alu_register(
+    width: Width,
+    code: AluCode,
+    dst: Reg,
+    src: Reg,
+    offset: i16,
+) -> Result<Insn, CodecFault>
     ensures { result ≡ alu_reg width code dst src offset }
 {
     match code {
@@ -92,6 +112,7 @@ fn alu_register(width: Width, code: AluCode, dst: Reg, src: Reg, offset: i16) ->
     }
 }
 
+/// A byte order, whose immediate tells how many bits.
 fn endian(order: ByteOrder, dst: Reg, imm: i32) -> Result<Insn, CodecFault>
     ensures { result ≡ endian_at order dst imm }
 {
@@ -115,6 +136,7 @@ fn endian(order: ByteOrder, dst: Reg, imm: i32) -> Result<Insn, CodecFault>
     }
 }
 
+/// A call, whose source tells what it names.
 fn call(src: u8, imm: i32) -> Result<Insn, CodecFault>
     ensures { result ≡ call_at src imm }
 {
@@ -135,6 +157,7 @@ fn call(src: u8, imm: i32) -> Result<Insn, CodecFault>
     }
 }
 
+/// The atomic operation of an immediate.
 fn atomic_op(imm: i32) -> Result<AtomicOp, CodecFault>
     ensures { result ≡ atomic_at imm }
 {
@@ -153,6 +176,7 @@ fn atomic_op(imm: i32) -> Result<AtomicOp, CodecFault>
     }
 }
 
+/// An atomic, whose immediate tells its operation.
 fn atomic(width: Width, dst: Reg, src: Reg, offset: i16, imm: i32) -> Result<Insn, CodecFault>
     ensures { result ≡ atomic_insn width dst src offset (atomic_at imm) }
 {
@@ -166,6 +190,7 @@ fn atomic(width: Width, dst: Reg, src: Reg, offset: i16, imm: i32) -> Result<Ins
     })
 }
 
+/// The kind of a two-slot load by its source.
 fn kind_of(src: u8) -> Option<ImmKind>
     ensures { result ≡ kind_at src }
 {
@@ -181,12 +206,14 @@ fn kind_of(src: u8) -> Option<ImmKind>
     }
 }
 
+/// Whether all but the immediate of a slot is zero.
 fn is_second_slot(slot: Slot) -> bool
     ensures { result ≡ is_second slot }
 {
     slot.opcode == 0 && slot.dst == 0 && slot.src == 0 && slot.offset == 0
 }
 
+/// A two-slot load; next is the slot behind it.
 fn load_imm(src: u8, dst: Reg, imm: i32, next: Option<Slot>) -> Result<Insn, CodecFault>
     ensures { result ≡ load_imm_at (kind_at src) dst imm next }
 {
@@ -210,6 +237,7 @@ fn load_imm(src: u8, dst: Reg, imm: i32, next: Option<Slot>) -> Result<Insn, Cod
     })
 }
 
+/// The instruction of a form whose registers and unused fields stand; next is the slot behind it.
 fn insn_of_form(
     form: Form,
     dst: Reg,
@@ -293,6 +321,7 @@ fn insn_of_slot(slot: Slot, next: Option<Slot>) -> Result<Insn, CodecFault>
     insn_of_form(form, dst, src, slot, next)
 }
 
+/// The slot at the front of bytes, if it is complete.
 fn front(bytes: &[u8]) -> Option<Slot>
     ensures { result ≡ front_slot bytes.now }
 {
@@ -329,7 +358,8 @@ fn next(bytes: &[u8], slot: usize) -> Result<(Insn, usize), CodecError>
     }
 }
 
-// By a slice of one: the borrow checker has no plan yet for a push of an enum within an enum.
+/// Adds an instruction. By a slice of one, since a push of an enum within an enum isn't covered by
+/// the borrow checker yet.
 fn add(insns: &mut Vec<Insn>, insn: Insn) -> Result<(), CodecError>
     ensures ok { OnOk result (insns.new.items ≡ insns.old.items ++ insn ∷ []) }
     ensures err { IfErr result (λ e. e ≡ CodecError.Memory) }
@@ -337,6 +367,7 @@ fn add(insns: &mut Vec<Insn>, insn: Insn) -> Result<(), CodecError>
     Ok(insns.extend_from_slice(&[insn])?)
 }
 
+/// The program in bytes, or its first fault.
 fn all(alloc: Global, bytes: &[u8]) -> Result<Vec<Insn>, CodecError>
     ensures { Gives codec_refusal (λ v. v.items) result (reading bytes.now) }
 {

@@ -8,11 +8,11 @@ ghost use Rattle.bpf_insn.specs.CodecRefusal.{codec_refusal};
 
 use crate::codec_error::{CodecError, CodecFault};
 use crate::form::{AluCode, Form};
+use crate::slot::Slot;
 use bpf_insn_form::{
     AluOp, AtomicOp, Callee, Compare, EndianBits, ImmKind, Insn, MovsxBits, Operand, SimpleOp,
     Size, Width,
 };
-use crate::slot::Slot;
 use std::alloc::Global;
 
 /// The slots of one instruction.
@@ -22,6 +22,7 @@ pub struct Spelled {
     pub second: Option<Slot>,
 }
 
+/// The code of an operation; signed division and modulo share theirs.
 fn code_of_op(op: AluOp) -> AluCode
     ensures { result ≡ code_of op }
 {
@@ -41,6 +42,7 @@ fn code_of_op(op: AluOp) -> AluCode
     }
 }
 
+/// The offset of an operation: 1 for signed division and modulo.
 fn offset_of_op(op: AluOp) -> i16
     ensures { result ≡ op_offset op }
 {
@@ -50,6 +52,7 @@ fn offset_of_op(op: AluOp) -> i16
     }
 }
 
+/// The offset of a sign-extending move: its bits.
 fn offset_of_movsx(bits: MovsxBits) -> i16
     ensures { result ≡ movsx_offset bits }
 {
@@ -60,6 +63,7 @@ fn offset_of_movsx(bits: MovsxBits) -> i16
     }
 }
 
+/// The immediate of a byte order: its bits.
 fn imm_of_endian(bits: EndianBits) -> i32
     ensures { result ≡ endian_imm bits }
 {
@@ -121,6 +125,7 @@ pub fn has_next_imm(kind: ImmKind) -> bool
     )
 }
 
+/// An instruction of one slot.
 fn one(form: Form, dst: u8, src: u8, offset: i16, imm: i32) -> Spelled
     requires dst { dst ≤ 10 }
     requires src { src ≤ 10 }
@@ -133,6 +138,7 @@ fn one(form: Form, dst: u8, src: u8, offset: i16, imm: i32) -> Spelled
     }
 }
 
+/// A two-slot load, whose second number is 0 where its kind has none.
 fn load_imm(kind: ImmKind, dst: u8, imm: i32, next_imm: i32) -> Result<Spelled, CodecFault>
     requires { dst ≤ 10 }
     ensures slots { Gives Some spelled_slots result (two kind (has_next kind) dst imm next_imm) }
@@ -153,6 +159,7 @@ fn load_imm(kind: ImmKind, dst: u8, imm: i32, next_imm: i32) -> Result<Spelled, 
     })
 }
 
+/// Arithmetic with two operands.
 fn alu(width: Width, op: AluOp, dst: u8, operand: Operand) -> Spelled
     requires { dst ≤ 10 }
     ensures slots { Ok (spelled_slots result) ≡ spelling (Insn.Alu width op dst operand) }
@@ -176,6 +183,7 @@ fn alu(width: Width, op: AluOp, dst: u8, operand: Operand) -> Spelled
     }
 }
 
+/// A conditional jump.
 fn jump(width: Width, compare: Compare, dst: u8, operand: Operand, offset: i16) -> Spelled
     requires { dst ≤ 10 }
     ensures slots { Ok (spelled_slots result) ≡ spelling (Insn.Jump width compare dst operand offset) }
@@ -187,6 +195,7 @@ fn jump(width: Width, compare: Compare, dst: u8, operand: Operand, offset: i16) 
     }
 }
 
+/// The slots of an instruction, or why it has none.
 fn spell(insn: &Insn) -> Result<Spelled, CodecFault>
     ensures slots { Gives Some spelled_slots result (spelling insn.now) }
     ensures fits { IfOk result SpelledFits }
@@ -279,6 +288,7 @@ fn spell(insn: &Insn) -> Result<Spelled, CodecFault>
     }
 }
 
+/// Writes an instruction behind the bytes of others.
 fn put(bytes: &mut Vec<u8>, insn: &Insn) -> Result<(), CodecError>
     ensures { Appends bytes.old.items bytes.new.items insn.now result }
 {

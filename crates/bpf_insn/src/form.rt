@@ -93,6 +93,7 @@ fn size_of_bits(bits: u8) -> Size
     }
 }
 
+/// The forms of arithmetic at a width.
 fn arithmetic(width: Width, opcode: u8) -> Option<Form>
     ensures { result ≡ alu_form width (opcode / 16) (opcode / 8 % 2) }
 {
@@ -106,6 +107,7 @@ fn arithmetic(width: Width, opcode: u8) -> Option<Form>
     }
 }
 
+/// The forms of jumps, calls and exit at a width.
 fn jump(width: Width, opcode: u8) -> Option<Form>
     ensures { result ≡ jump_form width (opcode / 16) (opcode / 8 % 2) }
 {
@@ -119,6 +121,7 @@ fn jump(width: Width, opcode: u8) -> Option<Form>
     }
 }
 
+/// The forms of loads.
 fn load(opcode: u8) -> Option<Form>
     ensures { result ≡ load_form (opcode / 32) (size_at (opcode / 8 % 4)) }
 {
@@ -130,6 +133,7 @@ fn load(opcode: u8) -> Option<Form>
     }
 }
 
+/// The forms of stores of an immediate.
 fn store_imm(opcode: u8) -> Option<Form>
     ensures { result ≡ store_imm_form (opcode / 32) (size_at (opcode / 8 % 4)) }
 {
@@ -139,6 +143,7 @@ fn store_imm(opcode: u8) -> Option<Form>
     }
 }
 
+/// The forms of stores of a register and of atomics.
 fn store(opcode: u8) -> Option<Form>
     ensures { result ≡ store_form (opcode / 32) (size_at (opcode / 8 % 4)) }
 {

@@ -1,4 +1,13 @@
-//! The bytes of BPF programs, and back, in the terms of RFC 9669.
+//! The bytes of BPF programs, and back, in the terms of RFC 9669. Each program has one spelling in
+//! bytes, and no bytes spell two programs.
+//!
+//! ```text
+//! let insns = decode(alloc, b"\x95\0\0\0\0\0\0\0")?;    // [Insn::Exit]
+//! let bytes = encode(alloc, &insns)?;                   // the same 8 bytes
+//! let cut = decode(alloc, &bytes[..7]);                 // CodecFault::Incomplete at slot 0
+//! let none = decode(alloc, b"\x8d\0\0\0\0\0\0\0");      // CodecFault::UnknownOpcode at slot 0
+//! let number = CodecFault::UnknownOpcode.number();      // 2, of which I2 is printed
+//! ```
 #![tactic(auto)]
 
 mod codec_error;

@@ -5,7 +5,7 @@ use Rattle.array_maps.specs.Accesses.{Access, words_after}
 use Rattle.bpf_insn_form.specs.Program.{Program}
 use Rattle.bpf_step_model.specs.State.{Machine}
 use Rattle.bpf_step_model.specs.Step.{Request, Move, NoStep, Next, Asks, Loops, Refuses, Exits, step}
-use Rattle.bpf_step_model.specs.Run.{Ending, Ended, Stuck, Unfinished, Stretch, told, mapped, with_first, after_access, after_move, run}
+use Rattle.bpf_step_model.specs.Run.{Ending, Stuck, Stretch, told, mapped, with_first, after_access, after_move, run}
 use Rattle.bpf_step_model.specs.Steps.{access_of, GoesOn, Steps, HasNoStep, LeadsToNoStep, RunIsStuck}
 use Rattle.bpf_step_model.proofs.Endings.{mapped_stuck}
 

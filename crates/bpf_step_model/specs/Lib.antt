@@ -13,3 +13,5 @@ pub mod StepRows
 pub mod MapRows
 pub mod Steps
 pub mod Bounds
+pub mod Atomics
+pub mod SoundMachine

@@ -2,7 +2,7 @@
 -- the profile.
 use Rattle.std.specs.Prelude.{◌≡◌, ℕ, ℤ, pos, negsuc, List, [], ◌∷◌, ◌++◌}
 use Rattle.bpf_insn_form.specs.declared.insn.Size.TheVariants.{B, H, W, Dw}
-use Rattle.bpf_insn_form.specs.declared.insn.Width.TheVariants.{W32, W64}
+use Rattle.bpf_insn_form.specs.declared.insn.Width.TheVariants.{W32}
 use Rattle.bpf_insn_form.specs.declared.insn.AtomicOp.{AtomicOp}
 use Rattle.bpf_insn_form.specs.declared.insn.AtomicOp.TheVariants.{Simple, Fetch, Xchg, Cmpxchg}
 use Rattle.bpf_insn_form.specs.declared.insn.SimpleOp.TheVariants as simple
@@ -16,7 +16,7 @@ use Rattle.array_maps.specs.Accesses.{Access, Action, Read, ReadWrite, Reduce}
 use Rattle.bpf_step_model.specs.State.{main_entry}
 use Rattle.bpf_step_model.specs.Run.{Ended, Stuck, Exit as Exited, run}
 use Rattle.bpf_step_model.specs.ProgramInOrder.{program_in_order}
-use Rattle.bpf_step_model.specs.Lines.{mov, alu_reg, map_value, look_up, end, over_two, Gives, Returns, IsStuck}
+use Rattle.bpf_step_model.specs.Lines.{mov, alu_reg, map_value, look_up, end, over_two, Gives, IsStuck}
 
 -- map 0 of one element and map 1 of two
 abbrev pub over_two_maps : List Insn → Program

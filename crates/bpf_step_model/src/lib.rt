@@ -2,6 +2,7 @@
 //! laws alone: nothing runs here.
 #![tactic(auto)]
 
+ghost use Rattle.bpf_step_model.specs.Atomics.{AtomicsAgree};
 ghost use Rattle.bpf_step_model.specs.Bounds.{GreaterBoundAgrees};
 ghost use Rattle.bpf_step_model.specs.LoopRows.{LoopRows};
 ghost use Rattle.bpf_step_model.specs.MapRows.{MapRows};
@@ -44,4 +45,10 @@ pub fn law_of_runs()
 /// The law of bounds: with a greater bound what ended ends the same way, and what was stuck is stuck.
 pub fn law_of_bounds()
     ensures { GreaterBoundAgrees }
+{}
+
+/// The law of atomic operations: on a frame and on a part of a map's element they apply the same
+/// operator, tell the same register the same number, and leave the other half of the element alone.
+pub fn law_of_atomics()
+    ensures { AtomicsAgree }
 {}

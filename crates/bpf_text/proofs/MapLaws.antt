@@ -33,17 +33,3 @@ maps_behind-fails e before number held line lines count sum fails =
 pub maps_behind-end : (before : List (List ℕ)) → maps_behind before [] ≡ Ok before
 unfolding maps_behind
 maps_behind-end before = refl
-
--- ---- a text has to have a map
-
-pub some_maps-none : (r : Result (List (List ℕ)) TextError) (maps : List (List ℕ)) → r ≡ Ok maps → length maps ≡ 0 → some_maps r ≡ Err (errors.Refused faults.Limits 0)
-some_maps-none r [] read none = ap some_maps read
-some_maps-none r (values ∷ maps) read none = absurd (omega arith)
-
-pub some_maps-some : (r : Result (List (List ℕ)) TextError) (maps : List (List ℕ)) → r ≡ Ok maps → 0 < length maps → some_maps r ≡ Ok maps
-some_maps-some r [] read some = absurd (omega arith)
-some_maps-some r (values ∷ maps) read some = ap some_maps read
-
-pub some_maps-fails : (e : TextError) (r : Result (List (List ℕ)) TextError) → Refuses (text_refusal e) r → Refuses (text_refusal e) (some_maps r)
-some_maps-fails errors.Memory r fails = tt
-some_maps-fails (errors.Refused fault line) r fails = ap some_maps fails

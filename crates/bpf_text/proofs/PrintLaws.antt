@@ -9,23 +9,8 @@ use Rattle.bpf_text.specs.MapsText.{lists, value_spelling, map_spelling, spellin
 pub prints_next : (out : List ℕ) (number : ℕ) (values : List ℕ) (maps : List (List ℕ)) → out ++ spelling_from number (values ∷ maps) ≡ (out ++ map_spelling number values) ++ spelling_from (number + 1) maps
 prints_next out number values maps = sym (append_assoc out (map_spelling number values) (spelling_from (number + 1) maps))
 
-pub prints_none : (out : List ℕ) (number : ℕ) → out ++ spelling_from number [] ≡ out
-prints_none out number = append-nil out
-
 -- the map at an index, and the maps behind it
 pub drop-lists : (maps : List (Vec ℕ Global)) (i : ℕ) (v : Vec ℕ Global) → i < length maps → v ≡ get_or maps i v → drop i (lists maps) ≡ v.items ∷ drop (suc i) (lists maps)
 drop-lists [] i v lt same = absurd (omega arith)
 drop-lists (first ∷ maps) zero v lt same = ap (λ (w : Vec ℕ Global). w.items ∷ lists maps) (sym same)
 drop-lists (first ∷ maps) (suc i) v lt same = drop-lists maps i v (omega arith) same
-
--- one more value is printed
-pub values_more : (out : List ℕ) (values : List ℕ) (i : ℕ) → i < length values →
-    (out ++ flat_map value_spelling (take i values)) ++ value_spelling (get_or values i 0) ≡ out ++ flat_map value_spelling (take (i + 1) values)
-values_more out values i lt =
-    flat_map_more value_spelling out (take i values) (get_or values i 0)
-    ∙ ap (λ (vs : List ℕ). out ++ flat_map value_spelling vs) (sym (rw add-one (take-suc values i 0 lt)))
-
--- the parts of a line, one behind the other
-pub map_joined : (out head number colon values end : List ℕ) →
-    ((((out ++ head) ++ number) ++ colon) ++ values) ++ end ≡ out ++ ((((head ++ number) ++ colon) ++ values) ++ end)
-map_joined out head number colon values end = simp append_assoc

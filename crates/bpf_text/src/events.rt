@@ -1,8 +1,8 @@
 //! Events as a text.
 
-ghost use Rattle.std.specs.Prelude.{◌≡◌, ◌≤◌, ◌<◌, ◌+◌, ◌^◌, length, [], slice_index, IfOk};
+ghost use Rattle.std.specs.Prelude.{◌≡◌, ◌≤◌, length, [], slice_index, IfOk};
 ghost use Rattle.std.specs.List.{list_all};
-ghost use Rattle.bpf_text_lines.specs.Lines.{contents_of, contents_from, lines_of};
+ghost use Rattle.bpf_text_lines.specs.Lines.{contents_of};
 ghost use Rattle.bpf_text_lines.specs.Words.{words_of};
 ghost use Rattle.bpf_insn_form.specs.Outcome.{Gives};
 ghost use Rattle.bpf_text_lines.specs.Refusals.{at_line, text_refusal};
@@ -10,7 +10,7 @@ ghost use Rattle.bpf_text.specs.EventsText.{kind_at, is_event, event_at, events_
 
 use crate::event::{EventKind, EventWord};
 use bpf_text_lines::{
-    MAX_TEXT, NumberError, TextError, TextFault, is_number, next_line, next_word, read_number,
+    Lines, MAX_TEXT, NumberError, TextError, TextFault, Words, is_number, next_word, read_number,
     read_u32_fields,
 };
 use std::alloc::Global;
@@ -40,15 +40,14 @@ fn is_event(word: &[u8]) -> bool
 }
 
 /// Whether each word of a line is a letter of a kind and a number of any size.
-fn are_events(words: &[u8]) -> bool
-    ensures { result ≡ list_all is_event (words_of words.now) }
+fn are_events(words: Words<'_>) -> bool
+    ensures { result ≡ list_all is_event words.entry }
 {
-    let mut rest = words;
-    while let Some((word, behind)) = next_word(rest) {
+    let mut words = words;
+    while let Some(word) = words.next() {
         if !is_event(word) {
             return false;
         }
-        rest = behind;
     }
     true
 }
@@ -74,14 +73,13 @@ fn read_event(word: &[u8], line: u32) -> Result<EventWord, TextError>
 }
 
 /// The events of a line's words, or the first fault.
-fn read_words(alloc: Global, words: &[u8], line: u32) -> Result<Vec<EventWord>, TextError>
-    ensures { Gives text_refusal (λ v. v.items) result (at_line line (events_in (words_of words.now))) }
+fn read_words(alloc: Global, words: Words<'_>, line: u32) -> Result<Vec<EventWord>, TextError>
+    ensures { Gives text_refusal (λ v. v.items) result (at_line line (events_in words.entry)) }
 {
+    let mut words = words;
     let mut events = Vec::new(alloc);
-    let mut rest = words;
-    while let Some((word, behind)) = next_word(rest) {
+    while let Some(word) = words.next() {
         events.push(read_event(word, line)?)?;
-        rest = behind;
     }
     Ok(events)
 }
@@ -90,10 +88,10 @@ fn read_words(alloc: Global, words: &[u8], line: u32) -> Result<Vec<EventWord>, 
 fn read_events(alloc: Global, words: &[u8], line: u32) -> Result<Vec<EventWord>, TextError>
     ensures { Gives text_refusal (λ v. v.items) result (at_line line (events_of (words_of words.now))) }
 {
-    if !are_events(words) {
+    if !are_events(Words::of(words)) {
         return Err(TextFault::Form.at(line));
     }
-    read_words(alloc, words, line)
+    read_words(alloc, Words::of(words), line)
 }
 
 /// The bounds that the first line gives, or its fault.
@@ -109,19 +107,15 @@ fn read_bounds(alloc: Global, content: &[u8], line: u32) -> Result<Vec<u32>, Tex
     read_u32_fields(alloc, rest, line)
 }
 
-/// The events of lines, the first of which has this number.
-fn read_lines(alloc: Global, text: &[u8], first: u32) -> Result<Vec<EventWord>, TextError>
-    requires { first + length text.now < 2 ^ 32 }
-    ensures { Gives text_refusal (λ v. v.items) result (events_behind [] (contents_from first (lines_of text.now))) }
+/// The events of lines.
+fn read_lines(alloc: Global, lines: Lines<'_>) -> Result<Vec<EventWord>, TextError>
+    ensures { Gives text_refusal (λ v. v.items) result (events_behind [] lines.entry) }
 {
+    let mut lines = lines;
     let mut events = Vec::new(alloc);
-    let mut rest = text;
-    let mut number = first;
-    while let Some(line) = next_line(rest, number) {
+    while let Some(line) = lines.next() {
         let more = read_events(alloc, line.content, line.number)?;
         events.extend_from_slice(&more)?;
-        rest = line.rest;
-        number = line.number + 1;
     }
     Ok(events)
 }
@@ -131,11 +125,12 @@ fn read_schedule(alloc: Global, text: &[u8]) -> Result<(Vec<u32>, Vec<EventWord>
     requires { length text.now ≤ 1048576 }
     ensures { Gives text_refusal (λ x. (x.0.items, x.1.items)) result (schedule_of (contents_of text.now)) }
 {
-    let Some(head) = next_line(text, 1) else {
+    let mut lines = Lines::of(text);
+    let Some(head) = lines.next() else {
         return Err(TextFault::Form.at(0));
     };
     let bounds = read_bounds(alloc, head.content, head.number)?;
-    let events = read_lines(alloc, head.rest, head.number + 1)?;
+    let events = read_lines(alloc, lines)?;
     Ok((bounds, events))
 }
 

@@ -1,7 +1,7 @@
 //! The values of maps as a text.
 
 ghost use Rattle.std.specs.Prelude.{◌≡◌, ◌≤◌, ◌<◌, ◌+◌, ◌-◌, ◌^◌, length, IsTrue, IfOk, vec_len, [], ◌∷◌, slice_index, ◌==◌};
-ghost use Rattle.bpf_text_lines.specs.Lines.{contents_of, contents_from, lines_of};
+ghost use Rattle.bpf_text_lines.specs.Lines.{contents_of};
 ghost use Rattle.bpf_text_lines.specs.Numbers.{number_in};
 ghost use Rattle.bpf_text_lines.specs.Words.{words_of};
 ghost use Rattle.bpf_insn_form.specs.Outcome.{Gives};
@@ -10,7 +10,7 @@ ghost use Rattle.bpf_text.specs.MapsText.{lists, label_number, is_label, is_map_
 
 use bpf_insn_form::{MAX_ELEMENTS, MAX_MAPS};
 use bpf_text_lines::{
-    MAX_TEXT, TextError, TextFault, is_number, next_line, next_word, read_fields, read_number,
+    Lines, MAX_TEXT, TextError, TextFault, is_number, next_word, read_fields, read_number,
 };
 use std::alloc::Global;
 
@@ -95,14 +95,11 @@ fn read_maps(alloc: Global, text: &[u8]) -> Result<Vec<Vec<u64>>, TextError>
 {
     let mut maps = Vec::new(alloc);
     let mut held = 0;
-    let mut rest = text;
-    let mut number = 1;
-    while let Some(line) = next_line(rest, number) {
+    let mut lines = Lines::of(text);
+    while let Some(line) = lines.next() {
         let values = read_values(alloc, line.content, line.number, maps.len(), held)?;
         held += values.len();
         maps.push(values)?;
-        rest = line.rest;
-        number = line.number + 1;
     }
     Ok(maps)
 }

@@ -1,14 +1,14 @@
 //! The hex form of a unit, read.
 
-ghost use Rattle.std.specs.Prelude.{◌≡◌, ◌≤◌, ◌<◌, ◌+◌, ◌^◌, length, [], IfOk, vec_len};
+ghost use Rattle.std.specs.Prelude.{◌≡◌, ◌≤◌, ◌+◌, length, [], IfOk, vec_len};
 ghost use Rattle.hex.specs.Hex.{decode_of};
-ghost use Rattle.bpf_text_lines.specs.Lines.{contents_of, contents_from, lines_of};
+ghost use Rattle.bpf_text_lines.specs.Lines.{contents_of};
 ghost use Rattle.bpf_text_lines.specs.Words.{words_of};
 ghost use Rattle.bpf_insn_form.specs.Outcome.{Gives};
 ghost use Rattle.bpf_text_lines.specs.Refusals.{at_line, text_refusal};
 ghost use Rattle.bpf_text_hex.specs.HexText.{as_bytes, bytes_of, bytes_behind, hex_parts_of, hex_text};
 
-use bpf_text_lines::{MAX_BYTES, MAX_TEXT, TextError, TextFault, next_line, next_word, read_head};
+use bpf_text_lines::{Lines, MAX_BYTES, MAX_TEXT, TextError, TextFault, next_word, read_head};
 use hex::FromHexError;
 use std::alloc::Global;
 use std::marker::Model;
@@ -63,19 +63,15 @@ fn read_bytes(alloc: Global, content: &[u8], line: u32, before: usize) -> Result
     read_digits(alloc, word, line, before)
 }
 
-/// The bytes of all lines of a text whose first line has this number.
-fn read_lines(alloc: Global, text: &[u8], first: u32) -> Result<Vec<u8>, TextError>
-    requires { first + length text.now < 2 ^ 32 }
-    ensures { Gives text_refusal (λ v. v.items) result (bytes_behind [] (contents_from first (lines_of text.now))) }
+/// The bytes of lines.
+fn read_lines(alloc: Global, lines: Lines<'_>) -> Result<Vec<u8>, TextError>
+    ensures { Gives text_refusal (λ v. v.items) result (bytes_behind [] lines.entry) }
 {
+    let mut lines = lines;
     let mut bytes = Vec::new(alloc);
-    let mut rest = text;
-    let mut number = first;
-    while let Some(line) = next_line(rest, number) {
+    while let Some(line) = lines.next() {
         let more = read_bytes(alloc, line.content, line.number, bytes.len())?;
         bytes.extend_from_slice(&more)?;
-        rest = line.rest;
-        number = line.number + 1;
     }
     Ok(bytes)
 }
@@ -85,11 +81,12 @@ fn read_parts(alloc: Global, text: &[u8]) -> Result<HexUnit, TextError>
     requires { length text.now ≤ 1048576 }
     ensures { Gives text_refusal (λ u. u) result (hex_parts_of (contents_of text.now)) }
 {
-    let Some(head) = next_line(text, 1) else {
+    let mut lines = Lines::of(text);
+    let Some(head) = lines.next() else {
         return Err(TextFault::Form.at(0));
     };
     let sizes = read_head(alloc, head.content, head.number)?;
-    let bytes = read_lines(alloc, head.rest, head.number + 1)?;
+    let bytes = read_lines(alloc, lines)?;
     Ok(HexUnit { sizes, bytes })
 }
 

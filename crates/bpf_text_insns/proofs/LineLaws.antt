@@ -1,10 +1,8 @@
 -- The lines of a text are those that were joined by newlines, and printed lines say what they are.
-use Rattle.std.proofs.Common.{◌≡◌, ℕ, ◌+◌, ◌-◌, ◌≤◌, Bool, true, false, ◌&&◌, ◌==◌, not, get_or, List, [], ◌∷◌, ◌++◌, length, refl, sym, ap, ◌∙◌, arith}
+use Rattle.std.proofs.Common.{◌≡◌, ℕ, ◌+◌, ◌≤◌, Bool, true, false, ◌&&◌, ◌==◌, not, List, [], ◌∷◌, ◌++◌, refl, sym, ap, ◌∙◌, arith}
 use Rattle.std.specs.Prelude.{nat_le}
 use Rattle.std.specs.List.{list_all}
 use Rattle.std.proofs.lemmas.Bool.{ne_eqb, leb-true, and_parts, cond-false}
-use Rattle.std.proofs.lemmas.List.{length-append}
-use Rattle.std.proofs.Math.Seq.{get_or-append_seam}
 use Rattle.bpf_text_lines.specs.Lines.{with_front, lines_of, before_comment, is_blank, trim_start, trim_end, trim, content_of, with_content, contents_from}
 use Rattle.bpf_text_lines.proofs.LineLaws.{trim_end-kept}
 use Rattle.bpf_text_insns.proofs.SolidWords.{in_line, is_solid, Ends, Line}

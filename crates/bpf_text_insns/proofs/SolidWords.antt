@@ -49,7 +49,7 @@ pub record Line (text : List ℕ) : Type 0 where
   pub begins : (b : ℕ) × (bs : List ℕ) × (text ≡ b ∷ bs) × (is_solid b ≡ true)
   pub ends : Ends text
 
--- what a line begins with: a byte of a word first, at most 16 bytes
+-- what a line begins with: a byte of a word first, at most 20 bytes
 pub record Front (text : List ℕ) : Type 0 where
   pub inner : list_all in_line text ≡ true
   pub begins : (b : ℕ) × (bs : List ℕ) × (text ≡ b ∷ bs) × (is_solid b ≡ true)

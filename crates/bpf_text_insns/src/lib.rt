@@ -13,4 +13,3 @@ pub use printing::{print_head, print_insn};
 pub use statement::{mnemonic_of, operands_of};
 pub use value::{Operands, Value};
 pub use words::{alu_word, atomic_word, callee_word, compare_word, kind_word, order_word};
-

@@ -1,6 +1,8 @@
 //! What the words at the front of a line say.
 
-use bpf_insn_form::{AluOp, AtomicOp, ByteOrder, Callee, Compare, EndianBits, ImmKind, MovsxBits, Size, Width};
+use bpf_insn_form::{
+    AluOp, AtomicOp, ByteOrder, Callee, Compare, EndianBits, ImmKind, MovsxBits, Size, Width,
+};
 
 /// What the words before the operands of a line say.
 #[derive(Clone, Copy, Debug, PartialEq, Eq)]

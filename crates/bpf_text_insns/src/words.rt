@@ -3,7 +3,10 @@
 ghost use Rattle.std.specs.Prelude.{◌≡◌};
 ghost use Rattle.bpf_text_insns.specs.MnemonicWords.{width_word, size_word, alu_word, order_word, endian_word, movsx_word, compare_word, callee_word, atomic_word, kind_word};
 
-use bpf_insn_form::{AluOp, AtomicOp, ByteOrder, Callee, Compare, EndianBits, ImmKind, MovsxBits, SimpleOp, Size, Width};
+use bpf_insn_form::{
+    AluOp, AtomicOp, ByteOrder, Callee, Compare, EndianBits, ImmKind, MovsxBits, SimpleOp, Size,
+    Width,
+};
 
 /// The bits of a width.
 pub fn width_word(width: Width) -> &'static str

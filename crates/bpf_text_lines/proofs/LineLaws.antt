@@ -6,7 +6,7 @@ use Rattle.std.proofs.lemmas.Bool.{ltb-false, ltb-true}
 use Rattle.std.proofs.lemmas.List.{length-drop, take_all}
 use Rattle.std.proofs.Math.ListN.{drop_of_length-le}
 use Rattle.std.proofs.Math.Seq.{take-length, take-suc}
-use Rattle.bpf_text_lines.specs.Lines.{with_front, lines_of, before_comment, is_blank, trim_start, before_kept, trim_end}
+use Rattle.bpf_text_lines.specs.Lines.{with_front, lines_of, before_comment, is_blank, trim_start, before_kept, trim_end, content_of, with_content, contents_from, contents_of}
 
 chosen_some : (b : Bool) (m n : ℕ) → Some n ≡ cond b (Some m) None → (b ≡ true) × (m ≡ n)
 chosen_some true m n e = (refl, cc)
@@ -137,3 +137,32 @@ end_found bytes end some inside kept same =
     last_apart bytes end some inside
     ∙ sym (trim_end-kept (take (end - 1) bytes) (get_or bytes (end - 1) 0) kept)
     ∙ ap trim_end (sym (last_apart bytes end some inside)) ∙ same
+
+-- ---- how many lines there are
+
+one_more : (b : ℕ) (lines : List (List ℕ)) → length (with_front b lines) ≤ suc (length lines)
+one_more b [] = omega arith
+one_more b (line ∷ lines) = omega arith
+
+lines_step : (t : Bool) (b n : ℕ) (lines : List (List ℕ)) → length lines ≤ n → length (cond t ([] ∷ lines) (with_front b lines)) ≤ suc n
+lines_step true b n lines le = omega (arith, le)
+lines_step false b n lines le = (let more = one_more b lines in omega (arith, le, more))
+
+lines_few : (text : List ℕ) → length (lines_of text) ≤ length text
+lines_few [] = omega arith
+lines_few (b ∷ bs) = lines_step (b == 10) b (length bs) (lines_of bs) (lines_few bs)
+
+content_more : (number : ℕ) (content : List ℕ) (others : List (ℕ × List ℕ)) → length (with_content number content others) ≤ suc (length others)
+content_more number [] others = omega arith
+content_more number (b ∷ bs) others = omega arith
+
+contents_few : (number : ℕ) (lines : List (List ℕ)) → length (contents_from number lines) ≤ length lines
+contents_few number [] = omega arith
+contents_few number (line ∷ lines) =
+    let others = contents_few (number + 1) lines in
+    let more = content_more number (content_of line) (contents_from (number + 1) lines) in
+    omega (arith, others, more)
+
+-- no more than bytes
+pub length-contents_of : (text : List ℕ) → length (contents_of text) ≤ length text
+length-contents_of text = (let lines = lines_few text in let contents = contents_few 1 (lines_of text) in omega (arith, lines, contents))

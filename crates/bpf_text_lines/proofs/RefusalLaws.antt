@@ -1,6 +1,5 @@
 -- Reading values one after the other, as a loop does.
 use Rattle.std.proofs.Common.{◌≡◌, ℕ, List, [], ◌∷◌, ◌++◌, Result, Ok, Err, refl, sym, ap, ◌∙◌, append_assoc}
-use Rattle.std.proofs.lemmas.List.{append-nil}
 use Rattle.bpf_text_lines.specs.declared.text_error.TextFault.{TextFault}
 use Rattle.bpf_text_lines.specs.declared.text_error.TextError.{TextError}
 use Rattle.bpf_text_lines.specs.declared.text_error.TextError.TheVariants as errors
@@ -39,6 +38,3 @@ ends (errors.Refused fault at) line front (Err other) others total fails so_far 
     let refusal : total ≡ Err other = sym so_far in
     let same : errors.Refused other line ≡ errors.Refused fault at = cc in
     ap (at_line line) refusal ∙ ap (λ (error : TextError). Err error) same
-
-pub is_done : {X : Type 0} (line : ℕ) (front : List X) (total : Result (List X) TextFault) → with_front front (Ok []) ≡ total → at_line line total ≡ Ok front
-is_done {X} line front total so_far = ap (at_line line) (sym so_far) ∙ ap (λ (list : List X). Ok list) (append-nil front)

@@ -94,3 +94,7 @@ decimal_digits n fits =
     let parts = and_parts (list_all is_ascii_digit (decimal n)) _ numeral in
     let filled = is_filled (decimal n) parts.1 in
     record { numeral = numeral; digits = parts.0; filled = filled; first = first_from (decimal n) filled parts.0 }
+
+-- what is read without a sign is a numeral
+pub numeral_if : (limit : ℕ) (word : List ℕ) (n : ℕ) → number_in limit word ≡ Ok n → is_numeral word ≡ true
+numeral_if limit word n e = is_answer (is_numeral word) (nat_le (value_of word) limit) (is_negative word) (value_of word) n e

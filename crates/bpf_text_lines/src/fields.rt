@@ -8,21 +8,20 @@ ghost use Rattle.bpf_insn_form.specs.Outcome.{Gives};
 ghost use Rattle.bpf_text_lines.specs.Refusals.{at_line, text_refusal};
 ghost use Rattle.bpf_text_lines.specs.Fields.{field_of, numbers_in, fields_of};
 
-use crate::text_error::{TextError, TextFault};
 use crate::numbers::{NumberError, is_number, read_number};
-use crate::words::next_word;
+use crate::text_error::{TextError, TextFault};
+use crate::words::Words;
 use std::alloc::{AllocError, Global};
 
 /// Whether each word of a line is a number of any size.
-fn are_numbers(words: &[u8]) -> bool
-    ensures { result ≡ list_all is_number (words_of words.now) }
+fn are_numbers(words: Words<'_>) -> bool
+    ensures { result ≡ list_all is_number words.entry }
 {
-    let mut rest = words;
-    while let Some((word, behind)) = next_word(rest) {
+    let mut words = words;
+    while let Some(word) = words.next() {
         if !is_number(word) {
             return false;
         }
-        rest = behind;
     }
     true
 }
@@ -39,14 +38,18 @@ fn read_field(word: &[u8], limit: u64, line: u32) -> Result<u64, TextError>
 }
 
 /// The numbers of a line's words, each in a field of 0 to the limit, or the first fault.
-fn read_numbers(alloc: Global, words: &[u8], limit: u64, line: u32) -> Result<Vec<u64>, TextError>
-    ensures { Gives text_refusal (λ v. v.items) result (at_line line (numbers_in limit (words_of words.now))) }
+fn read_numbers(
+    alloc: Global,
+    words: Words<'_>,
+    limit: u64,
+    line: u32,
+) -> Result<Vec<u64>, TextError>
+    ensures { Gives text_refusal (λ v. v.items) result (at_line line (numbers_in limit words.entry)) }
 {
+    let mut words = words;
     let mut numbers = Vec::new(alloc);
-    let mut rest = words;
-    while let Some((word, behind)) = next_word(rest) {
+    while let Some(word) = words.next() {
         numbers.push(read_field(word, limit, line)?)?;
-        rest = behind;
     }
     Ok(numbers)
 }
@@ -61,10 +64,10 @@ pub fn read_fields(
 ) -> Result<Vec<u64>, TextError>
     ensures { Gives text_refusal (λ v. v.items) result (at_line line (fields_of limit (words_of words.now))) }
 {
-    if !are_numbers(words) {
+    if !are_numbers(Words::of(words)) {
         return Err(TextFault::Form.at(line));
     }
-    read_numbers(alloc, words, limit, line)
+    read_numbers(alloc, Words::of(words), limit, line)
 }
 
 /// The same numbers as `u32`.

@@ -5,6 +5,7 @@ ghost use Rattle.bpf_text_lines.specs.Lines.{is_blank};
 ghost use Rattle.bpf_text_lines.specs.Words.{words_of};
 
 use crate::lines::trim_start;
+use std::marker::Model;
 
 /// Whether the byte is a space or a tab.
 pub fn is_blank(byte: u8) -> bool
@@ -34,4 +35,42 @@ pub fn blank_at(line: &[u8]) -> Option<usize>
     ensures { result ≡ position is_blank line.now }
 {
     line.iter().position(|b| is_blank(*b))
+}
+
+/// The words of a line that are left. In contracts they are the list of these words.
+#[derive(Drop)]
+pub struct Words<'a> {
+    line: &'a [u8],
+}
+
+impl<'a> Model for Words<'a> {
+    ghost use Rattle.std.specs.Prelude.{ℕ, List};
+    ghost use Rattle.bpf_text_lines.specs.Words.{words_of};
+
+    ghost Value = { List (List ℕ) };
+
+    ghost view = { λ w. words_of w.line.now };
+}
+
+impl<'a> Words<'a> {
+    /// All words of a line.
+    pub fn of(line: &'a [u8]) -> Words<'a>
+        ensures { result ≡ words_of line.now }
+    {
+        Words { line }
+    }
+
+    /// The first word, and what is left is behind it.
+    pub fn next(&mut self) -> Option<&'a [u8]>
+        ensures some { IfSome result (λ word. self.old ≡ word.now ∷ self.new) }
+        ensures none { IfNone result (self.old ≡ []) }
+    {
+        match next_word(self.line) {
+            Some((word, rest)) => {
+                self.line = rest;
+                Some(word)
+            }
+            None => None,
+        }
+    }
 }

@@ -5,3 +5,4 @@ pub mod PlainLaws
 pub mod ValueLaws
 pub mod LineBack
 pub mod InsnBack
+pub mod LineSlots

@@ -1,17 +1,16 @@
 -- Each operand is read back from its spelling.
-use Rattle.std.proofs.Common.{◌≡◌, ℕ, suc, ℤ, pos, negsuc, ◌+◌, ◌-◌, ◌<◌, ◌≤◌, ◌^◌, Bool, true, false, cond, ◌&&◌, ◌==◌, List, [], ◌∷◌, ◌++◌, length, take, drop, get_or, Result, Ok, Err, Option, refl, sym, ap, ◌∙◌, arith}
-use Rattle.std.specs.Prelude.{nat_le, nat_lt, FitsSigned}
+use Rattle.std.proofs.Common.{◌≡◌, ℕ, suc, ℤ, pos, negsuc, ◌+◌, ◌-◌, ◌<◌, ◌≤◌, ◌^◌, Bool, true, false, cond, ◌&&◌, ◌==◌, List, [], ◌∷◌, ◌++◌, length, take, drop, get_or, Result, Ok, Err, Option, refl, ap, ◌∙◌, arith}
+use Rattle.std.specs.Prelude.{nat_lt, FitsSigned}
 use Rattle.std.specs.Char.{is_ascii_digit}
 use Rattle.std.specs.Fmt.{decimal, signed_decimal}
-use Rattle.std.specs.Int.{w16, w32}
+use Rattle.std.specs.Int.{w32}
 use Rattle.std.specs.List.{list_all, position_or_len}
 use Rattle.std.proofs.lemmas.Bool.{ne_eqb, lt-ltb, and_parts, and_from, cond-true, cond-false}
 use Rattle.std.proofs.lemmas.Fmt.{first_decimal}
 use Rattle.std.proofs.lemmas.List.{length-append}
 use Rattle.std.proofs.Math.Seq.{take-append_seam, drop-append_seam, get_or-append_seam}
-use Rattle.bpf_text_lines.specs.declared.numbers.NumberError.TheVariants as numbers
 use Rattle.bpf_text_lines.specs.Names.{continues_name, is_name}
-use Rattle.bpf_text_lines.specs.Numbers.{is_numeral, is_negative, number_in, value_of}
+use Rattle.bpf_text_lines.specs.Numbers.{is_numeral, is_negative, number_in}
 use Rattle.bpf_text_lines.proofs.SpellingLaws.{in_field, digit_low, decimal_digits}
 use Rattle.bpf_text_lines.specs.declared.text_error.TextFault.{TextFault}
 use Rattle.bpf_text_lines.specs.declared.text_error.TextFault.TheVariants as faults

@@ -3,7 +3,10 @@
 ghost use Rattle.std.specs.Prelude.{◌≡◌, Some};
 ghost use Rattle.bpf_text_operands.specs.Statements.{two_slots_of, insn_of_mnemonic};
 
-use bpf_insn_form::{AluOp, AtomicOp, ByteOrder, Callee, Compare, EndianBits, ImmKind, Insn, MovsxBits, Operand, Reg, Size, Width};
+use bpf_insn_form::{
+    AluOp, AtomicOp, ByteOrder, Callee, Compare, EndianBits, ImmKind, Insn, MovsxBits, Operand,
+    Reg, Size, Width,
+};
 use bpf_text_insns::{Mnemonic, Operands, Value};
 
 /// A two-slot load of a number.

@@ -6,7 +6,8 @@ ghost use Rattle.bpf_insn.specs.declared.slot.Slot.{Slot};
 ghost use Rattle.bpf_insn.specs.Spelling.{spelling};
 ghost use Rattle.bpf_insn_form.specs.Values.{InsnFits};
 ghost use Rattle.bpf_text_insns.specs.PrintedLines.{insn_spelling};
-ghost use Rattle.bpf_text_operands.specs.Statements.{insn_of_line};
+ghost use Rattle.bpf_insn_form.specs.Slots.{slots_of};
+ghost use Rattle.bpf_text_operands.specs.Statements.{insn_of_line, slots_at};
 
 /// The line of an instruction that has bytes is read back as it, at any slot and whatever the labels
 /// are.
@@ -19,4 +20,10 @@ pub fn line_is_read_back()
 pub fn line_of_one_insn()
     ensures { (i j : Insn) (a b : List Slot) → InsnFits i → InsnFits j
         → spelling i ≡ Ok a → spelling j ≡ Ok b → insn_spelling i ≡ insn_spelling j → i ≡ j }
+{}
+
+/// A line takes the slots of the instruction that it is.
+pub fn line_takes_its_slots()
+    ensures { (i : Insn) (find : List ℕ → Option ℕ) (slot : ℕ) (line : List ℕ)
+        → insn_of_line find slot line ≡ Ok i → slots_at line ≡ slots_of i }
 {}

@@ -7,8 +7,9 @@ ghost use Rattle.bpf_text_lines.specs.Fields.{fault_of};
 ghost use Rattle.bpf_text_operands.specs.SignedNumbers.{is_register, register_at, ahead, back, signed_at, is_ahead, is_offset, offset_at, distance_to};
 
 use bpf_insn_form::Reg;
-use bpf_text_lines::TextFault;
-use bpf_text_lines::{NumberError, has_only_digits, is_negative, is_numeral, read_number};
+use bpf_text_lines::{
+    NumberError, TextFault, has_only_digits, is_negative, is_numeral, read_number,
+};
 
 /// Whether a word is an `r` and digits.
 pub fn is_register(word: &[u8]) -> bool

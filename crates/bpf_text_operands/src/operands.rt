@@ -14,9 +14,8 @@ use crate::numbers::{
 };
 use crate::pairs::pair;
 use bpf_insn_form::Reg;
-use bpf_text_lines::TextFault;
 use bpf_text_insns::{Operands, Value};
-use bpf_text_lines::{is_name, is_number, read_number, trim};
+use bpf_text_lines::{TextFault, is_name, is_number, read_number, trim};
 
 /// The bound of distances and offsets of 16 bits, which lie from its negative to below it.
 const NEAR: u64 = 1 << 15;

@@ -10,9 +10,8 @@ use crate::labels::Labels;
 use crate::operands::{all_stand, operands_at};
 use crate::tables::{atomic_at, atomic_width, mnemonic_at};
 use bpf_insn_form::Insn;
-use bpf_text_lines::TextFault;
 use bpf_text_insns::{Mnemonic, Operands};
-use bpf_text_lines::{blank_at, trim_start};
+use bpf_text_lines::{TextFault, blank_at, trim_start};
 
 /// A text up to its first blank, and what stands behind its blanks there.
 fn split_word(text: &[u8]) -> (&[u8], &[u8])

@@ -1,12 +1,11 @@
 //! Label lines.
 
-ghost use Rattle.std.specs.Prelude.{◌≡◌, ◌≤◌, ◌<◌, ◌+◌, ◌^◌, ℕ, List, IfSome, IfNone, IfOk, OnOk, length, true, false};
-ghost use Rattle.bpf_text_lines.specs.Lines.{contents_from, lines_of};
+ghost use Rattle.std.specs.Prelude.{◌≡◌, ◌≤◌, ◌+◌, ℕ, List, IfSome, IfNone, IfOk, OnOk, length, true, false};
 ghost use Rattle.std.specs.Option.{option_or};
 ghost use Rattle.bpf_text_operands.specs.LabelTable.{found};
 ghost use Rattle.bpf_text_units.specs.AssemblerText.{name_of, is_label, line_slots, line_label, labels_from};
 
-use bpf_text_lines::{is_name, next_line};
+use bpf_text_lines::{Lines, is_name};
 use bpf_text_operands::{Label, Labels, line_slots};
 use std::alloc::{AllocError, Global};
 
@@ -45,20 +44,16 @@ fn define_line<'a>(
     Ok(slot)
 }
 
-/// The labels of lines, the first of which has this number and stands at slot 0.
-pub fn read_labels<'a>(alloc: Global, text: &'a [u8], first: u32) -> Result<Labels<'a>, AllocError>
-    requires number { first + length text.now < 2 ^ 32 }
-    requires text { length text.now ≤ 1048576 }
-    ensures { IfOk result (λ labels. (name : List ℕ) → found labels name ≡ labels_from 0 (contents_from first (lines_of text.now)) name) }
+/// The labels of lines, the first of which stands at slot 0.
+pub fn read_labels<'a>(alloc: Global, lines: Lines<'a>) -> Result<Labels<'a>, AllocError>
+    requires { length lines ≤ 1048576 }
+    ensures { IfOk result (λ labels. (name : List ℕ) → found labels name ≡ labels_from 0 lines.entry name) }
 {
+    let mut lines = lines;
     let mut labels = Labels::new(alloc);
     let mut slot = 0;
-    let mut rest = text;
-    let mut number = first;
-    while let Some(line) = next_line(rest, number) {
+    while let Some(line) = lines.next() {
         slot = define_line(&mut labels, line.content, line.number, slot)?;
-        rest = line.rest;
-        number = line.number + 1;
     }
     Ok(labels)
 }

@@ -1,9 +1,8 @@
 //! The instructions of a unit's lines.
 
-ghost use Rattle.std.specs.Prelude.{◌≡◌, ◌≤◌, ◌<◌, ◌+◌, ◌^◌, [], IfOk, length, if◌then◌else◌, Ok, Err};
+ghost use Rattle.std.specs.Prelude.{◌≡◌, ◌≤◌, [], IfOk, if◌then◌else◌, Ok, Err};
 ghost use Rattle.bpf_insn_form.specs.Outcome.{Gives};
 ghost use Rattle.bpf_text_lines.specs.Refusals.{at_line, text_refusal};
-ghost use Rattle.bpf_text_lines.specs.Lines.{contents_from, lines_of};
 ghost use Rattle.bpf_text_operands.specs.LabelTable.{found};
 ghost use Rattle.bpf_text_operands.specs.Statements.{insn_of_line};
 ghost use Rattle.bpf_text_operands.specs.LabelTable.{label_slots};
@@ -12,7 +11,7 @@ ghost use Rattle.bpf_text_units.specs.AssemblerText.{label_at, in_limit, line_at
 
 use crate::label::label_name;
 use bpf_insn_form::{Insn, MAX_SLOTS, slots};
-use bpf_text_lines::{TextError, TextFault, next_line};
+use bpf_text_lines::{Lines, TextError, TextFault};
 use bpf_text_operands::{Labels, read_insn};
 use std::alloc::Global;
 
@@ -69,24 +68,19 @@ fn add_line(
     }
 }
 
-/// The instructions of lines, the first of which has this number, where these are the labels.
+/// The instructions of lines, where these are the labels.
 pub fn read_insns(
     alloc: Global,
-    text: &[u8],
-    first: u32,
+    lines: Lines<'_>,
     labels: &Labels<'_>,
 ) -> Result<Vec<Insn>, TextError>
-    requires { first + length text.now < 2 ^ 32 }
-    ensures { Gives text_refusal (λ v. v.items) result (insns_behind (found labels.now) [] (contents_from first (lines_of text.now))) }
+    ensures { Gives text_refusal (λ v. v.items) result (insns_behind (found labels.now) [] lines.entry) }
 {
+    let mut lines = lines;
     let mut insns = Vec::new(alloc);
     let mut slot = 0;
-    let mut rest = text;
-    let mut number = first;
-    while let Some(line) = next_line(rest, number) {
+    while let Some(line) = lines.next() {
         slot = add_line(&mut insns, line.content, line.number, labels, slot)?;
-        rest = line.rest;
-        number = line.number + 1;
     }
     Ok(insns)
 }

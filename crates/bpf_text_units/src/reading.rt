@@ -9,8 +9,7 @@ ghost use Rattle.bpf_text_units.specs.AssemblerText.{unit_of, assembler_text};
 use crate::label::read_labels;
 use crate::program::read_insns;
 use bpf_insn_form::Unit;
-use bpf_text_lines::{TextFault, MAX_TEXT, TextError, read_head};
-use bpf_text_lines::next_line;
+use bpf_text_lines::{Lines, MAX_TEXT, TextError, TextFault, read_head};
 use std::alloc::Global;
 
 /// The unit of a text that isn't too long.
@@ -18,12 +17,13 @@ fn read_unit(alloc: Global, text: &[u8]) -> Result<Unit, TextError>
     requires { length text.now ≤ 1048576 }
     ensures { Gives text_refusal (λ u. u) result (unit_of (contents_of text.now)) }
 {
-    let Some(head) = next_line(text, 1) else {
+    let mut lines = Lines::of(text);
+    let Some(head) = lines.next() else {
         return Err(TextFault::Form.at(0));
     };
     let sizes = read_head(alloc, head.content, head.number)?;
-    let labels = read_labels(alloc, head.rest, head.number + 1)?;
-    let insns = read_insns(alloc, head.rest, head.number + 1, &labels)?;
+    let labels = read_labels(alloc, lines.again())?;
+    let insns = read_insns(alloc, lines, &labels)?;
     Ok(Unit { sizes, insns })
 }
 

@@ -1,5 +1,8 @@
 //! What a command line can ask for.
 
+ghost use Rattle.std.specs.Prelude.{◌≡◌};
+
+use std::alloc::{AllocError, AllocFailed};
 use thiserror::Error;
 
 /// How a unit is written.
@@ -34,10 +37,31 @@ pub enum Job {
 /// Why a command line asks for nothing.
 #[derive(Debug, Drop, PartialEq, Error)]
 pub enum LineFault {
-    /// The words are no command, or ask for help; the text says what can be asked for.
+    /// The words are no command, or ask for help. The text says what is wrong with them, or what can
+    /// be asked for.
     #[error("{0}")]
     Usage(String),
     /// There was no memory to read the words.
     #[error("out of memory")]
     Memory,
+}
+
+impl From<AllocError> for LineFault {
+    ghost use Rattle.bpfspec_command_line.specs.declared.job.LineFault.TheVariants.{Memory};
+
+    ghost from_gives = { λ _ e. e ≡ Memory };
+
+    fn from(_e: AllocError) -> LineFault {
+        LineFault::Memory
+    }
+}
+
+impl<T: Drop> From<AllocFailed<T>> for LineFault {
+    ghost use Rattle.bpfspec_command_line.specs.declared.job.LineFault.TheVariants.{Memory};
+
+    ghost from_gives = { λ _ e. e ≡ Memory };
+
+    fn from(_e: AllocFailed<T>) -> LineFault {
+        LineFault::Memory
+    }
 }

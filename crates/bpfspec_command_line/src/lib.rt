@@ -5,7 +5,4 @@ mod job;
 mod words;
 
 pub use job::{Job, LineFault, Mode, UnitForm};
-pub use words::{mode_of, read_words};
-
-#[cfg(test)]
-mod tests;
+pub use words::{read_command_line, read_words};

@@ -1,6 +1,8 @@
 //! The words of a command line, as the job that they ask for.
 
-ghost use Rattle.std.specs.Prelude.{◌≡◌, false, map, IfOk, IfSome};
+ghost use Rattle.std.specs.Prelude.{◌≡◌, ℕ, List, false, map, IfOk, IfSome};
+ghost use Rattle.std.specs.IoError.{error_kind};
+ghost use Rattle.std.specs.declared.io.ErrorKind.TheVariants as io_errors;
 ghost use Rattle.clap.specs.Words.{app_of, found_of, kind_of, rows_of, rule_of, subcommand_of, subcommand_rows_of};
 ghost use Rattle.bpfspec_command_line.specs.CommandLine.{AsksFor, AsksForJob, IsArgument, IsForm, IsLocal, arg_rule, bpfspec_app, hex_rule, order_app, verify_app};
 
@@ -8,9 +10,12 @@ use crate::job::{Job, LineFault, Mode, UnitForm};
 use clap::error::ErrorKind;
 use clap::{Arg, ArgAction, ArgMatches, Command};
 use std::alloc::{AllocError, Global};
+use std::convert::AsStr;
+use std::env::Env;
+use std::{env, io};
 
-/// The text of what clap answers in place of matches.
-fn usage_fault(alloc: Global, error: &clap::Error) -> LineFault
+/// The fault that clap tells of.
+fn fault_of(alloc: Global, error: &clap::Error) -> LineFault
     ensures { kind_of error.now ≡ ErrorKind.OutOfMemory → result ≡ LineFault.Memory }
 {
     if error.kind() == ErrorKind::OutOfMemory {
@@ -22,10 +27,38 @@ fn usage_fault(alloc: Global, error: &clap::Error) -> LineFault
     }
 }
 
-/// The usage of the command, where its words name no subcommand.
-fn usage(command: &mut Command<'_>) -> LineFault {
-    match command.render_usage() {
-        Ok(text) => LineFault::Usage(text),
+/// The fault of words that are wrong in a way that clap doesn't judge, told as clap tells its own.
+fn own_fault(alloc: Global, command: &mut Command<'_>, wrong: &str) -> LineFault {
+    match command.error(ErrorKind::ValueValidation, wrong) {
+        Ok(error) => fault_of(alloc, &error),
+        Err(_) => LineFault::Memory,
+    }
+}
+
+/// The fault of an --arg that is no number of 64 bits, with the usage of its subcommand.
+fn argument_fault(alloc: Global, matches: &ArgMatches<'_>) -> Result<LineFault, AllocError> {
+    let given = matches
+        .subcommand_matches("order")
+        .and_then(|order| order.get_str("arg"))
+        .unwrap_or("");
+    let wrong = format!(
+        in alloc;
+        "invalid value '{given}' for '--arg <N>': not a number from 0 to {}",
+        u64::MAX
+    )?;
+    let mut order = order_command(alloc)?.bin_name("bpfspec order")?;
+    Ok(own_fault(alloc, &mut order, &wrong))
+}
+
+/// The fault of words that the system doesn't give.
+fn words_fault(alloc: Global, error: &io::Error) -> LineFault
+    ensures { error_kind error.now ≡ io_errors.OutOfMemory → result ≡ LineFault.Memory }
+{
+    if error.kind() == io::ErrorKind::OutOfMemory {
+        return LineFault::Memory;
+    }
+    match bpfspec_command(alloc) {
+        Ok(mut command) => own_fault(alloc, &mut command, "a word isn't UTF-8"),
         Err(_) => LineFault::Memory,
     }
 }
@@ -106,7 +139,7 @@ fn argument(matches: &ArgMatches<'_>) -> Option<u64>
 
 /// The mode that the words ask for in which clap found these matches, or None where they name none of
 /// the program's subcommands, or give an argument that is no number below 2^64.
-pub fn mode_of(matches: &ArgMatches<'_>) -> Option<Mode>
+fn mode_of(matches: &ArgMatches<'_>) -> Option<Mode>
     ensures { IfSome result (AsksFor (subcommand_rows_of matches.now)) }
 {
     if let Some(verify) = matches.subcommand_matches("verify") {
@@ -132,18 +165,33 @@ pub fn mode_of(matches: &ArgMatches<'_>) -> Option<Mode>
 /// It fails with `Usage` where they aren't `verify [--hex]`, `order [--hex] [--arg N]`, N from
 /// 0 to 18446744073709551615, `asm` or `disasm`, and where they ask for help; and with `Memory` where there
 /// is no memory.
-pub fn read_words<'a>(alloc: Global, words: &'a [&'a str]) -> Result<Job, LineFault>
-    ensures { IfOk result (AsksForJob (subcommand_of bpfspec_app (map (λ word. word.now) words.now))) }
+pub fn read_words<S: AsStr>(alloc: Global, words: &[S]) -> Result<Job, LineFault>
+    ensures { IfOk result (AsksForJob (subcommand_of bpfspec_app (map S.text words.now))) }
 {
-    let Ok(mut command) = bpfspec_command(alloc) else {
-        return Err(LineFault::Memory);
-    };
+    let mut command = bpfspec_command(alloc)?;
     let matches = match command.try_get_matches_from_mut(words) {
         Ok(matches) => matches,
-        Err(error) => return Err(usage_fault(alloc, &error)),
+        Err(error) => return Err(fault_of(alloc, &error)),
     };
     match mode_of(&matches) {
         Some(mode) => Ok(Job::Serve(mode)),
-        None => Err(usage(&mut command)),
+        None => Err(argument_fault(alloc, &matches)?),
     }
+}
+
+/// Reads the words that the process was started with. It fails as `read_words` does, and with `Usage`
+/// where one of them isn't UTF-8.
+pub fn read_command_line<R: Env + AllocGlobal>(rt: &R) -> Result<Job, LineFault>
+    ensures { IfOk result (λ job. (words : List (List ℕ)) × AsksForJob (subcommand_of bpfspec_app words) job) }
+{
+    let alloc = rt.alloc();
+    let arguments = match env::args(rt) {
+        Ok(arguments) => arguments,
+        Err(error) => return Err(words_fault(alloc, &error)),
+    };
+    let mut words = Vec::new(alloc);
+    for word in arguments {
+        words.push(word)?;
+    }
+    read_words(alloc, &words)
 }

@@ -2,14 +2,15 @@
 use Rattle.std.proofs.Common.{◌≡◌, ℕ, ◌≤◌, ◌<◌, Bool, false, true, List, length, if◌then◌else◌, Ok, refl, take, Option, Some, None, IfSome, sym, ap, ◌∙◌, subst, nat_eq, arith}
 use Rattle.std.specs.Cmp.Lexicographic.{pointwise, same_text}
 use Rattle.std.specs.List.{concat}
-use Rattle.array_maps.specs.MapList.{AreSizes, lengths}
+use Rattle.array_maps.specs.MapList.{lengths}
+use Rattle.bpf_insn_form.specs.Limits.{AreSizes, sizes_fit}
 use Rattle.std.specs.Prelude.{nat_lt, nat_le}
 use Rattle.std.specs.Str.{IsUtf8, is_utf8}
 use Rattle.std.proofs.lemmas.Bool.Decides.{nat_tests}
 use Rattle.std.proofs.lemmas.Str.{IsUtf8-from_is_utf8, is_utf8-from_IsUtf8}
 use Rattle.bpf_text_lines.specs.declared.text_error.TextFault.TheVariants as text_faults
-use Rattle.bpfspec_serve.specs.declared.refusal.Section.TheVariants as sections
-use Rattle.bpfspec_serve.specs.declared.refusal.Refusal.TheVariants as refusals
+use Rattle.bpfspec_answers.specs.declared.refusal.Section.TheVariants as sections
+use Rattle.bpfspec_answers.specs.declared.refusal.Refusal.TheVariants as refusals
 use Rattle.bpfspec_streams.specs.Streams.{ReadsToEnd}
 use Rattle.bpfspec_serve.specs.HowServed.{AnswersReader, HowWritten}
 use Rattle.bpfspec_serve.specs.declared.serving.Served.{Served}
@@ -38,12 +39,12 @@ refuses_bytes input few other =
     sym (short input few ∙ ap (λ (b : Bool). if b then Ok input else refused (refusals.Text text_faults.Form sections.Unit 0)) (not_utf8 input (is_utf8 input) refl other))
 
 -- values that no maps may have aren't those of a program
-pub other_sizes : (values : List (List ℕ)) (sizes : List ℕ) → ¬ AreSizes (lengths values) → AreSizes sizes → refused refusals.Sizes ≡ fitting sizes (Ok values)
+pub other_sizes : (values : List (List ℕ)) (sizes : List ℕ) → sizes_fit (lengths values) ≡ false → AreSizes sizes → refused refusals.Sizes ≡ fitting sizes (Ok values)
 other_sizes values sizes none are = go (pointwise nat_eq (lengths values) sizes) refl
   where
     go : (b : Bool) → pointwise nat_eq (lengths values) sizes ≡ b → refused refusals.Sizes ≡ (if b then Ok (concat values) else refused refusals.Sizes)
     go false same = refl
-    go true same = absurd (none (subst AreSizes (sym (same_text (lengths values) sizes (sym same))) are))
+    go true same = absurd cc (sym (subst AreSizes (sym (same_text (lengths values) sizes (sym same))) are) ∙ none)
 
 -- what is longer than the limit is still longer where it is cut behind it
 cut_long : (limit n : ℕ) (input : List ℕ) → limit < n → limit < length input → limit < length (take n input)

@@ -1,7 +1,7 @@
 -- What is answered to an input.
-use Rattle.std.specs.Prelude.{◌≡◌, ℕ, nat_lt, nat_eq, if◌then◌else◌, List, [], ◌∷◌, length, replicate, Option, Some, None, Result, Ok, Err}
+use Rattle.std.specs.Prelude.{◌≡◌, ℕ, ◌+◌, nat_lt, nat_eq, if◌then◌else◌, List, [], ◌∷◌, length, map, replicate, Option, Some, None, Result, Ok, Err}
 use Rattle.std.specs.Cmp.Lexicographic.{pointwise}
-use Rattle.std.specs.List.{concat, sum}
+use Rattle.std.specs.List.{concat, range_with_len, sum}
 use Rattle.std.specs.Str.{is_utf8}
 use Rattle.bpf_insn_form.specs.declared.insn.Insn.{Insn}
 use Rattle.bpf_insn.specs.declared.codec_error.CodecError.{CodecError}
@@ -12,13 +12,12 @@ use Rattle.bpf_text_lines.specs.declared.text_error.TextError.{TextError}
 use Rattle.bpf_text_lines.specs.declared.text_error.TextError.TheVariants as text
 use Rattle.bpf_text_hex.specs.SizesAndBytes.{SizesAndBytes}
 use Rattle.bpf_text_hex.specs.HexText.{hex_text}
-use Rattle.bpf_text.specs.MapsText.{maps_text}
 use Rattle.bpf_text_hex.specs.HexForm.{hex_form}
 use Rattle.bpf_text_units.specs.AssemblerForm.{assembler_form}
-use Rattle.bpf_insn_form.specs.Program.{Program}
 use Rattle.bpf_text_units.specs.AssemblerText.{assembler_text}
+use Rattle.bpf_text.specs.MapsText.{maps_text}
+use Rattle.bpf_insn_form.specs.Program.{Program, callback_starts}
 use Rattle.array_maps.specs.MapList.{lengths}
-use Rattle.bpf_insn_form.specs.Program.{Program}
 use Rattle.bpf_step_model.specs.Run.{Ended}
 use Rattle.loop_core_law.specs.Report.{Reported, report_in_order}
 use Rattle.spec_run.specs.Thin.{Thin}
@@ -26,87 +25,92 @@ use Rattle.bpfspec_command_line.specs.declared.job.Mode.{Mode}
 use Rattle.bpfspec_command_line.specs.declared.job.Mode.TheVariants.{Verify, Order, Asm, Disasm}
 use Rattle.bpfspec_command_line.specs.declared.job.UnitForm.{UnitForm}
 use Rattle.bpfspec_command_line.specs.declared.job.UnitForm.TheVariants.{Assembler, Hex}
-use Rattle.bpfspec_serve.specs.declared.refusal.Section.{Section}
-use Rattle.bpfspec_serve.specs.declared.refusal.Section.TheVariants as sections
-use Rattle.bpfspec_serve.specs.declared.refusal.Refusal.{Refusal}
-use Rattle.bpfspec_serve.specs.declared.refusal.Refusal.TheVariants as refusals
-use Rattle.bpfspec_serve.specs.declared.refusal.Failure.{Failure}
-use Rattle.bpfspec_serve.specs.declared.refusal.Failure.TheVariants as failures
+use Rattle.bpfspec_answers.specs.declared.accepted.Function.{Function}
+use Rattle.bpfspec_answers.specs.declared.refusal.Section.{Section}
+use Rattle.bpfspec_answers.specs.declared.refusal.Section.TheVariants as sections
+use Rattle.bpfspec_answers.specs.declared.refusal.Refusal.{Refusal}
+use Rattle.bpfspec_answers.specs.declared.refusal.Refusal.TheVariants as refusals
+use Rattle.bpfspec_answers.specs.AcceptedText.{accepted_text}
+use Rattle.bpfspec_answers.specs.Refusals.{refusal_line, memory_line}
+use Rattle.bpfspec_answers.specs.ReportText.{report_text}
+use Rattle.bpfspec_serve.specs.declared.answer_error.AnswerError.{AnswerError}
+use Rattle.bpfspec_serve.specs.declared.answer_error.AnswerError.TheVariants as errors
 use Rattle.bpfspec_serve.specs.declared.serving.Served.{Served}
 use Rattle.bpfspec_serve.specs.declared.serving.Served.TheVariants as served
 use Rattle.bpf_verify_model.specs.Accepted.{BrokenRule, first_fault}
-use Rattle.bpfspec_serve.specs.AcceptedText.{accepted_text}
-use Rattle.bpfspec_serve.specs.Refusals.{refusal_line, memory_line}
-use Rattle.bpfspec_serve.specs.ReportText.{report_text}
+use Rattle.bpf_verify_model.specs.Count.{start_of, count_of}
 use Rattle.bpfspec_serve.specs.Sections.{unit_section, maps_section}
 
--- what comes of an input: a text, or a failure
+-- what comes of an input: a text, or an error
 abbrev pub Outcome : Type 0
-Outcome = Result (List ℕ) Failure
+Outcome = Result (List ℕ) AnswerError
 
 -- a refusal instead of a value
-abbrev pub refused : {X : Type 0} → Refusal → Result X Failure
-refused refusal = Err (failures.Refused refusal)
+abbrev pub refused : {X : Type 0} → Refusal → Result X AnswerError
+refused refusal = Err (errors.Refused refusal)
 
--- the failure of a section's text
-abbrev pub text_failure : Section → TextError → Failure
-text_failure section (text.Refused fault line) = failures.Refused (refusals.Text fault section line)
-text_failure section text.Memory = failures.Memory
+-- the error of a section's text
+abbrev pub text_error : Section → TextError → AnswerError
+text_error section (text.Refused fault line) = errors.Refused (refusals.Text fault section line)
+text_error section text.Memory = errors.Memory
 
 -- what a section's text means
-abbrev pub in_section : {X : Type 0} → Section → Result X TextError → Result X Failure
+abbrev pub in_section : {X : Type 0} → Section → Result X TextError → Result X AnswerError
 in_section section (Ok x) = Ok x
-in_section section (Err error) = Err (text_failure section error)
+in_section section (Err error) = Err (text_error section error)
 
--- the failure of a program's bytes
-abbrev pub code_failure : CodecError → Failure
-code_failure (codec.Refused fault slot) = failures.Refused (refusals.Code fault slot)
-code_failure codec.Memory = failures.Memory
+-- the error of a program's bytes
+abbrev pub codec_error : CodecError → AnswerError
+codec_error (codec.Refused fault slot) = errors.Refused (refusals.Codec fault slot)
+codec_error codec.Memory = errors.Memory
 
 -- the program of sizes and instructions
-abbrev pub with_sizes : List ℕ → Result (List Insn) CodecError → Result Program Failure
+abbrev pub with_sizes : List ℕ → Result (List Insn) CodecError → Result Program AnswerError
 with_sizes sizes (Ok insns) = Ok (record { sizes = sizes; insns = insns })
-with_sizes sizes (Err error) = Err (code_failure error)
+with_sizes sizes (Err error) = Err (codec_error error)
 
 -- the program of a unit in hex form
-abbrev pub of_hex : Result SizesAndBytes Failure → Result Program Failure
-of_hex (Err failure) = Err failure
+abbrev pub of_hex : Result SizesAndBytes AnswerError → Result Program AnswerError
+of_hex (Err error) = Err error
 of_hex (Ok parts) = with_sizes parts.sizes (reading parts.bytes)
 
--- the program of a unit of assembler text
-abbrev pub of_assembler : Result Program Failure → Result Program Failure
-of_assembler (Err failure) = Err failure
-of_assembler (Ok parts) = Ok (record { sizes = parts.sizes; insns = parts.insns })
-
 -- the program of a section
-abbrev pub unit_program : UnitForm → List ℕ → Result Program Failure
-unit_program Assembler section = of_assembler (in_section sections.Unit (assembler_text section))
+abbrev pub unit_program : UnitForm → List ℕ → Result Program AnswerError
+unit_program Assembler section = in_section sections.Unit (assembler_text section)
 unit_program Hex section = of_hex (in_section sections.Unit (hex_text section))
 
 -- a text of a unit, where its instructions have bytes
 abbrev pub as_outcome : Result (List ℕ) CodecError → Outcome
 as_outcome (Ok text) = Ok text
-as_outcome (Err error) = Err (code_failure error)
+as_outcome (Err error) = Err (codec_error error)
 
 -- a unit in the other form
-abbrev pub written : UnitForm → Result Program Failure → Outcome
-written form (Err failure) = Err failure
+abbrev pub written : UnitForm → Result Program AnswerError → Outcome
+written form (Err error) = Err error
 written Assembler (Ok program) = as_outcome (assembler_form program)
 written Hex (Ok program) = as_outcome (hex_form program)
 
+-- a function of a program, by its number: where it starts, and the most instructions that it takes
+abbrev pub function_of : List Insn → ℕ → Function
+function_of insns number = record { start = start_of insns number; count = count_of insns number }
+
+-- the functions of a program: main, and each callback
+abbrev pub functions_of : List Insn → List Function
+functions_of insns = map (function_of insns) (range_with_len 0 (length (callback_starts insns) + 1))
+
 -- an accepted program is told with its functions, another is refused by its first fault
 abbrev pub judged : Program → Option BrokenRule → Outcome
-judged program None = Ok (accepted_text program.insns)
+judged program None = Ok (accepted_text (functions_of program.insns))
 judged program (Some fault) = refused (refusals.Rule fault.rule fault.slot)
 
 -- the same where there is a program
-abbrev pub verified : Result Program Failure → Outcome
-verified (Err failure) = Err failure
+abbrev pub verified : Result Program AnswerError → Outcome
+verified (Err error) = Err error
 verified (Ok program) = judged program (first_fault program)
 
 -- values as the start words of maps of these sizes
-abbrev pub fitting : List ℕ → Result (List (List ℕ)) Failure → Outcome
-fitting sizes (Err failure) = Err failure
+abbrev pub fitting : List ℕ → Result (List (List ℕ)) AnswerError → Outcome
+fitting sizes (Err error) = Err error
 fitting sizes (Ok values) = if pointwise nat_eq (lengths values) sizes then Ok (concat values) else refused refusals.Sizes
 
 -- the words that maps start with: without a section all are 0
@@ -117,7 +121,7 @@ start_words sizes (b ∷ bs) = fitting sizes (in_section sections.Maps (maps_tex
 -- a program runs in order from its start words, at most 4,096 instructions up to each turn of main and in each
 -- iteration, and its report is printed
 abbrev pub RunsTo : Program → ℕ → Outcome → Outcome → Type 0
-RunsTo program argument (Err failure) outcome = outcome ≡ Err failure
+RunsTo program argument (Err error) outcome = outcome ≡ Err error
 RunsTo program argument (Ok words) outcome =
     (told : Reported) × (report_in_order program 4096 argument words ≡ Ended told) × (outcome ≡ Ok (report_text program.sizes told))
 
@@ -127,8 +131,8 @@ pub record OfProgram (program : Program) (argument : ℕ) (maps : List ℕ) (out
   pub thin : Thin program → RunsTo program argument (start_words program.sizes maps) outcome
 
 -- the same where there is a program
-abbrev pub OfUnit : Result Program Failure → ℕ → List ℕ → Outcome → Type 0
-OfUnit (Err failure) argument maps outcome = outcome ≡ Err failure
+abbrev pub OfUnit : Result Program AnswerError → ℕ → List ℕ → Outcome → Type 0
+OfUnit (Err error) argument maps outcome = outcome ≡ Err error
 OfUnit (Ok program) argument maps outcome = OfProgram program argument maps outcome
 
 -- an input is at most 3,145,728 bytes of UTF-8
@@ -139,7 +143,7 @@ readable input =
 
 -- what comes of an input that can be read
 abbrev pub OfReadable : Mode → Outcome → Outcome → Type 0
-OfReadable mode (Err failure) outcome = outcome ≡ Err failure
+OfReadable mode (Err error) outcome = outcome ≡ Err error
 OfReadable (Order form argument) (Ok input) outcome = OfUnit (unit_program form (unit_section input)) argument (maps_section input) outcome
 OfReadable (Verify form) (Ok input) outcome = outcome ≡ verified (unit_program form (unit_section input))
 OfReadable Asm (Ok input) outcome = outcome ≡ written Hex (unit_program Assembler (unit_section input))
@@ -162,8 +166,8 @@ refused_as _ = served.Refused
 -- the answer that tells an outcome
 abbrev pub answer_of : Outcome → Answer
 answer_of (Ok text) = record { served = served.Done; text = text }
-answer_of (Err (failures.Refused refusal)) = record { served = refused_as refusal; text = refusal_line refusal }
-answer_of (Err failures.Memory) = record { served = served.Memory; text = memory_line }
+answer_of (Err (errors.Refused refusal)) = record { served = refused_as refusal; text = refusal_line refusal }
+answer_of (Err errors.Memory) = record { served = served.Memory; text = memory_line }
 
 -- the answer to an input
 pub record Answers (mode : Mode) (input : List ℕ) (answer : Answer) : Type 0 where
@@ -172,7 +176,7 @@ pub record Answers (mode : Mode) (input : List ℕ) (answer : Answer) : Type 0 w
   pub told : answer ≡ answer_of outcome
 
 -- what a function returns, seen by view, is as wanted, or memory ran out
-abbrev pub Met : {X Y : Type 0} → (X → Y) → (Result Y Failure → Type 0) → Result X Failure → Type 0
+abbrev pub Met : {X Y : Type 0} → (X → Y) → (Result Y AnswerError → Type 0) → Result X AnswerError → Type 0
 Met view wanted (Ok x) = wanted (Ok (view x))
-Met view wanted (Err (failures.Refused refusal)) = wanted (refused refusal)
-Met view wanted (Err failures.Memory) = Unit {0}
+Met view wanted (Err (errors.Refused refusal)) = wanted (refused refusal)
+Met view wanted (Err errors.Memory) = Unit {0}

@@ -1,56 +1,56 @@
 //! What comes of an input.
 
-ghost use Rattle.std.specs.Prelude.{◌≡◌, ◌<◌, IfOk, Ok, length};
+ghost use Rattle.std.specs.Prelude.{◌≡◌, ◌<◌, ◌≤◌, IfOk, Ok, length};
+ghost use Rattle.bpf_insn_form.specs.Program.{callback_starts};
 ghost use Rattle.std.specs.String.{string_bytes};
 ghost use Rattle.array_maps.specs.MapList.{lists, zero_maps};
 ghost use Rattle.bpfspec_command_line.specs.declared.job.Mode.TheVariants.{Order};
-ghost use Rattle.bpfspec_serve.specs.declared.refusal.Refusal.TheVariants.{Text};
-ghost use Rattle.bpfspec_serve.specs.declared.refusal.Failure.TheVariants.{Refused};
-ghost use Rattle.bpfspec_serve.specs.Output.{text_failure, code_failure, readable, unit_program, fitting, start_words, RunsTo, OfProgram, OfUnit, OfReadable, OfInput, Met, written, verified};
+ghost use Rattle.bpfspec_answers.specs.declared.refusal.Refusal.TheVariants.{Text};
+ghost use Rattle.bpfspec_serve.specs.declared.answer_error.AnswerError.TheVariants.{Refused};
+ghost use Rattle.bpfspec_serve.specs.Output.{text_error, codec_error, readable, unit_program, function_of, functions_of, fitting, start_words, RunsTo, OfProgram, OfUnit, OfReadable, OfInput, Met, written, verified};
 ghost use Rattle.bpfspec_serve.specs.Sections.{unit_section};
 
-use crate::accepted::print_accepted;
-use crate::printing::print_report;
-use crate::refusal::{Failure, Refusal, Section};
+use crate::answer_error::AnswerError;
 use crate::sections::part;
 use array_maps::{Maps, MapsError};
 use bpf_insn::{CodecError, decode};
 use bpf_insn_form::Unit;
 use bpf_text::{TextError, parse_maps, parse_unit, print_unit, read_hex, write_hex};
-use bpf_verify::{VerifyError, verify};
+use bpf_verify::{Verified as Accepted, VerifyError, verify};
+use bpfspec_answers::{Function, Refusal, Section, print_accepted, print_report};
 use bpfspec_command_line::{Mode, UnitForm};
 use spec_run::{RunError, Verified, run_in_order, thin};
-use std::alloc::Global;
+use std::alloc::{AllocError, Global};
 use std::str;
 
 /// The most bytes of an input.
 pub const MAX_INPUT: usize = 3_145_728;
 
-/// The failure of a section's text.
-fn text_failure(error: TextError, section: Section) -> Failure
-    ensures { result ≡ text_failure section error }
+/// The error of a section's text.
+fn text_error(error: TextError, section: Section) -> AnswerError
+    ensures { result ≡ text_error section error }
 {
     match error {
-        TextError::Refused { fault, line } => Failure::Refused(Refusal::Text {
+        TextError::Refused { fault, line } => AnswerError::Refused(Refusal::Text {
             fault,
             section,
             line,
         }),
-        TextError::Memory => Failure::Memory,
+        TextError::Memory => AnswerError::Memory,
     }
 }
 
 /// The unit of a section in hex form.
-fn read_hex_unit(alloc: Global, section: &str) -> Result<Unit, Failure>
+fn read_hex_unit(alloc: Global, section: &str) -> Result<Unit, AnswerError>
     ensures { Met (λ unit. unit) (λ program. program ≡ unit_program UnitForm.Hex section.now) result }
 {
     let parts = match read_hex(alloc, section) {
         Ok(parts) => parts,
-        Err(error) => return Err(text_failure(error, Section::Unit)),
+        Err(error) => return Err(text_error(error, Section::Unit)),
     };
     let insns = match decode(alloc, &parts.bytes) {
         Ok(insns) => insns,
-        Err(error) => return Err(code_failure(error)),
+        Err(error) => return Err(codec_error(error)),
     };
     Ok(Unit {
         sizes: parts.sizes,
@@ -59,20 +59,20 @@ fn read_hex_unit(alloc: Global, section: &str) -> Result<Unit, Failure>
 }
 
 /// The unit of a section.
-fn read_unit(alloc: Global, form: UnitForm, section: &str) -> Result<Unit, Failure>
+fn read_unit(alloc: Global, form: UnitForm, section: &str) -> Result<Unit, AnswerError>
     ensures { Met (λ unit. unit) (λ program. program ≡ unit_program form section.now) result }
 {
     match form {
         UnitForm::Assembler => match parse_unit(alloc, section) {
             Ok(unit) => Ok(unit),
-            Err(error) => Err(text_failure(error, Section::Unit)),
+            Err(error) => Err(text_error(error, Section::Unit)),
         },
         UnitForm::Hex => read_hex_unit(alloc, section),
     }
 }
 
 /// A unit as a text.
-fn write_unit(alloc: Global, form: UnitForm, unit: &Unit) -> Result<String, Failure>
+fn write_unit(alloc: Global, form: UnitForm, unit: &Unit) -> Result<String, AnswerError>
     ensures { Met string_bytes (λ outcome. outcome ≡ written form (Ok unit.now)) result }
 {
     let text = match form {
@@ -81,50 +81,50 @@ fn write_unit(alloc: Global, form: UnitForm, unit: &Unit) -> Result<String, Fail
     };
     match text {
         Ok(text) => Ok(text),
-        Err(error) => Err(code_failure(error)),
+        Err(error) => Err(codec_error(error)),
     }
 }
 
-/// The failure of a program's bytes.
-fn code_failure(error: CodecError) -> Failure
-    ensures { result ≡ code_failure error }
+/// The error of a program's bytes.
+fn codec_error(error: CodecError) -> AnswerError
+    ensures { result ≡ codec_error error }
 {
     match error {
-        CodecError::Refused { fault, slot } => Failure::Refused(Refusal::Code { fault, slot }),
-        CodecError::Memory => Failure::Memory,
+        CodecError::Refused { fault, slot } => AnswerError::Refused(Refusal::Codec { fault, slot }),
+        CodecError::Memory => AnswerError::Memory,
     }
 }
 
 /// Maps of a program that are all zero.
-fn zero_maps(alloc: Global, program: &Verified) -> Result<Maps, Failure>
+fn zero_maps(alloc: Global, program: &Verified) -> Result<Maps, AnswerError>
     ensures { Met (λ maps. maps) (λ outcome. outcome ≡ Ok (zero_maps program.now.sizes)) result }
 {
     match Maps::new(alloc, program.sizes()) {
         Ok(maps) => Ok(maps),
         Err(MapsError::Limits) => unreachable!(),
-        Err(MapsError::Memory) => Err(Failure::Memory),
+        Err(MapsError::Memory) => Err(AnswerError::Memory),
     }
 }
 
 /// Maps of a program that have these values.
-fn maps_of(alloc: Global, program: &Verified, values: &[Vec<u64>]) -> Result<Maps, Failure>
+fn maps_of(alloc: Global, program: &Verified, values: &[Vec<u64>]) -> Result<Maps, AnswerError>
     ensures words { Met (λ maps. maps.words) (λ outcome. outcome ≡ fitting program.now.sizes (Ok (lists values.now))) result }
     ensures sizes { IfOk result (λ maps. maps.sizes ≡ program.now.sizes) }
 {
     let sizes = program.sizes();
     let maps = match Maps::of(alloc, values) {
         Ok(maps) => maps,
-        Err(MapsError::Limits) => return Err(Failure::Refused(Refusal::Sizes)),
-        Err(MapsError::Memory) => return Err(Failure::Memory),
+        Err(MapsError::Limits) => return Err(AnswerError::Refused(Refusal::Sizes)),
+        Err(MapsError::Memory) => return Err(AnswerError::Memory),
     };
     if maps.sizes() != sizes {
-        return Err(Failure::Refused(Refusal::Sizes));
+        return Err(AnswerError::Refused(Refusal::Sizes));
     }
     Ok(maps)
 }
 
 /// The maps that a program starts with.
-fn start_maps(alloc: Global, program: &Verified, section: &str) -> Result<Maps, Failure>
+fn start_maps(alloc: Global, program: &Verified, section: &str) -> Result<Maps, AnswerError>
     ensures words { Met (λ maps. maps.words) (λ outcome. outcome ≡ start_words program.now.sizes section.now) result }
     ensures sizes { IfOk result (λ maps. maps.sizes ≡ program.now.sizes) }
 {
@@ -133,60 +133,83 @@ fn start_maps(alloc: Global, program: &Verified, section: &str) -> Result<Maps, 
     }
     match parse_maps(alloc, section) {
         Ok(values) => maps_of(alloc, program, &values),
-        Err(error) => Err(text_failure(error, Section::Maps)),
+        Err(error) => Err(text_error(error, Section::Maps)),
     }
 }
 
 /// What comes of a program that runs in order on these maps, which are of its sizes.
-fn run(alloc: Global, program: &Verified, maps: Maps, argument: u64) -> Result<String, Failure>
+fn run(alloc: Global, program: &Verified, maps: Maps, argument: u64) -> Result<String, AnswerError>
     requires { maps.sizes ≡ program.now.sizes }
     ensures { Met string_bytes (RunsTo program.now argument (Ok maps.words)) result }
 {
     let mut maps = maps;
     match run_in_order(alloc, program, &mut maps, argument) {
-        Ok(report) => Ok(print_report(alloc, &report, &maps)?),
+        Ok(report) => Ok(print_report(alloc, report.ret, &report.loops, &maps)?),
         Err(RunError::Sizes) => unreachable!(),
-        Err(RunError::Memory) => Err(Failure::Memory),
+        Err(RunError::Memory) => Err(AnswerError::Memory),
     }
 }
 
 /// What comes of a unit, its argument and its maps.
-fn order(alloc: Global, form: UnitForm, argument: u64, input: &str) -> Result<String, Failure>
+fn order(alloc: Global, form: UnitForm, argument: u64, input: &str) -> Result<String, AnswerError>
     ensures { Met string_bytes (OfReadable (Order form argument) (Ok input.now)) result }
 {
     let unit = part(input);
     let maps = part(unit.rest);
     let Some(program) = thin(read_unit(alloc, form, unit.section)?) else {
-        return Err(Failure::Refused(Refusal::NotThin));
+        return Err(AnswerError::Refused(Refusal::NotThin));
     };
     let maps = start_maps(alloc, &program, maps.section)?;
     run(alloc, &program, maps, argument)
 }
 
 /// What comes of a unit that is written in another form.
-fn translate(alloc: Global, from: UnitForm, to: UnitForm, input: &str) -> Result<String, Failure>
+fn translate(alloc: Global, from: UnitForm, to: UnitForm, input: &str) -> Result<String, AnswerError>
     ensures { Met string_bytes (λ outcome. outcome ≡ written to (unit_program from (unit_section input.now))) result }
 {
     let unit = read_unit(alloc, from, part(input).section)?;
     write_unit(alloc, to, &unit)
 }
 
+/// A function of an accepted program, whose number is at most the program's `callbacks()`.
+fn function_of(program: &Accepted, number: u32) -> Function
+    requires { number ≤ length (callback_starts program.now.insns) }
+    ensures { result ≡ function_of program.now.insns number }
+{
+    Function {
+        start: program.start(number),
+        count: program.count(number),
+    }
+}
+
+/// The functions of an accepted program: main, and each callback.
+fn functions_of(alloc: Global, program: &Accepted) -> Result<Vec<Function>, AllocError>
+    ensures { IfOk result (λ functions. functions.items ≡ functions_of program.now.insns) }
+{
+    let mut functions = Vec::new(alloc);
+    functions.push(function_of(program, 0))?;
+    for callback in 0..program.callbacks() {
+        functions.push(function_of(program, callback + 1))?;
+    }
+    Ok(functions)
+}
+
 /// What comes of a unit that is verified.
-fn judge(alloc: Global, form: UnitForm, input: &str) -> Result<String, Failure>
+fn judge(alloc: Global, form: UnitForm, input: &str) -> Result<String, AnswerError>
     ensures { Met string_bytes (λ outcome. outcome ≡ verified (unit_program form (unit_section input.now))) result }
 {
     let unit = read_unit(alloc, form, part(input).section)?;
     match verify(alloc, unit) {
-        Ok(program) => Ok(print_accepted(alloc, &program)?),
+        Ok(program) => Ok(print_accepted(alloc, &functions_of(alloc, &program)?)?),
         Err(VerifyError::Refused { rule, slot }) => {
-            Err(Failure::Refused(Refusal::Rule { rule, slot }))
+            Err(AnswerError::Refused(Refusal::Rule { rule, slot }))
         }
-        Err(VerifyError::Memory) => Err(Failure::Memory),
+        Err(VerifyError::Memory) => Err(AnswerError::Memory),
     }
 }
 
 /// An input as a text.
-fn readable(input: &[u8]) -> Result<&str, Failure>
+fn readable(input: &[u8]) -> Result<&str, AnswerError>
     ensures { Met (λ s. s.now) (λ outcome. outcome ≡ readable input.now) result }
 {
     if input.len() > MAX_INPUT {
@@ -199,7 +222,7 @@ fn readable(input: &[u8]) -> Result<&str, Failure>
 }
 
 /// What comes of an input.
-pub fn outcome(alloc: Global, mode: &Mode, input: &[u8]) -> Result<String, Failure>
+pub fn outcome(alloc: Global, mode: &Mode, input: &[u8]) -> Result<String, AnswerError>
     ensures { Met string_bytes (OfInput mode.now input.now) result }
 {
     let text = readable(input)?;
@@ -212,10 +235,10 @@ pub fn outcome(alloc: Global, mode: &Mode, input: &[u8]) -> Result<String, Failu
 }
 
 /// A fault of the unit's text as a whole.
-fn unit_refusal(fault: bpf_text::TextFault) -> Failure
+fn unit_refusal(fault: bpf_text::TextFault) -> AnswerError
     ensures { result ≡ Refused (Text fault Section.Unit 0) }
 {
-    Failure::Refused(Refusal::Text {
+    AnswerError::Refused(Refusal::Text {
         fault,
         section: Section::Unit,
         line: 0,

@@ -1,20 +1,26 @@
-//! What the program does between its streams: reads an input, answers it, and writes the answer.
+//! The program between its streams: it reads an input, answers it, and writes the answer.
+//!
+//! ```text
+//! let mut input = Counted::new(b"maps 1\nmov64 r0, 7\nexit\n".as_slice());
+//! let mut output = Counted::new(Vec::new(alloc));
+//! let mode = Mode::Verify { form: UnitForm::Assembler };
+//! let served = serve(alloc, &mode, &mut input, &mut output);      // Served::Done
+//! output.into_inner()                                             // "accepted\nfunction 0 at 0 count 2\n"
+//! ```
 #![tactic(auto)]
 
-mod accepted;
+mod answer_error;
 mod answering;
-mod printing;
-mod refusal;
+mod program;
+mod program_end;
 mod sections;
 mod serving;
 
-pub use bpfspec_command_line::{Job, LineFault, Mode, UnitForm, mode_of, read_words};
+pub use bpfspec_command_line::{Job, LineFault, Mode, UnitForm, read_command_line, read_words};
 pub use bpfspec_streams::{
-    Counted, Fault, ReadAllError, Sink, Source, read_all, read_outcome, write_all, write_outcome,
+    Counted, DeviceFault, ReadAllError, Sink, Source, read_all, read_outcome, write_all,
+    write_outcome,
 };
+pub use program::run;
+pub use program_end::{ProgramEnd, exit_status};
 pub use serving::{Served, serve};
-
-#[cfg(test)]
-mod serving_tests;
-#[cfg(test)]
-mod stumbling;

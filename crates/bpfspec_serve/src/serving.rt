@@ -7,7 +7,8 @@ ghost use Rattle.bpfspec_serve.specs.Output.{refused_as, Answers};
 ghost use Rattle.bpfspec_streams.specs.Streams.{ConsumesAtMost};
 
 use crate::answering::{MAX_INPUT, outcome};
-use crate::refusal::{Failure, Refusal, refusal_line};
+use crate::answer_error::AnswerError;
+use bpfspec_answers::{MEMORY_LINE, Refusal, print_refusal};
 use bpfspec_command_line::Mode;
 use bpfspec_streams::{ReadAllError, Sink, Source, read_all, write_all};
 use std::alloc::{AllocError, Global};
@@ -56,16 +57,16 @@ fn answer_to(alloc: Global, mode: &Mode, input: &[u8]) -> Result<Answer, AllocEr
             served: Served::Done,
             text,
         }),
-        Err(Failure::Refused(refusal)) => Ok(Answer {
+        Err(AnswerError::Refused(refusal)) => Ok(Answer {
             served: refused_as(refusal),
-            text: refusal_line(alloc, refusal)?,
+            text: print_refusal(alloc, refusal)?,
         }),
-        Err(Failure::Memory) => Err(AllocError),
+        Err(AnswerError::Memory) => Err(AllocError),
     }
 }
 
 /// Writes a text, and tells how it was served: as wanted, unless a write failed.
-fn write<W: Sink>(sink: &mut W, text: &[u8], wanted: Served) -> Served
+pub(crate) fn write<W: Sink>(sink: &mut W, text: &[u8], wanted: Served) -> Served
     requires { W.failed sink.old < 2 ^ 64 - 1 }
     ensures { HowWritten text.now wanted result (λ n. W.failed sink.new ≡ W.failed sink.old + n)
         (W.taken sink.old) (W.taken sink.new) }
@@ -75,9 +76,6 @@ fn write<W: Sink>(sink: &mut W, text: &[u8], wanted: Served) -> Served
         Err(_) => Served::Device,
     }
 }
-
-/// The line that tells that memory ran out.
-const MEMORY_LINE: &[u8] = b"refused memory\n";
 
 /// Reads an input to its end, at most 3,145,729 bytes, answers it, and writes the answer. The answer
 /// is whole before its first byte is written.

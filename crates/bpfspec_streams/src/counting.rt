@@ -3,7 +3,7 @@
 ghost use Rattle.std.specs.Prelude.{◌≡◌, ◌+◌, ◌-◌, ◌^◌, ◌<◌, length, Ok, IsErr, IfOk, OnOk, OnErr};
 ghost use Rattle.bpfspec_streams.specs.Counting.{inner_of, failures_of};
 
-use crate::streams::{Fault, Sink, Source};
+use crate::streams::{DeviceFault, Sink, Source};
 use std::io;
 use std::io::{Read, Write};
 
@@ -33,28 +33,28 @@ impl<T> Counted<T> {
 }
 
 /// What a counted read gives where the reader gave this: it fails only where the reader did.
-pub fn read_outcome(given: io::Result<usize>) -> Result<usize, Fault>
+pub fn read_outcome(given: io::Result<usize>) -> Result<usize, DeviceFault>
     ensures kept { IfOk result (λ n. given ≡ Ok n) }
     ensures failed { OnErr result (IsErr given) }
 {
-    given.map_err(|_| Fault)
+    given.map_err(|_| DeviceFault)
 }
 
 /// What a counted write gives where the writer gave this for the piece: it fails only where the writer
 /// did, or took nothing of a piece that isn't empty.
-pub fn write_outcome(given: io::Result<usize>, piece: &[u8]) -> Result<usize, Fault>
+pub fn write_outcome(given: io::Result<usize>, piece: &[u8]) -> Result<usize, DeviceFault>
     ensures kept { IfOk result (λ n. given ≡ Ok n) }
     ensures progress { IfOk result (λ n. 0 < length piece.now → 0 < n) }
     ensures failed { OnErr result (IfOk given (λ n. (n ≡ 0) × (0 < length piece.now))) }
 {
     match given {
         Ok(n) if n > 0 || piece.is_empty() => Ok(n),
-        _ => Err(Fault),
+        _ => Err(DeviceFault),
     }
 }
 
 /// The outcome as it is, and one more failure where it is one.
-fn count_failure(outcome: Result<usize, Fault>, failures: &mut u64) -> Result<usize, Fault>
+fn count_failure(outcome: Result<usize, DeviceFault>, failures: &mut u64) -> Result<usize, DeviceFault>
     requires { failures.old < 2 ^ 64 - 1 }
     ensures same { result ≡ outcome }
     ensures ok { OnOk outcome (failures.new ≡ failures.old) }
@@ -71,7 +71,7 @@ impl<T: Read> Source for Counted<T> {
 
     ghost failed = { failures_of };
 
-    fn read(&mut self, buffer: &mut [u8]) -> Result<usize, Fault> {
+    fn read(&mut self, buffer: &mut [u8]) -> Result<usize, DeviceFault> {
         let outcome = read_outcome(self.inner.read(buffer));
         count_failure(outcome, &mut self.failures)
     }
@@ -86,7 +86,7 @@ impl<T: Write> Sink for Counted<T> {
 
     ghost failed = { failures_of };
 
-    fn write(&mut self, piece: &[u8]) -> Result<usize, Fault> {
+    fn write(&mut self, piece: &[u8]) -> Result<usize, DeviceFault> {
         let outcome = write_outcome(self.inner.write(piece), piece);
         count_failure(outcome, &mut self.failures)
     }

@@ -8,8 +8,5 @@ mod writing;
 
 pub use counting::{Counted, read_outcome, write_outcome};
 pub use reading::{ReadAllError, read_all};
-pub use streams::{Fault, Sink, Source};
+pub use streams::{DeviceFault, Sink, Source};
 pub use writing::write_all;
-
-#[cfg(test)]
-mod tests;

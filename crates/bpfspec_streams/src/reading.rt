@@ -4,7 +4,7 @@ ghost use Rattle.std.specs.Prelude.{◌≡◌, ◌+◌, ◌-◌, ◌^◌, ◌<�
 ghost use Rattle.std.specs.Io.KnownBytes.{Keeps, IsAtEnd, prepend_known};
 ghost use Rattle.bpfspec_streams.specs.Streams.{ConsumesAtMost, ReadsToEnd};
 
-use crate::streams::{Fault, Source};
+use crate::streams::{DeviceFault, Source};
 use std::alloc::Global;
 use thiserror::Error;
 
@@ -51,7 +51,7 @@ fn read_piece<R: Source>(
             Ok(()) => Ok(n),
             Err(_) => Err(ReadAllError::Memory),
         },
-        Err(Fault) => Err(ReadAllError::Device),
+        Err(DeviceFault) => Err(ReadAllError::Device),
     }
 }
 

@@ -11,7 +11,7 @@ use thiserror::Error;
 /// A read or a write failed.
 #[derive(Clone, Copy, Debug, PartialEq, Eq, Error)]
 #[error("a read or a write failed")]
-pub struct Fault;
+pub struct DeviceFault;
 
 /// What bytes are read from.
 pub trait Source {
@@ -24,7 +24,7 @@ pub trait Source {
     /// Reads into the front of the buffer, and gives how many bytes: at most the buffer's length, and
     /// 0 for a buffer that isn't empty only at the end. A call that fails reads nothing and is counted
     /// in `failures`, which has to be below 2^64 - 1.
-    fn read(&mut self, buffer: &mut [u8]) -> Result<usize, Fault>
+    fn read(&mut self, buffer: &mut [u8]) -> Result<usize, DeviceFault>
         requires { failed self.old < 2 ^ 64 - 1 }
         ensures bound { ReadsAtMost result buffer.new }
         ensures bytes { ReadConsumes (left self.old) (left self.new) result buffer.new }
@@ -47,7 +47,7 @@ pub trait Sink {
     /// Takes bytes from the front of the piece, and gives how many: at most the piece's length, and at
     /// least one of a piece that isn't empty. A call that fails takes nothing and is counted in
     /// `failures`, which has to be below 2^64 - 1.
-    fn write(&mut self, piece: &[u8]) -> Result<usize, Fault>
+    fn write(&mut self, piece: &[u8]) -> Result<usize, DeviceFault>
         requires { failed self.old < 2 ^ 64 - 1 }
         ensures bound { WritesAtMost result piece.now }
         ensures progress { IfOk result (λ n. 0 < length piece.now → 0 < n) }

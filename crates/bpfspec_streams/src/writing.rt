@@ -4,11 +4,11 @@ ghost use Rattle.std.specs.Prelude.{◌≡◌, ◌+◌, ◌-◌, ◌^◌, ◌<�
 ghost use Rattle.std.specs.Io.KnownBytes.{Appends};
 ghost use Rattle.bpfspec_streams.specs.Streams.{AppendsBeginning};
 
-use crate::streams::{Fault, Sink};
+use crate::streams::{DeviceFault, Sink};
 
 /// Writes all bytes. It fails where a write fails, and the bytes that were written until then are a
 /// beginning of them. The sink's `failures` has to be below 2^64 - 1.
-pub fn write_all<W: Sink>(sink: &mut W, bytes: &[u8]) -> Result<(), Fault>
+pub fn write_all<W: Sink>(sink: &mut W, bytes: &[u8]) -> Result<(), DeviceFault>
     requires { W.failed sink.old < 2 ^ 64 - 1 }
     ensures whole { OnOk result (Appends (W.taken sink.old) (W.taken sink.new) bytes.now) }
     ensures beginning { AppendsBeginning (W.taken sink.old) (W.taken sink.new) bytes.now }

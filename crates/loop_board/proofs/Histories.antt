@@ -2,7 +2,8 @@
 use Rattle.std.proofs.Common.{◌≡◌, ◌⊎◌, ℕ, zero, suc, ◌<◌, ◌≤◌, ◌||◌, Bool, true, false, IsTrue, List, [], ◌∷◌, length, slice_index_or, inl, inr, ⊎_elim, refl, sym, ap, ◌∙◌, subst, arith}
 use Rattle.std.proofs.lemmas.Bool.{cases_lt}
 use Rattle.loop_board.specs.Sums.{times}
-use Rattle.loop_board.specs.History.{History, Legal, IsLeast, no_post, least_in, least_post, times_posted, some_found_none}
+use Rattle.loop_board.specs.Draws.{drawn_by, LegalDraws}
+use Rattle.loop_board.specs.History.{History, Legal, IsLeast, nothing_done, no_post, least_in, least_post, times_posted, some_found_none}
 use Rattle.loop_board.proofs.Sums.{times_first, times_more, some_in_total, one_in_total, two_in_total, below_from_once, once_below-below}
 
 -- the least of a list is at most each index in it
@@ -62,36 +63,47 @@ one_least m n f a b =
     not_lower m n a b lower = ⊎_elim (λ (none_yet : m ≡ no_post). let most = b.most in absurd (omega arith)) (λ (there : 0 < f m). let r = b.below m there in absurd (omega arith)) a.reached
 
 -- some seat drew each block that was claimed
-pub drawn_by_some : (blocks claimed : ℕ) (hs : List History) → Legal blocks claimed hs → (x : ℕ) → x < claimed → (k : ℕ) × (k < length hs) × ((d : History) → 0 < times x (slice_index_or hs k d).draws)
-drawn_by_some blocks claimed hs legal x below = some_in_total (λ (h : History). times x h.draws) hs (let once = legal.each_once x in let one = once_below-below x claimed below in omega arith)
+some_drew : (blocks claimed : ℕ) (hs : List History) → Legal blocks claimed hs → (x : ℕ) → x < claimed → (k : ℕ) × (k < length hs) × (0 < drawn_by hs k x)
+some_drew blocks claimed hs legal x below =
+    let found = some_in_total (λ (h : History). times x h.draws) hs (let once = legal.each_once x in let one = once_below-below x claimed below in omega arith) in
+    (found.0, found.1, found.2 nothing_done)
 
 -- a block that a seat drew was claimed, and the seat drew it once
-pub drawn_is_claimed : (blocks claimed : ℕ) (hs : List History) → Legal blocks claimed hs → (x k : ℕ) (d : History) → k < length hs → 0 < times x (slice_index_or hs k d).draws → (x < claimed) × (times x (slice_index_or hs k d).draws ≡ 1)
-drawn_is_claimed blocks claimed hs legal x k d at there =
-    let part = one_in_total (λ (h : History). times x h.draws) hs k d at in
+drew_once : (blocks claimed : ℕ) (hs : List History) → Legal blocks claimed hs → (k x : ℕ) → k < length hs → 0 < drawn_by hs k x → (x < claimed) × (drawn_by hs k x ≡ 1)
+drew_once blocks claimed hs legal k x at there =
+    let part = one_in_total (λ (h : History). times x h.draws) hs k nothing_done at in
     let once = legal.each_once x in
     let below = below_from_once x claimed (omega arith) in
     let one = once_below-below x claimed below in
     (below, omega arith)
 
 -- no two seats drew one block
-pub drawn_by_one : (blocks claimed : ℕ) (hs : List History) → Legal blocks claimed hs → (x j k : ℕ) (d : History) → j < k → k < length hs → 0 < times x (slice_index_or hs j d).draws → times x (slice_index_or hs k d).draws ≡ 0
-drawn_by_one blocks claimed hs legal x j k d before at there =
-    let both = two_in_total (λ (h : History). times x h.draws) hs j k d before at in
+drew_alone : (blocks claimed : ℕ) (hs : List History) → Legal blocks claimed hs → (j k x : ℕ) → j < k → k < length hs → 0 < drawn_by hs j x → drawn_by hs k x ≡ 0
+drew_alone blocks claimed hs legal j k x before at there =
+    let both = two_in_total (λ (h : History). times x h.draws) hs j k nothing_done before at in
     let once = legal.each_once x in
-    let first = drawn_is_claimed blocks claimed hs legal x j d (omega arith) there in
+    let first = drew_once blocks claimed hs legal j x (omega arith) there in
     let one = once_below-below x claimed first.0 in
     omega arith
 
 -- where one seat found none, all blocks were claimed
-pub claimed_where_none : (blocks claimed : ℕ) (hs : List History) → Legal blocks claimed hs → (k : ℕ) (d : History) → k < length hs → (slice_index_or hs k d).found_none ≡ true → claimed ≡ blocks
-claimed_where_none blocks claimed hs legal k d at none = legal.all_blocks (found hs k at none)
+found_none-all : (blocks claimed : ℕ) (hs : List History) → Legal blocks claimed hs → (k : ℕ) → k < length hs →
+    (slice_index_or hs k nothing_done).found_none ≡ true → claimed ≡ blocks
+found_none-all blocks claimed hs legal k at none = legal.all_blocks (found hs k at none)
   where
     or_right : (a b : Bool) → IsTrue b → IsTrue (a || b)
     or_right true b h = refl
     or_right false b h = h
 
-    found : (hs : List History) (k : ℕ) → k < length hs → (slice_index_or hs k d).found_none ≡ true → IsTrue (some_found_none hs)
+    found : (hs : List History) (k : ℕ) → k < length hs → (slice_index_or hs k nothing_done).found_none ≡ true → IsTrue (some_found_none hs)
     found [] k at none = absurd (omega arith)
     found (h ∷ hs) zero at none = ap (λ (b : Bool). b || some_found_none hs) none
     found (h ∷ hs) (suc k) at none = or_right h.found_none (some_found_none hs) (found hs k (omega arith) none)
+
+pub legal_draws : LegalDraws
+legal_draws blocks claimed hs legal = record {
+  some = some_drew blocks claimed hs legal;
+  once = drew_once blocks claimed hs legal;
+  alone = drew_alone blocks claimed hs legal;
+  all = found_none-all blocks claimed hs legal;
+}

@@ -61,10 +61,6 @@ All-times P (x ∷ xs) f (suc k) d h = All-times P xs (λ y at. f y (let r = at 
 pub once_below-next : (x n : ℕ) → once_below x n + (if x == n then 1 else 0) ≡ once_below x (n + 1)
 once_below-next x n = grind (arith, nat_tests)
 
--- nothing is below 0
-pub once_below-zero : (x : ℕ) → once_below x 0 ≡ 0
-once_below-zero x = grind (arith, nat_tests)
-
 -- what is below n is counted once, and what is counted is below n
 pub below_from_once : (x n : ℕ) → 0 < once_below x n → x < n
 below_from_once x n h = grind (arith, nat_tests)
@@ -135,15 +131,6 @@ module _ {A B : Type 0} where
   total-zip f g [] (y ∷ ys) long same = absurd (omega arith)
   total-zip f g (x ∷ xs) [] long same = absurd (omega arith)
   total-zip f g (x ∷ xs) (y ∷ ys) long same = let here = same 0 x y (omega arith) in let r = total-zip f g xs ys (omega arith) (λ k c d below. same (suc k) c d (omega arith)) in omega arith
-
--- what the list contains stands in it
-pub times_from_Contains : (xs : List ℕ) (x : ℕ) → Contains xs x → 0 < times x xs
-times_from_Contains xs x there = at xs there.0 there.1 there.2
-  where
-    at : (ys : List ℕ) (k : ℕ) → k < length ys → slice_index_or ys k x ≡ x → 0 < times x ys
-    at [] k below is = absurd (omega arith)
-    at (y ∷ ys) zero below is = subst (λ (z : ℕ). 0 < times x (z ∷ ys)) (sym is) (times_first x ys)
-    at (y ∷ ys) (suc k) below is = let r = at ys k (omega arith) is in omega arith
 
 -- what stands in the list is contained in it
 pub Contains_from_times : (xs : List ℕ) (x : ℕ) → 0 < times x xs → Contains xs x

@@ -17,7 +17,7 @@ const MOST_BLOCKS: u32 = 64;
 
 const MOST_WORKERS: u32 = 16;
 
-// What the least break is where no index was posted.
+/// What the least break is where no index was posted.
 const NO_POST: u32 = u32::MAX;
 
 /// What the seats of a board did, once all of them came back.
@@ -48,7 +48,7 @@ impl Model for Board {
     ghost invariant = { λ b. IsBoards b.table.shared.table_id b.table.shared.key b.extent };
 }
 
-// Whether there are 1 to 64 blocks and 1 to 16 workers.
+/// Whether there are 1 to 64 blocks and 1 to 16 workers.
 fn is_within_limits(blocks: u32, workers: u32) -> bool
     ensures { IsTrue result ↔ IsWithinLimits blocks workers }
 {

@@ -2,14 +2,14 @@
 -- word.
 use Rattle.std.proofs.Common.{◌≡◌, ℕ, Bool, true, false, ◌&&◌, ◌||◌, ◌⊎◌, inl, inr, List, [], ◌∷◌, ◌++◌, Option, Some, None, refl, sym, ◌∙◌, ap, subst}
 use Rattle.std.specs.Prelude.{if◌then◌else◌, is_none}
-use Rattle.std.specs.Option.{option_or}
+use Rattle.std.specs.Option.{option_or, option_map, unwrap_or}
 use Rattle.std.specs.List.{list_any, list_all, fold}
 use Rattle.array_maps.specs.declared.access.Op.{Op}
 use Rattle.array_maps.specs.declared.access.Op.TheVariants.{Add, Or, And, Xor, AddH}
 use Rattle.array_maps.specs.Accesses.{Action, Read, Write, ReadWrite, Reduce, combined, left_by, left_by_all, SawEach}
 use Rattle.loop_core_law.specs.Actions.{writes, exposed, is_same, reduces_by, joined, only_operator, operands}
 use Rattle.loop_core_law.specs.Conflict.{clash, harm}
-use Rattle.loop_core_law.specs.Committed.{last_that, left_by_last, committed_by, committed}
+use Rattle.loop_core_law.specs.Committed.{last_that, committed_by, committed}
 
 -- both sides of a test that is false, or true
 pub or_false_left : (a b : Bool) → (a || b) ≡ false → a ≡ false
@@ -160,7 +160,7 @@ last_left start word (first ∷ rest) unharmed calm =
     ∙ picked-option_or (last_that writes rest) (if writes first then Some first else None) start word (left_by_all first word)
     (first_left start word first rest (writes first) refl calm)
 
-picked_at_start : (o : Option (List Action)) (start : ℕ) → picked o start start ≡ left_by_last o start
+picked_at_start : (o : Option (List Action)) (start : ℕ) → picked o start start ≡ unwrap_or (option_map (λ actions. left_by_all actions start) o) start
 picked_at_start None start = refl
 picked_at_start (Some actions) start = refl
 

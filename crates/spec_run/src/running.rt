@@ -50,8 +50,8 @@ impl<T: Drop> From<AllocFailed<T>> for RunError {
     }
 }
 
-#[tactic(auto, using(crate::proofs::ThinRuns::adds_index))]
 /// A word with each index below n added to it, one after another.
+#[tactic(auto, using(crate::proofs::ThinRuns::adds_index))]
 fn with_indices(word: u64, n: u32) -> u64
     ensures { result ≡ after_indices word n }
 {

@@ -84,7 +84,7 @@ fn a_missing_seat_is_refused(rt: HostRuntime) -> Result<(), Fail> {
     Ok(())
 }
 
-// Where a growth was refused, a second try has the memory. Gather takes none.
+/// Where a growth was refused, a second try has the memory. Gather takes none.
 #[test]
 fn a_refused_growth_leaves_nothing_behind(rt: HostRuntime) -> Result<(), Fail> {
     let (board, mut seats) = match Board::new(rt.alloc(), 2, 2) {
@@ -104,7 +104,7 @@ fn a_refused_growth_leaves_nothing_behind(rt: HostRuntime) -> Result<(), Fail> {
     Ok(())
 }
 
-// Claims until none is left, and posts the index.
+/// Claims until none is left, and posts the index.
 fn drain_and_post(board: &Board, seat: &mut BoardSeat, index: u32)
     requires board { seat.old.board ≡ board.now }
     requires index { index ≤ 8_388_607 }
@@ -118,7 +118,7 @@ fn drain_and_post(board: &Board, seat: &mut BoardSeat, index: u32)
     board.post(seat, index);
 }
 
-// An index to post, for each of four workers.
+/// An index to post, for each of four workers.
 fn break_of(worker: usize) -> u32
     ensures { result ≤ 8_388_607 }
 {
@@ -152,7 +152,7 @@ fn four_threads_share_64_blocks(rt: HostRuntime) -> Result<(), Fail> {
     Ok(())
 }
 
-// Looks, claims until none is left, and posts the index.
+/// Looks, claims until none is left, and posts the index.
 fn work(board: &Board, seat: &mut BoardSeat, index: u32)
     requires board { seat.old.board ≡ board.now }
     requires index { index ≤ 8_388_607 }
@@ -162,7 +162,7 @@ fn work(board: &Board, seat: &mut BoardSeat, index: u32)
     drain_and_post(board, seat, index);
 }
 
-// A claim, a look and a post, or no more than the first one or two of them.
+/// A claim, a look and a post, or no more than the first one or two of them.
 fn work_until(board: &Board, seat: &mut BoardSeat, index: u32, stops: StopsAfter)
     requires board { seat.old.board ≡ board.now }
     requires index { index ≤ 8_388_607 }
@@ -179,7 +179,7 @@ fn work_until(board: &Board, seat: &mut BoardSeat, index: u32, stops: StopsAfter
     board.post(seat, index);
 }
 
-// Three threads on four blocks, of which the last stops early.
+/// Three threads on four blocks, of which the last stops early.
 fn tally_where_one_stops<R: Threads + Sync>(
     rt: &R,
     alloc: Global,

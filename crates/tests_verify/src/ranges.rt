@@ -90,7 +90,7 @@ const EXACT_OPERANDS: &str = "
     be16 r1        | 0x12345 any => 0x4523
 ";
 
-// The one of two words 0 and 2^32 that is left at 32 bits isn't known.
+/// The one of two words 0 and 2^32 that is left at 32 bits isn't known.
 const WIDE_OPERANDS: &str = "
     mov32 r1, r2 | 0 0..0x100000000/32           => 0..0xffffffff/0
     add32 r1, r2 | 0..0x100000000/32 0x100000001 => 0..0xffffffff/0
@@ -150,7 +150,7 @@ const HALVES: &str = "
     jsgt64 r1, r2, +0 | 0x80000000 0   => 0x80000000 0
 ";
 
-// Each row is refined by the opposite of its comparison.
+/// Each row is refined by the opposite of its comparison.
 const NOT_TAKEN: &str = "
     jne64 r1, r2, +0  | 0..9/0 5       => 5 5
     jeq64 r1, r2, +0  | 0..9/0 0       => 1..9/0 0
@@ -300,7 +300,7 @@ fn joined_ranges_have_the_words_of_both(rt: HostRuntime) -> Result<(), Fail> {
     Ok(())
 }
 
-// The least word, the greatest, and the trailing zeros.
+/// The least word, the greatest, and the trailing zeros.
 fn parts(range: Range) -> (u64, u64, u32) {
     (range.lo(), range.hi(), range.zeros())
 }

@@ -1,8 +1,8 @@
 -- Multiples of powers of two, and rounding to them.
-use Rattle.std.proofs.Common.{◌≡◌, ◌∙◌, ℕ, zero, suc, ◌+◌, ◌-◌, ◌*◌, ◌/◌, ◌%◌, ◌^◌, ◌<◌, ◌≤◌, refl, sym, ap, subst, arith, ⊎_elim}
+use Rattle.std.proofs.Common.{◌≡◌, ◌∙◌, ℕ, zero, suc, ◌+◌, ◌-◌, ◌*◌, ◌/◌, ◌%◌, ◌^◌, ◌<◌, ◌≤◌, min, refl, sym, ap, subst, arith, ⊎_elim}
 use Rattle.std.specs.Int.Count.{count_trailing_zeros, under}
 use Rattle.std.specs.Int.{◌∣◌, w64, trailing_zeros, next_multiple_of}
-use Rattle.std.proofs.Math.Nat.{dvd-mul_right, dvd-mul_left, dvd_trans, dvd-add, dvd-sub, dvd-mod_iff, mul-dvd-mul, dvd-zero, div-mul_cancel, mod_self, mod-eq_of_lt, mul-le-mul_right, div-mul-le_self}
+use Rattle.std.proofs.Math.Nat.{min-le_left, min-le_right, dvd-mul_right, dvd-mul_left, dvd_trans, dvd-add, dvd-sub, dvd-mod_iff, mul-dvd-mul, dvd-zero, div-mul_cancel, mod_self, mod-eq_of_lt, mul-le-mul_right, div-mul-le_self}
 use Rattle.std.proofs.lemmas.Nat.{pow_pos, pow-add, mod-pow-add, mod_below, div-add-mod', shr_split, trailing_le}
 use Rattle.std.proofs.lemmas.Nat.Gcd.{dvd_of_mod-eq-zero, mod-eq-zero_of_dvd}
 use Rattle.std.proofs.lemmas.Bool.{cases_lt}
@@ -18,6 +18,13 @@ pow-dvd i j h =
 -- a multiple of a power is one of each lower power
 pub coarser : (i j x : ℕ) → i ≤ j → x % 2 ^ j ≡ 0 → x % 2 ^ i ≡ 0
 coarser i j x h e = mod-eq-zero_of_dvd (2 ^ i) (dvd_trans (2 ^ i) (pow-dvd i j h) (dvd_of_mod-eq-zero (2 ^ j) e))
+
+-- a multiple of either power is one of the lesser
+pub min-first : (i j x : ℕ) → x % 2 ^ i ≡ 0 → x % 2 ^ min i j ≡ 0
+min-first i j x h = coarser (min i j) i x (min-le_left i j) h
+
+pub min-second : (i j x : ℕ) → x % 2 ^ j ≡ 0 → x % 2 ^ min i j ≡ 0
+min-second i j x h = coarser (min i j) j x (min-le_right i j) h
 
 -- every number is a multiple of 2 ^ 0
 pub multiple-zero : (x : ℕ) → x % 2 ^ 0 ≡ 0

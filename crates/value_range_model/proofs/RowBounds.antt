@@ -2,12 +2,12 @@
 use Rattle.std.proofs.Common.{◌≡◌, ◌∙◌, ℕ, ◌+◌, ◌-◌, ◌*◌, ◌/◌, ◌%◌, ◌^◌, ◌<◌, ◌≤◌, min, max, refl, sym, ap, subst, arith, inl, inr, ⊎_elim}
 use Rattle.std.specs.Prelude.{◌⊎◌, bit_and, bit_or, bit_xor}
 use Rattle.std.specs.Int.{w64, leading_zeros}
-use Rattle.std.proofs.Math.Nat.{min-le_left, min-le_right, le-min, max-le, div-mul-le_self, zero-div, pow-suc}
+use Rattle.std.proofs.Math.Nat.{le-min, max-le, div-mul-le_self, zero-div, pow-suc}
 use Rattle.std.proofs.lemmas.Nat.{mul-le, pow_pos, and_le_l, and_le_r, or_lt, xor_lt, le_or_l, le_or_r, and_mod, or_mod, xor_mod, leading_length, le-div, field_of}
 use Rattle.std.proofs.Math.Pow.{pow_mono}
 use Rattle.std.proofs.lemmas.Bool.{cases_lt}
 use Rattle.value_range_model.specs.Spans.{Span, IsSpan, Contains, rounded_up, norm}
-use Rattle.value_range_model.proofs.Multiples.{coarser, zero-multiple, multiple-zero, multiple-add, multiple-sub, multiple-mul, pow-multiple, up-most}
+use Rattle.value_range_model.proofs.Multiples.{min-first, min-second, zero-multiple, multiple-zero, multiple-add, multiple-sub, multiple-mul, pow-multiple, up-most}
 use Rattle.value_range_model.proofs.SpanLaws.{norm-contains, lo-in, max-one}
 use Rattle.value_range_model.specs.AluRows.{filled}
 
@@ -26,17 +26,6 @@ norm-between lo hi z x b = norm-contains lo hi z x b.above b.below b.multiple
 -- from 0 there is always 0
 pub zero_some : (z hi : ℕ) → rounded_up z 0 ≤ hi
 zero_some z hi = omega (arith, up-most z 0 0 (zero-multiple z) (omega arith))
-
--- all numbers are multiples of 1
-pub one_some : (lo hi : ℕ) → lo ≤ hi → rounded_up 0 lo ≤ hi
-one_some lo hi h = omega (arith, up-most 0 lo lo (multiple-zero lo) (omega arith))
-
--- a multiple of either power is one of the lesser
-pub min-first : (i j x : ℕ) → x % 2 ^ i ≡ 0 → x % 2 ^ min i j ≡ 0
-min-first i j x h = coarser (min i j) i x (min-le_left i j) h
-
-pub min-second : (i j x : ℕ) → x % 2 ^ j ≡ 0 → x % 2 ^ min i j ≡ 0
-min-second i j x h = coarser (min i j) j x (min-le_right i j) h
 
 -- sums
 pub sum-between : (a b : Span) (x y : ℕ) → Contains a x → Contains b y →
@@ -78,10 +67,6 @@ pub multiplied_some : (a b : Span) → IsSpan a → IsSpan b → rounded_up (min
 multiplied_some a b i j =
     some-between (a.lo * b.lo) (a.hi * b.hi) (min (a.zeros + b.zeros) 64) (a.lo * b.lo)
     (product-between a b a.lo b.lo (lo-in a i) (lo-in b j))
-
--- quotients by one number
-zero-quotient : (n : ℕ) → 0 / n ≡ 0
-zero-quotient n = zero-div n
 
 div-mono : (n x y : ℕ) → 0 < n → x ≤ y → x / n ≤ y / n
 div-mono n x y pos h = le-div (x / n) y n pos (omega (arith, div-mul-le_self x n))
@@ -197,7 +182,7 @@ right-multiple z s x h =
     sym (field_of x (z - s) s)
     ∙ ap (λ (k : ℕ). x % 2 ^ k / 2 ^ s) e
     ∙ ap (λ (n : ℕ). n / 2 ^ s) h
-    ∙ zero-quotient (2 ^ s))
+    ∙ zero-div (2 ^ s))
     (cases_lt z s)
 
 pub right-between : (a : Span) (s x : ℕ) → Contains a x → Between (a.lo / 2 ^ s) (a.hi / 2 ^ s) (a.zeros - s) (x / 2 ^ s)

@@ -12,10 +12,10 @@ use Rattle.bpf_insn_form.specs.declared.insn.AluOp.TheVariants.{Add, Sub, Mul, D
 use Rattle.bpf_insn_words.specs.Words.{modulus, shift, quotient, remainder, arithmetic_shift, computed}
 use Rattle.bpf_insn_words.proofs.WordLaws.{modulus-positive}
 use Rattle.value_range_model.specs.Spans.{Span, IsSpan, Contains, is_exact, exact, top, norm}
-use Rattle.value_range_model.proofs.Multiples.{coarser, multiple-zero, multiple-add, multiple-sub, multiple-mul, multiple-wrap, pow-multiple}
+use Rattle.value_range_model.proofs.Multiples.{coarser, min-first, min-second, multiple-zero, multiple-add, multiple-sub, multiple-mul, multiple-wrap, pow-multiple}
 use Rattle.value_range_model.proofs.SpanLaws.{contains_by_test, norm-contains, exact-contains, exact-number, top-contains}
 use Rattle.value_range_model.specs.AluRows.{filled, added, subtracted, multiplied, divided, left_over, with_bits, common_bits, other_bits, shifted_left_by, shifted_left, shifted_right, shifted_signed, alu_row}
-use Rattle.value_range_model.proofs.RowBounds.{norm-between, min-first, min-second, sum-between, difference-between, product-between, quotient-between, or-between, xor-between, and-between, left-between, right-between}
+use Rattle.value_range_model.proofs.RowBounds.{norm-between, sum-between, difference-between, product-between, quotient-between, or-between, xor-between, and-between, left-between, right-between}
 
 -- a multiple keeps its trailing zeros modulo the width
 wrapped-multiple : (width : Width) (z n : ℕ) → n % 2 ^ z ≡ 0 → n % modulus width % 2 ^ z ≡ 0

@@ -7,7 +7,7 @@ use Rattle.bpf_insn_form.specs.declared.insn.Width.{Width}
 use Rattle.bpf_insn_form.specs.declared.insn.Width.TheVariants.{W32, W64}
 use Rattle.bpf_insn_words.specs.Words.{modulus}
 use Rattle.value_range_model.specs.Spans.{Span, IsSpan, Contains, is_exact, exact, top, rounded_up, rounded_down, norm, join}
-use Rattle.value_range_model.proofs.Multiples.{coarser, multiple-zero, trailing-multiple, trailing-most, down-most, down-multiple, down-least, up-least, up-multiple, up-most}
+use Rattle.value_range_model.proofs.Multiples.{min-first, min-second, multiple-zero, trailing-multiple, trailing-most, down-most, down-multiple, down-least, up-least, up-multiple, up-most}
 
 -- whichever span is chosen, by what the test tells
 pub is_by_test : (s t : Span) (b : Bool) → (b ≡ true → IsSpan s) → (b ≡ false → IsSpan t) → IsSpan (if b then s else t)
@@ -30,12 +30,9 @@ exact-span n h = record {
 pub exact-contains : (n : ℕ) → Contains (exact n) n
 exact-contains n = record { above = omega arith; below = omega arith; multiple = trailing-multiple n }
 
--- the least and the greatest number of a span are among its numbers
+-- the least number of a span is among its numbers
 pub lo-in : (s : Span) → IsSpan s → Contains s s.lo
 lo-in s i = record { above = omega arith; below = i.ordered; multiple = i.lo_multiple }
-
-pub hi-in : (s : Span) → IsSpan s → Contains s s.hi
-hi-in s i = record { above = i.ordered; below = omega arith; multiple = i.hi_multiple }
 
 -- they are words
 pub number-word : (s : Span) (x : ℕ) → IsSpan s → Contains s x → x < 2 ^ 64
@@ -94,22 +91,22 @@ pub join-first : (a b : Span) (x : ℕ) → Contains a x → Contains (join a b)
 join-first a b x c = record {
   above = omega (arith, min-le_left a.lo b.lo, c.above);
   below = omega (arith, le-max_left a.hi b.hi, c.below);
-  multiple = coarser (min a.zeros b.zeros) a.zeros x (min-le_left a.zeros b.zeros) c.multiple;
+  multiple = min-first a.zeros b.zeros x c.multiple;
 }
 
 pub join-second : (a b : Span) (x : ℕ) → Contains b x → Contains (join a b) x
 join-second a b x c = record {
   above = omega (arith, min-le_right a.lo b.lo, c.above);
   below = omega (arith, le-max_right a.hi b.hi, c.below);
-  multiple = coarser (min a.zeros b.zeros) b.zeros x (min-le_right a.zeros b.zeros) c.multiple;
+  multiple = min-second a.zeros b.zeros x c.multiple;
 }
 
--- a multiple of either power is one of the lesser
+-- so is one of two multiples
 lesser-multiple : (i j a b x : ℕ) → a % 2 ^ i ≡ 0 → b % 2 ^ j ≡ 0 → (x ≡ a) ⊎ (x ≡ b) → x % 2 ^ min i j ≡ 0
 lesser-multiple i j a b x h k e =
     ⊎_elim
-    (λ (s : x ≡ a). subst (λ (n : ℕ). n % 2 ^ min i j ≡ 0) (sym s) (coarser (min i j) i a (min-le_left i j) h))
-    (λ (s : x ≡ b). subst (λ (n : ℕ). n % 2 ^ min i j ≡ 0) (sym s) (coarser (min i j) j b (min-le_right i j) k))
+    (λ (s : x ≡ a). subst (λ (n : ℕ). n % 2 ^ min i j ≡ 0) (sym s) (min-first i j a h))
+    (λ (s : x ≡ b). subst (λ (n : ℕ). n % 2 ^ min i j ≡ 0) (sym s) (min-second i j b k))
     e
 
 pub min-one : (a b : ℕ) → (min a b ≡ a) ⊎ (min a b ≡ b)

@@ -3,8 +3,8 @@
 ghost use Rattle.std.specs.Prelude.{◌≡◌, ◌<◌, ◌≤◌, ◌^◌};
 ghost use Rattle.value_range_model.specs.Spans.{rounded_up, rounded_down};
 
-#[tactic(auto, unfolding(crate::specs::Spans::rounded_down))]
 /// The greatest multiple of 2^zeros that is not above a number.
+#[tactic(auto, unfolding(crate::specs::Spans::rounded_down))]
 pub fn round_down(number: u64, zeros: u32) -> u64
     requires { zeros ≤ 64 }
     ensures { result ≡ rounded_down zeros number }
@@ -16,8 +16,8 @@ pub fn round_down(number: u64, zeros: u32) -> u64
     }
 }
 
-#[tactic(auto, unfolding(crate::specs::Spans::rounded_up, crate::specs::Spans::rounded_down))]
 /// The least multiple of 2^zeros that is not below a number.
+#[tactic(auto, unfolding(crate::specs::Spans::rounded_up, crate::specs::Spans::rounded_down))]
 pub fn round_up(number: u64, zeros: u32) -> u64
     requires bits { zeros ≤ 64 }
     requires word { rounded_up zeros number < 2 ^ 64 }

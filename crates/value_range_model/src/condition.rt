@@ -46,7 +46,7 @@ impl Condition {
     }
 }
 
-// The condition where the comparison doesn't hold.
+/// The condition where the comparison doesn't hold.
 fn opposite_of(compare: Compare) -> Condition
     ensures { result ≡ opposite compare }
 {

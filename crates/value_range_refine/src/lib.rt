@@ -2,7 +2,7 @@
 //! `value_range_model`, and loses no pair of words that meets the condition.
 #![tactic(auto)]
 
-mod rows;
-mod table;
+mod comparisons;
+mod conditions;
 
-pub use table::refine;
+pub use conditions::refine;

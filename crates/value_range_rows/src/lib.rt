@@ -4,10 +4,10 @@
 
 mod bits;
 mod moves;
+mod operations;
 mod quotients;
 mod shifts;
 mod sums;
-mod table;
 mod widths;
 
-pub use table::alu;
+pub use operations::alu;

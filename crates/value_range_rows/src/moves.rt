@@ -42,7 +42,7 @@ pub fn extended(width: Width, bits: MovsxBits, b: Range) -> Range
     }
 }
 
-// The number of the sign bit alone.
+/// The number of the sign bit alone.
 fn sign_bit(bits: MovsxBits) -> u64
     ensures { result ≡ low_modulus bits / 2 }
 {
@@ -64,7 +64,7 @@ pub fn ordered(order: ByteOrder, bits: EndianBits, a: Range) -> Range
     }
 }
 
-// The low bits as they stand.
+/// The low bits as they stand.
 #[tactic(auto, using(value_range_model::proofs::RowBounds::zero_some), unfolding(value_range_model::specs::AluRows::little))]
 fn little(bits: EndianBits, a: Range) -> Range
     ensures { result ≡ little bits a }
@@ -73,8 +73,8 @@ fn little(bits: EndianBits, a: Range) -> Range
     if a.hi() <= all.hi() { a } else { all }
 }
 
+/// Every number of so many bits.
 #[tactic(auto, using(value_range_model::proofs::RowBounds::zero_some))]
-// Every number of so many bits.
 fn every(bits: EndianBits) -> Range
     ensures { result ≡ top_bits bits }
 {

@@ -9,7 +9,7 @@ use bpf_insn_form::Width;
 use bpf_insn_words::shift_amount;
 use value_range_model::{Range, norm, top};
 
-// To the left by a known amount: where nothing wraps, from the least to the greatest.
+/// To the left by a known amount: where nothing wraps, from the least to the greatest.
 #[tactic(auto, using(value_range_model::proofs::RowBounds::zero_some), unfolding(value_range_model::specs::AluRows::shifted_left_by))]
 fn shifted_left_by(width: Width, a: Range, amount: u32) -> Range
     requires { amount < 64 }

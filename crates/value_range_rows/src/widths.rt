@@ -19,8 +19,8 @@ pub fn within(width: Width, number: u128) -> Option<u64>
     }
 }
 
-#[tactic(auto, using(value_range_model::proofs::RowBounds::zero_some))]
 /// Every number of the width that has so many trailing zeros.
+#[tactic(auto, using(value_range_model::proofs::RowBounds::zero_some))]
 pub fn spread(width: Width, zeros: u32) -> Range
     requires { zeros ≤ 64 }
     ensures { result ≡ norm 0 (modulus width - 1) zeros }

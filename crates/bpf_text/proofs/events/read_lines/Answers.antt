@@ -1,6 +1,5 @@
 use Rattle.std.proofs.Common.{◌≡◌, ◌+◌, ◌++◌, sym, ap, ◌∙◌, arith}
 use Rattle.std.proofs.lemmas.Result.{err_from_is_err_and}
-use Rattle.bpf_text_lines.specs.Lines.{contents_from, lines_of}
 use Rattle.bpf_text.specs.EventsText.{events_behind}
 use Rattle.bpf_text.proofs.EventLaws.{events_behind-line, events_behind-fails, events_behind-end}
 use Rattle.bpf_text.proofs.events.read_lines.Goals as goal
@@ -11,8 +10,8 @@ returns-in_err-more c =
     let e = c.in_err-more.field-0.0 in
     let before = c.loop-line.events.items in
     let line = c.in-Some.line in
-    let lines = contents_from (line.number + 1) (lines_of line.rest.now) in
-    let all = sym c.loop-line.invariant.so_far ∙ ap (events_behind before) c.in-Some.ensures.some in
+    let lines = c.next.new.self in
+    let all = sym c.loop-line.invariant ∙ ap (events_behind before) c.in-Some.ensures.some in
     rw (p.1, p.2, all) (events_behind-fails e before (line.number, line.content.now) lines c.in_err-more.ensures)
 
 pub loop-line-preserved : goal.loop-line-preserved
@@ -20,13 +19,10 @@ loop-line-preserved c =
     let before = c.loop-line.events.items in
     let more = c.in_ok-more.more.items in
     let line = c.in-Some.line in
-    let lines = contents_from (line.number + 1) (lines_of line.rest.now) in
+    let lines = c.next.new.self in
     let grown : c.extend_from_slice.new.self.items ≡ before ++ more = c.in_ok-extend_from_slice.ensures.items ∙ ap (λ m. before ++ m) c.deref.ensures.value in
     let step = events_behind-line before (line.number, line.content.now) lines more c.in_ok-more.ensures in
-    record {
-      so_far = rw grown (sym step ∙ ap (events_behind before) (sym c.in-Some.ensures.some) ∙ c.loop-line.invariant.so_far);
-      ahead = omega (arith, c.in-Some.ensures.shorter);
-    }
+    rw grown (sym step ∙ ap (events_behind before) (sym c.in-Some.ensures.some) ∙ c.loop-line.invariant)
 
 pub returns : goal.returns
-returns c = sym c.loop-line.invariant.so_far ∙ ap (events_behind c.loop-line.events.items) c.in_default.ensures.none ∙ events_behind-end c.loop-line.events.items
+returns c = sym c.loop-line.invariant ∙ ap (events_behind c.loop-line.events.items) c.in_default.ensures.none ∙ events_behind-end c.loop-line.events.items

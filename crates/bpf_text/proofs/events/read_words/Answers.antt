@@ -1,6 +1,5 @@
 use Rattle.std.proofs.Common.{sym, ap, ◌∙◌}
 use Rattle.std.proofs.lemmas.Result.{err_from_is_err_and}
-use Rattle.bpf_text_lines.specs.Words.{words_of}
 use Rattle.bpf_text.specs.EventsText.{event_at, events_in}
 use Rattle.bpf_text_lines.proofs.RefusalLaws.{with_front, goes_on, ends}
 use Rattle.bpf_text.proofs.events.read_words.Goals as goal
@@ -10,14 +9,14 @@ returns-in_err-read_event c =
     let p = err_from_is_err_and c.from_residual.result c.from_residual.ensures.1 in
     let before = c.loop-word.events.items in
     let word = c.in-Some.word.now in
-    let others = events_in (words_of c.in-Some.behind.now) in
+    let others = events_in c.next.new.self in
     let so_far = ap (λ words. with_front before (events_in words)) (sym c.in-Some.ensures.some) ∙ c.loop-word.invariant in
-    rw (p.1, p.2) (ends c.in_err-read_event.field-0.0 c.args.line before (event_at word) others (events_in (words_of c.args.words.now)) c.in_err-read_event.ensures so_far)
+    rw (p.1, p.2) (ends c.in_err-read_event.field-0.0 c.args.line before (event_at word) others _ c.in_err-read_event.ensures so_far)
 
 pub loop-word-preserved : goal.loop-word-preserved
 loop-word-preserved c =
     let before = c.loop-word.events.items in
     let word = c.in-Some.word.now in
-    let others = events_in (words_of c.in-Some.behind.now) in
+    let others = events_in c.next.new.self in
     let so_far = ap (λ words. with_front before (events_in words)) (sym c.in-Some.ensures.some) ∙ c.loop-word.invariant in
-    rw c.in_ok-push.ensures.items (goes_on c.args.line before c.in_ok-read_event.field-0 (event_at word) others (events_in (words_of c.args.words.now)) c.in_ok-read_event.ensures so_far)
+    rw c.in_ok-push.ensures.items (goes_on c.args.line before c.in_ok-read_event.field-0 (event_at word) others _ c.in_ok-read_event.ensures so_far)

@@ -1,11 +1,10 @@
 use Rattle.std.proofs.Common.{◌≡◌, length}
-use Rattle.bpf_text_lines.specs.Words.{words_of}
 use Rattle.bpf_text.specs.EventsText.{events_in}
 use Rattle.bpf_text_lines.proofs.RefusalLaws.{with_front}
 use Rattle.bpf_text.proofs.events.read_words.Given as goal
 
 abbrev pub invariant-loop-word : goal.invariant-loop-word
-invariant-loop-word l = with_front l.events.items (events_in (words_of l.rest)) ≡ events_in (words_of l.words)
+invariant-loop-word l = with_front l.events.items (events_in l.words) ≡ events_in l.initial.words
 
 abbrev pub decreases-loop-word : goal.decreases-loop-word
-decreases-loop-word l = length l.rest
+decreases-loop-word l = length l.words

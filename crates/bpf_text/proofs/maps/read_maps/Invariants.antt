@@ -1,15 +1,14 @@
-use Rattle.std.proofs.Common.{◌≡◌, ◌≤◌, ◌+◌, [], length}
-use Rattle.bpf_text_lines.specs.Lines.{contents_from, contents_of, lines_of}
+use Rattle.std.proofs.Common.{◌≡◌, ◌≤◌, [], length}
+use Rattle.bpf_text_lines.specs.Lines.{contents_of}
 use Rattle.bpf_text.specs.MapsText.{lists, count_of, maps_behind}
 use Rattle.bpf_text.proofs.maps.read_maps.Given as goal
 
 abbrev pub invariant-loop-line : goal.invariant-loop-line
 invariant-loop-line l = record {
-  so_far : maps_behind (lists l.maps.items) (contents_from l.number (lines_of l.rest)) ≡ maps_behind [] (contents_of l.text);
+  so_far : maps_behind (lists l.maps.items) l.lines ≡ maps_behind [] (contents_of l.text);
   count : l.held ≡ count_of (lists l.maps.items);
   room : l.held ≤ 65536;
-  ahead : l.number + length l.rest ≤ 1 + length l.text;
 }
 
 abbrev pub decreases-loop-line : goal.decreases-loop-line
-decreases-loop-line l = length l.rest
+decreases-loop-line l = length l.lines

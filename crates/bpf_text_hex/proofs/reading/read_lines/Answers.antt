@@ -1,6 +1,5 @@
 use Rattle.std.proofs.Common.{◌≡◌, ◌+◌, ◌++◌, length, sym, ap, ◌∙◌, arith}
 use Rattle.std.proofs.lemmas.Result.{err_from_is_err_and}
-use Rattle.bpf_text_lines.specs.Lines.{contents_from, lines_of}
 use Rattle.bpf_text_hex.specs.HexText.{bytes_behind}
 use Rattle.bpf_text_hex.proofs.HexLaws.{bytes_behind-line, bytes_behind-fails, bytes_behind-end}
 use Rattle.bpf_text_hex.proofs.reading.read_lines.Goals as goal
@@ -11,7 +10,7 @@ returns-in_err-more c =
     let e = c.in_err-more.field-0.0 in
     let before = c.loop-line.bytes.items in
     let line = c.in-Some.line in
-    let lines = contents_from (line.number + 1) (lines_of line.rest.now) in
+    let lines = c.next.new.self in
     let count : c.len.result ≡ length before = c.len.ensures ∙ c.loop-line.bytes.ok.0 in
     let all = sym c.loop-line.invariant.so_far ∙ ap (bytes_behind before) c.in-Some.ensures.some in
     rw (p.1, p.2, all) (bytes_behind-fails e before c.len.result (line.number, line.content.now) lines count c.in_err-more.ensures.meaning)
@@ -21,14 +20,13 @@ loop-line-preserved c =
     let before = c.loop-line.bytes.items in
     let more = c.in_ok-more.more.items in
     let line = c.in-Some.line in
-    let lines = contents_from (line.number + 1) (lines_of line.rest.now) in
+    let lines = c.next.new.self in
     let count : c.len.result ≡ length before = c.len.ensures ∙ c.loop-line.bytes.ok.0 in
     let grown : c.extend_from_slice.new.self.items ≡ before ++ more = c.in_ok-extend_from_slice.ensures.items ∙ ap (λ m. before ++ m) c.deref.ensures.value in
     let step = bytes_behind-line before c.len.result (line.number, line.content.now) lines more count c.in_ok-more.ensures.meaning in
     record {
       so_far = rw grown (sym step ∙ ap (bytes_behind before) (sym c.in-Some.ensures.some) ∙ c.loop-line.invariant.so_far);
       room = omega (arith, c.in_ok-more.ensures.room, c.in_ok-extend_from_slice.ensures.len, c.deref.ensures.len, c.len.ensures);
-      ahead = omega (arith, c.in-Some.ensures.shorter);
     }
 
 pub returns : goal.returns

@@ -1,11 +1,10 @@
 use Rattle.std.proofs.Common.{◌≡◌, length}
-use Rattle.bpf_text_lines.specs.Words.{words_of}
 use Rattle.bpf_text_lines.specs.Fields.{numbers_in}
 use Rattle.bpf_text_lines.proofs.RefusalLaws.{with_front}
 use Rattle.bpf_text_lines.proofs.fields.read_numbers.Given as goal
 
 abbrev pub invariant-loop-word : goal.invariant-loop-word
-invariant-loop-word l = with_front l.numbers.items (numbers_in l.limit (words_of l.rest)) ≡ numbers_in l.limit (words_of l.words)
+invariant-loop-word l = with_front l.numbers.items (numbers_in l.limit l.words) ≡ numbers_in l.limit l.initial.words
 
 abbrev pub decreases-loop-word : goal.decreases-loop-word
-decreases-loop-word l = length l.rest
+decreases-loop-word l = length l.words

@@ -5,7 +5,6 @@ use Rattle.bpf_text_lines.proofs.lines.next_line.Given as goal
 abbrev pub invariant-loop-rest : goal.invariant-loop-rest
 invariant-loop-rest l = record {
   same : contents_from l.fn.number (lines_of l.text) ≡ contents_from l.number (lines_of l.rest);
-  ahead : l.fn.number ≤ l.number;
   shorter : l.number + length l.rest ≤ l.fn.number + length l.text;
 }
 

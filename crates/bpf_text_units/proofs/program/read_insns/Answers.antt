@@ -1,6 +1,5 @@
 use Rattle.std.proofs.Common.{◌+◌, sym, ap, ◌∙◌, arith}
 use Rattle.std.proofs.lemmas.Result.{err_from_is_err_and}
-use Rattle.bpf_text_lines.specs.Lines.{contents_from, lines_of}
 use Rattle.bpf_text_operands.specs.LabelTable.{found}
 use Rattle.bpf_insn_form.specs.Program.{slot_count}
 use Rattle.bpf_text_units.specs.AssemblerText.{insns_behind}
@@ -15,7 +14,7 @@ returns-in_err-slot c =
     let labels = found c.args.labels.now in
     let before = c.loop-line.insns.items in
     let line = c.in-Some.line in
-    let lines = contents_from (line.number + 1) (lines_of line.rest.now) in
+    let lines = c.next.new.self in
     let all = sym c.loop-line.invariant.so_far ∙ ap (insns_behind labels before) c.in-Some.ensures.some in
     rw (p.1, p.2, all) (insns_behind-fails labels e before c.loop-line.slot (line.number, line.content.now) lines c.loop-line.invariant.slot c.in_err-slot.ensures.adds)
 
@@ -24,14 +23,13 @@ loop-line-preserved c =
     let labels = found c.args.labels.now in
     let before = c.loop-line.insns.items in
     let line = c.in-Some.line in
-    let lines = contents_from (line.number + 1) (lines_of line.rest.now) in
+    let lines = c.next.new.self in
     let adds = c.in_ok-slot.ensures.adds in
     let step = insns_behind-line labels before c.loop-line.slot (line.number, line.content.now) lines adds.0 c.loop-line.invariant.slot adds.1 in
     record {
       so_far = rw adds.2 (sym step ∙ ap (insns_behind labels before) (sym c.in-Some.ensures.some) ∙ c.loop-line.invariant.so_far);
       slot = rw (adds.2, slot_count-append before adds.0) (adds.3 ∙ ap (λ n. n + slot_count adds.0) c.loop-line.invariant.slot);
       room = c.in_ok-slot.ensures.bound;
-      ahead = omega (arith, c.in-Some.ensures.shorter);
     }
 
 pub returns : goal.returns

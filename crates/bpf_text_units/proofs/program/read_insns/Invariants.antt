@@ -1,5 +1,4 @@
-use Rattle.std.proofs.Common.{◌≡◌, ◌≤◌, ◌+◌, [], length}
-use Rattle.bpf_text_lines.specs.Lines.{contents_from, lines_of}
+use Rattle.std.proofs.Common.{◌≡◌, ◌≤◌, [], length}
 use Rattle.bpf_text_operands.specs.LabelTable.{found}
 use Rattle.bpf_insn_form.specs.Program.{slot_count}
 use Rattle.bpf_text_units.specs.AssemblerText.{insns_behind}
@@ -7,11 +6,10 @@ use Rattle.bpf_text_units.proofs.program.read_insns.Given as goal
 
 abbrev pub invariant-loop-line : goal.invariant-loop-line
 invariant-loop-line l = record {
-  so_far : insns_behind (found l.labels) l.insns.items (contents_from l.number (lines_of l.rest)) ≡ insns_behind (found l.labels) [] (contents_from l.first (lines_of l.text));
+  so_far : insns_behind (found l.labels) l.insns.items l.lines ≡ insns_behind (found l.labels) [] l.initial.lines;
   slot : l.slot ≡ slot_count l.insns.items;
   room : l.slot ≤ 4096;
-  ahead : l.number + length l.rest ≤ l.first + length l.text;
 }
 
 abbrev pub decreases-loop-line : goal.decreases-loop-line
-decreases-loop-line l = length l.rest
+decreases-loop-line l = length l.lines

@@ -1,0 +1,209 @@
+-- A line takes the slots of the instruction that it is.
+use Rattle.std.proofs.Common.{◌≡◌, ℕ, ℤ, ◌-◌, ◌^◌, Bool, true, false, cond, ◌&&◌, ◌||◌, ◌==◌, List, length, drop, Option, Some, None, Result, Ok, Err, refl, sym, ap, ◌∙◌}
+use Rattle.std.specs.Prelude.{is_ok}
+use Rattle.std.proofs.lemmas.Bool.{and_from, or_left, or_right, cond-true}
+use Rattle.bpf_insn_form.specs.declared.insn.ImmKind.{ImmKind}
+use Rattle.bpf_insn_form.specs.declared.insn.ImmKind.TheVariants as load
+use Rattle.bpf_insn_form.specs.declared.insn.Insn.{Insn}
+use Rattle.bpf_insn_form.specs.Slots.{slots_of}
+use Rattle.bpf_text_lines.specs.declared.numbers.NumberError.{NumberError}
+use Rattle.bpf_text_lines.specs.declared.text_error.TextFault.{TextFault}
+use Rattle.bpf_text_lines.specs.declared.text_error.TextFault.TheVariants as faults
+use Rattle.bpf_text_lines.specs.Fields.{as_field}
+use Rattle.bpf_text_lines.specs.Lines.{trim}
+use Rattle.bpf_text_lines.specs.Names.{is_name}
+use Rattle.bpf_text_lines.specs.Numbers.{is_numeral, is_negative, is_number, number_in}
+use Rattle.bpf_text_lines.proofs.SpellingLaws.{numeral_if}
+use Rattle.bpf_text_insns.specs.declared.mnemonic.Mnemonic.{Mnemonic}
+use Rattle.bpf_text_insns.specs.declared.mnemonic.Mnemonic.TheVariants as mnemonic
+use Rattle.bpf_text_insns.specs.declared.value.Value.{Value}
+use Rattle.bpf_text_insns.specs.declared.value.Value.TheVariants as value
+use Rattle.bpf_text_insns.specs.declared.value.Operands.{Operands}
+use Rattle.bpf_text_insns.specs.declared.value.Operands.TheVariants.{Zero, One, Two, Three}
+use Rattle.bpf_text_operands.specs.declared.kind.Kind.{Kind}
+use Rattle.bpf_text_operands.specs.declared.kind.Kind.TheVariants as kind
+use Rattle.bpf_text_operands.specs.declared.kind.Kinds.{Kinds}
+use Rattle.bpf_text_operands.specs.declared.kind.Kinds.TheVariants as kinds
+use Rattle.bpf_text_operands.specs.SignedNumbers.{is_register, register_at, ahead, back, signed_at, is_ahead, is_offset, offset_at, to_label, distance_at}
+use Rattle.bpf_text_operands.specs.Operands.{kinds_of, pair, as_reg, as_imm, as_wide, as_distance, as_far_distance, as_address, is_bracketed, inside, base_of, offset_of, value_at, cut_comma, one, two, three, both_at, three_at, operands_at, stands, both_stand, three_stand, all_stand}
+use Rattle.bpf_text_operands.specs.Statements.{statement_at, two_slots_of, insn_of_mnemonic, some_insn, built, with_operands, insn_of_line, mnemonic_slots, slots_where, slots_at}
+
+-- ---- what is read has its form
+
+-- both of a pair that is read
+both_read : {A B : Type 0} (a : Result A TextFault) (b : Result B TextFault) (x : A × B) → pair a b ≡ Ok x → ((u : A) × (a ≡ Ok u)) × ((v : B) × (b ≡ Ok v))
+both_read (Ok u) (Ok v) x e = ((u, refl), (v, refl))
+both_read (Ok u) (Err fault) x e = absurd cc
+both_read (Err fault) (Ok v) x e = absurd cc
+both_read (Err fault) (Err other) x e = absurd cc
+
+reg_read : (r : Result ℕ TextFault) (v : Value) → as_reg r ≡ Ok v → is_ok r ≡ true
+reg_read (Ok n) v e = refl
+reg_read (Err fault) v e = absurd cc
+
+imm_read : (r : Result ℤ TextFault) (v : Value) → as_imm r ≡ Ok v → (z : ℤ) × (r ≡ Ok z)
+imm_read (Ok z) v e = (z, refl)
+imm_read (Err fault) v e = absurd cc
+
+wide_read : (r : Result ℕ NumberError) (v : Value) → as_wide (as_field r) ≡ Ok v → (n : ℕ) × (r ≡ Ok n)
+wide_read (Ok n) v e = (n, refl)
+wide_read (Err error) v e = absurd cc
+
+near_read : (r : Result ℤ TextFault) (v : Value) → as_distance r ≡ Ok v → (z : ℤ) × (r ≡ Ok z)
+near_read (Ok z) v e = (z, refl)
+near_read (Err fault) v e = absurd cc
+
+far_read : (r : Result ℤ TextFault) (v : Value) → as_far_distance r ≡ Ok v → (z : ℤ) × (r ≡ Ok z)
+far_read (Ok z) v e = (z, refl)
+far_read (Err fault) v e = absurd cc
+
+ahead_read : (r : Result ℕ NumberError) (z : ℤ) → ahead r ≡ Ok z → (n : ℕ) × (r ≡ Ok n)
+ahead_read (Ok n) z e = (n, refl)
+ahead_read (Err error) z e = absurd cc
+
+address_read : (r : Result (ℕ × ℤ) TextFault) (v : Value) → as_address r ≡ Ok v → (x : ℕ × ℤ) × (r ≡ Ok x)
+address_read (Ok x) v e = (x, refl)
+address_read (Err fault) v e = absurd cc
+
+ok_is_ok : {A : Type 0} (r : Result A TextFault) (x : A) → r ≡ Ok x → is_ok r ≡ true
+ok_is_ok r x e = ap is_ok e
+
+signed_read : (bound : ℕ) (word : List ℕ) (z : ℤ) → signed_at bound word ≡ Ok z → is_number word ≡ true
+signed_read bound word z e = by_sign (is_negative word) refl e
+  where
+    by_sign : (b : Bool) → is_negative word ≡ b → cond b (back (number_in bound (drop 1 word))) (ahead (number_in (bound - 1) word)) ≡ Ok z → (is_numeral word || is_negative word) ≡ true
+    by_sign true same h = or_right (is_numeral word) (is_negative word) same
+    by_sign false same h =
+        let n = ahead_read (number_in (bound - 1) word) z h in
+        or_left (is_numeral word) (is_negative word) (numeral_if (bound - 1) word n.0 n.1)
+
+offset_read : (bound : ℕ) (word : List ℕ) (z : ℤ) → offset_at bound word ≡ Ok z → is_offset word ≡ true
+offset_read bound word z e = by_sign (is_negative word) (is_ahead word) refl refl e
+  where
+    by_sign : (b c : Bool) → is_negative word ≡ b → is_ahead word ≡ c →
+        cond b (back (number_in bound (drop 1 word))) (cond c (ahead (number_in (bound - 1) (drop 1 word))) (Err faults.Form)) ≡ Ok z → (is_negative word || is_ahead word) ≡ true
+    by_sign true c same other h = or_left (is_negative word) (is_ahead word) same
+    by_sign false true same other h = or_right (is_negative word) (is_ahead word) other
+    by_sign false false same other h = absurd cc
+
+module _ (find : List ℕ → Option ℕ) (slot : ℕ) where
+  distance_read : (bound : ℕ) (word : List ℕ) (z : ℤ) → distance_at find bound slot word ≡ Ok z → (is_name word || is_offset word) ≡ true
+  distance_read bound word z e = by_name (is_name word) refl e
+    where
+      by_name : (b : Bool) → is_name word ≡ b → cond b (to_label bound slot (find word)) (offset_at bound word) ≡ Ok z → (is_name word || is_offset word) ≡ true
+      by_name true same h = or_left (is_name word) (is_offset word) same
+      by_name false same h = or_right (is_name word) (is_offset word) (offset_read bound word z h)
+
+  -- a word that is read as an operand of a kind has its form
+  value_stands : (k : Kind) (word : List ℕ) (v : Value) → value_at find slot k word ≡ Ok v → stands k word ≡ true
+  value_stands kind.Reg word v e = reg_read (register_at word) v e
+  value_stands kind.RegOrImm word v e = by_register (is_register word) e
+    where
+      by_register : (b : Bool) → cond b (as_reg (register_at word)) (as_imm (signed_at (2 ^ 31) word)) ≡ Ok v → cond b (is_ok (register_at word)) (is_number word) ≡ true
+      by_register true h = reg_read (register_at word) v h
+      by_register false h = (let z = imm_read (signed_at (2 ^ 31) word) v h in signed_read (2 ^ 31) word z.0 z.1)
+  value_stands kind.Imm word v e = (let z = imm_read (signed_at (2 ^ 31) word) v e in signed_read (2 ^ 31) word z.0 z.1)
+  value_stands kind.Wide word v e =
+      let n = wide_read (number_in (2 ^ 64 - 1) word) v e in
+      or_left (is_numeral word) (is_negative word) (numeral_if (2 ^ 64 - 1) word n.0 n.1)
+  value_stands kind.Distance word v e = (let z = near_read (distance_at find (2 ^ 15) slot word) v e in distance_read (2 ^ 15) word z.0 z.1)
+  value_stands kind.FarDistance word v e = (let z = far_read (distance_at find (2 ^ 31) slot word) v e in distance_read (2 ^ 31) word z.0 z.1)
+  value_stands kind.Address word v e = by_brackets (is_bracketed word) e
+    where
+      by_brackets : (b : Bool) → cond b (as_address (pair (register_at (base_of (inside word))) (offset_at (2 ^ 15) (offset_of (inside word))))) (Err faults.Form) ≡ Ok v →
+          (b && (is_ok (register_at (base_of (inside word))) && is_offset (offset_of (inside word)))) ≡ true
+      by_brackets true h =
+          let x = address_read (pair (register_at (base_of (inside word))) (offset_at (2 ^ 15) (offset_of (inside word)))) v h in
+          let parts = both_read (register_at (base_of (inside word))) (offset_at (2 ^ 15) (offset_of (inside word))) x.0 x.1 in
+          and_from (is_ok (register_at (base_of (inside word)))) (is_offset (offset_of (inside word)))
+          (ok_is_ok (register_at (base_of (inside word))) parts.0.0 parts.0.1) (offset_read (2 ^ 15) (offset_of (inside word)) parts.1.0 parts.1.1)
+      by_brackets false h = absurd cc
+
+  both_stands : (a b : Kind) (cut : Option (List ℕ × List ℕ)) (x : Value × Value) → both_at find slot a b cut ≡ Ok x → both_stand a b cut ≡ true
+  both_stands a b None x e = absurd cc
+  both_stands a b (Some parts) x e =
+      let read = both_read (value_at find slot a (trim parts.0)) (value_at find slot b (trim parts.1)) x e in
+      and_from (stands a (trim parts.0)) (stands b (trim parts.1)) (value_stands a (trim parts.0) read.0.0 read.0.1) (value_stands b (trim parts.1) read.1.0 read.1.1)
+
+  three_stands : (a b c : Kind) (cut : Option (List ℕ × List ℕ)) (x : Value × (Value × Value)) → three_at find slot a b c cut ≡ Ok x → three_stand a b c cut ≡ true
+  three_stands a b c None x e = absurd cc
+  three_stands a b c (Some parts) x e =
+      let read = both_read (value_at find slot a (trim parts.0)) (both_at find slot b c (cut_comma parts.1)) x e in
+      and_from (stands a (trim parts.0)) (both_stand b c (cut_comma parts.1)) (value_stands a (trim parts.0) read.0.0 read.0.1) (both_stands b c (cut_comma parts.1) read.1.0 read.1.1)
+
+  one_read : (r : Result Value TextFault) (o : Operands) → one r ≡ Ok o → (v : Value) × (r ≡ Ok v)
+  one_read (Ok v) o e = (v, refl)
+  one_read (Err fault) o e = absurd cc
+
+  two_read : (r : Result (Value × Value) TextFault) (o : Operands) → two r ≡ Ok o → (x : Value × Value) × (r ≡ Ok x)
+  two_read (Ok x) o e = (x, refl)
+  two_read (Err fault) o e = absurd cc
+
+  three_read : (r : Result (Value × (Value × Value)) TextFault) (o : Operands) → three r ≡ Ok o → (x : Value × (Value × Value)) × (r ≡ Ok x)
+  three_read (Ok x) o e = (x, refl)
+  three_read (Err fault) o e = absurd cc
+
+  nothing_read : (b : Bool) (o : Operands) → cond b (Ok Zero) (Err faults.Form) ≡ Ok o → b ≡ true
+  nothing_read true o e = refl
+  nothing_read false o e = absurd cc
+
+  -- a text that is read as operands has their form
+  operands_stand : (ks : Kinds) (text : List ℕ) (o : Operands) → operands_at find slot ks text ≡ Ok o → all_stand ks text ≡ true
+  operands_stand kinds.Zero text o e = nothing_read (length text == 0) o e
+  operands_stand (kinds.One a) text o e = (let v = one_read (value_at find slot a (trim text)) o e in value_stands a (trim text) v.0 v.1)
+  operands_stand (kinds.Two a b) text o e = (let x = two_read (both_at find slot a b (cut_comma text)) o e in both_stands a b (cut_comma text) x.0 x.1)
+  operands_stand (kinds.Three a b c) text o e = (let x = three_read (three_at find slot a b c (cut_comma text)) o e in three_stands a b c (cut_comma text) x.0 x.1)
+
+  -- ---- the slots of a mnemonic's instruction
+
+  same_slots : (made i : Insn) (n : ℕ) → Some made ≡ Some i → slots_of made ≡ n → n ≡ slots_of i
+  same_slots made i n e h = (let same : made ≡ i = cc in sym h ∙ ap slots_of same)
+
+  load_slots : (k : ImmKind) (o : Operands) (i : Insn) → two_slots_of k o ≡ Some i → 2 ≡ slots_of i
+  load_slots load.Number (Two (value.Reg dst) (value.Wide n)) i e = same_slots _ i 2 e refl
+  load_slots load.Code (Two (value.Reg dst) (value.FarDistance d)) i e = same_slots _ i 2 e refl
+  load_slots k (Two (value.Reg dst) (value.Imm imm)) i e = same_slots _ i 2 e refl
+  load_slots k (Three (value.Reg dst) (value.Imm imm) (value.Imm next)) i e = same_slots _ i 2 e refl
+  load_slots k o i e = absurd cc
+
+  insn_slots : (m : Mnemonic) (o : Operands) (i : Insn) → insn_of_mnemonic m o ≡ Some i → mnemonic_slots m ≡ slots_of i
+  insn_slots (mnemonic.Alu w p) (Two (value.Reg dst) (value.Imm imm)) i e = same_slots _ i 1 e refl
+  insn_slots (mnemonic.Alu w p) (Two (value.Reg dst) (value.Reg src)) i e = same_slots _ i 1 e refl
+  insn_slots (mnemonic.Neg w) (One (value.Reg dst)) i e = same_slots _ i 1 e refl
+  insn_slots (mnemonic.Movsx w bits) (Two (value.Reg dst) (value.Reg src)) i e = same_slots _ i 1 e refl
+  insn_slots (mnemonic.Endian p bits) (One (value.Reg dst)) i e = same_slots _ i 1 e refl
+  insn_slots mnemonic.Ja (One (value.Distance d)) i e = same_slots _ i 1 e refl
+  insn_slots mnemonic.Ja32 (One (value.FarDistance d)) i e = same_slots _ i 1 e refl
+  insn_slots (mnemonic.Jump w c) (Three (value.Reg dst) (value.Imm imm) (value.Distance d)) i e = same_slots _ i 1 e refl
+  insn_slots (mnemonic.Jump w c) (Three (value.Reg dst) (value.Reg src) (value.Distance d)) i e = same_slots _ i 1 e refl
+  insn_slots (mnemonic.Call c) (One (value.Imm imm)) i e = same_slots _ i 1 e refl
+  insn_slots mnemonic.Exit Zero i e = same_slots _ i 1 e refl
+  insn_slots (mnemonic.Load s) (Two (value.Reg dst) (value.Address base offset)) i e = same_slots _ i 1 e refl
+  insn_slots (mnemonic.LoadSx s) (Two (value.Reg dst) (value.Address base offset)) i e = same_slots _ i 1 e refl
+  insn_slots (mnemonic.StoreImm s) (Two (value.Address base offset) (value.Imm imm)) i e = same_slots _ i 1 e refl
+  insn_slots (mnemonic.Store s) (Two (value.Address base offset) (value.Reg src)) i e = same_slots _ i 1 e refl
+  insn_slots (mnemonic.Atomic w p) (Two (value.Address base offset) (value.Reg src)) i e = same_slots _ i 1 e refl
+  insn_slots (mnemonic.LoadImm k) o i e = load_slots k o i e
+  insn_slots m o i e = absurd cc
+
+  -- ---- the line
+
+  -- what was read of the operands of an instruction that was built
+  built_read : (m : Mnemonic) (r : Result Operands TextFault) (i : Insn) → built m r ≡ Ok i → (o : Operands) × (r ≡ Ok o) × (some_insn (insn_of_mnemonic m o) ≡ Ok i)
+  built_read m (Ok o) i e = (o, refl, e)
+  built_read m (Err fault) i e = absurd cc
+
+  insn_there : (r : Option Insn) (i : Insn) → some_insn r ≡ Ok i → r ≡ Some i
+  insn_there (Some j) i e = (let same : j ≡ i = cc in ap (λ (x : Insn). Some x) same)
+  insn_there None i e = absurd cc
+
+  statement_slots : (s : Option (Mnemonic × List ℕ)) (i : Insn) → with_operands find slot s ≡ Ok i → slots_where s ≡ slots_of i
+  statement_slots None i e = absurd cc
+  statement_slots (Some s) i e =
+      let made = built_read s.0 (operands_at find slot (kinds_of s.0) s.1) i e in
+      cond-true (all_stand (kinds_of s.0) s.1) (mnemonic_slots s.0) 0 (operands_stand (kinds_of s.0) s.1 made.0 made.1)
+      ∙ insn_slots s.0 made.0 i (insn_there (insn_of_mnemonic s.0 made.0) i made.2)
+
+  pub line_slots : (line : List ℕ) (i : Insn) → insn_of_line find slot line ≡ Ok i → slots_at line ≡ slots_of i
+  unfolding insn_of_line slots_at
+  line_slots line i e = statement_slots (statement_at line) i e

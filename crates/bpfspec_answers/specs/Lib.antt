@@ -1,0 +1,4 @@
+pub mod NumberedLines
+pub mod AcceptedText
+pub mod Refusals
+pub mod ReportText

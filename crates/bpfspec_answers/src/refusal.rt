@@ -1,0 +1,83 @@
+//! Why an input has no result, and the line that tells it.
+
+ghost use Rattle.std.specs.Prelude.{◌≡◌, ◌++◌, IfOk, OnOk};
+ghost use Rattle.std.specs.String.{string_bytes};
+ghost use Rattle.bpfspec_answers.specs.declared.refusal.Refusal.TheVariants.{Text, Codec};
+ghost use Rattle.bpfspec_answers.specs.Refusals.{section_name, what_is_refused, refusal_line};
+
+use bpf_insn::CodecFault;
+use bpf_text_lines::TextFault;
+use bpf_verify_model::Rule;
+use std::alloc::{AllocError, Global};
+
+/// The line that tells that memory ran out.
+pub const MEMORY_LINE: &[u8] = b"refused memory\n";
+
+/// A section of an input.
+#[derive(Clone, Copy, Debug, PartialEq, Eq)]
+pub enum Section {
+    /// The program and the sizes of its maps.
+    Unit,
+    /// The values of the maps.
+    Maps,
+}
+
+/// Why an input has no result.
+#[derive(Clone, Copy, Debug, PartialEq, Eq)]
+pub enum Refusal {
+    /// A section is no text of its form.
+    Text {
+        fault: TextFault,
+        section: Section,
+        line: u32,
+    },
+    /// The bytes of the instructions spell no program.
+    Codec { fault: CodecFault, slot: usize },
+    /// The program breaks a rule of the verifier.
+    Rule { rule: Rule, slot: u32 },
+    /// V0: the program isn't a thin one.
+    NotThin,
+    /// P1: the sizes of the maps differ from the program's.
+    Sizes,
+}
+
+/// A section's name.
+fn section_name(section: Section) -> &'static str
+    ensures { result.now ≡ section_name section }
+{
+    match section {
+        Section::Unit => "unit",
+        Section::Maps => "maps",
+    }
+}
+
+/// Adds what is refused, and where it stands.
+fn print_what(out: &mut String, refusal: Refusal) -> Result<(), AllocError>
+    ensures { OnOk result (string_bytes out.new ≡ string_bytes out.old ++ what_is_refused refusal) }
+{
+    match refusal {
+        Refusal::Text {
+            fault,
+            section,
+            line,
+        } => {
+            let number = fault.number();
+            let section = section_name(section);
+            write!(out, "A{number} at {section} line {line}")
+        }
+        Refusal::Codec { fault, slot } => write!(out, "I{} at slot {slot}", fault.number()),
+        Refusal::Rule { rule, slot } => write!(out, "V{} at slot {slot}", rule.number()),
+        Refusal::NotThin => out.push_str("V0 at slot 0"),
+        Refusal::Sizes => out.push_str("P1"),
+    }
+}
+
+/// The line of a refusal.
+pub fn print_refusal(alloc: Global, refusal: Refusal) -> Result<String, AllocError>
+    ensures { IfOk result (λ line. string_bytes line ≡ refusal_line refusal) }
+{
+    let mut out = String::from_str(alloc, "refused ")?;
+    print_what(&mut out, refusal)?;
+    out.push_str("\n")?;
+    Ok(out)
+}

@@ -1,0 +1,67 @@
+//! The program, from the words of its command line to its exit status.
+
+ghost use Rattle.std.specs.Prelude.{◌≡◌, ◌+◌, ◌-◌, ◌^◌, ◌<◌};
+ghost use Rattle.bpfspec_serve.specs.ExitStatus.{exit_status};
+ghost use Rattle.bpfspec_serve.specs.HowRan.{HowRan};
+ghost use Rattle.bpfspec_serve.specs.HowServed.{AnswersReader};
+
+use crate::program_end::{ProgramEnd, exit_status};
+use crate::serving::{Served, serve, write};
+use bpfspec_answers::MEMORY_LINE;
+use bpfspec_command_line::{Job, LineFault, Mode, read_command_line};
+use bpfspec_streams::{Sink, Source, write_all};
+use std::env::Env;
+
+/// The mode of a job.
+fn mode_of(job: Job) -> Mode
+    ensures { job ≡ Job.Serve result }
+{
+    match job {
+        Job::Serve(mode) => mode,
+    }
+}
+
+/// Serves an input as the command line asks, or tells why it asks for nothing: its usage on
+/// `messages`, or on `output` that memory ran out.
+fn carry_out<R: Env + AllocGlobal, S: Source, W: Sink, M: Sink>(
+    rt: &R,
+    input: &mut S,
+    output: &mut W,
+    messages: &mut M,
+) -> ProgramEnd
+    requires reads { S.failed input.old < 2 ^ 64 - 1 }
+    requires writes { W.failed output.old < 2 ^ 64 - 1 }
+    requires tells { M.failed messages.old < 2 ^ 64 - 1 }
+    ensures { HowRan (λ mode. AnswersReader mode (S.left input.old) (S.left input.new)) result
+        (λ n. S.failed input.new ≡ S.failed input.old + n) (λ n. W.failed output.new ≡ W.failed output.old + n)
+        (W.taken output.old) (W.taken output.new) }
+{
+    match read_command_line(rt) {
+        Ok(job) => ProgramEnd::Served(serve(rt.alloc(), &mode_of(job), input, output)),
+        Err(LineFault::Usage(text)) => {
+            let _ = write_all(messages, text.as_bytes());
+            ProgramEnd::Usage
+        }
+        Err(LineFault::Memory) => ProgramEnd::Served(write(output, MEMORY_LINE, Served::Memory)),
+    }
+}
+
+/// Runs the program, and gives its exit status. Usage is told on `messages`, all else on `output`.
+///
+/// The `failures` of all three have to be below 2^64 - 1.
+pub fn run<R: Env + AllocGlobal, S: Source, W: Sink, M: Sink>(
+    rt: &R,
+    input: &mut S,
+    output: &mut W,
+    messages: &mut M,
+) -> u8
+    requires reads { S.failed input.old < 2 ^ 64 - 1 }
+    requires writes { W.failed output.old < 2 ^ 64 - 1 }
+    requires tells { M.failed messages.old < 2 ^ 64 - 1 }
+    ensures { (end : ProgramEnd) × (result ≡ exit_status end)
+        × HowRan (λ mode. AnswersReader mode (S.left input.old) (S.left input.new)) end
+        (λ n. S.failed input.new ≡ S.failed input.old + n) (λ n. W.failed output.new ≡ W.failed output.old + n)
+        (W.taken output.old) (W.taken output.new) }
+{
+    exit_status(carry_out(rt, input, output, messages))
+}

@@ -1,0 +1,5 @@
+pub mod Outcome
+pub mod Workers
+pub mod Schedule
+pub mod BlockRows
+pub mod ScheduleRows

@@ -1,0 +1,206 @@
+//! What the commands answer to inputs. In a row ` | ` ends a line, and the answer behind `=>` is the
+//! exit status and the output.
+
+use crate::program::{are_answered, run_line, run_on, words_of};
+use std::alloc::Global;
+use std::process::Abort;
+use std::test::Fail;
+
+/// The loop of eight iterations that adds its index, in hex form.
+const LOOP: &str =
+    "maps 1 | b701000008000000 | 1842000005000000 | 0000000000000000 | b703000000000000 | \
+    b704000000000000 | 85000000b5000000 | 9500000000000000 | 1862000000000000 | \
+    0000000000000000 | db12000000000000 | b700000000000000 | 9500000000000000";
+
+/// Asserts what the program answers where `<loop>` stands for that loop.
+fn are_answered_with_loop(
+    rt: &impl Abort,
+    alloc: Global,
+    line: &str,
+    table: &str,
+) -> Result<(), Fail> {
+    are_answered(rt, alloc, line, &table.replace(alloc, "<loop>", LOOP)?)
+}
+
+const HEX_UNITS: &str = "
+    <loop> | %% | map 0: 18446744073709551615 => 0 return 8 | loop 0 at 5: answer 8, in order | map 0: 27
+    <loop>                                    => 0 return 8 | loop 0 at 5: answer 8, in order | map 0: 28
+    <loop> | %%                               => 0 return 8 | loop 0 at 5: answer 8, in order | map 0: 28
+    <loop> | %% | map 0: 5 | %% | no events | %% => 0 return 8 | loop 0 at 5: answer 8, in order | map 0: 33
+    <loop> | %% | map 1: 0                    => 2 refused A7 at maps line 1
+    <loop> | %% | map 0: 18446744073709551616 => 2 refused A2 at maps line 1
+    <loop> | %% | ; no values                 => 2 refused A7 at maps line 0
+    <loop> | %% | map 0: 1 2                  => 1 refused P1
+    <loop> | %% ; no mark                     => 2 refused A1 at unit line 14
+                                              => 2 refused A1 at unit line 0
+    maps 1 | 9                                => 2 refused A1 at unit line 2
+    maps 4294967296                           => 2 refused A2 at unit line 1
+    maps 0                                    => 2 refused A7 at unit line 1
+    maps 1 | 95                               => 1 refused I1 at slot 0
+    maps 1 | 95 | %% | no maps                => 1 refused I1 at slot 0
+    maps 1 | b700000007000000 | 9500000000000000 => 1 refused V0 at slot 0
+    maps 1 | b700000007000000 | 9500000000000000 | %% | no maps => 1 refused V0 at slot 0
+";
+
+#[test]
+fn order_runs_hex_units(rt: HostRuntime) -> Result<(), Fail> {
+    are_answered_with_loop(&rt, rt.alloc(), "order --hex", HEX_UNITS)
+}
+
+/// What stands behind the first line of a loop that adds its index.
+const BEHIND: &str =
+    "ldcode r2, cb | mov64 r3, 0 | mov64 r4, 0 | call 181 | exit | cb: | ldmapval r2, 0, 0 | \
+    atomic64 add [r2+0], r1 | mov64 r0, 0 | exit";
+
+const ASSEMBLER_UNITS: &str = "
+    maps 1 | mov64 r1, 0 | <behind> | %% | map 0: 5 => 0 return 0 | loop 0 at 5: answer 0, in order | map 0: 5
+    maps 1 | mov64 r1, 8388608 | <behind> => 0 return 8388608 | loop 0 at 5: answer 8388608, in order | map 0: 35184367894528
+    maps 1 | mov64 r1, 8388609 | <behind> => 1 refused V0 at slot 0
+    maps 1 | mov64 r1, -1 | <behind>      => 1 refused V0 at slot 0
+    maps 2 | mov64 r1, 8 | <behind>       => 1 refused V0 at slot 0
+    maps 1 1 | mov64 r1, 8 | <behind>     => 1 refused V0 at slot 0
+    maps 1 | mov64 r1, 8 | <behind> | exit => 1 refused V0 at slot 0
+    maps 1                                => 1 refused V0 at slot 0
+";
+
+#[test]
+fn order_runs_assembler_text(rt: HostRuntime) -> Result<(), Fail> {
+    let table = ASSEMBLER_UNITS.replace(rt.alloc(), "<behind>", BEHIND)?;
+    are_answered(&rt, rt.alloc(), "order --arg 5", &table)
+}
+
+#[test]
+fn verify_tells_the_functions(rt: HostRuntime) -> Result<(), Fail> {
+    let table = "
+        <loop>      => 0 accepted | function 0 at 0 count 6 | function 1 at 7 count 4
+        maps 1      => 1 refused V1 at slot 0
+        maps 1 | 95 => 1 refused I1 at slot 0
+        maps 0      => 2 refused A7 at unit line 1
+    ";
+    are_answered_with_loop(&rt, rt.alloc(), "verify --hex", table)
+}
+
+const BOTH_WAYS: &str = "
+    add64 r1, -5                     => 07010000fbffffff
+    smod64 r1, r2                    => 9f21010000000000
+    mov64s8 r1, r2                   => bf21080000000000
+    be32 r1                          => dc01000020000000
+    jlt32 r1, r2, +2                 => ae21020000000000
+    ja32 +1                          => 0600000001000000
+    ldxs8 r1, [r2-1]                 => 9121ffff00000000
+    atomic32 cmpxchg [r1+4], r2      => c3210400f1000000
+    call_btf 4                       => 8520000004000000
+    lddw r1, 9223372036854775808     => 1801000000000000 | 0000000000000080
+    ldmapfd r1, 3                    => 1811000003000000 | 0000000000000000
+";
+
+#[test]
+fn lines_and_slots_are_written_both_ways(rt: HostRuntime) -> Result<(), Fail> {
+    let alloc = rt.alloc();
+    for row in BOTH_WAYS.trim().lines() {
+        let (line, slots) = row.split_once("=>").ok_or("a row has slots")?;
+        let line = line.trim();
+        let slots = slots.trim();
+        let asm = format!(in alloc; "maps 1 | {line} => 0 maps 1 | {slots}")?;
+        are_answered(&rt, alloc, "asm", &asm)?;
+        let disasm = format!(in alloc; "maps 1 | {slots} => 0 maps 1 | {line}")?;
+        are_answered(&rt, alloc, "disasm", &disasm)?;
+    }
+    Ok(())
+}
+
+const ASSEMBLER_TEXTS: &str = "
+    maps 1 | ja out | out: | exit  => 0 maps 1 | 0500000000000000 | 9500000000000000
+    maps 1 | exit | %% | no maps   => 0 maps 1 | 9500000000000000
+    maps 1 | mov64 r11, 0          => 2 refused A3 at unit line 2
+    maps 1 | ja nowhere            => 2 refused A4 at unit line 2
+    maps 1 | a: | a: | exit        => 2 refused A5 at unit line 3
+    maps 1 | mov64 r0, 2147483648  => 2 refused A2 at unit line 2
+    maps 65537                     => 2 refused A7 at unit line 1
+    maps 1 | ja out | no line | out: => 2 refused A1 at unit line 3
+    maps 1 | ja out | no line      => 2 refused A4 at unit line 2
+";
+
+#[test]
+fn asm_writes_hex_form(rt: HostRuntime) -> Result<(), Fail> {
+    are_answered(&rt, rt.alloc(), "asm", ASSEMBLER_TEXTS)
+}
+
+const HEX_TEXTS: &str = "
+    maps 1 | 0500000000000000 | 9500000000000000 => 0 maps 1 | ja +0 | exit
+    maps 1 | B700000007000000                    => 0 maps 1 | mov64 r0, 7
+    maps 1 | b7000000070000                      => 1 refused I1 at slot 0
+    maps 1 | 8d00000000000000                    => 1 refused I2 at slot 0
+    maps 1 | b70b000000000000                    => 1 refused I3 at slot 0
+    maps 1 | b710000007000000                    => 1 refused I4 at slot 0
+    maps 1 | d400000008000000                    => 1 refused I5 at slot 0
+    maps 1 | 3700020001000000                    => 1 refused I6 at slot 0
+    maps 1 | b700000000000000 | 1800000000000000 => 1 refused I7 at slot 1
+";
+
+#[test]
+fn disasm_writes_assembler_text(rt: HostRuntime) -> Result<(), Fail> {
+    are_answered(&rt, rt.alloc(), "disasm", HEX_TEXTS)
+}
+
+#[test]
+fn an_input_is_utf8_and_has_a_limit(rt: HostRuntime) -> Result<(), Fail> {
+    let alloc = rt.alloc();
+    let ran = run_line(alloc, "asm", b"maps 1 ; \xff")?;
+    assert_eq!(rt; ran.output.as_slice(), b"refused A1 at unit line 0\n".as_slice());
+    assert_eq!(rt; ran.status, 2);
+    let mut input = String::from_str(alloc, "maps 1\n%%\n%%\n")?;
+    for _ in input.len()..3_145_728 {
+        input.push_str(" ")?;
+    }
+    assert_eq!(rt; run_line(alloc, "asm", input.as_bytes())?.status, 0);
+    input.push_str("\u{e9}")?;
+    let ran = run_line(alloc, "asm", input.as_bytes())?;
+    assert_eq!(rt; ran.output.as_slice(), b"refused A6 at unit line 0\n".as_slice());
+    assert_eq!(rt; ran.status, 2);
+    Ok(())
+}
+
+/// A unit of two instructions.
+const SEVEN: &[u8] = b"maps 1\nmov64 r0, 7\nexit\n";
+
+/// Nothing is written where a read fails, at whichever.
+#[test]
+fn a_failed_read_ends_with_5(rt: HostRuntime) -> Result<(), Fail> {
+    let alloc = rt.alloc();
+    let words = words_of(alloc, "asm")?;
+    let reads = SEVEN.len() as u64 / 3 + 1;
+    for position in 0..reads + 1 {
+        let ran = run_on(alloc, &words, SEVEN, Some(position), None);
+        assert_eq!(rt; ran.status, if position < reads { 5 } else { 0 });
+        assert_eq!(rt; ran.output.is_empty(), position < reads);
+    }
+    Ok(())
+}
+
+#[test]
+fn a_failed_write_leaves_a_beginning(rt: HostRuntime) -> Result<(), Fail> {
+    let alloc = rt.alloc();
+    let ran = run_on(alloc, &words_of(alloc, "verify")?, SEVEN, None, Some(1));
+    assert_eq!(rt; ran.status, 5);
+    assert_eq!(rt; ran.output.as_slice(), b"acc".as_slice());
+    Ok(())
+}
+
+/// Where a growth was refused the memory line is written, and a second try has the memory. The
+/// sink's own growth may be the refused one: then nothing was taken.
+#[test]
+fn a_refused_growth_is_told(rt: HostRuntime) -> Result<(), Fail> {
+    let alloc = rt.alloc();
+    let words = words_of(alloc, "verify")?;
+    let mut ran = run_on(alloc, &words, SEVEN, None, None);
+    if ran.status == 4 {
+        assert_eq!(rt; ran.output.as_slice(), b"refused memory\n".as_slice());
+    }
+    if ran.status != 0 {
+        ran = run_on(alloc, &words, SEVEN, None, None);
+    }
+    assert_eq!(rt; ran.status, 0);
+    assert_eq!(rt; ran.output.as_slice(), b"accepted\nfunction 0 at 0 count 2\n".as_slice());
+    Ok(())
+}
