@@ -9,9 +9,8 @@ use Rattle.bpf_verify_model.specs.declared.rule.Rule.{Rule}
 use Rattle.bpf_verify_model.specs.declared.state.State.{State}
 use Rattle.bpf_verify_model.specs.States.{known_main_entry}
 use Rattle.bpf_verify_model.specs.Rules.{named_at, with_target, targets_in, slot_fault, insn_fault, state_fault, callback_fault, exit_fault, or_else, reached, fault_of}
-use Rattle.bpf_verify_model.specs.declared.outflow.Outflow.{Outflow}
 use Rattle.bpf_verify_model.specs.Flow.{flow}
-use Rattle.bpf_verify_model.specs.Inflow.{flow_unless, flow_if_reached, flow_from, received, received_all, entry, incoming}
+use Rattle.bpf_verify_model.specs.Inflow.{flow_unless, flow_if_reached, flow_from, received_all, entry, incoming}
 use Rattle.bpf_verify_model.specs.Accepted.{BrokenRule, unless_earlier, fault_at_insn, fault_within}
 use Rattle.bpf_verify.specs.declared.error.VerifyError.{VerifyError}
 use Rattle.bpf_verify.specs.declared.error.VerifyError.TheVariants.{Refused, Memory}

@@ -8,6 +8,7 @@ mod error;
 mod fields;
 mod layout;
 mod passing;
+mod table;
 mod verified;
 
 pub use accepting::verify;

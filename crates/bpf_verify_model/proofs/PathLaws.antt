@@ -9,9 +9,9 @@ use Rattle.bpf_insn_form.specs.Slots.{slots_of}
 use Rattle.bpf_insn_form.specs.Program.{Program, slot_count, insn_at, moved}
 use Rattle.bpf_verify_model.specs.Count.{behind_jump, through, longest, start_of, count_of, JumpsForward}
 use Rattle.bpf_verify_model.specs.declared.rule.Rule.TheVariants.{NoSlot, OverLimits}
-use Rattle.bpf_verify_model.specs.Accepted.{Accepted, BrokenRule, first_fault, fault_within, is_too_large}
+use Rattle.bpf_verify_model.specs.Accepted.{Accepted, first_fault, fault_within, is_too_large}
 use Rattle.bpf_verify_model.proofs.JumpLaws.{jumps_forward}
-use Rattle.bpf_verify_model.specs.LongestPath.{ways_out, IsPath, PathOf, CountIsLongestPath}
+use Rattle.bpf_verify_model.specs.LongestPath.{ways_out, IsPath, CountIsLongestPath}
 use Rattle.bpf_verify_model.proofs.LongestLaws.{longest-step}
 
 -- a path from one of some slots, and of how many

@@ -21,7 +21,7 @@ through later slot (Some (Jump width compare dst operand offset)) =
 through later slot (Some Exit) = 1
 through later slot (Some insn) = 1 + later (slot + slots_of insn)
 
--- the most instructions on any path of at most so many slots from a slot on
+-- the most instructions on any path from a slot on, up to so many
 abbrev pub longest : List Insn → (left slot : ℕ) → ℕ
 longest insns zero slot = 0
 longest insns (suc left) slot = through (longest insns left) slot (insn_at insns slot)

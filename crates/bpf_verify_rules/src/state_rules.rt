@@ -377,7 +377,11 @@ fn end_fault(function: u32, value: AbstractValue) -> Option<Rule>
             Some(Rule::MainResult)
         }
     } else {
-        if is_bit(value) { None } else { Some(Rule::CallbackResult) }
+        if is_bit(value) {
+            None
+        } else {
+            Some(Rule::CallbackResult)
+        }
     }
 }
 

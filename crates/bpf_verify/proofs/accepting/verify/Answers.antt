@@ -1,4 +1,4 @@
-use Rattle.std.proofs.Common.{◌≡◌, ℕ, ◌∷◌, List, Option, None, map, length, refl, ap, sym, ◌∙◌, subst, arith}
+use Rattle.std.proofs.Common.{◌≡◌, ℕ, ◌∷◌, List, Option, map, length, refl, ap, sym, ◌∙◌, subst, arith}
 use Rattle.bpf_insn_form.specs.declared.insn.Insn.{Insn}
 use Rattle.bpf_insn_form.specs.Values.{AreInsns}
 use Rattle.bpf_insn_form.specs.Program.{Program, slot_count, callback_starts}
@@ -40,7 +40,9 @@ invariant_of-result c =
     }
 
 pub returns-clause-ok : goal.returns-clause-ok
-returns-clause-ok c =
-    (refl, first_fault-within c.args.unit c.in_ok-count.count c.in_ok-count.ensures.ok
-    ∙ ap (λ (program : Program). fault_within program c.in_ok-count.count)
-    (sym (program-is c.args.unit c.as_slice.result.now c.as_slice-2.result.now (c.as_slice.ensures.value ∙ ap (λ (p : Program). p.sizes) c.unit.view_is) (c.as_slice-2.ensures.value ∙ ap (λ (p : Program). p.insns) c.unit.view_is))) ∙ c.in-Ok.ensures.ok)
+returns-clause-ok c = (
+  refl,
+  first_fault-within c.args.unit c.in_ok-count.count c.in_ok-count.ensures.ok
+      ∙ ap (λ (program : Program). fault_within program c.in_ok-count.count)
+      (sym (program-is c.args.unit c.as_slice.result.now c.as_slice-2.result.now (c.as_slice.ensures.value ∙ ap (λ (p : Program). p.sizes) c.unit.view_is) (c.as_slice-2.ensures.value ∙ ap (λ (p : Program). p.insns) c.unit.view_is))) ∙ c.in-Ok.ensures.ok,
+)

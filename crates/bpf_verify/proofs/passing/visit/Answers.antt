@@ -1,4 +1,4 @@
-use Rattle.std.proofs.Common.{ℕ, ap, sym, ◌∙◌, None}
+use Rattle.std.proofs.Common.{ap, sym, ◌∙◌, None}
 use Rattle.bpf_verify_model.specs.Accepted.{unless_earlier}
 use Rattle.bpf_verify.specs.Passing.{program_of}
 use Rattle.bpf_verify.proofs.PassLaws.{fault_within-more, known-here, passed-more}

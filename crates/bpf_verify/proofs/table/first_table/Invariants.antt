@@ -1,6 +1,6 @@
 use Rattle.std.proofs.Common.{◌≡◌, ℕ, ◌<◌, length, get_or, None}
 use Rattle.bpf_verify_model.specs.Inflow.{entry}
-use Rattle.bpf_verify.proofs.passing.first_table.Given as goal
+use Rattle.bpf_verify.proofs.table.first_table.Given as goal
 
 abbrev pub invariant-loop-slot : goal.invariant-loop-slot
 invariant-loop-slot l = record {

@@ -1,0 +1,162 @@
+//! What is known before each slot, as far as a pass has come.
+
+ghost use Rattle.std.specs.Prelude.{◌≡◌, ℕ, ◌+◌, ◌<◌, ◌++◌, ◌∷◌, [], length, slice_index_or, Some, None, IfOk, IfErr, OnOk};
+ghost use Rattle.bpf_insn_form.specs.Slots.{slots_of};
+ghost use Rattle.bpf_verify_model.specs.Flow.{known_behind, ahead_outflow, flow};
+ghost use Rattle.bpf_verify_model.specs.Inflow.{met, received, received_all};
+ghost use Rattle.bpf_verify.specs.Passing.{out_of, IsFirst};
+
+use crate::error::VerifyError;
+use bpf_insn_form::{Insn, slots};
+use bpf_verify_flow::{behind, flow, main_entry};
+use bpf_verify_model::{Edge, Outflow, State};
+use bpf_verify_state::meet_states;
+use std::alloc::Global;
+
+/// By a slice of one: the borrow checker has no plan yet for a push of a struct within an enum.
+fn add_state(table: &mut Vec<Option<State>>, state: Option<State>) -> Result<(), VerifyError>
+    ensures ok { OnOk result (table.new.items ≡ table.old.items ++ state ∷ []) }
+    ensures err { IfErr result (λ e. e ≡ VerifyError.Memory) }
+{
+    Ok(table.extend_from_slice(&[state])?)
+}
+
+/// What is known before each slot where nothing flowed yet.
+pub fn first_table(alloc: Global, count: u32) -> Result<Vec<Option<State>>, VerifyError>
+    requires { 0 < count }
+    ensures ok { IfOk result (λ table. IsFirst count table.items) }
+    ensures err { IfErr result (λ e. e ≡ VerifyError.Memory) }
+{
+    let mut table = Vec::new(alloc);
+    add_state(&mut table, Some(main_entry()))?;
+    for slot in 1..count {
+        add_state(&mut table, None)?;
+    }
+    Ok(table)
+}
+
+/// What is known before a slot.
+pub fn known(table: &Vec<Option<State>>, slot: u32) -> Option<State>
+    requires { slot < length table.now.items }
+    ensures { result ≡ slice_index_or table.now.items slot None }
+{
+    let states = table.as_slice();
+    states[slot as usize]
+}
+
+/// One more way comes in.
+fn meet(before: &mut Option<State>, state: &State)
+    ensures { before.new ≡ met before.old state.now }
+{
+    match before {
+        None => *before = Some(*state),
+        Some(known) => meet_states(known, state),
+    }
+}
+
+/// One more way comes to a slot.
+fn receive_at(table: &mut Vec<Option<State>>, target: u32, state: &State)
+    ensures size { length table.new.items ≡ length table.old.items }
+    ensures received { (slot : ℕ) → slot < length table.old.items
+        → slice_index_or table.new.items slot None ≡ received slot (slice_index_or table.old.items slot None) (Some (record { target = target; state = state.now })) }
+{
+    let at = target as usize;
+    if at < table.len() {
+        meet(&mut table[at], state);
+    }
+}
+
+/// One more way comes in, if it is followed.
+fn receive(table: &mut Vec<Option<State>>, edge: &Option<Edge>)
+    ensures size { length table.new.items ≡ length table.old.items }
+    ensures received { (slot : ℕ) → slot < length table.old.items
+        → slice_index_or table.new.items slot None ≡ received slot (slice_index_or table.old.items slot None) edge.now }
+{
+    match edge {
+        None => {}
+        Some(edge) => receive_at(table, edge.target, &edge.state),
+    }
+}
+
+/// Both ways out come in.
+fn receive_both(table: &mut Vec<Option<State>>, out: &Outflow)
+    ensures size { length table.new.items ≡ length table.old.items }
+    ensures received { (slot : ℕ) → slot < length table.old.items
+        → slice_index_or table.new.items slot None ≡ received_all slot (slice_index_or table.old.items slot None) out.now }
+{
+    receive(table, &out.ahead);
+    receive(table, &out.aside);
+}
+
+/// Hands on what is known behind an instruction that doesn't jump: it is changed where it stands.
+fn hand_ahead(
+    table: &mut Vec<Option<State>>,
+    sizes: &[u32],
+    slot: u32,
+    state: &mut State,
+    insn: Insn,
+)
+    requires { slot < 4096 }
+    ensures size { length table.new.items ≡ length table.old.items }
+    ensures received { (t : ℕ) → t < length table.old.items
+        → slice_index_or table.new.items t None
+        ≡ received_all t (slice_index_or table.old.items t None) (ahead_outflow (slot + slots_of insn) (known_behind sizes.now slot state.old insn)) }
+{
+    behind(sizes, slot, state, insn);
+    receive_at(table, slot + slots(&insn), state);
+}
+
+/// Hands on what is known before an instruction that breaks no rule, to the slots that it leads to.
+#[tactic(auto, unfolding(bpf_verify_model::specs::Flow::flow))]
+fn hand_on(table: &mut Vec<Option<State>>, sizes: &[u32], slot: u32, state: &mut State, insn: Insn)
+    requires { slot < 4096 }
+    ensures size { length table.new.items ≡ length table.old.items }
+    ensures received { (t : ℕ) → t < length table.old.items
+        → slice_index_or table.new.items t None ≡ received_all t (slice_index_or table.old.items t None) (flow sizes.now slot state.old insn) }
+{
+    match insn {
+        Insn::Ja { offset } => receive_both(table, &flow(sizes, slot, state, Insn::Ja { offset })),
+        Insn::Ja32 { imm } => receive_both(table, &flow(sizes, slot, state, Insn::Ja32 { imm })),
+        Insn::Jump {
+            width,
+            compare,
+            dst,
+            operand,
+            offset,
+        } => {
+            let jump = Insn::Jump {
+                width,
+                compare,
+                dst,
+                operand,
+                offset,
+            };
+            receive_both(table, &flow(sizes, slot, state, jump));
+        }
+        Insn::Call { callee, imm } => {
+            let call = Insn::Call { callee, imm };
+            receive_both(table, &flow(sizes, slot, state, call));
+        }
+        Insn::Exit => {}
+        other => hand_ahead(table, sizes, slot, state, other),
+    }
+}
+
+/// The same, if the instruction is reached.
+pub fn hand_on_reached(
+    table: &mut Vec<Option<State>>,
+    sizes: &[u32],
+    slot: u32,
+    before: &mut Option<State>,
+    insn: Insn,
+)
+    requires { slot < 4096 }
+    ensures size { length table.new.items ≡ length table.old.items }
+    ensures received { (t : ℕ) → t < length table.old.items
+        → slice_index_or table.new.items t None ≡ received_all t (slice_index_or table.old.items t None) (out_of sizes.now slot insn before.old) }
+{
+    match before {
+        None => {}
+        Some(state) => hand_on(table, sizes, slot, state, insn),
+    }
+}
