@@ -1,0 +1,75 @@
+-- What the workers of a loop may do, and what each event does. `breaks` says of each index whether its iteration on the
+-- words as they stood when the loop began returns 1.
+use Rattle.std.specs.Prelude.{ℕ, ◌+◌, ◌==◌, nat_lt, Bool, if◌then◌else◌, List, ◌∷◌, Option, Some, None}
+use Rattle.loop_core_schedule.specs.declared.event.EventKind.{EventKind}
+use Rattle.loop_core_schedule.specs.declared.event.EventKind.TheVariants.{Claim, Look, Turn, Post, Stop}
+use Rattle.loop_core_schedule.specs.Split.{blocks_of, start_of, end_of}
+use Rattle.loop_core_schedule.specs.Blocks.{BlockRun, lesser, is_past}
+
+-- what a worker is doing: it holds a block that it hasn't begun, runs one and has this index before it, has a break to
+-- post, or found no block
+pub data Worker : Type 0 where
+  Idle : Worker
+  Holding : (block : ℕ) → Worker
+  Running : (block index : ℕ) → Worker
+  Posting : (index : ℕ) → Worker
+  Drained : Worker
+  Stopped : Worker
+
+-- what the workers share: the next block and the least break that was posted; and the blocks that were run, the latest
+-- first
+pub record Shared : Type 0 where
+  pub next : ℕ
+  pub least : Option ℕ
+  pub runs : List BlockRun
+
+-- a worker and what it shares
+pub record Moved : Type 0 where
+  pub worker : Worker
+  pub shared : Shared
+
+-- a worker does this now
+abbrev pub turns : Worker → Shared → Moved
+turns worker shared = record { worker = worker; shared = shared }
+
+-- the same, having run a block of the split, up to a break or to its end
+abbrev pub having_run : List ℕ → ℕ → Option ℕ → Worker → Shared → Moved
+having_run bounds block broke_at worker shared =
+    let run : BlockRun = record { number = block; start = start_of bounds block; end = end_of bounds block; broke_at = broke_at } in
+    turns worker (record { next = shared.next; least = shared.least; runs = run ∷ shared.runs })
+
+-- takes the next block and holds it; where none is left it is drained
+abbrev pub claims : List ℕ → Shared → Moved
+claims bounds shared =
+    if nat_lt shared.next (blocks_of bounds)
+    then turns (Holding shared.next) (record { next = shared.next + 1; least = shared.least; runs = shared.runs })
+    else turns Drained shared
+
+-- reads the least break: where the block starts past it the block is skipped; else it is run from its start, which an
+-- empty block is at once
+abbrev pub looks : List ℕ → ℕ → Shared → Moved
+looks bounds block shared =
+    if is_past (start_of bounds block) shared.least then turns Idle shared
+    else if start_of bounds block == end_of bounds block then having_run bounds block None Idle shared
+    else turns (Running block (start_of bounds block)) shared
+
+-- does an iteration: where it returns 1 the block broke, and the index is to be posted; behind the last one the block
+-- has been run
+abbrev pub does_turn : (ℕ → Bool) → List ℕ → (block index : ℕ) → Shared → Moved
+does_turn breaks bounds block index shared =
+    if breaks index then having_run bounds block (Some index) (Posting index) shared
+    else if index + 1 == end_of bounds block then having_run bounds block None Idle shared
+    else turns (Running block (index + 1)) shared
+
+-- the least break becomes the lesser of both
+abbrev pub posts : ℕ → Shared → Moved
+posts index shared = turns Idle (record { next = shared.next; least = lesser (Some index) shared.least; runs = shared.runs })
+
+-- which events are enabled, and what each does
+abbrev pub event : (ℕ → Bool) → List ℕ → EventKind → Worker → Shared → Option Moved
+event breaks bounds Claim Idle shared = Some (claims bounds shared)
+event breaks bounds Look (Holding block) shared = Some (looks bounds block shared)
+event breaks bounds Turn (Running block index) shared = Some (does_turn breaks bounds block index shared)
+event breaks bounds Post (Posting index) shared = Some (posts index shared)
+event breaks bounds Stop Drained shared = Some (turns Stopped shared)
+event breaks bounds kind worker shared = None

@@ -1,0 +1,11 @@
+pub mod Split
+pub mod Blocks
+pub mod Events
+pub mod Schedule
+pub mod Outcome
+pub mod SplitLaw
+pub mod GatherLaw
+pub mod ScheduleLaw
+pub mod SplitRows
+pub mod GatherRows
+pub mod ReplayRows
