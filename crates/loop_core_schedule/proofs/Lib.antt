@@ -1,0 +1,5 @@
+pub mod SplitLaws
+pub mod BlockLaws
+pub mod Totals
+pub mod Steps
+pub mod ScheduleLaws
