@@ -3,3 +3,4 @@ pub mod BlockLaws
 pub mod Totals
 pub mod Steps
 pub mod ScheduleLaws
+pub mod OutcomeLaws

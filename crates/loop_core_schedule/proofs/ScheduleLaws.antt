@@ -86,7 +86,7 @@ module _ (breaks : ℕ → Bool) (bounds : List ℕ) (rises : falls 0 bounds ≡
       (sound_after state number m.worker m.shared sound below kept, λ w other. get_or-set_other state.workers number w m.worker Idle other)
 
   event_ok : (e : Event) (place : ℕ) (state : State) → Sound breaks bounds state → (above : Bool) → nat_lt 15 e.worker ≡ above →
-      OneOk e.worker state (if above then Err (faults.Worker place) else if_enabled place e.worker state (event breaks bounds e.kind (worker_of state e.worker) state.shared))
+      OneOk e.worker state (if above then Err (faults.NoSuchWorker place) else if_enabled place e.worker state (event breaks bounds e.kind (worker_of state e.worker) state.shared))
   event_ok e place state sound true h = tt
   event_ok e place state sound false h =
       let most = ltb-false 15 e.worker h in

@@ -9,7 +9,7 @@ use Rattle.loop_core_schedule.specs.declared.event.EventKind.TheVariants.{Claim,
 use Rattle.loop_core_schedule.specs.Split.{blocks_of, start_of, end_of, falls}
 use Rattle.loop_core_schedule.specs.Blocks.{BlockRun, first_break, lesser, least_of, is_past, has_number, is_foreign}
 use Rattle.loop_core_schedule.specs.GatherLaw.{RanUp}
-use Rattle.loop_core_schedule.specs.Events.{Worker, Idle, Holding, Running, Posting, Drained, Stopped, Shared, Moved, turns, having_run, claims, looks, does_turn, posts, event}
+use Rattle.loop_core_schedule.specs.Events.{Worker, Idle, Holding, Running, Posting, Drained, Stopped, Shared, Moved, becomes, having_run, claims, looks, iterates, posts, event}
 use Rattle.loop_core_schedule.proofs.SplitLaws.{rising}
 
 abbrev pub bit : Bool → ℕ
@@ -147,7 +147,7 @@ module _ (breaks : ℕ → Bool) (bounds : List ℕ) (rises : falls 0 bounds ≡
 
   claimed : (shared : Shared) → shared.next ≤ blocks_of bounds → (below : Bool) → nat_lt shared.next (blocks_of bounds) ≡ below →
       KeptBy breaks bounds Idle shared
-      (if below then turns (Holding shared.next) (record { next = shared.next + 1; least = shared.least; runs = shared.runs }) else turns Drained shared)
+      (if below then becomes (Holding shared.next) (record { next = shared.next + 1; least = shared.least; runs = shared.runs }) else becomes Drained shared)
   claimed shared within true e =
       let below : shared.next < blocks_of bounds = ltb-true shared.next (blocks_of bounds) e in record {
         within = omega arith;
@@ -200,7 +200,7 @@ module _ (breaks : ℕ → Bool) (bounds : List ℕ) (rises : falls 0 bounds ≡
       sym (ap (λ (left : ℕ). first_break breaks left (start_of bounds block)) none)
 
   looked_in : (shared : Shared) (block : ℕ) → shared.next ≤ blocks_of bounds → block < blocks_of bounds → (empty : Bool) → (start_of bounds block == end_of bounds block) ≡ empty →
-      KeptBy breaks bounds (Holding block) shared (if empty then having_run bounds block None Idle shared else turns (Running block (start_of bounds block)) shared)
+      KeptBy breaks bounds (Holding block) shared (if empty then having_run bounds block None Idle shared else becomes (Running block (start_of bounds block)) shared)
   looked_in shared block within below true e =
       has_run (Holding block) Idle shared block None within below tt (λ k. omega arith) refl refl (empty_break block (eqb-true (start_of bounds block) (end_of bounds block) e))
   looked_in shared block within below false e =
@@ -210,9 +210,9 @@ module _ (breaks : ℕ → Bool) (bounds : List ℕ) (rises : falls 0 bounds ≡
 
   looked : (shared : Shared) (block : ℕ) → shared.next ≤ blocks_of bounds → block < blocks_of bounds → (past : Bool) → is_past (start_of bounds block) shared.least ≡ past →
       KeptBy breaks bounds (Holding block) shared
-      (if past then turns Idle shared
+      (if past then becomes Idle shared
       else if start_of bounds block == end_of bounds block then having_run bounds block None Idle shared
-      else turns (Running block (start_of bounds block)) shared)
+      else becomes (Running block (start_of bounds block)) shared)
   looked shared block within below true e = record {
     within = within;
     fits = tt;
@@ -242,7 +242,7 @@ module _ (breaks : ℕ → Bool) (bounds : List ℕ) (rises : falls 0 bounds ≡
 
   turned_on : (shared : Shared) (block index : ℕ) → shared.next ≤ blocks_of bounds → RunsFrom breaks bounds block index → breaks index ≡ false →
       (last : Bool) → (index + 1 == end_of bounds block) ≡ last →
-      KeptBy breaks bounds (Running block index) shared (if last then having_run bounds block None Idle shared else turns (Running block (index + 1)) shared)
+      KeptBy breaks bounds (Running block index) shared (if last then having_run bounds block None Idle shared else becomes (Running block (index + 1)) shared)
   turned_on shared block index within from going true e =
       let same = eqb-true (index + 1) (end_of bounds block) e in
       let none : end_of bounds block - (index + 1) ≡ 0 = omega arith in
@@ -258,7 +258,7 @@ module _ (breaks : ℕ → Bool) (bounds : List ℕ) (rises : falls 0 bounds ≡
       KeptBy breaks bounds (Running block index) shared
       (if b then having_run bounds block (Some index) (Posting index) shared
       else if index + 1 == end_of bounds block then having_run bounds block None Idle shared
-      else turns (Running block (index + 1)) shared)
+      else becomes (Running block (index + 1)) shared)
   turned shared block index within from true e =
       has_run (Running block index) (Posting index) shared block (Some index) within from.within tt (λ k. omega arith) refl refl (sym (break_here block index true from e))
   turned shared block index within from false e = turned_on shared block index within from e (index + 1 == end_of bounds block) refl

@@ -28,48 +28,48 @@ pub record Moved : Type 0 where
   pub worker : Worker
   pub shared : Shared
 
--- a worker does this now
-abbrev pub turns : Worker → Shared → Moved
-turns worker shared = record { worker = worker; shared = shared }
+-- what a worker becomes, beside what is shared
+abbrev pub becomes : Worker → Shared → Moved
+becomes worker shared = record { worker = worker; shared = shared }
 
 -- the same, having run a block of the split, up to a break or to its end
 abbrev pub having_run : List ℕ → ℕ → Option ℕ → Worker → Shared → Moved
 having_run bounds block broke_at worker shared =
     let run : BlockRun = record { number = block; start = start_of bounds block; end = end_of bounds block; broke_at = broke_at } in
-    turns worker (record { next = shared.next; least = shared.least; runs = run ∷ shared.runs })
+    becomes worker (record { next = shared.next; least = shared.least; runs = run ∷ shared.runs })
 
 -- takes the next block and holds it; where none is left it is drained
 abbrev pub claims : List ℕ → Shared → Moved
 claims bounds shared =
     if nat_lt shared.next (blocks_of bounds)
-    then turns (Holding shared.next) (record { next = shared.next + 1; least = shared.least; runs = shared.runs })
-    else turns Drained shared
+    then becomes (Holding shared.next) (record { next = shared.next + 1; least = shared.least; runs = shared.runs })
+    else becomes Drained shared
 
 -- reads the least break: where the block starts past it the block is skipped; else it is run from its start, which an
 -- empty block is at once
 abbrev pub looks : List ℕ → ℕ → Shared → Moved
 looks bounds block shared =
-    if is_past (start_of bounds block) shared.least then turns Idle shared
+    if is_past (start_of bounds block) shared.least then becomes Idle shared
     else if start_of bounds block == end_of bounds block then having_run bounds block None Idle shared
-    else turns (Running block (start_of bounds block)) shared
+    else becomes (Running block (start_of bounds block)) shared
 
 -- does an iteration: where it returns 1 the block broke, and the index is to be posted; behind the last one the block
 -- has been run
-abbrev pub does_turn : (ℕ → Bool) → List ℕ → (block index : ℕ) → Shared → Moved
-does_turn breaks bounds block index shared =
+abbrev pub iterates : (ℕ → Bool) → List ℕ → (block index : ℕ) → Shared → Moved
+iterates breaks bounds block index shared =
     if breaks index then having_run bounds block (Some index) (Posting index) shared
     else if index + 1 == end_of bounds block then having_run bounds block None Idle shared
-    else turns (Running block (index + 1)) shared
+    else becomes (Running block (index + 1)) shared
 
 -- the least break becomes the lesser of both
 abbrev pub posts : ℕ → Shared → Moved
-posts index shared = turns Idle (record { next = shared.next; least = lesser (Some index) shared.least; runs = shared.runs })
+posts index shared = becomes Idle (record { next = shared.next; least = lesser (Some index) shared.least; runs = shared.runs })
 
 -- which events are enabled, and what each does
 abbrev pub event : (ℕ → Bool) → List ℕ → EventKind → Worker → Shared → Option Moved
 event breaks bounds Claim Idle shared = Some (claims bounds shared)
 event breaks bounds Look (Holding block) shared = Some (looks bounds block shared)
-event breaks bounds Turn (Running block index) shared = Some (does_turn breaks bounds block index shared)
+event breaks bounds Turn (Running block index) shared = Some (iterates breaks bounds block index shared)
 event breaks bounds Post (Posting index) shared = Some (posts index shared)
-event breaks bounds Stop Drained shared = Some (turns Stopped shared)
+event breaks bounds Stop Drained shared = Some (becomes Stopped shared)
 event breaks bounds kind worker shared = None

@@ -6,6 +6,7 @@ pub mod Outcome
 pub mod SplitLaw
 pub mod GatherLaw
 pub mod ScheduleLaw
+pub mod OutcomeLaw
 pub mod SplitRows
 pub mod GatherRows
 pub mod ReplayRows

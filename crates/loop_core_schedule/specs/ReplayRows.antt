@@ -91,8 +91,8 @@ pub record RefusedRows : Type 0 where
   pub stop_before_drained : Refused (s 0 ∷ []) (faults.NotEnabled 0)
   pub claim_after_a_stop : Refused (two_workers ++ s 0 ∷ c 0 ∷ []) (faults.NotEnabled 27)
   pub claim_when_drained : Refused (two_workers ++ c 0 ∷ []) (faults.NotEnabled 26)
-  pub no_such_worker : Refused (c 16 ∷ []) (faults.Worker 0)
-  pub no_such_worker_first : Refused (t 16 ∷ []) (faults.Worker 0)
+  pub no_such_worker : Refused (c 16 ∷ []) (faults.NoSuchWorker 0)
+  pub no_such_worker_first : Refused (t 16 ∷ []) (faults.NoSuchWorker 0)
   pub first_fault : Refused (c 0 ∷ t 0 ∷ c 16 ∷ []) (faults.NotEnabled 1)
 
 -- all of them, by either test

@@ -27,7 +27,7 @@ if_enabled place number state (Some moved) = Ok (record { shared = moved.shared;
 -- the state after an event, or its least fault: there is no such worker, or it isn't enabled
 abbrev pub after_event : (ℕ → Bool) → List ℕ → Event → ℕ → State → Result State ReplayFault
 after_event breaks bounds e place state =
-    if nat_lt 15 e.worker then Err (faults.Worker place)
+    if nat_lt 15 e.worker then Err (faults.NoSuchWorker place)
     else if_enabled place e.worker state (event breaks bounds e.kind (worker_of state e.worker) state.shared)
 
 -- goes on from a state where there is one

@@ -22,7 +22,7 @@ pub enum SplitError {
 pub enum ReplayFault {
     /// The event at this index names a worker above 15.
     #[error("E1 at event {event}")]
-    Worker { event: usize },
+    NoSuchWorker { event: usize },
     /// The event at this index isn't enabled.
     #[error("E2 at event {event}")]
     NotEnabled { event: usize },

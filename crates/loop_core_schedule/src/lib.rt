@@ -8,6 +8,7 @@ pub mod faults;
 
 ghost use Rattle.loop_core_schedule.specs.GatherLaw.{CompleteBlocksCount};
 ghost use Rattle.loop_core_schedule.specs.GatherRows.{GatherRows};
+ghost use Rattle.loop_core_schedule.specs.OutcomeLaw.{OutcomeByTest};
 ghost use Rattle.loop_core_schedule.specs.ReplayRows.{ReplayRows};
 ghost use Rattle.loop_core_schedule.specs.ScheduleLaw.{EndedSchedulesComplete};
 ghost use Rattle.loop_core_schedule.specs.SplitLaw.{EvenSplits, SplitsPartition};
@@ -35,6 +36,12 @@ pub fn law_of_blocks()
 /// loop's.
 pub fn law_of_schedules()
     ensures { EndedSchedulesComplete }
+{}
+
+/// The law of outcomes: a loop that passes a test answers how many iterations count and leaves what is
+/// committed of them; one that conflicts answers and leaves what it does in order.
+pub fn law_of_outcomes()
+    ensures { OutcomeByTest }
 {}
 
 /// The definitions give worked splits: even ones, and the fault of others.
