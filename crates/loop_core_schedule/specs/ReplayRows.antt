@@ -67,11 +67,18 @@ two_workers =
 abbrev pub first_block : List Event
 first_block = c 0 ∷ l 0 ∷ t 0 ∷ t 0 ∷ t 0 ∷ t 0 ∷ []
 
--- lists that have ended: on that loop, where worker 0 skips three blocks in the second; on one that conflicts; and on
--- one without iterations, whose blocks are empty
+-- worker 1 holds the block from 8 on while worker 2 posts 12 and then worker 0 posts 3
+abbrev pub two_posts : List Event
+two_posts =
+    c 0 ∷ c 1 ∷ l 1 ∷ t 1 ∷ t 1 ∷ t 1 ∷ t 1 ∷ c 1 ∷ c 2 ∷ l 2 ∷ t 2 ∷ p 2
+    ∷ l 0 ∷ t 0 ∷ t 0 ∷ t 0 ∷ t 0 ∷ p 0 ∷ []
+
+-- lists that have ended: on that loop, where worker 0 skips three blocks in the second, and worker 1 the one that it
+-- holds in the third; on one that conflicts; and on one without iterations, whose blocks are empty
 pub record EndedRows (test : Test) : Type 0 where
   pub two : Ends test (two_workers ++ s 0 ∷ [])
   pub skips : Ends test (first_block ++ p 0 ∷ c 0 ∷ l 0 ∷ c 0 ∷ l 0 ∷ c 0 ∷ l 0 ∷ c 0 ∷ s 0 ∷ [])
+  pub lesser_post : Ends test (two_posts ++ l 1 ∷ c 1 ∷ s 1 ∷ c 2 ∷ s 2 ∷ c 0 ∷ s 0 ∷ [])
   pub conflict : replayed test (looping (5 ∷ []) 4 shift_right) 20 (call_of 4) (9 ∷ replicate 4 0) (0 ∷ 4 ∷ []) (c 0 ∷ l 0 ∷ t 0 ∷ t 0 ∷ t 0 ∷ t 0 ∷ c 0 ∷ s 0 ∷ [])
       ≡ Ok (Ended (record { verdict = Conflict 3 1; answer = 4; words = replicate 5 9 }))
   pub no_iterations : replayed test (looping (5 ∷ []) 0 shift_right) 20 (call_of 0) (replicate 5 9) (0 ∷ 0 ∷ 0 ∷ []) (c 2 ∷ l 2 ∷ c 2 ∷ l 2 ∷ c 2 ∷ s 2 ∷ [])

@@ -11,8 +11,8 @@ use Rattle.loop_core_schedule.proofs.worked_replays.Goals as goal
 
 ended : (test : Test) → EndedRows test
 unfolding iteration step alu holds combined
-ended Lrpd = record { two = refl; skips = refl; conflict = refl; no_iterations = refl }
-ended Flow = record { two = refl; skips = refl; conflict = refl; no_iterations = refl }
+ended Lrpd = record { two = refl; skips = refl; lesser_post = refl; conflict = refl; no_iterations = refl }
+ended Flow = record { two = refl; skips = refl; lesser_post = refl; conflict = refl; no_iterations = refl }
 
 refused : RefusedRows
 unfolding iteration step alu holds combined
