@@ -1,21 +1,29 @@
--- The outcome of a loop that passes.
-use Rattle.std.proofs.Common.{◌≡◌, ℕ, ◌+◌, List, [], ◌∷◌, length, refl, sym, ◌∙◌, ap, subst}
-use Rattle.bpf_step_model.specs.Run.{Ending, Ended, mapped, followed}
+-- The outcome of a loop by a test, from the law of speculation.
+use Rattle.std.proofs.Common.{◌≡◌, ℕ, List, length, refl, ◌∙◌, ap}
+use Rattle.array_maps.specs.Accesses.{Access}
+use Rattle.bpf_insn_form.specs.Program.{Program}
+use Rattle.bpf_step_model.specs.State.{LoopCall}
+use Rattle.bpf_step_model.specs.Run.{Ending, Ended}
 use Rattle.bpf_step_model.specs.LoopInOrder.{Looped, loop_in_order}
+use Rattle.loop_core_law.specs.declared.loop_test.Test.{Test}
 use Rattle.loop_core_law.specs.declared.verdict.Verdict.{Verdict}
-use Rattle.loop_core_law.specs.declared.verdict.Verdict.TheVariants.{Parallel}
 use Rattle.loop_core_law.specs.Conflict.{conflicting}
-use Rattle.loop_core_law.specs.Report.{judged}
+use Rattle.loop_core_law.specs.LeastBreak.{mapped, counted_runs}
+use Rattle.loop_core_law.specs.Report.{judged, verdict}
 use Rattle.loop_core_law.proofs.LoopAgain.{loop_law}
-use Rattle.loop_core_schedule.specs.Outcome.{told_of, PassesAreCommitted}
+use Rattle.loop_core_schedule.specs.Outcome.{Outcome, judged_if_ended, outcome}
+use Rattle.loop_core_schedule.specs.OutcomeLaw.{OutcomeByTest}
 
-judged_parallel : (elements : List ℕ) → Ended (judged elements) ≡ Ended Parallel → elements ≡ []
-judged_parallel [] h = refl
-judged_parallel (least ∷ others) h = absurd (cc)
+outcome_is : (test : Test) (program : Program) (bound : ℕ) (call : LoopCall) (words : List ℕ) (runs : List (List Access)) (elements : List ℕ) (looped : Looped) →
+    counted_runs program bound call words ≡ Ended runs → conflicting test runs (length words) ≡ elements → loop_in_order program bound call words ≡ Ended looped →
+    outcome test program bound call words ≡ Ended (record { verdict = judged elements; answer = looped.answer; words = looped.words })
+outcome_is test program bound call words runs elements looped r c l =
+    let told : verdict test program bound call words ≡ Ended (judged elements) =
+        ap (mapped (λ (rs : List (List Access)). judged (conflicting test rs (length words)))) r ∙ ap (λ (es : List ℕ). Ended (judged es)) c in
+    ap (judged_if_ended (verdict test program bound call words)) l ∙ ap (λ (v : Ending Verdict). judged_if_ended v (Ended looped)) told
 
-pub passes_are_committed : PassesAreCommitted
-passes_are_committed test program bound call words runs same passes =
-    let told : Ended (judged (conflicting test runs (length words))) ≡ Ended Parallel =
-        ap (mapped (λ rs. judged (conflicting test rs (length words)))) (sym same) ∙ passes in
-    ap (λ v. followed (told_of v) (loop_in_order program bound call words)) passes
-    ∙ ap (followed (told_of (Ended Parallel))) (loop_law test program bound call words runs same (judged_parallel (conflicting test runs (length words)) told))
+pub outcome_by_test : OutcomeByTest
+outcome_by_test = record {
+  passes = λ test program bound call words runs r c. outcome_is test program bound call words runs _ _ r c (loop_law test program bound call words runs r c);
+  conflicts = λ test program bound call words runs least others looped r c l. outcome_is test program bound call words runs _ looped r c l;
+}

@@ -1,5 +1,11 @@
-pub mod Outcome
-pub mod Workers
+pub mod Intervals
+pub mod Events
 pub mod Schedule
+pub mod Outcome
+pub mod SplitLaw
+pub mod ScheduleLaw
+pub mod OutcomeLaw
 pub mod BlockRows
-pub mod ScheduleRows
+pub mod SplitRows
+pub mod GatherRows
+pub mod ReplayRows

@@ -1,38 +1,49 @@
--- The outcome of a loop, however its blocks were run.
-use Rattle.std.specs.Prelude.{◌≡◌, ℕ, List}
-use Rattle.array_maps.specs.Accesses.{Access}
+-- The outcome of a speculative loop.
+use Rattle.std.specs.Prelude.{ℕ, Bool, List, Result, Ok, Err}
 use Rattle.bpf_insn_form.specs.Program.{Program}
 use Rattle.bpf_step_model.specs.State.{LoopCall}
-use Rattle.bpf_step_model.specs.Run.{Ending, Ended, mapped, followed}
+use Rattle.bpf_step_model.specs.Run.{Ending, Ended, Stuck, Unfinished}
+use Rattle.bpf_step_model.specs.Iteration.{iteration}
 use Rattle.bpf_step_model.specs.LoopInOrder.{Looped, loop_in_order}
 use Rattle.loop_core_law.specs.declared.loop_test.Test.{Test}
 use Rattle.loop_core_law.specs.declared.verdict.Verdict.{Verdict}
-use Rattle.loop_core_law.specs.declared.verdict.Verdict.TheVariants.{Parallel}
-use Rattle.loop_core_law.specs.LeastBreak.{counted, counted_runs}
-use Rattle.loop_core_law.specs.Committed.{committed_words}
+use Rattle.loop_core_law.specs.LeastBreak.{is_break, mapped}
 use Rattle.loop_core_law.specs.Report.{verdict}
+use Rattle.loop_core_schedule.specs.declared.event.Event.{Event}
+use Rattle.loop_core_schedule.specs.declared.replay_fault.ReplayFault.{ReplayFault}
+use Rattle.loop_core_schedule.specs.Schedule.{State, replay}
 
--- what is told of a loop, its answer, and the words after it
+-- a loop's verdict, what it answers, and the words after it
 pub record Outcome : Type 0 where
   pub verdict : Verdict
   pub answer : ℕ
   pub words : List ℕ
 
--- a verdict on a loop, with what the loop in order gave
-abbrev pub with_verdict : Looped → Verdict → Outcome
-with_verdict looped told = record { verdict = told; answer = looped.answer; words = looped.words }
+-- the verdict beside what a loop answers and leaves
+abbrev pub judged_as : Ending Verdict → Looped → Ending Outcome
+judged_as told looped = mapped (λ v. record { verdict = v; answer = looped.answer; words = looped.words }) told
 
--- a loop in order that ended, with its verdict, where that is there
-abbrev pub told_of : Ending Verdict → Looped → Ending Outcome
-told_of told looped = mapped (with_verdict looped) told
+-- the same where the loop ended
+abbrev pub judged_if_ended : Ending Verdict → Ending Looped → Ending Outcome
+judged_if_ended told Stuck = Stuck
+judged_if_ended told Unfinished = Unfinished
+judged_if_ended told (Ended looped) = judged_as told looped
 
--- the outcome of a loop call from its start words: the verdict, and what the loop in order answers and leaves
+-- the outcome of a loop call by a test: the answer and the words of the loop in order, and the verdict. No split, worker
+-- or schedule occurs in it
 abbrev pub outcome : Test → Program → ℕ → LoopCall → List ℕ → Ending Outcome
-outcome test program bound call words = followed (told_of (verdict test program bound call words)) (loop_in_order program bound call words)
+outcome test program bound call words = judged_if_ended (verdict test program bound call words) (loop_in_order program bound call words)
 
--- of a loop that passes it is the number of counted iterations, and what is committed of their accesses
-abbrev pub PassesAreCommitted : Type 0
-PassesAreCommitted = (test : Test) (program : Program) (bound : ℕ) (call : LoopCall) (words : List ℕ) (runs : List (List Access)) →
-    counted_runs program bound call words ≡ Ended runs → verdict test program bound call words ≡ Ended Parallel →
-    outcome test program bound call words
-    ≡ Ended (record { verdict = Parallel; answer = counted program bound call words; words = committed_words runs words })
+-- whether an iteration on the start words returns 1
+abbrev pub breaks_at : Program → ℕ → LoopCall → List ℕ → ℕ → Bool
+breaks_at program bound call words index = is_break (iteration program bound call index words)
+
+-- a value in place of the state where a list of events has ended
+abbrev pub unless_fault : {A : Type 0} → A → Result State ReplayFault → Result A ReplayFault
+unless_fault value (Err fault) = Err fault
+unless_fault value (Ok state) = Ok value
+
+-- what a list of events comes to against a split: the loop's outcome where the list has ended, else its first fault
+abbrev pub replayed : Test → Program → ℕ → LoopCall → List ℕ → (bounds : List ℕ) → List Event → Result (Ending Outcome) ReplayFault
+replayed test program bound call words bounds events =
+    unless_fault (outcome test program bound call words) (replay (breaks_at program bound call words) bounds events)

@@ -1,75 +1,62 @@
--- Schedules: lists of events of which each is enabled where it stands, and after which all workers have stopped.
-use Rattle.std.specs.Prelude.{ℕ, ◌+◌, Bool, true, false, ◌&&◌, not, nat_lt, if◌then◌else◌, List, [], ◌∷◌, length, replicate, slice_index_or, slice_set, is_none, Option, Some, None, Result, Ok, Err}
+-- Lists of events: which of them are schedules, and what the others' first fault is.
+use Rattle.std.specs.Prelude.{ℕ, ◌+◌, ◌&&◌, nat_lt, Bool, true, false, if◌then◌else◌, List, [], ◌∷◌, length, replicate, slice_index_or, slice_set, Option, Some, None, Result, Ok, Err}
 use Rattle.std.specs.List.{list_all}
-use Rattle.bpf_insn_form.specs.Program.{Program}
-use Rattle.bpf_step_model.specs.State.{LoopCall}
-use Rattle.bpf_step_model.specs.Run.{Ending}
-use Rattle.bpf_step_model.specs.Iteration.{iteration}
-use Rattle.loop_core_law.specs.declared.loop_test.Test.{Test}
-use Rattle.loop_core_law.specs.LeastBreak.{is_break}
 use Rattle.loop_core_schedule.specs.declared.event.Event.{Event}
-use Rattle.loop_core_schedule.specs.declared.event.ScheduleFault.{ScheduleFault}
-use Rattle.loop_core_schedule.specs.declared.event.ScheduleFault.TheVariants.{Worker as BadWorker, Disabled, Open}
-use Rattle.loop_core_schedule.specs.Outcome.{Outcome, outcome}
-use Rattle.loop_core_schedule.specs.Workers.{Worker, Idle, Holding, Running, Posting, Drained, Stopped, Shared, Turned, turned_by}
+use Rattle.loop_core_schedule.specs.declared.replay_fault.ReplayFault.{ReplayFault}
+use Rattle.loop_core_schedule.specs.declared.replay_fault.ReplayFault.TheVariants as faults
+use Rattle.loop_core_schedule.specs.Events.{Worker, Idle, Holding, Running, Posting, Drained, Stopped, Shared, Moved, event}
 
--- the sixteen workers, and what they share
-pub record Crew : Type 0 where
-  pub workers : List Worker
+-- what is shared, and what each of the workers 0 to 15 does
+pub record State : Type 0 where
   pub shared : Shared
+  pub workers : List Worker
 
--- at first each worker is idle, no block is claimed, and nothing is posted
-abbrev pub new_crew : Crew
-new_crew = record { workers = replicate 16 Idle; shared = record { claimed = 0; least = None } }
+-- no block is taken, no break is posted, no worker has done anything
+abbrev pub at_first : State
+at_first = record { shared = record { next = 0; least = None; runs = [] }; workers = replicate 16 Idle }
 
-abbrev pub worker_of : Crew → ℕ → Worker
-worker_of crew number = slice_index_or crew.workers number Idle
+-- what a worker does
+abbrev pub worker_of : State → ℕ → Worker
+worker_of state number = slice_index_or state.workers number Idle
 
--- the crew after a worker's event
-abbrev pub with_turned : Crew → ℕ → Turned → Crew
-with_turned crew number turned = record { workers = slice_set crew.workers number turned.worker; shared = turned.shared }
+-- the state after a worker's event, or the fault of one that isn't enabled at this place of the list
+abbrev pub if_enabled : (place number : ℕ) → State → Option Moved → Result State ReplayFault
+if_enabled place number state None = Err (faults.NotEnabled place)
+if_enabled place number state (Some moved) = Ok (record { shared = moved.shared; workers = slice_set state.workers number moved.worker })
 
--- the crew after the event of an index, and the events that go on from it; or its fault
-abbrev pub after_event : (Crew → Result Crew ScheduleFault) → Crew → (number at : ℕ) → Option Turned → Result Crew ScheduleFault
-after_event go_on crew number at None = Err (Disabled at)
-after_event go_on crew number at (Some turned) = go_on (with_turned crew number turned)
+-- the state after an event, or its least fault: there is no such worker, or it isn't enabled
+abbrev pub after_event : (ℕ → Bool) → List ℕ → Event → ℕ → State → Result State ReplayFault
+after_event breaks bounds e place state =
+    if nat_lt 15 e.worker then Err (faults.NoSuchWorker place)
+    else if_enabled place e.worker state (event breaks bounds e.kind (worker_of state e.worker) state.shared)
 
--- the crew after events, of which the first has this index; or the first fault
-abbrev pub crew_after : (ℕ → Bool) → List ℕ → List Event → ℕ → Crew → Result Crew ScheduleFault
-crew_after breaks bounds [] at crew = Ok crew
-crew_after breaks bounds (event ∷ events) at crew =
-    if nat_lt 15 event.worker then Err (BadWorker at)
-    else after_event (crew_after breaks bounds events (at + 1)) crew event.worker at
-        (turned_by breaks bounds event.kind (worker_of crew event.worker) crew.shared)
+-- goes on from a state where there is one
+abbrev pub and_then : (State → Result State ReplayFault) → Result State ReplayFault → Result State ReplayFault
+and_then go_on (Err fault) = Err fault
+and_then go_on (Ok state) = go_on state
 
+-- the state after all events, where the first of them stands at this place of the list; or the first fault
+abbrev pub after_events : (ℕ → Bool) → List ℕ → List Event → ℕ → State → Result State ReplayFault
+after_events breaks bounds [] place state = Ok state
+after_events breaks bounds (e ∷ events) place state = and_then (after_events breaks bounds events (place + 1)) (after_event breaks bounds e place state)
+
+-- a worker has stopped
 abbrev pub is_stopped : Worker → Bool
+is_stopped Idle = false
+is_stopped (Holding block) = false
+is_stopped (Running block index) = false
+is_stopped (Posting index) = false
+is_stopped Drained = false
 is_stopped Stopped = true
-is_stopped _ = false
 
 -- at least one worker stands in the list, and each that does has stopped
-abbrev pub have_ended : List Event → Crew → Bool
-have_ended [] crew = false
-have_ended (event ∷ events) crew = list_all (λ (e : Event). is_stopped (worker_of crew e.worker)) (event ∷ events)
+abbrev pub has_ended : List Event → State → Bool
+has_ended events state = nat_lt 0 (length events) && list_all (λ (e : Event). is_stopped (worker_of state e.worker)) events
 
--- the fault of a list of events, by what became of them
-abbrev pub fault_of : List Event → Result Crew ScheduleFault → Option ScheduleFault
-fault_of events (Err fault) = Some fault
-fault_of events (Ok crew) = if have_ended events crew then None else Some (Open (length events))
+-- the state, where the list has ended
+abbrev pub if_ended : List Event → State → Result State ReplayFault
+if_ended events state = if has_ended events state then Ok state else Err (faults.NotEnded (length events))
 
--- what is wrong with a list of events: its first fault
-abbrev pub schedule_fault : (ℕ → Bool) → List ℕ → List Event → Option ScheduleFault
-schedule_fault breaks bounds events = fault_of events (crew_after breaks bounds events 0 new_crew)
-
--- the iterations of a loop that break on its start words
-abbrev pub breaks_of : Program → ℕ → LoopCall → List ℕ → ℕ → Bool
-breaks_of program bound call words index = is_break (iteration program bound call index words)
-
--- a fault, or the outcome
-abbrev pub unless_fault : Option ScheduleFault → Ending Outcome → Result (Ending Outcome) ScheduleFault
-unless_fault None told = Ok told
-unless_fault (Some fault) told = Err fault
-
--- what comes of a list of events over a split: a schedule gives the loop's outcome, whichever it is
-abbrev pub replayed : Test → Program → ℕ → LoopCall → List ℕ → List ℕ → List Event → Result (Ending Outcome) ScheduleFault
-replayed test program bound call words bounds events =
-    unless_fault (schedule_fault (breaks_of program bound call words) bounds events) (outcome test program bound call words)
+-- a list of events against a split: the state that it ends in, or its first fault
+abbrev pub replay : (ℕ → Bool) → List ℕ → List Event → Result State ReplayFault
+replay breaks bounds events = and_then (if_ended events) (after_events breaks bounds events 0 at_first)

@@ -1,13 +1,13 @@
-//! The events of a schedule.
+//! What the workers of a loop do.
 
-/// What a worker does.
+/// One atomic step of a worker.
 #[derive(Clone, Copy, Debug, PartialEq, Eq)]
 pub enum EventKind {
     /// Takes the next block.
     Claim,
-    /// Reads the least break.
+    /// Reads the least break, and begins or skips the block.
     Look,
-    /// Does one iteration.
+    /// Does an iteration.
     Turn,
     /// Posts a break.
     Post,
@@ -15,21 +15,11 @@ pub enum EventKind {
     Stop,
 }
 
-/// An event: what is done, and by which worker.
+/// A step, and the worker that makes it.
 #[derive(Clone, Copy, Debug, PartialEq, Eq)]
 pub struct Event {
+    /// What is done.
     pub kind: EventKind,
-    /// The worker's number, 0 to 15.
+    /// The worker's number. Workers are 0 to 15; a list of events that names another is refused.
     pub worker: u8,
-}
-
-/// Why a list of events is no schedule.
-#[derive(Clone, Copy, Debug, PartialEq, Eq)]
-pub enum ScheduleFault {
-    /// E1: the event of this index has a worker above 15.
-    Worker { event: u32 },
-    /// E2: the event of this index isn't enabled.
-    Disabled { event: u32 },
-    /// E3: the list of so many events hasn't ended.
-    Open { events: u32 },
 }

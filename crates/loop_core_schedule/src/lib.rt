@@ -1,20 +1,39 @@
-//! Schedules of a loop's workers: which events are enabled, what each does, when a list of them has
-//! ended; and the outcome of a loop, which doesn't mention any of that. Nothing runs here: each
+//! Schedules of a speculative loop: what its workers may do and when, which blocks an ended list of
+//! events leaves, and the loop's outcome, which depends on none of it. Nothing runs here: each
 //! function's contract is a law.
 #![tactic(auto)]
 
 pub mod event;
+pub mod replay_fault;
 
-ghost use Rattle.loop_core_schedule.specs.Outcome.{PassesAreCommitted};
 ghost use Rattle.loop_core_schedule.specs.BlockRows.{BlockRows};
-ghost use Rattle.loop_core_schedule.specs.ScheduleRows.{ScheduleRows};
+ghost use Rattle.loop_core_schedule.specs.GatherRows.{GatherRows};
+ghost use Rattle.loop_core_schedule.specs.OutcomeLaw.{OutcomeByTest};
+ghost use Rattle.loop_core_schedule.specs.ReplayRows.{ReplayRows};
+ghost use Rattle.loop_core_schedule.specs.ScheduleLaw.{EndedSchedulesComplete};
+ghost use Rattle.loop_core_schedule.specs.SplitLaw.{SplitsPartition};
+ghost use Rattle.loop_core_schedule.specs.SplitRows.{SplitRows};
 
-pub use event::{Event, EventKind, ScheduleFault};
+pub use event::{Event, EventKind};
+pub use replay_fault::ReplayFault;
 
-/// The law of outcomes: of a loop that passes the outcome is the number of its counted iterations and
-/// what is committed of their accesses.
+/// The law of splits: each index of the loop lies in exactly one block, and the blocks reach no
+/// further.
+pub fn law_of_splits()
+    ensures { SplitsPartition }
+{}
+
+/// The law of schedules: whatever the workers do, in whatever order, a list of events that has ended
+/// took every block, and left blocks of which none is missing, doubled or foreign; and the least break
+/// that was posted is the loop's.
+pub fn law_of_schedules()
+    ensures { EndedSchedulesComplete }
+{}
+
+/// The law of outcomes: a loop that passes a test answers how many iterations count and leaves what is
+/// committed of them; one that conflicts answers and leaves what it does in order.
 pub fn law_of_outcomes()
-    ensures { PassesAreCommitted }
+    ensures { OutcomeByTest }
 {}
 
 /// The definitions give the marks, kept values and breaks of worked blocks.
@@ -22,7 +41,17 @@ pub fn worked_blocks()
     ensures { BlockRows }
 {}
 
-/// The definitions give the outcomes of worked schedules, and the faults of lists that are none.
-pub fn worked_schedules()
-    ensures { ScheduleRows }
+/// The definitions give the fault of worked lists of blocks.
+pub fn worked_lists_of_blocks()
+    ensures { GatherRows }
+{}
+
+/// The definitions give the bounds of worked even splits, and the fault of other bounds.
+pub fn worked_splits()
+    ensures { SplitRows }
+{}
+
+/// The definitions give what worked lists of events come to: the loop's outcome, or their first fault.
+pub fn worked_replays()
+    ensures { ReplayRows }
 {}
