@@ -4,7 +4,9 @@ use Rattle.std.specs.Prelude.{cond}
 use Rattle.std.specs.List.{filter, range_with_len}
 use Rattle.std.proofs.lemmas.List.{append-nil}
 use Rattle.std.proofs.lemmas.List.Elements.{filter-append}
-use Rattle.loop_core_marks.specs.Planes.{bit_of, elements_of, PlaneHasElements}
+use Rattle.loop_core_law.specs.declared.verdict.Verdict.TheVariants.{Conflict}
+use Rattle.loop_core_law.specs.Report.{judged}
+use Rattle.loop_core_marks.specs.Planes.{bit_of, elements_of, least_in, judged_by, PlaneHasElements, PlaneJudges}
 
 range-append : (from few more : ℕ) → range_with_len from (few + more) ≡ range_with_len from few ++ range_with_len (from + few) more
 range-append from zero more =
@@ -42,3 +44,10 @@ split_plane p test elements all within same none =
 
 pub plane_has_elements : PlaneHasElements
 plane_has_elements words test elements within same none = split_plane (bit_of words) test elements (64 * length words) within same none
+
+count_and_least : (elements : List ℕ) → judged_by (length elements) (least_in elements) ≡ judged elements
+count_and_least [] = refl
+count_and_least (least ∷ others) = let one_more : suc (length others) ≡ length others + 1 = omega arith in ap (λ count. Conflict count least) one_more
+
+pub plane_judges : PlaneJudges
+plane_judges words = count_and_least (elements_of words)

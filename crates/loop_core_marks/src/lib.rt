@@ -7,7 +7,7 @@ pub mod access;
 
 ghost use Rattle.loop_core_marks.specs.Flags.{FlagsFollowKinds};
 ghost use Rattle.loop_core_marks.specs.MarkLaw.{MarksTell, FirstIsNumber, MarksMerge};
-ghost use Rattle.loop_core_marks.specs.Planes.{PlaneHasElements};
+ghost use Rattle.loop_core_marks.specs.Planes.{PlaneHasElements, PlaneJudges};
 
 pub use access::Access;
 
@@ -30,5 +30,6 @@ pub fn law_of_marks()
 /// each element and are zero past the end, has just the elements that pass; so they are counted and the
 /// least of them found in the bits.
 pub fn law_of_planes()
-    ensures { PlaneHasElements }
+    ensures elements { PlaneHasElements }
+    ensures verdict { PlaneJudges }
 {}
