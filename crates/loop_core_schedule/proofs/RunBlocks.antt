@@ -1,13 +1,13 @@
 -- Blocks of a split that were run, and their numbers.
 use Rattle.std.proofs.Common.{◌≡◌, ℕ, zero, suc, ◌+◌, ◌-◌, ◌<◌, ◌≤◌, Bool, true, false, ◌⊎◌, inl, inr, List, [], ◌∷◌, Option, Some, None, refl, sym, ◌∙◌, ap, subst, arith}
 use Rattle.std.specs.Prelude.{not, ◌&&◌, ◌==◌, map, length, cond, is_none, slice_get, slice_index, if◌then◌else◌}
-use Rattle.std.specs.List.{find, list_any, AllByRecursion}
+use Rattle.std.specs.List.{list_any, AllByRecursion}
 use Rattle.std.proofs.lemmas.Bool.{eqb-true, eq-eqb, cases_Bool, and_parts, and_left, and_right, not_from_true, or_from}
-use Rattle.bpf_step_model.specs.Run.{Ending, Ended, Stuck, Unfinished}
+use Rattle.bpf_step_model.specs.Run.{Ending, Ended, Stuck, Unfinished, followed}
 use Rattle.bpf_step_model.specs.Iteration.{Iterated}
-use Rattle.loop_core_law.specs.LeastBreak.{is_break, lesser, mapped}
+use Rattle.bpf_step_model.proofs.Endings.{mapped_from}
+use Rattle.loop_core_law.specs.LeastBreak.{is_break, lesser, in_front_of}
 use Rattle.loop_core_law.specs.Scan.{up_to_break, scan}
-use Rattle.loop_core_law.proofs.LoopAgain.{one_more_from}
 use Rattle.loop_core_blocks.specs.Block.{break_from}
 use Rattle.loop_core_blocks.specs.Gather.{Block, starts_late, with_number, least_of, lacks, lacks_some, twice, is_bound, stands_in}
 use Rattle.loop_core_schedule.specs.Intervals.{blocks_of, start_of, end_of}
@@ -60,8 +60,8 @@ none_lacks_from least blocks number first [] each = refl
 none_lacks_from least blocks number first (past ∷ bounds) each =
     or_from (not (starts_late least first) && is_none (with_number number blocks)) (lacks least blocks (number + 1) past bounds) (go (each 0 (omega arith)))
     (none_lacks_from least blocks (number + 1) past bounds (λ j h.
-        let same : number + suc j ≡ number + 1 + j = omega arith in
-        subst (λ (k : ℕ). (is_none (with_number k blocks) ≡ false) ⊎ (starts_late least (slice_index (past ∷ bounds) j) ≡ true)) same (each (suc j) (omega arith))))
+    let same : number + suc j ≡ number + 1 + j = omega arith in
+    subst (λ (k : ℕ). (is_none (with_number k blocks) ≡ false) ⊎ (starts_late least (slice_index (past ∷ bounds) j) ≡ true)) same (each (suc j) (omega arith))))
   where
     go : (is_none (with_number (number + 0) blocks) ≡ false) ⊎ (starts_late least first ≡ true) → (not (starts_late least first) && is_none (with_number number blocks)) ≡ false
     go (inl there) =
@@ -74,8 +74,8 @@ pub none_lacks : (bounds : List ℕ) (blocks : List Block) →
 none_lacks [] blocks each = refl
 none_lacks (first ∷ bounds) blocks each =
     none_lacks_from (least_of blocks) blocks 0 first bounds (λ j h.
-        let same : j ≡ 0 + j = omega arith in
-        subst (λ (k : ℕ). (is_none (with_number k blocks) ≡ false) ⊎ (starts_late (least_of blocks) (slice_index (first ∷ bounds) j) ≡ true)) same (each j (omega arith)))
+    let same : j ≡ 0 + j = omega arith in
+    subst (λ (k : ℕ). (is_none (with_number k blocks) ≡ false) ⊎ (starts_late (least_of blocks) (slice_index (first ∷ bounds) j) ≡ true)) same (each j (omega arith)))
 
 -- a bound that is there
 bound_is : (bounds : List ℕ) (k x : ℕ) → is_bound (slice_get bounds k) x ≡ true → slice_index bounds k ≡ x
@@ -110,15 +110,15 @@ module _ (iterate : ℕ → Ending Iterated) where
   scan_break (suc left) index ran h = by_first (iterate index) refl h (λ its e. scan_break left (index + 1) its e)
     where
       by_break : (it : Iterated) → iterate index ≡ Ended it → (b : Bool) → (it.ret == 1) ≡ b →
-          (if b then Ended (it ∷ []) else mapped (λ others. it ∷ others) (scan iterate left (index + 1))) ≡ Ended ran →
+          (if b then Ended (it ∷ []) else in_front_of (scan iterate left (index + 1)) it) ≡ Ended ran →
           ((its : List Iterated) → scan iterate left (index + 1) ≡ Ended its → break_from (index + 1) its ≡ first_break breaking left (index + 1)) →
           break_from index ran ≡ first_break breaking (suc left) index
       by_break it same true one h later = broke_once left index it ran same one (cc)
       by_break it same false on h later =
-          let parts = one_more_from it (scan iterate left (index + 1)) ran h in
+          let parts = mapped_from (λ others. it ∷ others) (scan iterate left (index + 1)) ran h in
           went_on left index it parts.0 ran same on parts.2 (later parts.0 parts.1)
 
-      by_first : (e : Ending Iterated) → iterate index ≡ e → up_to_break (scan iterate left (index + 1)) e ≡ Ended ran →
+      by_first : (e : Ending Iterated) → iterate index ≡ e → followed (up_to_break (scan iterate left (index + 1))) e ≡ Ended ran →
           ((its : List Iterated) → scan iterate left (index + 1) ≡ Ended its → break_from (index + 1) its ≡ first_break breaking left (index + 1)) →
           break_from index ran ≡ first_break breaking (suc left) index
       by_first Stuck same h later = absurd (cc)
