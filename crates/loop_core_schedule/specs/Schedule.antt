@@ -1,5 +1,5 @@
 -- Schedules: lists of events of which each is enabled where it stands, and after which all workers have stopped.
-use Rattle.std.specs.Prelude.{ℕ, ◌+◌, Bool, true, false, ◌&&◌, not, nat_lt, if◌then◌else◌, List, [], ◌∷◌, length, replicate, slice_index_or, slice_set, is_none, Option, Some, None, Result, Ok, Err}
+use Rattle.std.specs.Prelude.{ℕ, ◌+◌, Bool, true, false, nat_lt, if◌then◌else◌, List, [], ◌∷◌, length, replicate, slice_index_or, slice_set, Option, Some, None, Result, Ok, Err}
 use Rattle.std.specs.List.{list_all}
 use Rattle.bpf_insn_form.specs.Program.{Program}
 use Rattle.bpf_step_model.specs.State.{LoopCall}
@@ -11,7 +11,7 @@ use Rattle.loop_core_schedule.specs.declared.event.Event.{Event}
 use Rattle.loop_core_schedule.specs.declared.event.ScheduleFault.{ScheduleFault}
 use Rattle.loop_core_schedule.specs.declared.event.ScheduleFault.TheVariants.{Worker as BadWorker, Disabled, Open}
 use Rattle.loop_core_schedule.specs.Outcome.{Outcome, outcome}
-use Rattle.loop_core_schedule.specs.Workers.{Worker, Idle, Holding, Running, Posting, Drained, Stopped, Shared, Turned, turned_by}
+use Rattle.loop_core_schedule.specs.Workers.{Worker, Idle, Stopped, Shared, Turned, turned_by}
 
 -- the sixteen workers, and what they share
 pub record Crew : Type 0 where
@@ -40,7 +40,7 @@ crew_after breaks bounds [] at crew = Ok crew
 crew_after breaks bounds (event ∷ events) at crew =
     if nat_lt 15 event.worker then Err (BadWorker at)
     else after_event (crew_after breaks bounds events (at + 1)) crew event.worker at
-        (turned_by breaks bounds event.kind (worker_of crew event.worker) crew.shared)
+    (turned_by breaks bounds event.kind (worker_of crew event.worker) crew.shared)
 
 abbrev pub is_stopped : Worker → Bool
 is_stopped Stopped = true

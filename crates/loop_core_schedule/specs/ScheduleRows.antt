@@ -1,5 +1,5 @@
 -- Worked schedules: the outcome of a loop, and the faults of lists that are no schedule. Each is worked out by hand.
-use Rattle.std.specs.Prelude.{◌≡◌, ℕ, pos, List, [], ◌∷◌, ◌++◌, replicate, Option, Some, None, Ok, Err}
+use Rattle.std.specs.Prelude.{◌≡◌, ℕ, pos, List, [], ◌∷◌, ◌++◌, replicate, Some, Ok, Err}
 use Rattle.bpf_insn_form.specs.declared.insn.Size.TheVariants.{Dw}
 use Rattle.bpf_insn_form.specs.declared.insn.Width.TheVariants.{W64}
 use Rattle.bpf_insn_form.specs.declared.insn.Compare.TheVariants.{Eq, Ne}
@@ -15,7 +15,6 @@ use Rattle.loop_core_law.specs.declared.verdict.Verdict.TheVariants.{Parallel}
 use Rattle.loop_core_blocks.specs.declared.faults.SplitFault.TheVariants.{Falling, Number, Ends}
 use Rattle.loop_core_blocks.specs.Split.{split_fault, even_bounds}
 use Rattle.loop_core_schedule.specs.declared.event.Event.{Event}
-use Rattle.loop_core_schedule.specs.declared.event.EventKind.{EventKind}
 use Rattle.loop_core_schedule.specs.declared.event.EventKind.TheVariants.{Claim, Look, Turn, Post, Stop}
 use Rattle.loop_core_schedule.specs.declared.event.ScheduleFault.{ScheduleFault}
 use Rattle.loop_core_schedule.specs.declared.event.ScheduleFault.TheVariants.{Worker, Disabled, Open}
