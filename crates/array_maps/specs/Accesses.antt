@@ -5,9 +5,13 @@ use Rattle.bpf_insn_form.specs.declared.insn.Width.TheVariants.{W64}
 use Rattle.bpf_insn_form.specs.declared.insn.AluOp.{AluOp}
 use Rattle.bpf_insn_words.specs.Words.{alu}
 use Rattle.array_maps.specs.declared.access.Op.{Op}
-use Rattle.array_maps.specs.declared.access.Op.TheVariants.{Add, Or, And, Xor}
+use Rattle.array_maps.specs.declared.access.Op.TheVariants.{Add, Or, And, Xor, AddH}
 use Rattle.array_maps.specs.declared.access.Rmw.{Rmw}
 use Rattle.array_maps.specs.declared.access.Rmw.TheVariants.{Op as Applies, Xchg, CmpXchg}
+use Rattle.array_maps.specs.declared.access.Half.TheVariants.{Low}
+use Rattle.array_maps.specs.declared.access.Part.{Part}
+use Rattle.array_maps.specs.declared.access.Part.TheVariants.{Whole, Half as Of}
+use Rattle.array_maps.specs.Halves.{half_of, with_half, halves_added}
 
 -- what one access did at its element: the word that it saw there, the word that it left, or both; or an operator
 -- and an operand, where it saw nothing
@@ -24,7 +28,7 @@ pub record Access : Type 0 where
 
 -- all operators of reduces
 abbrev pub operators : List Op
-operators = Add ∷ Or ∷ And ∷ Xor ∷ []
+operators = Add ∷ Or ∷ And ∷ Xor ∷ AddH ∷ []
 
 -- a word with an operand applied to it (RFC 9669, section 5.3)
 unfoldable pub combined : Op → ℕ → ℕ → ℕ
@@ -32,12 +36,19 @@ combined Add word operand = alu W64 AluOp.Add word operand
 combined Or word operand = alu W64 AluOp.Or word operand
 combined And word operand = alu W64 AluOp.And word operand
 combined Xor word operand = alu W64 AluOp.Xor word operand
+combined AddH word operand = halves_added word operand
 
--- what a change that tells the old word leaves (RFC 9669, section 5.3)
-abbrev pub exchanged : Rmw → (word value compare : ℕ) → ℕ
-exchanged (Applies op) word value compare = combined op word value
-exchanged Xchg word value compare = value
-exchanged CmpXchg word value compare = if word == compare then value else word
+-- what a change that tells what was there leaves of a number (RFC 9669, section 5.3)
+abbrev pub changed : Rmw → (old value compare : ℕ) → ℕ
+changed (Applies op) old value compare = combined op old value
+changed Xchg old value compare = value
+changed CmpXchg old value compare = if old == compare then value else old
+
+-- what it leaves of a word, at a part of it: at a half the lower halves of the operands count
+abbrev pub exchanged : Part → Rmw → (word value compare : ℕ) → ℕ
+exchanged Whole rmw word value compare = changed rmw word value compare
+exchanged (Of half) rmw word value compare =
+    with_half half word (changed rmw (half_of half word) (half_of Low value) (half_of Low compare))
 
 -- what an action leaves, where a word stood
 abbrev pub left_by : Action → ℕ → ℕ

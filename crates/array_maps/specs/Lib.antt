@@ -1,3 +1,4 @@
+pub mod Halves
 pub mod Accesses
 pub mod MapList
 pub mod Store

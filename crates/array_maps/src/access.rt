@@ -1,4 +1,4 @@
-//! The operators of accesses.
+//! The operators and parts of accesses.
 
 ghost use Rattle.array_maps.specs.Accesses.{EachElement};
 
@@ -9,6 +9,8 @@ pub enum Op {
     Or,
     And,
     Xor,
+    /// Adds both halves apart, each modulo 2^32.
+    AddH,
 }
 
 /// A change of an element that tells what was there.
@@ -20,6 +22,20 @@ pub enum Rmw {
     Xchg,
     /// Stores a value where the element equals another.
     CmpXchg,
+}
+
+/// A half of an element: 4 of its 8 bytes.
+#[derive(Clone, Copy, Debug, PartialEq, Eq)]
+pub enum Half {
+    Low,
+    High,
+}
+
+/// What an access is of: a whole element, or a half of it.
+#[derive(Clone, Copy, Debug, PartialEq, Eq)]
+pub enum Part {
+    Whole,
+    Half(Half),
 }
 
 /// The law that a list of accesses acts on each element by itself. Nothing runs here: the contract is

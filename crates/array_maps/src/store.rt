@@ -1,9 +1,12 @@
 //! What a program sees of its maps, whatever keeps them.
 
 ghost use Rattle.std.specs.Prelude.{◌≡◌, ◌≢◌, ℕ, ◌+◌, ◌<◌, ◌≤◌, ◌^◌, List, length, slice_index};
-ghost use Rattle.array_maps.specs.Accesses.{Access, Action, Read, Write, ReadWrite, Reduce, combined, exchanged, words_after};
+ghost use Rattle.array_maps.specs.Accesses.{Access, Action, Read, Write, ReadWrite, Reduce, exchanged, words_after};
+ghost use Rattle.array_maps.specs.Halves.{part_of, with_half};
 
-use crate::access::{Op, Rmw};
+use crate::access::{Half, Op, Part, Rmw};
+use crate::changes::{combine, exchange};
+use crate::halves::{part_of, with_half};
 use crate::maps::Maps;
 
 /// Maps as a program sees them: a list of words, of which each call accesses one. Elements are numbered
@@ -37,13 +40,21 @@ pub trait Store {
         requires served { 0 < serves self.old }
         ensures done { effect self.old (record { element = e; action = Reduce op operand }) self.new };
 
-    /// Changes the word of an element, and tells what it was. Compare-and-exchange alone looks at
-    /// `compare`.
-    fn fetch(&mut self, e: u32, rmw: Rmw, value: u64, compare: u64) -> u64
+    /// Stores a half at an element: the other half is read and written again.
+    fn store_half(&mut self, e: u32, half: Half, value: u32)
         requires within { e < length (words self.old) }
         requires served { 0 < serves self.old }
-        ensures answer { result ≡ slice_index (words self.old) e }
-        ensures done { effect self.old (record { element = e; action = ReadWrite result (exchanged rmw result value compare) }) self.new };
+        ensures done { let word = slice_index (words self.old) e in
+            effect self.old (record { element = e; action = ReadWrite word (with_half half word value) }) self.new };
+
+    /// Changes a part of an element, and tells what was there, zero-extended. Compare-and-exchange alone
+    /// looks at `compare`; at a half the lower halves of `value` and `compare` count.
+    fn fetch(&mut self, e: u32, part: Part, rmw: Rmw, value: u64, compare: u64) -> u64
+        requires within { e < length (words self.old) }
+        requires served { 0 < serves self.old }
+        ensures answer { result ≡ part_of part (slice_index (words self.old) e) }
+        ensures done { let word = slice_index (words self.old) e in
+            effect self.old (record { element = e; action = ReadWrite word (exchanged part rmw word value compare) }) self.new };
 
     /// The words that are seen after an access.
     ghost shows: { (old new : Self) (access : Access) → effect old access new → words new ≡ words_after access (words old) };
@@ -73,39 +84,21 @@ impl Store for Maps {
 
     fn update(&mut self, e: u32, op: Op, operand: u64) {
         let word = self.word(e);
-        self.set_word(e, applied(op, word, operand));
+        self.set_word(e, combine(op, word, operand));
     }
 
-    fn fetch(&mut self, e: u32, rmw: Rmw, value: u64, compare: u64) -> u64 {
+    fn store_half(&mut self, e: u32, half: Half, value: u32) {
         let word = self.word(e);
-        self.set_word(e, exchanged_with(rmw, word, value, compare));
-        word
+        self.set_word(e, with_half(half, word, value as u64));
+    }
+
+    fn fetch(&mut self, e: u32, part: Part, rmw: Rmw, value: u64, compare: u64) -> u64 {
+        let word = self.word(e);
+        self.set_word(e, exchange(part, rmw, word, value, compare));
+        part_of(part, word)
     }
 
     ghost shows = { λ old new access done. ap (λ (maps : MapList). maps.words) done };
 
     ghost uses_one = { λ old new access done. Prim.omega arith };
-}
-
-/// A word with an operand applied.
-fn applied(op: Op, word: u64, operand: u64) -> u64
-    ensures { result ≡ combined op word operand }
-{
-    match op {
-        Op::Add => word.wrapping_add(operand),
-        Op::Or => word | operand,
-        Op::And => word & operand,
-        Op::Xor => word ^ operand,
-    }
-}
-
-/// What a change that tells the old word leaves.
-fn exchanged_with(rmw: Rmw, word: u64, value: u64, compare: u64) -> u64
-    ensures { result ≡ exchanged rmw word value compare }
-{
-    match rmw {
-        Rmw::Op(op) => applied(op, word, value),
-        Rmw::Xchg => value,
-        Rmw::CmpXchg => { if word == compare { value } else { word } }
-    }
 }

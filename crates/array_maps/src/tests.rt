@@ -5,7 +5,7 @@ ghost use Rattle.std.specs.List.{All};
 ghost use Rattle.array_maps.specs.Accesses.{words_after_all};
 ghost use Rattle.array_maps.specs.Store.{Effects, added};
 
-use crate::{Maps, MapsError, Op, Rmw, Store};
+use crate::{Maps, MapsError, Op, Part, Rmw, Store};
 use std::alloc::Global;
 use std::test::Fail;
 
@@ -93,10 +93,10 @@ fn a_store_answers_old_words(rt: HostRuntime) -> Result<(), Fail> {
     let mut maps = Maps::new(rt.alloc(), &[1, 2])?;
     maps.store(2, 6);
     maps.update(2, Op::Xor, 3);
-    assert_eq!(rt; maps.fetch(2, Rmw::CmpXchg, 9, 5), 5);
-    assert_eq!(rt; maps.fetch(2, Rmw::CmpXchg, 1, 5), 9);
-    assert_eq!(rt; maps.fetch(2, Rmw::Op(Op::Add), 2, 0), 9);
-    assert_eq!(rt; maps.fetch(2, Rmw::Xchg, 4, 0), 11);
+    assert_eq!(rt; maps.fetch(2, Part::Whole, Rmw::CmpXchg, 9, 5), 5);
+    assert_eq!(rt; maps.fetch(2, Part::Whole, Rmw::CmpXchg, 1, 5), 9);
+    assert_eq!(rt; maps.fetch(2, Part::Whole, Rmw::Op(Op::Add), 2, 0), 9);
+    assert_eq!(rt; maps.fetch(2, Part::Whole, Rmw::Xchg, 4, 0), 11);
     assert_eq!(rt; (maps.load(2), maps.get(1, 1)), (4, 4));
     Ok(())
 }

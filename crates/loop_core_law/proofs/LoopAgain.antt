@@ -39,7 +39,7 @@ pub record AreEnded (endings : List (Ending Iterated)) (runs : List (List Access
   pub each : AllByRecursion IsEnded endings
   pub made : map accesses_of endings ≡ runs
 
-one_more_from : (it : Iterated) (rest : Ending (List Iterated)) (its : List Iterated) → mapped (λ others. it ∷ others) rest ≡ Ended its →
+pub one_more_from : (it : Iterated) (rest : Ending (List Iterated)) (its : List Iterated) → mapped (λ others. it ∷ others) rest ≡ Ended its →
     (others : List Iterated) × (rest ≡ Ended others) × (its ≡ it ∷ others)
 one_more_from it Stuck its h = absurd (cc)
 one_more_from it Unfinished its h = absurd (cc)

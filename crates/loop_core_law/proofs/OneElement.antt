@@ -2,14 +2,14 @@
 -- word.
 use Rattle.std.proofs.Common.{◌≡◌, ℕ, Bool, true, false, ◌&&◌, ◌||◌, ◌⊎◌, inl, inr, List, [], ◌∷◌, ◌++◌, Option, Some, None, refl, sym, ◌∙◌, ap, subst}
 use Rattle.std.specs.Prelude.{if◌then◌else◌, is_none}
-use Rattle.std.specs.Option.{option_or}
+use Rattle.std.specs.Option.{option_or, option_map, unwrap_or}
 use Rattle.std.specs.List.{list_any, list_all, fold}
 use Rattle.array_maps.specs.declared.access.Op.{Op}
-use Rattle.array_maps.specs.declared.access.Op.TheVariants.{Add, Or, And, Xor}
+use Rattle.array_maps.specs.declared.access.Op.TheVariants.{Add, Or, And, Xor, AddH}
 use Rattle.array_maps.specs.Accesses.{Action, Read, Write, ReadWrite, Reduce, combined, left_by, left_by_all, SawEach}
 use Rattle.loop_core_law.specs.Actions.{writes, exposed, is_same, reduces_by, joined, only_operator, operands}
 use Rattle.loop_core_law.specs.Conflict.{clash, harm}
-use Rattle.loop_core_law.specs.Committed.{last_that, left_by_last, committed_by, committed}
+use Rattle.loop_core_law.specs.Committed.{last_that, committed_by, committed}
 
 -- both sides of a test that is false, or true
 pub or_false_left : (a b : Bool) → (a || b) ≡ false → a ≡ false
@@ -69,6 +69,7 @@ same_op Add Add h = refl
 same_op Or Or h = refl
 same_op And And h = refl
 same_op Xor Xor h = refl
+same_op AddH AddH h = refl
 same_op _ _ h = absurd (cc)
 
 -- reduces by one operator leave the word combined with their operands
@@ -159,15 +160,16 @@ last_left start word (first ∷ rest) unharmed calm =
     ∙ picked-option_or (last_that writes rest) (if writes first then Some first else None) start word (left_by_all first word)
     (first_left start word first rest (writes first) refl calm)
 
-picked_at_start : (o : Option (List Action)) (start : ℕ) → picked o start start ≡ left_by_last o start
+picked_at_start : (o : Option (List Action)) (start : ℕ) → picked o start start ≡ unwrap_or (option_map (λ actions. left_by_all actions start) o) start
 picked_at_start None start = refl
 picked_at_start (Some actions) start = refl
 
-is_same-refl : (op : Op) → is_same op op ≡ true
+pub is_same-refl : (op : Op) → is_same op op ≡ true
 is_same-refl Add = refl
 is_same-refl Or = refl
 is_same-refl And = refl
 is_same-refl Xor = refl
+is_same-refl AddH = refl
 
 chosen : (b : Bool) (a op : Op) → (if b then Some a else None) ≡ Some op → (b ≡ true) × (a ≡ op)
 chosen true a op h = (refl, cc)

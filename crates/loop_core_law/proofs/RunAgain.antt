@@ -3,7 +3,7 @@ use Rattle.std.proofs.Common.{◌≡◌, ℕ, zero, suc, ◌<◌, Bool, true, fa
 use Rattle.std.specs.Prelude.{slice_get, slice_index, if◌then◌else◌, ◌==◌}
 use Rattle.std.proofs.lemmas.Bool.{eqb-true, eq-eqb}
 use Rattle.std.proofs.lemmas.Option.{slice_get_within, slice_get-get_or, get_or_from_slice_get}
-use Rattle.array_maps.specs.Accesses.{Action, Read, Write, ReadWrite, Reduce, Access, exchanged, left_by, Saw, SawEach, actions_at, words_after, words_after_all}
+use Rattle.array_maps.specs.Accesses.{Action, Read, Write, ReadWrite, Reduce, Access, left_by, Saw, SawEach, actions_at, words_after, words_after_all}
 use Rattle.array_maps.proofs.ElementLaws.{length-words_after, element_after_all}
 use Rattle.bpf_insn_form.specs.Program.{Program}
 use Rattle.bpf_step_model.specs.State.{Machine, LoopCall, callback_entry}
@@ -56,10 +56,10 @@ action_saw (Fetch rmw value compare into) word = refl
 
 -- a request that would have seen another word too does the same there
 same_action : (request : Request) (word other : ℕ) → Saw (action_of request word) other → action_of request other ≡ action_of request word
-same_action (Load into) word other saw = ap Read (sym saw)
+same_action (Load into) word other saw = ap (action_of (Load into)) (sym saw)
 same_action (Store value) word other saw = refl
 same_action (Update op operand) word other saw = refl
-same_action (Fetch rmw value compare into) word other saw = ap (λ w. ReadWrite w (exchanged rmw w value compare)) (sym saw)
+same_action (Fetch rmw value compare into) word other saw = ap (action_of (Fetch rmw value compare into)) (sym saw)
 
 same_told : (request : Request) (word other : ℕ) (m : Machine) → Saw (action_of request word) other → told request other m ≡ told request word m
 same_told (Load into) word other m saw = ap (λ w. told (Load into) w m) (sym saw)

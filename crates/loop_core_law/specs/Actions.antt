@@ -2,7 +2,7 @@
 use Rattle.std.specs.Prelude.{ℕ, Bool, true, false, not, List, [], ◌∷◌, ◌++◌, Option, Some, None, if◌then◌else◌}
 use Rattle.std.specs.List.{list_any, list_all, filter_map}
 use Rattle.array_maps.specs.declared.access.Op.{Op}
-use Rattle.array_maps.specs.declared.access.Op.TheVariants.{Add, Or, And, Xor}
+use Rattle.array_maps.specs.declared.access.Op.TheVariants.{Add, Or, And, Xor, AddH}
 use Rattle.array_maps.specs.Accesses.{Action, Read, Write, ReadWrite, Reduce}
 
 -- an action that leaves a word: a plain write or a reduce
@@ -35,6 +35,7 @@ is_same Add Add = true
 is_same Or Or = true
 is_same And And = true
 is_same Xor Xor = true
+is_same AddH AddH = true
 is_same _ _ = false
 
 -- a reduce by this operator

@@ -1,5 +1,5 @@
 -- Which iterations of a speculative loop count. Each of them runs on the words as they stood when the loop began.
-use Rattle.std.specs.Prelude.{ℕ, zero, suc, ◌+◌, Bool, false, ◌==◌, if◌then◌else◌, List, [], ◌∷◌, map, Option, Some, None}
+use Rattle.std.specs.Prelude.{ℕ, zero, suc, ◌+◌, Bool, false, ◌==◌, min, if◌then◌else◌, List, [], ◌∷◌, map, Option, Some, None}
 use Rattle.std.specs.List.{range_with_len}
 use Rattle.std.specs.Option.{option_or}
 use Rattle.array_maps.specs.Accesses.{Access}
@@ -12,6 +12,12 @@ use Rattle.bpf_step_model.specs.Iteration.{Iterated, iteration}
 abbrev pub least_below : (ℕ → Bool) → ℕ → Option ℕ
 least_below test zero = None
 least_below test (suc n) = option_or (least_below test n) (if test n then Some n else None)
+
+-- the lesser of two numbers that may be there
+abbrev pub lesser : Option ℕ → Option ℕ → Option ℕ
+lesser None other = other
+lesser (Some a) None = Some a
+lesser (Some a) (Some b) = Some (min a b)
 
 -- an iteration ended and returned 1
 abbrev pub is_break : Ending Iterated → Bool

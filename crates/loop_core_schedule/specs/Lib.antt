@@ -7,6 +7,7 @@ pub mod SplitLaw
 pub mod GatherLaw
 pub mod ScheduleLaw
 pub mod OutcomeLaw
+pub mod BlockRows
 pub mod SplitRows
 pub mod GatherRows
 pub mod ReplayRows

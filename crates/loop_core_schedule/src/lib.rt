@@ -6,6 +6,7 @@
 pub mod event;
 pub mod faults;
 
+ghost use Rattle.loop_core_schedule.specs.BlockRows.{BlockRows};
 ghost use Rattle.loop_core_schedule.specs.GatherLaw.{CompleteBlocksCount};
 ghost use Rattle.loop_core_schedule.specs.GatherRows.{GatherRows};
 ghost use Rattle.loop_core_schedule.specs.OutcomeLaw.{OutcomeByTest};
@@ -49,8 +50,13 @@ pub fn worked_splits()
     ensures { SplitRows }
 {}
 
-/// The definitions give the fault of worked lists of blocks.
+/// The definitions give the marks, kept values and breaks of worked blocks.
 pub fn worked_blocks()
+    ensures { BlockRows }
+{}
+
+/// The definitions give the fault of worked lists of blocks.
+pub fn worked_lists_of_blocks()
     ensures { GatherRows }
 {}
 

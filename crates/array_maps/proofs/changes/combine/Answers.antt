@@ -2,7 +2,7 @@ use Rattle.std.proofs.Common.{sym, arith}
 use Rattle.bpf_insn_form.specs.declared.insn.AluOp.{AluOp}
 use Rattle.bpf_insn_words.proofs.WordLaws.{alu-words}
 use Rattle.array_maps.specs.Accesses.{combined}
-use Rattle.array_maps.proofs.store.applied.Goals as goal
+use Rattle.array_maps.proofs.changes.combine.Goals as goal
 
 pub returns-in-Add : goal.returns-in-Add
 unfolding combined
@@ -19,3 +19,7 @@ returns-in-And c = rw c.in-And.is (sym (alu-words AluOp.And c.args.word c.args.o
 pub returns-in-Xor : goal.returns-in-Xor
 unfolding combined
 returns-in-Xor c = rw c.in-Xor.is (sym (alu-words AluOp.Xor c.args.word c.args.operand (omega arith) (omega arith)))
+
+pub returns-in-AddH : goal.returns-in-AddH
+unfolding combined
+returns-in-AddH c = rw c.in-AddH.is c.add_halves.ensures

@@ -1,0 +1,4 @@
+pub mod Kept
+pub mod Block
+pub mod Split
+pub mod Gather

@@ -1,0 +1,26 @@
+//! What has to be kept of a set of iterations at an element, so that its conflict is known by either
+//! test: flags while an iteration runs, and marks of those that ended. Nothing runs here: each
+//! function's contract is a law.
+#![tactic(auto)]
+
+pub mod access;
+
+ghost use Rattle.loop_core_marks.specs.Flags.{FlagsFollowKinds};
+ghost use Rattle.loop_core_marks.specs.MarkLaw.{MarksTell, FirstIsNumber, MarksMerge};
+
+pub use access::Access;
+
+/// The law of flags: an iteration's flags at an element begin empty, and each action changes them by
+/// its kind alone.
+pub fn law_of_flags()
+    ensures { FlagsFollowKinds }
+{}
+
+/// The law of marks: they tell exactly which elements are reduction-only, and which conflict by either
+/// test; those of one iteration follow from its flags, those of two disjoint sets are merged, and the
+/// order of merging doesn't matter.
+pub fn law_of_marks()
+    ensures tell { MarksTell }
+    ensures number { FirstIsNumber }
+    ensures merge { MarksMerge }
+{}

@@ -1,0 +1,32 @@
+-- Each row is computed.
+use Rattle.std.proofs.Common.{refl}
+use Rattle.bpf_insn_words.specs.Words.{alu, holds}
+use Rattle.array_maps.specs.Accesses.{combined}
+use Rattle.array_maps.specs.Halves.{half_of, with_half, halves_added}
+use Rattle.bpf_step_model.specs.Step.{step}
+use Rattle.bpf_step_model.specs.Iteration.{iteration}
+use Rattle.loop_core_schedule.specs.BlockRows.{RightRows, LeftRows, MixedRows, WriterRows, PartialRows}
+use Rattle.loop_core_schedule.proofs.worked_blocks.Goals as goal
+
+right : RightRows
+unfolding iteration step alu holds combined half_of with_half halves_added
+right = record { w = refl; r = refl; nx = refl; m = refl; np = refl; add = refl; first = refl; last = refl }
+
+left : LeftRows
+unfolding iteration step alu holds combined half_of with_half halves_added
+left = record { first = refl; last = refl }
+
+mixed : MixedRows
+unfolding iteration step alu holds combined half_of with_half halves_added
+mixed = record { marks = refl; none = refl; readers = refl; ends = refl; later = refl; last = refl; kept = refl }
+
+writer : WriterRows
+unfolding iteration step alu holds combined half_of with_half halves_added
+writer = record { marks = refl; readers = refl; kept = refl; empty = refl }
+
+partial : PartialRows
+unfolding iteration step alu holds combined half_of with_half halves_added
+partial = record { add_low = refl; add_high = refl; ands = refl }
+
+pub returns : goal.returns
+returns c = record { right = right; left = left; mixed = mixed; writer = writer; partial = partial }

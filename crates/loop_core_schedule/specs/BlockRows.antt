@@ -1,0 +1,91 @@
+-- Worked blocks: the marks of loops that are run as one block, by either test, and what is kept of blocks. Each is worked
+-- out by hand.
+use Rattle.std.specs.Prelude.{◌≡◌, ℕ, ◌==◌, ◌&&◌, Bool, List, [], ◌∷◌, ◌++◌, map, replicate, length, Option, Some, None, is_some}
+use Rattle.std.specs.List.{filter, range_with_len}
+use Rattle.array_maps.specs.declared.access.Op.{Op}
+use Rattle.array_maps.specs.declared.access.Op.TheVariants.{Add, Or, And, AddH}
+use Rattle.bpf_insn_form.specs.declared.insn.Insn.{Insn}
+use Rattle.bpf_step_model.specs.Run.{Ending, Ended}
+use Rattle.bpf_step_model.specs.Iteration.{Iterated}
+use Rattle.bpf_step_model.specs.LoopRows.{looping, call_of, add_index, increment, shift_right, shift_left, last_writer, mixed_operators, and_operands}
+use Rattle.loop_core_law.specs.Conflict.{at_element}
+use Rattle.loop_core_law.specs.LeastBreak.{mapped, accesses_of_each}
+use Rattle.loop_core_marks.specs.Marks.{Marks, marks_of, numbered}
+use Rattle.loop_core_blocks.specs.Block.{block}
+use Rattle.loop_core_blocks.specs.Kept.{Kept, kept}
+
+-- the loop of n iterations of a callback over so many elements, and its block of an interval
+abbrev pub block_of : (elements n : ℕ) → List Insn → (before : List ℕ) (first past : ℕ) → Ending (List Iterated)
+block_of elements n callback before first past = block (looping (elements ∷ []) n callback) 20 (call_of n) before first past
+
+-- the marks of an element
+abbrev pub marks_at : ℕ → ℕ → List Iterated → Marks
+marks_at first e ran = marks_of (numbered first (at_element e (accesses_of_each ran)))
+
+-- the elements of one map that have a mark
+abbrev pub marked : (elements first : ℕ) → (Marks → Bool) → Ending (List Iterated) → Ending (List ℕ)
+marked elements first mark ran = mapped (λ its. filter (λ e. mark (marks_at first e its)) (range_with_len 0 elements)) ran
+
+-- something of the marks of each element
+abbrev pub of_each : {A : Type 0} → (elements first : ℕ) → (Marks → A) → Ending (List Iterated) → Ending (List A)
+of_each elements first pick ran = mapped (λ its. map (λ e. pick (marks_at first e its)) (range_with_len 0 elements)) ran
+
+-- what is kept of a block at element 0
+abbrev pub kept_at_0 : Ending (List Iterated) → ℕ → Ending Kept
+kept_at_0 ran word = mapped (λ its. kept (at_element 0 (accesses_of_each its)) word) ran
+
+-- each element gets the one before it: elements 1 to 4 are written, 0 to 3 read
+abbrev pub right : Ending (List Iterated)
+right = block_of 5 4 shift_right (9 ∷ 0 ∷ 0 ∷ 0 ∷ 0 ∷ []) 0 4
+
+pub record RightRows : Type 0 where
+  pub w : marked 5 0 (λ m. m.written) right ≡ Ended (1 ∷ 2 ∷ 3 ∷ 4 ∷ [])
+  pub r : marked 5 0 (λ m. m.read_only) right ≡ Ended (0 ∷ 1 ∷ 2 ∷ 3 ∷ [])
+  pub nx : marked 5 0 (λ m. m.plain) right ≡ Ended (0 ∷ 1 ∷ 2 ∷ 3 ∷ 4 ∷ [])
+  pub m : marked 5 0 (λ m. m.written_by_two) right ≡ Ended []
+  pub np : marked 5 0 (λ m. m.read_and_written) right ≡ Ended []
+  pub add : marked 5 0 (λ m. m.by Add) right ≡ Ended []
+  pub first : of_each 5 0 (λ m. m.first) right ≡ Ended (None ∷ Some 0 ∷ Some 1 ∷ Some 2 ∷ Some 3 ∷ [])
+  pub last : of_each 5 0 (λ m. m.last) right ≡ Ended (1 ∷ 2 ∷ 3 ∷ 4 ∷ 0 ∷ [])
+
+-- each element gets the one behind it: each is read before it is written
+abbrev pub left : Ending (List Iterated)
+left = block_of 5 4 shift_left (1 ∷ 2 ∷ 3 ∷ 4 ∷ 5 ∷ []) 0 4
+
+pub record LeftRows : Type 0 where
+  pub first : of_each 5 0 (λ m. m.first) left ≡ Ended (Some 0 ∷ Some 1 ∷ Some 2 ∷ Some 3 ∷ None ∷ [])
+  pub last : of_each 5 0 (λ m. m.last) left ≡ Ended (0 ∷ 1 ∷ 2 ∷ 3 ∷ 4 ∷ [])
+
+-- four iterations that add or or to one element, as one block, and its later half
+abbrev pub mixed : Ending (List Iterated)
+mixed = block_of 1 4 mixed_operators (1 ∷ []) 0 4
+
+pub record MixedRows : Type 0 where
+  pub marks : marked 1 0 (λ m. m.written && (m.written_by_two && (m.read_and_written && (m.by Add && m.by Or)))) mixed ≡ Ended (0 ∷ [])
+  pub none : marked 1 0 (λ m. m.plain) mixed ≡ Ended []
+  pub readers : marked 1 0 (λ m. m.read_only) mixed ≡ Ended []
+  pub ends : of_each 1 0 (λ m. m.first) mixed ≡ Ended (Some 0 ∷ [])
+  pub later : of_each 1 2 (λ m. m.first) (block_of 1 4 mixed_operators (1 ∷ []) 2 4) ≡ Ended (Some 2 ∷ [])
+  pub last : of_each 1 2 (λ m. m.last) (block_of 1 4 mixed_operators (1 ∷ []) 2 4) ≡ Ended (4 ∷ [])
+  pub kept : kept_at_0 mixed 1 ≡ Ended (record { last_value = Some 9; partial = None })
+
+-- five iterations that write an element before they read it: the last of all wins
+pub record WriterRows : Type 0 where
+  pub marks : marked 1 0 (λ m. m.written && (m.written_by_two && m.plain)) (block_of 1 5 last_writer (3 ∷ []) 0 5) ≡ Ended (0 ∷ [])
+  pub readers : of_each 1 0 (λ m. m.last) (block_of 1 5 last_writer (3 ∷ []) 0 5) ≡ Ended (0 ∷ [])
+  pub kept : kept_at_0 (block_of 1 5 last_writer (3 ∷ []) 0 5) 3 ≡ Ended (record { last_value = Some 4; partial = None })
+  pub empty : kept_at_0 (block_of 1 5 last_writer (3 ∷ []) 2 2) 3 ≡ Ended (record { last_value = None; partial = None })
+
+-- operands of blocks, from the first on
+pub record PartialRows : Type 0 where
+  pub add_low : kept_at_0 (block_of 1 8 add_index (10 ∷ []) 0 4) 10 ≡ Ended (record { last_value = Some 13; partial = Some (Add, 6) })
+  pub add_high : kept_at_0 (block_of 1 8 add_index (10 ∷ []) 4 8) 10 ≡ Ended (record { last_value = Some 17; partial = Some (Add, 22) })
+  pub ands : kept_at_0 (block_of 1 3 and_operands (15 ∷ []) 0 3) 15 ≡ Ended (record { last_value = Some 14; partial = Some (And, 12) })
+
+-- all of them
+pub record BlockRows : Type 0 where
+  pub right : RightRows
+  pub left : LeftRows
+  pub mixed : MixedRows
+  pub writer : WriterRows
+  pub partial : PartialRows
