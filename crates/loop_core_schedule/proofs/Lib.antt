@@ -1,6 +1,6 @@
 pub mod SplitLaws
-pub mod BlockLaws
 pub mod Totals
 pub mod Steps
+pub mod RunBlocks
 pub mod ScheduleLaws
 pub mod OutcomeLaws

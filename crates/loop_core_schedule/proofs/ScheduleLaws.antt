@@ -1,24 +1,30 @@
 -- Every ended list of events leaves a complete list of blocks.
 use Rattle.std.proofs.Common.{◌≡◌, ℕ, zero, suc, ◌+◌, ◌<◌, ◌≤◌, Bool, true, false, ◌⊎◌, inl, inr, List, [], ◌∷◌, Option, Some, None, refl, sym, ◌∙◌, ap, subst, arith}
-use Rattle.std.specs.Prelude.{not, ◌&&◌, ◌==◌, nat_lt, length, replicate, slice_index_or, slice_set, Result, Ok, Err, if◌then◌else◌}
+use Rattle.std.specs.Prelude.{not, ◌&&◌, ◌==◌, nat_lt, is_none, map, length, replicate, slice_index_or, slice_set, Result, Ok, Err, if◌then◌else◌}
 use Rattle.std.specs.List.{list_all, list_any, range_with_len, AllByRecursion}
 use Rattle.std.proofs.lemmas.Bool.{both_ways, ltb-false, ltb-true, eqb-true, ne_eqb, eq-eqb, cases_eq, cases_Bool, and_parts, and_left, and_right, not_from_true, or_parts, or_cases, or_from, or_left, or_right}
 use Rattle.std.proofs.lemmas.List.{length-set, get_or-set_same, get_or-set_other}
+use Rattle.bpf_insn_form.specs.Program.{Program}
+use Rattle.bpf_step_model.specs.State.{LoopCall}
+use Rattle.bpf_step_model.specs.Iteration.{iteration}
+use Rattle.loop_core_law.specs.LeastBreak.{lesser}
+use Rattle.loop_core_blocks.specs.declared.faults.GatherFault.{GatherFault}
+use Rattle.loop_core_blocks.specs.declared.faults.GatherFault.TheVariants.{Missing, Twice, Foreign}
+use Rattle.loop_core_blocks.specs.Split.{falls, split_fault}
+use Rattle.loop_core_blocks.specs.Gather.{Block, starts_late, with_number, least_of, lacks_some, twice, stands_in, gather_fault}
+use Rattle.loop_core_blocks.proofs.GatherLaws.{blocks_gather}
 use Rattle.loop_core_schedule.specs.declared.event.Event.{Event}
-use Rattle.loop_core_schedule.specs.declared.faults.ReplayFault.{ReplayFault}
-use Rattle.loop_core_schedule.specs.declared.faults.ReplayFault.TheVariants as faults
-use Rattle.loop_core_schedule.specs.declared.faults.GatherFault.{GatherFault}
-use Rattle.loop_core_schedule.specs.declared.faults.GatherFault.TheVariants.{Missing, Twice, Foreign}
-use Rattle.loop_core_schedule.specs.Split.{blocks_of, start_of, falls, split_fault}
-use Rattle.loop_core_schedule.specs.Blocks.{BlockRun, lesser, least_of, is_past, has_number, is_missing, has_twice, is_foreign, gather_fault}
-use Rattle.loop_core_schedule.specs.GatherLaw.{RanUp}
+use Rattle.loop_core_schedule.specs.declared.replay_fault.ReplayFault.{ReplayFault}
+use Rattle.loop_core_schedule.specs.declared.replay_fault.ReplayFault.TheVariants as faults
+use Rattle.loop_core_schedule.specs.Intervals.{blocks_of, start_of, end_of}
 use Rattle.loop_core_schedule.specs.Events.{Worker, Idle, Holding, Running, Posting, Drained, Stopped, Shared, Moved, event}
 use Rattle.loop_core_schedule.specs.Schedule.{State, at_first, worker_of, if_enabled, after_event, and_then, after_events, is_stopped, has_ended, if_ended, replay}
-use Rattle.loop_core_schedule.specs.ScheduleLaw.{Complete, EndedSchedulesComplete}
+use Rattle.loop_core_schedule.specs.Outcome.{breaks_at}
+use Rattle.loop_core_schedule.specs.ScheduleLaw.{AreRun, Complete, Left, EndedSchedulesComplete}
 use Rattle.loop_core_schedule.proofs.SplitLaws.{faultless}
-use Rattle.loop_core_schedule.proofs.BlockLaws.{range_without, complete_blocks_count}
+use Rattle.loop_core_schedule.proofs.RunBlocks.{none_lacks, once_each, some_times, none_foreign, least_is_least}
 use Rattle.loop_core_schedule.proofs.Totals.{total, others, one_and_others, changed, none_of_all}
-use Rattle.loop_core_schedule.proofs.Steps.{bit, holds, times, to_post, lesser_swap, lesser_none, Fits, CountsTo, Kept, KeptIfEnabled, event_keeps}
+use Rattle.loop_core_schedule.proofs.Steps.{holds, times, to_post, least_break_of, lesser_swap, lesser_none, Fits, CountsTo, Kept, KeptIfEnabled, event_keeps}
 
 -- how often all workers have a block in hand, and what they have yet to post
 abbrev pub held : ℕ → List Worker → ℕ
@@ -36,9 +42,7 @@ pub record Sound (breaks : ℕ → Bool) (bounds : List ℕ) (state : State) : T
   pub within : state.shared.next ≤ blocks_of bounds
   pub fits : (w : ℕ) → Fits breaks bounds state.shared.next (worker_of state w)
   pub counts : (k : ℕ) → CountsTo bounds state.shared.next state.shared.least k (times k state.shared.runs + held k state.workers)
-  pub ran : AllByRecursion (RanUp breaks) state.shared.runs
-  pub own : list_any (is_foreign bounds) state.shared.runs ≡ false
-  pub least : least_of state.shared.runs ≡ lesser state.shared.least (unposted state.workers)
+  pub least : least_break_of breaks bounds state.shared.runs ≡ lesser state.shared.least (unposted state.workers)
 
 -- a worker that a list of events names
 abbrev pub names : ℕ → List Event → Bool
@@ -56,8 +60,6 @@ module _ (breaks : ℕ → Bool) (bounds : List ℕ) (rises : falls 0 bounds ≡
         (kept.counts k (others ℕ (λ a b. a + b) 0 (holds k) state.workers number)
         (subst (λ (t : ℕ). CountsTo bounds state.shared.next state.shared.least k (times k state.shared.runs + t))
         (one_and_others ℕ (λ a b. a + b) 0 (holds k) add_swap state.workers number there) (sound.counts k)));
-    ran = kept.ran sound.ran;
-    own = kept.own sound.own;
     least =
         kept.least (others (Option ℕ) lesser None to_post state.workers number)
         (sound.least ∙ ap (lesser state.shared.least) (one_and_others (Option ℕ) lesser None to_post lesser_swap state.workers number there))
@@ -131,8 +133,6 @@ module _ (breaks : ℕ → Bool) (bounds : List ℕ) (rises : falls 0 bounds ≡
     within = omega arith;
     fits = λ w. subst (λ (v : Worker). Fits breaks bounds 0 v) (sym (idle_at 16 w)) tt;
     counts = λ k. record { once = omega arith; not_taken = λ h. refl; taken = λ h. absurd (omega arith) };
-    ran = tt;
-    own = refl;
     least = refl;
   }
 
@@ -185,40 +185,15 @@ first_stopped state [] some all = absurd (cc)
 first_stopped state (e ∷ events) some all =
     (e.worker, (and_parts (is_stopped (worker_of state e.worker)) (list_all (λ (e : Event). is_stopped (worker_of state e.worker)) events) all).0)
 
--- how often a number stands in a list
-none_times : (k : ℕ) (runs : List BlockRun) → times k runs ≡ 0 → list_any (has_number k) runs ≡ false
-none_times k [] h = refl
-none_times k (run ∷ runs) h = go (cases_Bool (has_number k run)) (λ none. none_times k runs none)
-  where
-    go : (has_number k run ≡ true) ⊎ (has_number k run ≡ false) → (times k runs ≡ 0 → list_any (has_number k) runs ≡ false) → list_any (has_number k) (run ∷ runs) ≡ false
-    go (inl here) later = absurd (let one : bit (has_number k run) ≡ 1 = ap bit here in omega arith)
-    go (inr other) later = or_from (has_number k run) (list_any (has_number k) runs) other (later (let none : bit (has_number k run) ≡ 0 = ap bit other in omega arith))
-
-some_times : (k : ℕ) (runs : List BlockRun) → 0 < times k runs → list_any (has_number k) runs ≡ true
-some_times k [] h = absurd (omega arith)
-some_times k (run ∷ runs) h = go (cases_Bool (has_number k run)) (λ some. some_times k runs some)
-  where
-    go : (has_number k run ≡ true) ⊎ (has_number k run ≡ false) → (0 < times k runs → list_any (has_number k) runs ≡ true) → list_any (has_number k) (run ∷ runs) ≡ true
-    go (inl here) later = or_left (has_number k run) (list_any (has_number k) runs) here
-    go (inr other) later = or_right (has_number k run) (list_any (has_number k) runs) (later (let none : bit (has_number k run) ≡ 0 = ap bit other in omega arith))
-
-once_each : (runs : List BlockRun) → ((k : ℕ) → times k runs ≤ 1) → has_twice runs ≡ false
-once_each [] each = refl
-once_each (run ∷ runs) each =
-    let here : bit (run.number == run.number) ≡ 1 = ap bit (eq-eqb run.number run.number refl) in
-    let most = each run.number in
-    or_from (list_any (has_number run.number) runs) (has_twice runs) (none_times run.number runs (omega arith))
-    (once_each runs (λ k. (let all = each k in omega arith)))
-
 -- the fault by three tests
-abbrev fault_by : (missing twice foreign : Bool) → Option GatherFault
-fault_by missing twice foreign = if missing then Some Missing else if twice then Some Twice else if foreign then Some Foreign else None
+abbrev fault_by : (missing double foreign : Bool) → Option GatherFault
+fault_by missing double foreign = if missing then Some Missing else if double then Some Twice else if foreign then Some Foreign else None
 
-no_fault : (bounds : List ℕ) (runs : List BlockRun) → list_any (is_missing bounds runs) (range_with_len 0 (blocks_of bounds)) ≡ false → has_twice runs ≡ false →
-    list_any (is_foreign bounds) runs ≡ false → gather_fault bounds runs ≡ None
-no_fault bounds runs m t f =
-    ap (λ (b : Bool). fault_by b (has_twice runs) (list_any (is_foreign bounds) runs)) m
-    ∙ (ap (λ (b : Bool). fault_by false b (list_any (is_foreign bounds) runs)) t ∙ ap (λ (b : Bool). fault_by false false b) f)
+no_fault : (bounds : List ℕ) (blocks : List Block) → lacks_some bounds blocks ≡ false → twice blocks ≡ false → list_any (λ (b : Block). not (stands_in bounds b)) blocks ≡ false →
+    gather_fault bounds blocks ≡ None
+no_fault bounds blocks m t f =
+    ap (λ (b : Bool). fault_by b (twice blocks) (list_any (λ (c : Block). not (stands_in bounds c)) blocks)) m
+    ∙ (ap (λ (b : Bool). fault_by false b (list_any (λ (c : Block). not (stands_in bounds c)) blocks)) t ∙ ap (λ (b : Bool). fault_by false false b) f)
 
 -- what is known at the end
 module _ (breaks : ℕ → Bool) (bounds : List ℕ) (rises : falls 0 bounds ≡ false) (events : List Event) (state : State) (sound : Sound breaks bounds state)
@@ -240,49 +215,78 @@ module _ (breaks : ℕ → Bool) (bounds : List ℕ) (rises : falls 0 bounds ≡
   all_taken : state.shared.next ≡ blocks_of bounds
   all_taken = let one = first_stopped state events some all in stopped_fits breaks bounds state.shared.next (worker_of state one.0) one.1 (sound.fits one.0)
 
-  least_is : state.shared.least ≡ least_of state.shared.runs
+  least_is : state.shared.least ≡ least_break_of breaks bounds state.shared.runs
   least_is = sym (sound.least ∙ (ap (lesser state.shared.least) none_unposted ∙ lesser_none state.shared.least))
 
-  none_missing : (k : ℕ) → 0 ≤ k → k < 0 + blocks_of bounds → is_missing bounds state.shared.runs k ≡ false
-  none_missing k low high = go ((sound.counts k).taken (let t = all_taken in omega arith))
+  pub once : (k : ℕ) → times k state.shared.runs ≤ 1
+  once k = let most = (sound.counts k).once in omega arith
+
+  -- a block of the split was run, or may be skipped
+  pub run_or_late : (k : ℕ) → k < blocks_of bounds → (0 < times k state.shared.runs) ⊎ (starts_late state.shared.least (start_of bounds k) ≡ true)
+  run_or_late k below = go ((sound.counts k).taken (let t = all_taken in omega arith))
     where
-      go : (times k state.shared.runs + held k state.workers ≡ 1) ⊎ (is_past (start_of bounds k) state.shared.least ≡ true) → is_missing bounds state.shared.runs k ≡ false
-      go (inl once) =
-          let none = none_held k in
-          and_right (not (is_past (start_of bounds k) (least_of state.shared.runs))) (not (list_any (has_number k) state.shared.runs))
-          (not_from_true (list_any (has_number k) state.shared.runs) (some_times k state.shared.runs (omega arith)))
-      go (inr skipped) =
-          and_left (not (is_past (start_of bounds k) (least_of state.shared.runs))) (not (list_any (has_number k) state.shared.runs))
-          (not_from_true (is_past (start_of bounds k) (least_of state.shared.runs)) (subst (λ (o : Option ℕ). is_past (start_of bounds k) o ≡ true) least_is skipped))
+      go : (times k state.shared.runs + held k state.workers ≡ 1) ⊎ (starts_late state.shared.least (start_of bounds k) ≡ true) →
+          (0 < times k state.shared.runs) ⊎ (starts_late state.shared.least (start_of bounds k) ≡ true)
+      go (inl one) = let none = none_held k in inl (omega arith)
+      go (inr late) = inr late
 
-  gathers : gather_fault bounds state.shared.runs ≡ None
-  gathers =
-      no_fault bounds state.shared.runs (range_without (is_missing bounds state.shared.runs) (blocks_of bounds) 0 none_missing)
-      (once_each state.shared.runs (λ k. (let most = (sound.counts k).once in omega arith))) sound.own
+-- of blocks that have those numbers
+pub record AtEnd (breaks : ℕ → Bool) (bounds : List ℕ) (shared : Shared) : Type 0 where
+  pub taken : shared.next ≡ blocks_of bounds
+  pub once : (k : ℕ) → times k shared.runs ≤ 1
+  pub run_or_late : (k : ℕ) → k < blocks_of bounds → (0 < times k shared.runs) ⊎ (starts_late shared.least (start_of bounds k) ≡ true)
+  pub least : shared.least ≡ least_break_of breaks bounds shared.runs
 
-  pub complete : (n : ℕ) → split_fault n bounds ≡ None → Complete breaks n bounds state.shared
-  complete n fine = record {
-    taken = all_taken;
-    ran_up = sound.ran;
-    gathered = gathers;
-    least_of_runs = least_is;
-    least_of_all = least_is ∙ (complete_blocks_count breaks n bounds state.shared.runs fine sound.ran gathers).least;
-  }
-
-ended_by : (breaks : ℕ → Bool) (n : ℕ) (bounds : List ℕ) (fine : split_fault n bounds ≡ None) (rises : falls 0 bounds ≡ false) (events : List Event) (state : State)
-    (r : Result State ReplayFault) → AllOk breaks bounds rises events at_first r → and_then (if_ended events) r ≡ Ok state → Complete breaks n bounds state.shared
-ended_by breaks n bounds fine rises events state (Err fault) ok h = absurd (cc)
-ended_by breaks n bounds fine rises events state (Ok last) ok h = go (has_ended events last) refl h
+ended_by : (breaks : ℕ → Bool) (bounds : List ℕ) (rises : falls 0 bounds ≡ false) (events : List Event) (state : State)
+    (r : Result State ReplayFault) → AllOk breaks bounds rises events at_first r → and_then (if_ended events) r ≡ Ok state → AtEnd breaks bounds state.shared
+ended_by breaks bounds rises events state (Err fault) ok h = absurd (cc)
+ended_by breaks bounds rises events state (Ok last) ok h = go (has_ended events last) refl h
   where
-    go : (ended : Bool) → has_ended events last ≡ ended → (if ended then Ok last else Err (faults.NotEnded (length events))) ≡ Ok state → Complete breaks n bounds state.shared
+    go : (ended : Bool) → has_ended events last ≡ ended → (if ended then Ok last else Err (faults.NotEnded (length events))) ≡ Ok state → AtEnd breaks bounds state.shared
     go true e h =
         let parts = and_parts (nat_lt 0 (length events)) (list_all (λ (e : Event). is_stopped (worker_of last e.worker)) events) e in
         let same : last ≡ state = cc in
-        subst (λ (s : State). Complete breaks n bounds s.shared) same (complete breaks bounds rises events last ok.0 ok.1 parts.0 parts.1 n fine)
+        subst (λ (s : State). AtEnd breaks bounds s.shared) same (record {
+          taken = all_taken breaks bounds rises events last ok.0 ok.1 parts.0 parts.1;
+          once = once breaks bounds rises events last ok.0 ok.1 parts.0 parts.1;
+          run_or_late = run_or_late breaks bounds rises events last ok.0 ok.1 parts.0 parts.1;
+          least = least_is breaks bounds rises events last ok.0 ok.1 parts.0 parts.1;
+        })
     go false e h = absurd (cc)
 
+module _ (program : Program) (bound : ℕ) (call : LoopCall) (words : List ℕ) (bounds : List ℕ) (shared : Shared) (fine : split_fault bounds call.n ≡ None)
+    (end : AtEnd (breaks_at program bound call words) bounds shared) (blocks : List Block) (are : AreRun program bound call words bounds shared.runs blocks) where
+  same_times : (k : ℕ) → times k (map (λ (b : Block). b.number) blocks) ≡ times k shared.runs
+  same_times k = ap (times k) are.numbered
+
+  least_same : shared.least ≡ least_of blocks
+  least_same =
+      end.least ∙ (ap (least_break_of (breaks_at program bound call words) bounds) (sym are.numbered)
+      ∙ sym (least_is_least (λ index. iteration program bound call index words) bounds blocks are.stand are.run))
+
+  gathers : gather_fault bounds blocks ≡ None
+  gathers =
+      no_fault bounds blocks
+      (none_lacks bounds blocks (λ k below. go k (end.run_or_late k below)))
+      (once_each blocks (λ k. (let most = end.once k in let same = same_times k in omega arith)))
+      (none_foreign bounds blocks are.stand)
+    where
+      go : (k : ℕ) → (0 < times k shared.runs) ⊎ (starts_late shared.least (start_of bounds k) ≡ true) →
+          (is_none (with_number k blocks) ≡ false) ⊎ (starts_late (least_of blocks) (start_of bounds k) ≡ true)
+      go k (inl some) = inl (some_times k blocks (let same = same_times k in omega arith))
+      go k (inr late) = inr (subst (λ (o : Option ℕ). starts_late o (start_of bounds k) ≡ true) least_same late)
+
+  complete : Complete program bound call words bounds shared blocks
+  complete = record {
+    gathered = gathers;
+    least_of_blocks = least_same;
+    least_of_loop = least_same ∙ (blocks_gather program bound call words bounds blocks fine gathers are.run).break;
+  }
+
 pub ended_schedules_complete : EndedSchedulesComplete
-ended_schedules_complete breaks n bounds events state fine h =
-    let rises = (faultless n bounds fine).rises in
-    ended_by breaks n bounds fine rises events state (after_events breaks bounds events 0 at_first)
-    (events_ok breaks bounds rises events 0 at_first (sound_at_first breaks bounds rises)) h
+ended_schedules_complete program bound call words bounds events state fine h =
+    let breaks : ℕ → Bool = breaks_at program bound call words in
+    let rises = (faultless call.n bounds fine).rises in
+    let end : AtEnd breaks bounds state.shared = ended_by breaks bounds rises events state (after_events breaks bounds events 0 at_first)
+        (events_ok breaks bounds rises events 0 at_first (sound_at_first breaks bounds rises)) h in
+    record { taken = end.taken; complete = complete program bound call words bounds state.shared fine end }

@@ -1,41 +1,48 @@
--- Bounds without a fault are a partition, and even splits have none.
-use Rattle.std.proofs.Common.{◌≡◌, ℕ, zero, suc, ◌+◌, ◌-◌, ◌*◌, ◌<◌, ◌≤◌, Bool, true, false, ◌⊎◌, inl, inr, List, [], ◌∷◌, map, length, Option, Some, None, refl, sym, ◌∙◌, ap, subst, arith}
-use Rattle.std.specs.Prelude.{◌/◌, ◌&&◌, nat_lt, slice_index, if◌then◌else◌}
-use Rattle.std.specs.List.{range_with_len}
-use Rattle.std.proofs.lemmas.Bool.{ltb-false, le-ltb, lt-ltb, ltb-true, eqb-true, eq-eqb, cases_lt, cases_order, and_parts, and_from, and_right, or_parts, or_from}
-use Rattle.std.proofs.lemmas.List.FromFn.{length-map-range_with_len, get_or-map-range_with_len}
-use Rattle.std.proofs.lemmas.Nat.{le-div}
-use Rattle.std.proofs.Math.Nat.{div-mul-le_self, mul-div_cancel_left}
-use Rattle.loop_core_schedule.specs.declared.faults.SplitError.{SplitError}
-use Rattle.loop_core_schedule.specs.declared.faults.SplitError.TheVariants.{Falls, Count, Ends}
-use Rattle.loop_core_schedule.specs.Split.{even, blocks_of, start_of, end_of, falls, has_count, has_ends, split_fault}
-use Rattle.loop_core_schedule.specs.SplitLaw.{Has, Partition, SplitsPartition, EvenSplits}
+-- Bounds without a fault are a partition.
+use Rattle.std.proofs.Common.{◌≡◌, ℕ, zero, suc, ◌+◌, ◌-◌, ◌<◌, ◌≤◌, Bool, true, false, ◌⊎◌, inl, inr, List, [], ◌∷◌, length, Option, Some, None, refl, sym, ◌∙◌, ap, subst, arith}
+use Rattle.std.specs.Prelude.{not, ◌||◌, ◌==◌, nat_lt, slice_index, if◌then◌else◌}
+use Rattle.std.proofs.lemmas.Bool.{ltb-false, eqb-true, not-false, cases_lt, cases_order, or_parts}
+use Rattle.loop_core_blocks.specs.declared.faults.SplitFault.{SplitFault}
+use Rattle.loop_core_blocks.specs.declared.faults.SplitFault.TheVariants.{Falling, Number, Ends}
+use Rattle.loop_core_blocks.specs.Split.{falls, last_bound, ends_amiss, split_fault}
+use Rattle.loop_core_schedule.specs.Intervals.{blocks_of, start_of, end_of}
+use Rattle.loop_core_schedule.specs.SplitLaw.{Has, Partition, SplitsPartition}
 
 -- what it is to have no fault
 pub record Faultless (n : ℕ) (bounds : List ℕ) : Type 0 where
   pub rises : falls 0 bounds ≡ false
   pub several : 1 < length bounds
-  pub few : length bounds < 66
   pub first : slice_index bounds 0 ≡ 0
   pub last : slice_index bounds (blocks_of bounds) ≡ n
 
-faultless_by : (n : ℕ) (bounds : List ℕ) (falling counts ends : Bool) → falls 0 bounds ≡ falling → has_count bounds ≡ counts → has_ends n bounds ≡ ends →
-    (if falling then Some Falls else if counts then (if ends then None else Some Ends) else Some Count) ≡ None → Faultless n bounds
-faultless_by n bounds true counts ends f c e h = absurd (cc)
-faultless_by n bounds false false ends f c e h = absurd (cc)
-faultless_by n bounds false true false f c e h = absurd (cc)
-faultless_by n bounds false true true f c e h =
-    let many = and_parts (nat_lt 1 (length bounds)) (nat_lt (length bounds) 66) c in
-    let edges = and_parts _ _ e in record {
-      rises = f;
-      several = ltb-true 1 (length bounds) many.0;
-      few = ltb-true (length bounds) 66 many.1;
-      first = eqb-true _ _ edges.0;
-      last = eqb-true _ _ edges.1;
+last_is : (bound : ℕ) (bounds : List ℕ) → last_bound bound bounds ≡ slice_index (bound ∷ bounds) (length bounds)
+last_is bound [] = refl
+last_is bound (next ∷ bounds) = last_is next bounds
+
+met_ends : (n : ℕ) (bounds : List ℕ) → 1 < length bounds → falls 0 bounds ≡ false → ends_amiss bounds n ≡ false → Faultless n bounds
+met_ends n [] several rises ends = absurd (omega arith)
+met_ends n (first ∷ bounds) several rises ends =
+    let parts = or_parts (not (first == 0)) (not (last_bound first bounds == n)) ends in
+    let count : blocks_of (first ∷ bounds) ≡ length bounds = omega arith in record {
+      rises = rises;
+      several = several;
+      first = eqb-true first 0 (not-false (first == 0) parts.0);
+      last = ap (slice_index (first ∷ bounds)) count ∙ (sym (last_is first bounds) ∙ eqb-true (last_bound first bounds) n (not-false (last_bound first bounds == n) parts.1));
     }
 
-pub faultless : (n : ℕ) (bounds : List ℕ) → split_fault n bounds ≡ None → Faultless n bounds
-faultless n bounds h = faultless_by n bounds (falls 0 bounds) (has_count bounds) (has_ends n bounds) refl refl refl h
+faultless_by : (n : ℕ) (bounds : List ℕ) (falling number ends : Bool) → falls 0 bounds ≡ falling → (nat_lt (length bounds) 2 || nat_lt 65 (length bounds)) ≡ number →
+    ends_amiss bounds n ≡ ends → (if falling then Some Falling else if number then Some Number else if ends then Some Ends else None) ≡ None → Faultless n bounds
+faultless_by n bounds true number ends f c e h = absurd (cc)
+faultless_by n bounds false true ends f c e h = absurd (cc)
+faultless_by n bounds false false true f c e h = absurd (cc)
+faultless_by n bounds false false false f c e h =
+    let parts = or_parts (nat_lt (length bounds) 2) (nat_lt 65 (length bounds)) c in
+    let several = ltb-false (length bounds) 2 parts.0 in
+    met_ends n bounds (omega arith) f e
+
+pub faultless : (n : ℕ) (bounds : List ℕ) → split_fault bounds n ≡ None → Faultless n bounds
+faultless n bounds h =
+    faultless_by n bounds (falls 0 bounds) (nat_lt (length bounds) 2 || nat_lt 65 (length bounds)) (ends_amiss bounds n) refl refl refl h
 
 -- no bound is below one before it
 falls_first : (before : ℕ) (bounds : List ℕ) → falls before bounds ≡ false → (k : ℕ) → k < length bounds → before ≤ slice_index bounds k
@@ -117,66 +124,3 @@ module _ (n : ℕ) (bounds : List ℕ) (sound : Faultless n bounds) where
 
 pub splits_partition : SplitsPartition
 splits_partition n bounds h = partition n bounds (faultless n bounds h)
-
--- even splits
-rising_map : (f : ℕ → ℕ) → ((k : ℕ) → f k ≤ f (k + 1)) → (count from before : ℕ) → before ≤ f from → falls before (map f (range_with_len from count)) ≡ false
-rising_map f up zero from before h = refl
-rising_map f up (suc count) from before h =
-    or_from (nat_lt (f from) before) (falls (f from) (map f (range_with_len (from + 1) count))) (le-ltb (f from) before h)
-    (rising_map f up count (from + 1) (f from) (up from))
-
-module _ (n blocks : ℕ) where
-  bound : ℕ → ℕ
-  bound k = k * n / blocks
-
-  even_rises : 0 < blocks → falls 0 (even n blocks) ≡ false
-  unfolding bound
-  even_rises some = rising_map bound (λ k. le-div (bound k) ((k + 1) * n) blocks some (let low = div-mul-le_self (k * n) blocks in omega arith)) (blocks + 1) 0 0 (omega arith)
-
-  bound_at : (k : ℕ) → k < blocks + 1 → slice_index (even n blocks) k ≡ bound k
-  unfolding bound
-  bound_at k h = get_or-map-range_with_len bound 0 (blocks + 1) k k 0 h (omega arith)
-
-  pub count_of_even : length (even n blocks) ≡ blocks + 1
-  count_of_even = length-map-range_with_len (λ k. k * n / blocks) 0 (blocks + 1)
-
-  even_ends : 0 < blocks → has_ends n (even n blocks) ≡ true
-  unfolding bound
-  even_ends some =
-      let here : blocks_of (even n blocks) ≡ blocks = (let count = count_of_even in omega arith) in
-      let first : slice_index (even n blocks) 0 ≡ 0 = bound_at 0 (omega arith) ∙ zero_bound in
-      let last : slice_index (even n blocks) (blocks_of (even n blocks)) ≡ n = ap (slice_index (even n blocks)) here ∙ (bound_at blocks (omega arith) ∙ mul-div_cancel_left n some) in
-      and_from _ _ (eq-eqb _ _ first) (eq-eqb _ _ last)
-    where
-      zero_bound : 0 * n / blocks ≡ 0
-      zero_bound = omega arith
-
-  even_count : 0 < blocks → blocks < 65 → has_count (even n blocks) ≡ true
-  even_count some few =
-      let count = count_of_even in
-      and_from (nat_lt 1 (length (even n blocks))) (nat_lt (length (even n blocks)) 66) (lt-ltb 1 _ (omega arith)) (lt-ltb _ 66 (omega arith))
-
--- the fault by three tests
-abbrev fault_by : (falling counts ends : Bool) → Option SplitError
-fault_by falling counts ends = if falling then Some Falls else if counts then (if ends then None else Some Ends) else Some Count
-
-even_valid : (n blocks : ℕ) → 1 ≤ blocks → blocks ≤ 64 → split_fault n (even n blocks) ≡ None
-even_valid n blocks some few =
-    ap (λ (b : Bool). fault_by b (has_count (even n blocks)) (has_ends n (even n blocks))) (even_rises n blocks (omega arith))
-    ∙ (ap (λ (b : Bool). fault_by false b (has_ends n (even n blocks))) (even_count n blocks (omega arith) (omega arith))
-    ∙ ap (λ (b : Bool). fault_by false true b) (even_ends n blocks (omega arith)))
-
-count_refused : (n : ℕ) (bounds : List ℕ) → falls 0 bounds ≡ false → has_count bounds ≡ false → split_fault n bounds ≡ Some Count
-count_refused n bounds rises counts =
-    ap (λ (b : Bool). fault_by b (has_count bounds) (has_ends n bounds)) rises ∙ ap (λ (b : Bool). fault_by false b (has_ends n bounds)) counts
-
-even_refused : (n blocks : ℕ) → (blocks ≡ 0) ⊎ (64 < blocks) → split_fault n (even n blocks) ≡ Some Count
-even_refused n blocks (inl none) =
-    subst (λ (b : ℕ). split_fault n (even n b) ≡ Some Count) (sym none) (count_refused n (even n 0) (or_from (nat_lt (0 * n / 0) 0) false (le-ltb (0 * n / 0) 0 (omega arith)) refl) refl)
-even_refused n blocks (inr many) =
-    let count = count_of_even n blocks in
-    count_refused n (even n blocks) (even_rises n blocks (omega arith))
-    (and_right (nat_lt 1 (length (even n blocks))) (nat_lt (length (even n blocks)) 66) (le-ltb (length (even n blocks)) 66 (omega arith)))
-
-pub even_splits : EvenSplits
-even_splits = record { valid = even_valid; refused = even_refused }

@@ -1,14 +1,14 @@
 -- What one event keeps.
 use Rattle.std.proofs.Common.{◌≡◌, ℕ, zero, suc, ◌+◌, ◌-◌, ◌<◌, ◌≤◌, Bool, true, false, ◌⊎◌, inl, inr, List, [], ◌∷◌, Option, Some, None, refl, sym, ◌∙◌, ap, subst, arith}
-use Rattle.std.specs.Prelude.{not, ◌&&◌, ◌==◌, nat_lt, min, length, if◌then◌else◌}
-use Rattle.std.specs.List.{list_any, AllByRecursion}
-use Rattle.std.proofs.lemmas.Bool.{ltb-false, ltb-true, eqb-true, eqb-false, lt-ltb, eq-eqb, ne_eqb, cases_eq, cases_lt, and_from, not_from_true, or_from}
-use Rattle.std.proofs.Math.Nat.{min-le_right, min_comm, min-eq_left}
+use Rattle.std.specs.Prelude.{◌==◌, nat_lt, min, length, if◌then◌else◌}
+use Rattle.std.proofs.lemmas.Bool.{ltb-false, ltb-true, eqb-true, eqb-false, lt-ltb, eq-eqb, ne_eqb, cases_eq}
+use Rattle.std.proofs.Math.Nat.{min-le_right, min_comm}
+use Rattle.loop_core_law.specs.LeastBreak.{lesser}
+use Rattle.loop_core_blocks.specs.Split.{falls}
+use Rattle.loop_core_blocks.specs.Gather.{starts_late}
 use Rattle.loop_core_schedule.specs.declared.event.EventKind.{EventKind}
 use Rattle.loop_core_schedule.specs.declared.event.EventKind.TheVariants.{Claim, Look, Turn, Post, Stop}
-use Rattle.loop_core_schedule.specs.Split.{blocks_of, start_of, end_of, falls}
-use Rattle.loop_core_schedule.specs.Blocks.{BlockRun, first_break, lesser, least_of, is_past, has_number, is_foreign}
-use Rattle.loop_core_schedule.specs.GatherLaw.{RanUp}
+use Rattle.loop_core_schedule.specs.Intervals.{blocks_of, start_of, end_of}
 use Rattle.loop_core_schedule.specs.Events.{Worker, Idle, Holding, Running, Posting, Drained, Stopped, Shared, Moved, becomes, having_run, claims, looks, iterates, posts, event}
 use Rattle.loop_core_schedule.proofs.SplitLaws.{rising}
 
@@ -25,9 +25,22 @@ holds k (Posting index) = 0
 holds k Drained = 0
 holds k Stopped = 0
 
-abbrev pub times : ℕ → List BlockRun → ℕ
+abbrev pub times : ℕ → List ℕ → ℕ
 times k [] = 0
-times k (run ∷ runs) = bit (has_number k run) + times k runs
+times k (block ∷ runs) = bit (block == k) + times k runs
+
+-- of so many indices from this one on, the first that breaks
+abbrev pub first_break : (ℕ → Bool) → (left index : ℕ) → Option ℕ
+first_break breaks zero index = None
+first_break breaks (suc left) index = if breaks index then Some index else first_break breaks left (index + 1)
+
+-- the first of a block, and the least of the first ones of blocks
+abbrev pub break_of : (ℕ → Bool) → List ℕ → ℕ → Option ℕ
+break_of breaks bounds block = first_break breaks (end_of bounds block - start_of bounds block) (start_of bounds block)
+
+abbrev pub least_break_of : (ℕ → Bool) → List ℕ → List ℕ → Option ℕ
+least_break_of breaks bounds [] = None
+least_break_of breaks bounds (block ∷ runs) = lesser (break_of breaks bounds block) (least_break_of breaks bounds runs)
 
 -- what a worker has yet to post
 abbrev pub to_post : Worker → Option ℕ
@@ -63,15 +76,15 @@ pub lesser_none : (a : Option ℕ) → lesser a None ≡ a
 lesser_none None = refl
 lesser_none (Some x) = refl
 
-past_lesser : (start index : ℕ) (least : Option ℕ) → is_past start least ≡ true → is_past start (lesser (Some index) least) ≡ true
-past_lesser start index None h = absurd (cc)
-past_lesser start index (Some p) h = lt-ltb (min index p) start (let low = ltb-true p start h in let m = min-le_right index p in omega arith)
+late_lesser : (start index : ℕ) (least : Option ℕ) → starts_late least start ≡ true → starts_late (lesser (Some index) least) start ≡ true
+late_lesser start index None h = absurd (cc)
+late_lesser start index (Some p) h = lt-ltb (min index p) start (let low = ltb-true p start h in let m = min-le_right index p in omega arith)
 
 -- a worker within a block: it has met no break yet
 pub record RunsFrom (breaks : ℕ → Bool) (bounds : List ℕ) (block index : ℕ) : Type 0 where
   pub within : block < blocks_of bounds
   pub before_end : index < end_of bounds block
-  pub no_break : first_break breaks (end_of bounds block - start_of bounds block) (start_of bounds block) ≡ first_break breaks (end_of bounds block - index) index
+  pub no_break : break_of breaks bounds block ≡ first_break breaks (end_of bounds block - index) index
 
 -- what is known of a worker where so many blocks were taken
 abbrev pub Fits : (ℕ → Bool) → List ℕ → ℕ → Worker → Type 0
@@ -86,7 +99,7 @@ Fits breaks bounds next Stopped = next ≡ blocks_of bounds
 pub record CountsTo (bounds : List ℕ) (next : ℕ) (least : Option ℕ) (k count : ℕ) : Type 0 where
   pub once : count ≤ 1
   pub not_taken : next ≤ k → count ≡ 0
-  pub taken : k < next → (count ≡ 1) ⊎ (is_past (start_of bounds k) least ≡ true)
+  pub taken : k < next → (count ≡ 1) ⊎ (starts_late least (start_of bounds k) ≡ true)
 
 recount : (bounds : List ℕ) (next : ℕ) (least : Option ℕ) (k a b : ℕ) → a ≡ b → CountsTo bounds next least k a → CountsTo bounds next least k b
 recount bounds next least k a b same c = subst (λ (n : ℕ). CountsTo bounds next least k n) same c
@@ -98,10 +111,8 @@ pub record Kept (breaks : ℕ → Bool) (bounds : List ℕ) (old : Worker) (shar
   pub fit_on : (w : Worker) → Fits breaks bounds shared.next w → Fits breaks bounds after.next w
   pub counts : (k rest : ℕ) → CountsTo bounds shared.next shared.least k (times k shared.runs + (holds k old + rest)) →
       CountsTo bounds after.next after.least k (times k after.runs + (holds k new + rest))
-  pub ran : AllByRecursion (RanUp breaks) shared.runs → AllByRecursion (RanUp breaks) after.runs
-  pub own : list_any (is_foreign bounds) shared.runs ≡ false → list_any (is_foreign bounds) after.runs ≡ false
-  pub least : (rest : Option ℕ) → least_of shared.runs ≡ lesser shared.least (lesser (to_post old) rest) →
-      least_of after.runs ≡ lesser after.least (lesser (to_post new) rest)
+  pub least : (rest : Option ℕ) → least_break_of breaks bounds shared.runs ≡ lesser shared.least (lesser (to_post old) rest) →
+      least_break_of breaks bounds after.runs ≡ lesser after.least (lesser (to_post new) rest)
 
 abbrev pub KeptBy : (ℕ → Bool) → List ℕ → Worker → Shared → Moved → Type 0
 KeptBy breaks bounds old shared m = Kept breaks bounds old shared m.worker m.shared
@@ -115,8 +126,6 @@ module _ (breaks : ℕ → Bool) (bounds : List ℕ) (rises : falls 0 bounds ≡
     fits = fits;
     fit_on = λ w h. h;
     counts = λ k rest c. recount bounds shared.next shared.least k _ _ (let e = same k in omega arith) c;
-    ran = λ h. h;
-    own = λ h. h;
     least = λ rest h. h ∙ ap (λ (o : Option ℕ). lesser shared.least (lesser o rest)) post;
   }
 
@@ -154,8 +163,6 @@ module _ (breaks : ℕ → Bool) (bounds : List ℕ) (rises : falls 0 bounds ≡
         fits = below;
         fit_on = fit_next shared.next below;
         counts = λ k rest c. taken_one shared.next shared.least k (times k shared.runs) rest c;
-        ran = λ h. h;
-        own = λ h. h;
         least = λ rest h. h;
       }
   claimed shared within false e =
@@ -163,7 +170,7 @@ module _ (breaks : ℕ → Bool) (bounds : List ℕ) (rises : falls 0 bounds ≡
       stays Idle Drained shared within (omega arith) (λ k. refl) refl
 
   -- a block is skipped
-  skipped_one : (next : ℕ) (least : Option ℕ) (block k t rest : ℕ) → is_past (start_of bounds block) least ≡ true →
+  skipped_one : (next : ℕ) (least : Option ℕ) (block k t rest : ℕ) → starts_late least (start_of bounds block) ≡ true →
       CountsTo bounds next least k (t + (bit (block == k) + rest)) → CountsTo bounds next least k (t + (0 + rest))
   skipped_one next least block k t rest past c = go (bit_cases block k)
     where
@@ -173,53 +180,48 @@ module _ (breaks : ℕ → Bool) (bounds : List ℕ) (rises : falls 0 bounds ≡
           let most = c.once in record {
             once = omega arith;
             not_taken = λ h. (let none = c.not_taken h in omega arith);
-            taken = λ h. inr (subst (λ (i : ℕ). is_past (start_of bounds i) least ≡ true) this.0 past);
+            taken = λ h. inr (subst (λ (i : ℕ). starts_late least (start_of bounds i) ≡ true) this.0 past);
           }
       go (inr other) = let none = other.1 in recount bounds next least k _ _ (omega arith) c
 
   -- a block is run to its end, or to a break
-  has_run : (old new : Worker) (shared : Shared) (block : ℕ) (broke_at : Option ℕ) → shared.next ≤ blocks_of bounds → block < blocks_of bounds →
-      Fits breaks bounds shared.next new → ((k : ℕ) → holds k old ≡ bit (block == k) + holds k new) → to_post old ≡ None → to_post new ≡ broke_at →
-      broke_at ≡ first_break breaks (end_of bounds block - start_of bounds block) (start_of bounds block) →
-      KeptBy breaks bounds old shared (having_run bounds block broke_at new shared)
-  has_run old new shared block broke_at within below fits one nothing post ran_up = record {
+  has_run : (old new : Worker) (shared : Shared) (block : ℕ) → shared.next ≤ blocks_of bounds → Fits breaks bounds shared.next new →
+      ((k : ℕ) → holds k old ≡ bit (block == k) + holds k new) → to_post old ≡ None → to_post new ≡ break_of breaks bounds block →
+      KeptBy breaks bounds old shared (having_run block new shared)
+  has_run old new shared block within fits one nothing post = record {
     within = within;
     fits = fits;
     fit_on = λ w h. h;
     counts = λ k rest c. recount bounds shared.next shared.least k _ _ (let e = one k in omega arith) c;
-    ran = λ h. (ran_up, h);
-    own = λ h. or_from _ _ (not_from_true _ (and_from _ _ (lt-ltb block (blocks_of bounds) below) (and_from _ _ (eq-eqb (start_of bounds block) (start_of bounds block) refl) (eq-eqb (end_of bounds block) (end_of bounds block) refl)))) h;
     least = λ rest h.
-        ap (lesser broke_at) (h ∙ ap (λ (o : Option ℕ). lesser shared.least (lesser o rest)) nothing)
-        ∙ (lesser_swap broke_at shared.least rest ∙ ap (λ (o : Option ℕ). lesser shared.least (lesser o rest)) (sym post));
+        ap (lesser (break_of breaks bounds block)) (h ∙ ap (λ (o : Option ℕ). lesser shared.least (lesser o rest)) nothing)
+        ∙ (lesser_swap (break_of breaks bounds block) shared.least rest ∙ ap (λ (o : Option ℕ). lesser shared.least (lesser o rest)) (sym post));
   }
 
-  empty_break : (block : ℕ) → start_of bounds block ≡ end_of bounds block → None ≡ first_break breaks (end_of bounds block - start_of bounds block) (start_of bounds block)
+  empty_break : (block : ℕ) → start_of bounds block ≡ end_of bounds block → None ≡ break_of breaks bounds block
   empty_break block same =
       let none : end_of bounds block - start_of bounds block ≡ 0 = omega arith in
       sym (ap (λ (left : ℕ). first_break breaks left (start_of bounds block)) none)
 
   looked_in : (shared : Shared) (block : ℕ) → shared.next ≤ blocks_of bounds → block < blocks_of bounds → (empty : Bool) → (start_of bounds block == end_of bounds block) ≡ empty →
-      KeptBy breaks bounds (Holding block) shared (if empty then having_run bounds block None Idle shared else becomes (Running block (start_of bounds block)) shared)
+      KeptBy breaks bounds (Holding block) shared (if empty then having_run block Idle shared else becomes (Running block (start_of bounds block)) shared)
   looked_in shared block within below true e =
-      has_run (Holding block) Idle shared block None within below tt (λ k. omega arith) refl refl (empty_break block (eqb-true (start_of bounds block) (end_of bounds block) e))
+      has_run (Holding block) Idle shared block within tt (λ k. omega arith) refl (empty_break block (eqb-true (start_of bounds block) (end_of bounds block) e))
   looked_in shared block within below false e =
       let apart = eqb-false (start_of bounds block) (end_of bounds block) e in
       let up = rising 0 bounds rises block (block + 1) (omega arith) (omega arith) in
       stays (Holding block) (Running block (start_of bounds block)) shared within (record { within = below; before_end = omega arith; no_break = refl }) (λ k. refl) refl
 
-  looked : (shared : Shared) (block : ℕ) → shared.next ≤ blocks_of bounds → block < blocks_of bounds → (past : Bool) → is_past (start_of bounds block) shared.least ≡ past →
+  looked : (shared : Shared) (block : ℕ) → shared.next ≤ blocks_of bounds → block < blocks_of bounds → (past : Bool) → starts_late shared.least (start_of bounds block) ≡ past →
       KeptBy breaks bounds (Holding block) shared
       (if past then becomes Idle shared
-      else if start_of bounds block == end_of bounds block then having_run bounds block None Idle shared
+      else if start_of bounds block == end_of bounds block then having_run block Idle shared
       else becomes (Running block (start_of bounds block)) shared)
   looked shared block within below true e = record {
     within = within;
     fits = tt;
     fit_on = λ w h. h;
     counts = λ k rest c. skipped_one shared.next shared.least block k (times k shared.runs) rest e c;
-    ran = λ h. h;
-    own = λ h. h;
     least = λ rest h. h;
   }
   looked shared block within below false e = looked_in shared block within below (start_of bounds block == end_of bounds block) refl
@@ -230,8 +232,7 @@ module _ (breaks : ℕ → Bool) (bounds : List ℕ) (rises : falls 0 bounds ≡
   first_of_left (suc left) index h = ap (λ (l : ℕ). if breaks index then Some index else first_break breaks l (index + 1)) (omega arith)
 
   break_here : (block index : ℕ) (b : Bool) → RunsFrom breaks bounds block index → breaks index ≡ b →
-      first_break breaks (end_of bounds block - start_of bounds block) (start_of bounds block)
-      ≡ (if b then Some index else first_break breaks (end_of bounds block - (index + 1)) (index + 1))
+      break_of breaks bounds block ≡ (if b then Some index else first_break breaks (end_of bounds block - (index + 1)) (index + 1))
   break_here block index b from e =
       let high = from.before_end in
       let one_less : end_of bounds block - index - 1 ≡ end_of bounds block - (index + 1) = omega arith in
@@ -242,11 +243,11 @@ module _ (breaks : ℕ → Bool) (bounds : List ℕ) (rises : falls 0 bounds ≡
 
   turned_on : (shared : Shared) (block index : ℕ) → shared.next ≤ blocks_of bounds → RunsFrom breaks bounds block index → breaks index ≡ false →
       (last : Bool) → (index + 1 == end_of bounds block) ≡ last →
-      KeptBy breaks bounds (Running block index) shared (if last then having_run bounds block None Idle shared else becomes (Running block (index + 1)) shared)
+      KeptBy breaks bounds (Running block index) shared (if last then having_run block Idle shared else becomes (Running block (index + 1)) shared)
   turned_on shared block index within from going true e =
       let same = eqb-true (index + 1) (end_of bounds block) e in
       let none : end_of bounds block - (index + 1) ≡ 0 = omega arith in
-      has_run (Running block index) Idle shared block None within from.within tt (λ k. omega arith) refl refl
+      has_run (Running block index) Idle shared block within tt (λ k. omega arith) refl
       (sym (break_here block index false from going ∙ ap (λ (left : ℕ). first_break breaks left (index + 1)) none))
   turned_on shared block index within from going false e =
       let apart = eqb-false (index + 1) (end_of bounds block) e in
@@ -256,11 +257,11 @@ module _ (breaks : ℕ → Bool) (bounds : List ℕ) (rises : falls 0 bounds ≡
 
   turned : (shared : Shared) (block index : ℕ) → shared.next ≤ blocks_of bounds → RunsFrom breaks bounds block index → (b : Bool) → breaks index ≡ b →
       KeptBy breaks bounds (Running block index) shared
-      (if b then having_run bounds block (Some index) (Posting index) shared
-      else if index + 1 == end_of bounds block then having_run bounds block None Idle shared
+      (if b then having_run block (Posting index) shared
+      else if index + 1 == end_of bounds block then having_run block Idle shared
       else becomes (Running block (index + 1)) shared)
   turned shared block index within from true e =
-      has_run (Running block index) (Posting index) shared block (Some index) within from.within tt (λ k. omega arith) refl refl (sym (break_here block index true from e))
+      has_run (Running block index) (Posting index) shared block within tt (λ k. omega arith) refl (sym (break_here block index true from e))
   turned shared block index within from false e = turned_on shared block index within from e (index + 1 == end_of bounds block) refl
 
   posted : (shared : Shared) (index : ℕ) → shared.next ≤ blocks_of bounds → KeptBy breaks bounds (Posting index) shared (posts index shared)
@@ -269,14 +270,12 @@ module _ (breaks : ℕ → Bool) (bounds : List ℕ) (rises : falls 0 bounds ≡
     fits = tt;
     fit_on = λ w h. h;
     counts = λ k rest c. record { once = c.once; not_taken = c.not_taken; taken = λ h. go k (c.taken h) };
-    ran = λ h. h;
-    own = λ h. h;
     least = λ rest h. h ∙ lesser_of_three shared.least (Some index) rest;
   }
     where
-      go : (k : ℕ) → {count : ℕ} → (count ≡ 1) ⊎ (is_past (start_of bounds k) shared.least ≡ true) → (count ≡ 1) ⊎ (is_past (start_of bounds k) (lesser (Some index) shared.least) ≡ true)
+      go : (k : ℕ) → {count : ℕ} → (count ≡ 1) ⊎ (starts_late shared.least (start_of bounds k) ≡ true) → (count ≡ 1) ⊎ (starts_late (lesser (Some index) shared.least) (start_of bounds k) ≡ true)
       go k (inl one) = inl one
-      go k (inr past) = inr (past_lesser (start_of bounds k) index shared.least past)
+      go k (inr past) = inr (late_lesser (start_of bounds k) index shared.least past)
 
   abbrev pub KeptIfEnabled : Worker → Shared → Option Moved → Type 0
   KeptIfEnabled old shared None = Unit {0}
@@ -285,7 +284,7 @@ module _ (breaks : ℕ → Bool) (bounds : List ℕ) (rises : falls 0 bounds ≡
   pub event_keeps : (kind : EventKind) (old : Worker) (shared : Shared) → shared.next ≤ blocks_of bounds → Fits breaks bounds shared.next old →
       KeptIfEnabled old shared (event breaks bounds kind old shared)
   event_keeps Claim Idle shared within fits = claimed shared within (nat_lt shared.next (blocks_of bounds)) refl
-  event_keeps Look (Holding block) shared within fits = looked shared block within fits (is_past (start_of bounds block) shared.least) refl
+  event_keeps Look (Holding block) shared within fits = looked shared block within fits (starts_late shared.least (start_of bounds block)) refl
   event_keeps Turn (Running block index) shared within fits = turned shared block index within fits (breaks index) refl
   event_keeps Post (Posting index) shared within fits = posted shared index within
   event_keeps Stop Drained shared within fits = stays Drained Stopped shared within fits (λ k. refl) refl

@@ -1,10 +1,11 @@
 -- What the workers of a loop may do, and what each event does. `breaks` says of each index whether its iteration on the
 -- words as they stood when the loop began returns 1.
 use Rattle.std.specs.Prelude.{ℕ, ◌+◌, ◌==◌, nat_lt, Bool, if◌then◌else◌, List, ◌∷◌, Option, Some, None}
+use Rattle.loop_core_law.specs.LeastBreak.{lesser}
+use Rattle.loop_core_blocks.specs.Gather.{starts_late}
 use Rattle.loop_core_schedule.specs.declared.event.EventKind.{EventKind}
 use Rattle.loop_core_schedule.specs.declared.event.EventKind.TheVariants.{Claim, Look, Turn, Post, Stop}
-use Rattle.loop_core_schedule.specs.Split.{blocks_of, start_of, end_of}
-use Rattle.loop_core_schedule.specs.Blocks.{BlockRun, lesser, is_past}
+use Rattle.loop_core_schedule.specs.Intervals.{blocks_of, start_of, end_of}
 
 -- what a worker is doing: it holds a block that it hasn't begun, runs one and has this index before it, has a break to
 -- post, or found no block
@@ -16,12 +17,12 @@ pub data Worker : Type 0 where
   Drained : Worker
   Stopped : Worker
 
--- what the workers share: the next block and the least break that was posted; and the blocks that were run, the latest
--- first
+-- what the workers share: the next block and the least break that was posted; and the numbers of the blocks that were
+-- run, up to a break or to their end, the latest first
 pub record Shared : Type 0 where
   pub next : ℕ
   pub least : Option ℕ
-  pub runs : List BlockRun
+  pub runs : List ℕ
 
 -- a worker and what it shares
 pub record Moved : Type 0 where
@@ -32,11 +33,9 @@ pub record Moved : Type 0 where
 abbrev pub becomes : Worker → Shared → Moved
 becomes worker shared = record { worker = worker; shared = shared }
 
--- the same, having run a block of the split, up to a break or to its end
-abbrev pub having_run : List ℕ → ℕ → Option ℕ → Worker → Shared → Moved
-having_run bounds block broke_at worker shared =
-    let run : BlockRun = record { number = block; start = start_of bounds block; end = end_of bounds block; broke_at = broke_at } in
-    becomes worker (record { next = shared.next; least = shared.least; runs = run ∷ shared.runs })
+-- the same, having run a block
+abbrev pub having_run : ℕ → Worker → Shared → Moved
+having_run block worker shared = becomes worker (record { next = shared.next; least = shared.least; runs = block ∷ shared.runs })
 
 -- takes the next block and holds it; where none is left it is drained
 abbrev pub claims : List ℕ → Shared → Moved
@@ -49,16 +48,16 @@ claims bounds shared =
 -- empty block is at once
 abbrev pub looks : List ℕ → ℕ → Shared → Moved
 looks bounds block shared =
-    if is_past (start_of bounds block) shared.least then becomes Idle shared
-    else if start_of bounds block == end_of bounds block then having_run bounds block None Idle shared
+    if starts_late shared.least (start_of bounds block) then becomes Idle shared
+    else if start_of bounds block == end_of bounds block then having_run block Idle shared
     else becomes (Running block (start_of bounds block)) shared
 
 -- does an iteration: where it returns 1 the block broke, and the index is to be posted; behind the last one the block
 -- has been run
 abbrev pub iterates : (ℕ → Bool) → List ℕ → (block index : ℕ) → Shared → Moved
 iterates breaks bounds block index shared =
-    if breaks index then having_run bounds block (Some index) (Posting index) shared
-    else if index + 1 == end_of bounds block then having_run bounds block None Idle shared
+    if breaks index then having_run block (Posting index) shared
+    else if index + 1 == end_of bounds block then having_run block Idle shared
     else becomes (Running block (index + 1)) shared
 
 -- the least break becomes the lesser of both

@@ -1,15 +1,25 @@
 -- Worked lists of blocks of the split 0 4 8 12 16. Each is worked out by hand.
-use Rattle.std.specs.Prelude.{◌≡◌, ℕ, List, [], ◌∷◌, Option, Some, None}
-use Rattle.loop_core_schedule.specs.declared.faults.GatherFault.{GatherFault}
-use Rattle.loop_core_schedule.specs.declared.faults.GatherFault.TheVariants.{Missing, Twice, Foreign}
-use Rattle.loop_core_schedule.specs.Blocks.{BlockRun, gather_fault}
+use Rattle.std.specs.Prelude.{◌≡◌, ℕ, ◌-◌, List, [], ◌∷◌, ◌++◌, replicate, Option, Some, None}
+use Rattle.bpf_step_model.specs.Iteration.{Iterated}
+use Rattle.loop_core_blocks.specs.declared.faults.GatherFault.{GatherFault}
+use Rattle.loop_core_blocks.specs.declared.faults.GatherFault.TheVariants.{Missing, Twice, Foreign}
+use Rattle.loop_core_blocks.specs.Gather.{Block, gather_fault}
+
+-- an iteration that returned this
+abbrev pub returning : ℕ → Iterated
+returning ret = record { ret = ret; steps = 2; accesses = []; words = [] }
+
+-- the iterations of an interval that broke at an index, or didn't
+abbrev pub iterations : (first past : ℕ) → Option ℕ → List Iterated
+iterations first past None = replicate (past - first) (returning 0)
+iterations first past (Some index) = replicate (index - first) (returning 0) ++ returning 1 ∷ []
 
 -- a block with a number and an interval that broke at an index, or didn't
-abbrev pub block : (number start end : ℕ) → Option ℕ → BlockRun
-block number start end broke_at = record { number = number; start = start; end = end; broke_at = broke_at }
+abbrev pub block : (number first past : ℕ) → Option ℕ → Block
+block number first past broke_at = record { number = number; first = first; past = past; ran = iterations first past broke_at }
 
 -- a list of blocks has this fault, or none
-abbrev pub Gathers : List BlockRun → Option GatherFault → Type 0
+abbrev pub Gathers : List Block → Option GatherFault → Type 0
 Gathers runs fault = gather_fault (0 ∷ 4 ∷ 8 ∷ 12 ∷ 16 ∷ []) runs ≡ fault
 
 -- blocks past the least break may be there or not, in any order; one that starts at the break has to be there
@@ -19,7 +29,7 @@ pub record GatherRows : Type 0 where
   pub past_the_break : Gathers (block 3 12 16 (Some 12) ∷ block 0 0 4 (Some 3) ∷ []) None
   pub starts_at_the_break : Gathers (block 0 0 4 None ∷ block 1 4 8 (Some 4) ∷ []) None
   pub before_the_break : Gathers (block 1 4 8 (Some 4) ∷ []) (Some Missing)
-  pub at_the_break : Gathers (block 0 0 4 (Some 8) ∷ block 1 4 8 None ∷ []) (Some Missing)
+  pub at_the_break : Gathers (block 0 0 4 None ∷ block 1 4 8 None ∷ block 3 12 16 (Some 12) ∷ []) (Some Missing)
   pub without_a_break : Gathers (block 0 0 4 None ∷ block 1 4 8 None ∷ block 2 8 12 None ∷ []) (Some Missing)
   pub none : Gathers [] (Some Missing)
   pub twice : Gathers (block 0 0 4 (Some 3) ∷ block 1 4 8 None ∷ block 0 0 4 (Some 3) ∷ []) (Some Twice)

@@ -1,10 +1,8 @@
-pub mod Split
-pub mod Blocks
+pub mod Intervals
 pub mod Events
 pub mod Schedule
 pub mod Outcome
 pub mod SplitLaw
-pub mod GatherLaw
 pub mod ScheduleLaw
 pub mod OutcomeLaw
 pub mod BlockRows

@@ -10,7 +10,7 @@ use Rattle.loop_core_law.specs.declared.verdict.Verdict.{Verdict}
 use Rattle.loop_core_law.specs.LeastBreak.{is_break, mapped}
 use Rattle.loop_core_law.specs.Report.{verdict}
 use Rattle.loop_core_schedule.specs.declared.event.Event.{Event}
-use Rattle.loop_core_schedule.specs.declared.faults.ReplayFault.{ReplayFault}
+use Rattle.loop_core_schedule.specs.declared.replay_fault.ReplayFault.{ReplayFault}
 use Rattle.loop_core_schedule.specs.Schedule.{State, replay}
 
 -- a loop's verdict, what it answers, and the words after it

@@ -14,8 +14,8 @@ use Rattle.loop_core_law.specs.declared.loop_test.Test.{Test}
 use Rattle.loop_core_law.specs.declared.verdict.Verdict.TheVariants.{Parallel, Conflict}
 use Rattle.loop_core_schedule.specs.declared.event.EventKind.TheVariants.{Claim, Look, Turn, Post, Stop}
 use Rattle.loop_core_schedule.specs.declared.event.Event.{Event}
-use Rattle.loop_core_schedule.specs.declared.faults.ReplayFault.{ReplayFault}
-use Rattle.loop_core_schedule.specs.declared.faults.ReplayFault.TheVariants as faults
+use Rattle.loop_core_schedule.specs.declared.replay_fault.ReplayFault.{ReplayFault}
+use Rattle.loop_core_schedule.specs.declared.replay_fault.ReplayFault.TheVariants as faults
 use Rattle.loop_core_schedule.specs.Schedule.{replay}
 use Rattle.loop_core_schedule.specs.Outcome.{breaks_at, replayed}
 

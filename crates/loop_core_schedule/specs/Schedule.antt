@@ -2,8 +2,8 @@
 use Rattle.std.specs.Prelude.{ℕ, ◌+◌, ◌&&◌, nat_lt, Bool, true, false, if◌then◌else◌, List, [], ◌∷◌, length, replicate, slice_index_or, slice_set, Option, Some, None, Result, Ok, Err}
 use Rattle.std.specs.List.{list_all}
 use Rattle.loop_core_schedule.specs.declared.event.Event.{Event}
-use Rattle.loop_core_schedule.specs.declared.faults.ReplayFault.{ReplayFault}
-use Rattle.loop_core_schedule.specs.declared.faults.ReplayFault.TheVariants as faults
+use Rattle.loop_core_schedule.specs.declared.replay_fault.ReplayFault.{ReplayFault}
+use Rattle.loop_core_schedule.specs.declared.replay_fault.ReplayFault.TheVariants as faults
 use Rattle.loop_core_schedule.specs.Events.{Worker, Idle, Holding, Running, Posting, Drained, Stopped, Shared, Moved, event}
 
 -- what is shared, and what each of the workers 0 to 15 does

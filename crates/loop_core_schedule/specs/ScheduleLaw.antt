@@ -1,24 +1,37 @@
 -- Every ended list of events leaves a complete list of blocks.
-use Rattle.std.specs.Prelude.{◌≡◌, ℕ, Bool, List, None, Ok}
+use Rattle.std.specs.Prelude.{◌≡◌, ℕ, true, List, map, None, Ok}
 use Rattle.std.specs.List.{AllByRecursion}
-use Rattle.loop_core_law.specs.LeastBreak.{least_below}
+use Rattle.bpf_insn_form.specs.Program.{Program}
+use Rattle.bpf_step_model.specs.State.{LoopCall}
+use Rattle.loop_core_law.specs.LeastBreak.{least_break}
+use Rattle.loop_core_blocks.specs.Split.{split_fault}
+use Rattle.loop_core_blocks.specs.Gather.{Block, IsRunOf, least_of, stands_in, gather_fault}
 use Rattle.loop_core_schedule.specs.declared.event.Event.{Event}
-use Rattle.loop_core_schedule.specs.Split.{blocks_of, split_fault}
-use Rattle.loop_core_schedule.specs.Blocks.{least_of, gather_fault}
+use Rattle.loop_core_schedule.specs.Intervals.{blocks_of}
 use Rattle.loop_core_schedule.specs.Events.{Shared}
 use Rattle.loop_core_schedule.specs.Schedule.{State, replay}
-use Rattle.loop_core_schedule.specs.GatherLaw.{RanUp}
+use Rattle.loop_core_schedule.specs.Outcome.{breaks_at}
 
--- what is known at the end: every block was taken; each that was run ran up to its first break; none is missing, doubled
--- or foreign; and the least break that was posted is the least of those blocks and of all n indices
-pub record Complete (breaks : ℕ → Bool) (n : ℕ) (bounds : List ℕ) (shared : Shared) : Type 0 where
+-- these are the blocks of a split that have these numbers, each run up to its first break or to its end
+pub record AreRun (program : Program) (bound : ℕ) (call : LoopCall) (words : List ℕ) (bounds : List ℕ) (numbers : List ℕ) (blocks : List Block) : Type 0 where
+  pub numbered : map (λ (b : Block). b.number) blocks ≡ numbers
+  pub stand : AllByRecursion (λ b. stands_in bounds b ≡ true) blocks
+  pub run : AllByRecursion (IsRunOf program bound call words) blocks
+
+-- what is known of those blocks: none is missing, doubled or foreign; and the least break that was posted is the least of
+-- theirs, and the loop's
+pub record Complete (program : Program) (bound : ℕ) (call : LoopCall) (words : List ℕ) (bounds : List ℕ) (shared : Shared) (blocks : List Block) : Type 0 where
+  pub gathered : gather_fault bounds blocks ≡ None
+  pub least_of_blocks : shared.least ≡ least_of blocks
+  pub least_of_loop : shared.least ≡ least_break program bound call words
+
+-- what is known at the end: every block was taken, and those that were run are complete
+pub record Left (program : Program) (bound : ℕ) (call : LoopCall) (words : List ℕ) (bounds : List ℕ) (shared : Shared) : Type 0 where
   pub taken : shared.next ≡ blocks_of bounds
-  pub ran_up : AllByRecursion (RanUp breaks) shared.runs
-  pub gathered : gather_fault bounds shared.runs ≡ None
-  pub least_of_runs : shared.least ≡ least_of shared.runs
-  pub least_of_all : shared.least ≡ least_below breaks n
+  pub complete : (blocks : List Block) → AreRun program bound call words bounds shared.runs blocks → Complete program bound call words bounds shared blocks
 
 -- whatever the workers do, in whatever order, an ended list leaves that
 abbrev pub EndedSchedulesComplete : Type 0
-EndedSchedulesComplete = (breaks : ℕ → Bool) (n : ℕ) (bounds : List ℕ) (events : List Event) (state : State) →
-    split_fault n bounds ≡ None → replay breaks bounds events ≡ Ok state → Complete breaks n bounds state.shared
+EndedSchedulesComplete = (program : Program) (bound : ℕ) (call : LoopCall) (words : List ℕ) (bounds : List ℕ) (events : List Event) (state : State) →
+    split_fault bounds call.n ≡ None → replay (breaks_at program bound call words) bounds events ≡ Ok state →
+    Left program bound call words bounds state.shared
