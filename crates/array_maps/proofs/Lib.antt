@@ -1,3 +1,4 @@
 pub mod ElementLaws
 pub mod MapLists
 pub mod StoreLaws
+pub mod SizeLaws

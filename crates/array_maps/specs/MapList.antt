@@ -1,5 +1,5 @@
 -- A map list: the words of array maps of given sizes.
-use Rattle.std.specs.Prelude.{ℕ, ◌≤◌, List, Vec, length, map, take, replicate}
+use Rattle.std.specs.Prelude.{ℕ, ◌<◌, ◌^◌, List, Vec, length, map, take, replicate}
 use Rattle.std.specs.declared.alloc.Global.{Global}
 use Rattle.std.specs.List.{All, concat, sum}
 
@@ -8,12 +8,9 @@ pub record MapList : Type 0 where
   pub sizes : List ℕ
   pub words : List ℕ
 
--- sizes within the limits: 1 to 16 maps, each of at least 1 element, and at most 65,536 elements over all
-pub record AreSizes (sizes : List ℕ) : Type 0 where
-  pub some : 1 ≤ length sizes
-  pub few : length sizes ≤ 16
-  pub filled : All (λ size. 1 ≤ size) sizes
-  pub small : sum sizes ≤ 65536
+-- each is below 2 ^ 64
+abbrev pub AreWords : List ℕ → Type 0
+AreWords words = All (λ word. word < 2 ^ 64) words
 
 -- where the words of a map begin
 abbrev pub base_of : List ℕ → ℕ → ℕ

@@ -7,11 +7,11 @@ pub mod changes;
 pub mod halves;
 pub mod maps;
 pub mod store;
-#[cfg(test)]
-mod tests;
+pub mod words;
 
 pub use access::{Half, Op, Part, Rmw, each_element};
 pub use changes::{combine, exchange};
 pub use halves::{half_of, part_of, with_half};
 pub use maps::{Maps, MapsError};
 pub use store::Store;
+pub use words::are_words;

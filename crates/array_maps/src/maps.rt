@@ -1,9 +1,12 @@
 //! The array maps of a program.
 
-ghost use Rattle.std.specs.Prelude.{◌≡◌, ◌≢◌, ℕ, ◌+◌, ◌<◌, ◌≤◌, ◌↔◌, length, slice_index, slice_range, slice_set, IfOk, OnOk, IfSome, IfNone, IsErrOf};
+ghost use Rattle.std.specs.Prelude.{◌≡◌, ◌≢◌, ℕ, ◌+◌, ◌<◌, ◌≤◌, ◌↔◌, length, slice_index, slice_range, slice_set, IfOk, OnOk, IfSome, IfNone, IsErrOf, false};
 ghost use Rattle.std.specs.List.{concat, sum};
-ghost use Rattle.array_maps.specs.MapList.{MapList, AreSizes, base_of, zero_maps, lists, lengths, maps_of};
+ghost use Rattle.bpf_insn_form.specs.Limits.{AreSizes, sizes_fit};
+ghost use Rattle.array_maps.specs.MapList.{MapList, AreWords, base_of, zero_maps, lists, lengths, maps_of};
 
+use crate::words::are_words;
+use bpf_insn_form::{MAX_ELEMENTS, elements_of};
 use std::alloc::{AllocError, Global};
 use std::marker::Model;
 use thiserror::Error;
@@ -30,12 +33,6 @@ impl From<AllocError> for MapsError {
     }
 }
 
-/// At most so many maps.
-pub const MAX_MAPS: usize = 16;
-
-/// At most so many elements over all maps.
-pub const MAX_ELEMENTS: u32 = 65_536;
-
 /// Array maps of 8-byte values. Elements are numbered on over all maps, map 0 first.
 #[derive(Debug, Drop)]
 pub struct Maps {
@@ -48,31 +45,13 @@ impl Model for Maps {
 
     ghost view = { λ m. record { sizes = m.sizes.items; words = m.words.items } };
 
-    ghost invariant = { λ m. AreSizes m.sizes.items × (length m.words.items ≡ sum m.sizes.items) };
-}
-
-/// How many elements maps of these sizes have, where they are within the limits.
-fn elements_of(sizes: &[u32]) -> Option<u32>
-    ensures some { IfSome result (λ n. AreSizes sizes.now × (n ≡ sum sizes.now)) }
-    ensures none { IfNone result (¬ AreSizes sizes.now) }
-{
-    if sizes.is_empty() || sizes.len() > MAX_MAPS {
-        return None;
-    }
-    let mut total: u32 = 0;
-    for size in sizes {
-        if *size == 0 || *size > MAX_ELEMENTS - total {
-            return None;
-        }
-        total += *size;
-    }
-    Some(total)
+    ghost invariant = { λ m. AreSizes m.sizes.items × (length m.words.items ≡ sum m.sizes.items) × AreWords m.words.items };
 }
 
 /// How many values each map has, where none has more than there may be.
 fn sizes_of(alloc: Global, values: &[Vec<u64>]) -> Result<Vec<u32>, MapsError>
     ensures ok { IfOk result (λ sizes. sizes.items ≡ lengths (lists values.now)) }
-    ensures limits { IsErrOf result MapsError.Limits → ¬ AreSizes (lengths (lists values.now)) }
+    ensures limits { IsErrOf result MapsError.Limits → sizes_fit (lengths (lists values.now)) ≡ false }
 {
     let mut sizes = Vec::new(alloc);
     for map in values {
@@ -88,7 +67,7 @@ impl Maps {
     /// Maps of these sizes, all zero. M1 where the sizes break the limits.
     pub fn new(alloc: Global, sizes: &[u32]) -> Result<Maps, MapsError>
         ensures ok { IfOk result (λ maps. AreSizes sizes.now × (maps ≡ zero_maps sizes.now)) }
-        ensures limits { IsErrOf result MapsError.Limits → ¬ AreSizes sizes.now }
+        ensures limits { IsErrOf result MapsError.Limits → sizes_fit sizes.now ≡ false }
     {
         let Some(elements) = elements_of(sizes) else {
             return Err(MapsError::Limits);
@@ -102,7 +81,7 @@ impl Maps {
     /// Maps of these values, map 0 first. M1 where their numbers break the limits.
     pub fn of(alloc: Global, values: &[Vec<u64>]) -> Result<Maps, MapsError>
         ensures ok { IfOk result (λ maps. AreSizes (lengths (lists values.now)) × (maps ≡ maps_of (lists values.now))) }
-        ensures limits { IsErrOf result MapsError.Limits → ¬ AreSizes (lengths (lists values.now)) }
+        ensures limits { IsErrOf result MapsError.Limits → sizes_fit (lengths (lists values.now)) ≡ false }
     {
         let sizes = sizes_of(alloc, values)?;
         if elements_of(&sizes).is_none() {
@@ -110,7 +89,9 @@ impl Maps {
         }
         let mut words = Vec::new(alloc);
         for map in values {
-            words.extend_from_slice(map)?;
+            let values = map.as_slice();
+            are_words(values);
+            words.extend_from_slice(values)?;
         }
         Ok(Maps { sizes, words })
     }
@@ -132,6 +113,13 @@ impl Maps {
         ensures words { length self.now.words ≡ sum self.now.sizes }
     {
         self.sizes.as_slice()
+    }
+
+    /// Tells that the words are below 2^64.
+    pub(crate) fn words_fit(&self)
+        ensures { AreWords self.now.words }
+    {
+        let _words = self.words.len();
     }
 
     /// The value at an index of a map. The map is below the number of maps, and the index below its size.

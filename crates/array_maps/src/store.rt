@@ -2,6 +2,7 @@
 
 ghost use Rattle.std.specs.Prelude.{◌≡◌, ◌≢◌, ℕ, ◌+◌, ◌<◌, ◌≤◌, ◌^◌, List, length, slice_index};
 ghost use Rattle.array_maps.specs.Accesses.{Access, Action, Read, Write, ReadWrite, Reduce, exchanged, words_after};
+ghost use Rattle.array_maps.specs.MapList.{AreWords};
 ghost use Rattle.array_maps.specs.Halves.{part_of, with_half};
 
 use crate::access::{Half, Op, Part, Rmw};
@@ -20,6 +21,10 @@ pub trait Store {
 
     /// What an access does to the store, with whatever else it keeps.
     ghost effect: { Self → Access → Self → Type 0 };
+
+    /// The words that are seen are below 2^64.
+    fn words_fit(&self)
+        ensures { AreWords (words self.now) };
 
     /// The word of an element.
     fn load(&mut self, e: u32) -> u64
@@ -74,8 +79,12 @@ impl Store for Maps {
 
     ghost effect = { λ old access new. new ≡ record { sizes = old.sizes; words = words_after access old.words } };
 
+    fn words_fit(&self) {
+        Maps::words_fit(self)
+    }
+
     fn load(&mut self, e: u32) -> u64 {
-        self.word(e)
+        Maps::word(self, e)
     }
 
     fn store(&mut self, e: u32, value: u64) {

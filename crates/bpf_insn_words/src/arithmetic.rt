@@ -21,7 +21,7 @@ pub fn neg_word(width: Width, a: u64) -> u64
     low_part(width, 0u64.wrapping_sub(a))
 }
 
-// An operator on two numbers of the width.
+/// An operator on two numbers of the width.
 fn compute(width: Width, op: AluOp, a: u64, b: u64) -> u64
     requires first { a < modulus width }
     requires second { b < modulus width }
@@ -45,21 +45,21 @@ fn compute(width: Width, op: AluOp, a: u64, b: u64) -> u64
     }
 }
 
-// By zero it is 0.
+/// By zero it is 0.
 fn divide(a: u64, b: u64) -> u64
     ensures { result ≡ quotient a b }
 {
     if b == 0 { 0 } else { a / b }
 }
 
-// By zero the dividend stays.
+/// By zero the dividend stays.
 fn take_remainder(a: u64, b: u64) -> u64
     ensures { result ≡ remainder a b }
 {
     if b == 0 { a } else { a % b }
 }
 
-// Rounds toward zero. By zero it is 0, and the least number by -1 is itself.
+/// Rounds toward zero. By zero it is 0, and the least number by -1 is itself.
 fn divide_signed(width: Width, a: u64, b: u64) -> u64
     requires first { a < modulus width }
     requires second { b < modulus width }
@@ -72,7 +72,7 @@ fn divide_signed(width: Width, a: u64, b: u64) -> u64
     low_part(width, quotient.cast_unsigned())
 }
 
-// Has the dividend's sign. By zero the dividend stays, and the least number by -1 leaves 0.
+/// Has the dividend's sign. By zero the dividend stays, and the least number by -1 leaves 0.
 fn take_signed_remainder(width: Width, a: u64, b: u64) -> u64
     requires first { a < modulus width }
     requires second { b < modulus width }
@@ -85,7 +85,7 @@ fn take_signed_remainder(width: Width, a: u64, b: u64) -> u64
     low_part(width, remainder.cast_unsigned())
 }
 
-// Brings in the sign bit: of a negative number the complement is shifted.
+/// Brings in the sign bit: of a negative number the complement is shifted.
 fn shift_signed(width: Width, a: u64, b: u64) -> u64
     requires { a < modulus width }
     ensures { result ≡ arithmetic_shift (modulus width) a (shift width b) }

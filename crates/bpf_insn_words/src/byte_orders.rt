@@ -18,7 +18,7 @@ pub fn endian_word(order: ByteOrder, bits: EndianBits, a: u64) -> u64
     }
 }
 
-// The low bits, the others cleared.
+/// The low bits, the others cleared.
 fn low_bits(bits: EndianBits, a: u64) -> u64
     ensures { result ≡ a % endian_modulus bits }
 {
@@ -29,7 +29,7 @@ fn low_bits(bits: EndianBits, a: u64) -> u64
     }
 }
 
-// The low bits, their bytes reversed.
+/// The low bits, their bytes reversed.
 fn reversed(bits: EndianBits, a: u64) -> u64
     ensures { result ≡ swap_bytes (endian_integers bits) (a % endian_modulus bits) }
 {

@@ -14,7 +14,7 @@ pub fn compare_words(width: Width, compare: Compare, a: u64, b: u64) -> bool
     compare_numbers(width, compare, low_part(width, a), low_part(width, b))
 }
 
-// The same for two numbers of the width.
+/// The same for two numbers of the width.
 fn compare_numbers(width: Width, compare: Compare, a: u64, b: u64) -> bool
     requires first { a < modulus width }
     requires second { b < modulus width }

@@ -17,9 +17,6 @@ pub use compares::compare_words;
 pub use moves::movsx_word;
 pub use widths::shift_amount;
 
-#[cfg(test)]
-mod tests;
-
 /// The definitions give the values that RFC 9669 asks for, on a row for each operator, byte order
 /// and comparison. Nothing runs here: the contract is the law.
 pub fn worked_words()

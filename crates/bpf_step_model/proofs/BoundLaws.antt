@@ -1,20 +1,32 @@
 -- With a greater bound nothing changes but that what was unfinished may end.
-use Rattle.std.proofs.Common.{◌≡◌, ℕ, zero, suc, ◌+◌, ◌≤◌, Bool, true, false, inl, inr, List, Option, Some, None, refl, sym, ap, subst, arith}
+use Rattle.std.proofs.Common.{ℕ, zero, suc, ◌+◌, ◌≤◌, Bool, true, false, inl, inr, List, [], ◌∷◌, Option, Some, None, refl, sym, ap, subst, arith}
 use Rattle.std.specs.Prelude.{slice_get, if◌then◌else◌, ◌==◌}
 use Rattle.array_maps.specs.Accesses.{Access, words_after}
 use Rattle.bpf_insn_form.specs.Program.{Program}
 use Rattle.bpf_step_model.specs.State.{Machine, LoopCall, callback_entry, main_entry}
 use Rattle.bpf_step_model.specs.Step.{Request, Move, NoStep, Next, Asks, Loops, Refuses, Exits, step}
-use Rattle.bpf_step_model.specs.Run.{Ending, Ended, Stuck, Unfinished, Turn, Exit, Loop, Refused, Stretch, action_of, told, one_more, one_more_with, after_access, after_move, run}
-use Rattle.bpf_step_model.specs.Iteration.{Iterated, to_exit, iteration}
+use Rattle.bpf_step_model.specs.Run.{Ending, Ended, Stuck, Unfinished, Turn, Exit, Loop, Refused, Stretch, action_of, told, mapped, followed, with_first, after_access, after_move, run}
+use Rattle.bpf_step_model.specs.Iteration.{Iterated, exited, iteration}
 use Rattle.bpf_step_model.specs.LoopInOrder.{Looped, behind, loop_from, loop_in_order}
-use Rattle.bpf_step_model.specs.ProgramInOrder.{Finished, one_loop_more, resumed, after_loop, after_turn, after_stretch, main_from, program_in_order}
+use Rattle.bpf_step_model.specs.ProgramInOrder.{Finished, with_loop, resumed, after_loop, after_turn, after_stretch, main_from, program_in_order}
 use Rattle.bpf_step_model.specs.Bounds.{Extends, GreaterBoundAgrees}
 
--- a function that keeps what is unfinished
-pub through : {A B : Type 0} (f : Ending A → Ending B) → f Unfinished ≡ Unfinished → {e g : Ending A} → Extends e g → Extends (f e) (f g)
-through f keeps (inl h) = inl (subst (λ e. f e ≡ Unfinished) (sym h) keeps)
-through f keeps (inr h) = inr (ap f h)
+-- a changed value
+pub mapped_extends : {A B : Type 0} (change : A → B) {e g : Ending A} → Extends e g → Extends (mapped change e) (mapped change g)
+mapped_extends change (inl h) = inl (ap (mapped change) h)
+mapped_extends change (inr h) = inr (ap (mapped change) h)
+
+-- what goes on from a value
+followed_same : {A B : Type 0} (low high : A → Ending B) → ((value : A) → Extends (low value) (high value)) → (e : Ending A) →
+    Extends (followed low e) (followed high e)
+followed_same low high each (Ended value) = each value
+followed_same low high each Stuck = inr refl
+followed_same low high each Unfinished = inl refl
+
+pub followed_extends : {A B : Type 0} (low high : A → Ending B) → ((value : A) → Extends (low value) (high value)) → (e g : Ending A) → Extends e g →
+    Extends (followed low e) (followed high g)
+followed_extends low high each e g (inl h) = inl (ap (followed low) h)
+followed_extends low high each e g (inr h) = subst (λ k. Extends (followed low e) (followed high k)) (sym h) (followed_same low high each e)
 
 -- what goes on from a machine, with a lower bound and a greater one
 abbrev pub ExtendsEach : (Machine → List ℕ → Ending Stretch) → (Machine → List ℕ → Ending Stretch) → Type 0
@@ -25,12 +37,12 @@ access_extends : (low high : Machine → List ℕ → Ending Stretch) → Extend
 access_extends low high each element request next words None = inr refl
 access_extends low high each element request next words (Some word) =
     let access : Access = record { element = element; action = action_of request word } in
-    through (one_more_with access) refl (each (told request word next) (words_after access words))
+    mapped_extends (with_first (access ∷ [])) (each (told request word next) (words_after access words))
 
 move_extends : (low high : Machine → List ℕ → Ending Stretch) → ExtendsEach low high → (slot : ℕ) (move : Move) (words : List ℕ) →
     Extends (after_move low slot move words) (after_move high slot move words)
 move_extends low high each slot NoStep words = inr refl
-move_extends low high each slot (Next next) words = through one_more refl (each next words)
+move_extends low high each slot (Next next) words = mapped_extends (with_first []) (each next words)
 move_extends low high each slot (Asks element request next) words = access_extends low high each element request next words (slice_get words element)
 move_extends low high each slot (Loops call next) words = inr refl
 move_extends low high each slot (Refuses answer next) words = inr refl
@@ -45,30 +57,25 @@ run_extends program (suc low) (suc high) h m words =
 pub iteration_extends : (program : Program) (low high : ℕ) → low ≤ high → (call : LoopCall) (index : ℕ) (words : List ℕ) →
     Extends (iteration program low call index words) (iteration program high call index words)
 unfolding iteration
-iteration_extends program low high h call index words = through to_exit refl (run_extends program low high h (callback_entry call index) words)
+iteration_extends program low high h call index words =
+    followed_extends exited exited (λ s. inr refl) (run program low (callback_entry call index) words) (run program high (callback_entry call index) words)
+    (run_extends program low high h (callback_entry call index) words)
 
-behind_same : (low high : List ℕ → Ending Looped) → ((words : List ℕ) → Extends (low words) (high words)) → (index : ℕ) (e : Ending Iterated) →
-    Extends (behind low index e) (behind high index e)
-behind_same low high each index Stuck = inr refl
-behind_same low high each index Unfinished = inl refl
-behind_same low high each index (Ended it) = go (it.ret == 1) _
+behind_extends : (low high : List ℕ → Ending Looped) → ((words : List ℕ) → Extends (low words) (high words)) → (index : ℕ) (it : Iterated) →
+    Extends (behind low index it) (behind high index it)
+behind_extends low high each index it = go (it.ret == 1) _
   where
     go : (one : Bool) (broken : Ending Looped) → Extends (if one then broken else low it.words) (if one then broken else high it.words)
     go true broken = inr refl
     go false broken = each it.words
 
-behind_extends : (low high : List ℕ → Ending Looped) → ((words : List ℕ) → Extends (low words) (high words)) → (index : ℕ) (e f : Ending Iterated) → Extends e f →
-    Extends (behind low index e) (behind high index f)
-behind_extends low high each index e f (inl h) = inl (subst (λ g. behind low index g ≡ Unfinished) (sym h) refl)
-behind_extends low high each index e f (inr h) = subst (λ g. Extends (behind low index e) (behind high index g)) (sym h) (behind_same low high each index e)
-
 loop_from_extends : (program : Program) (low high : ℕ) → low ≤ high → (call : LoopCall) (left index : ℕ) (words : List ℕ) →
     Extends (loop_from program low call left index words) (loop_from program high call left index words)
 loop_from_extends program low high h call zero index words = inr refl
 loop_from_extends program low high h call (suc left) index words =
-    behind_extends (loop_from program low call left (index + 1)) (loop_from program high call left (index + 1))
-    (loop_from_extends program low high h call left (index + 1)) index (iteration program low call index words) (iteration program high call index words)
-    (iteration_extends program low high h call index words)
+    followed_extends (behind (loop_from program low call left (index + 1)) index) (behind (loop_from program high call left (index + 1)) index)
+    (behind_extends (loop_from program low call left (index + 1)) (loop_from program high call left (index + 1)) (loop_from_extends program low high h call left (index + 1)) index)
+    (iteration program low call index words) (iteration program high call index words) (iteration_extends program low high h call index words)
 
 pub loop_extends : (program : Program) (low high : ℕ) → low ≤ high → (call : LoopCall) (words : List ℕ) →
     Extends (loop_in_order program low call words) (loop_in_order program high call words)
@@ -77,39 +84,27 @@ loop_extends program low high h call words = loop_from_extends program low high 
 -- main, between its loop calls
 module _ (program : Program) (low high : ℕ) (h : low ≤ high) (short long : Machine → List ℕ → Ending Finished)
     (each : (m : Machine) (words : List ℕ) → Extends (short m words) (long m words)) where
-  after_loop_same : (call : LoopCall) (next : Machine) (words : List ℕ) (e : Ending Looped) → Extends (after_loop short call next words e) (after_loop long call next words e)
-  after_loop_same call next words Stuck = inr refl
-  after_loop_same call next words Unfinished = inl refl
-  after_loop_same call next words (Ended l) = through (one_loop_more _) refl (each (resumed next l.answer) l.words)
-
-  after_loop_extends : (call : LoopCall) (next : Machine) (words : List ℕ) (e f : Ending Looped) → Extends e f →
-      Extends (after_loop short call next words e) (after_loop long call next words f)
-  after_loop_extends call next words e f (inl un) = inl (subst (λ g. after_loop short call next words g ≡ Unfinished) (sym un) refl)
-  after_loop_extends call next words e f (inr same) =
-      subst (λ g. Extends (after_loop short call next words e) (after_loop long call next words g)) (sym same) (after_loop_same call next words e)
+  after_loop_extends : (call : LoopCall) (next : Machine) (words : List ℕ) (l : Looped) → Extends (after_loop short call next words l) (after_loop long call next words l)
+  after_loop_extends call next words l = mapped_extends (with_loop _) (each (resumed next l.answer) l.words)
 
   after_turn_extends : (turn : Turn) (words : List ℕ) → Extends (after_turn program low short turn words) (after_turn program high long turn words)
   after_turn_extends (Exit ret) words = inr refl
   after_turn_extends (Loop call next) words =
-      after_loop_extends call next words (loop_in_order program low call words) (loop_in_order program high call words) (loop_extends program low high h call words)
-  after_turn_extends (Refused slot answer next) words = through (one_loop_more _) refl (each next words)
+      followed_extends (after_loop short call next words) (after_loop long call next words) (after_loop_extends call next words)
+      (loop_in_order program low call words) (loop_in_order program high call words) (loop_extends program low high h call words)
+  after_turn_extends (Refused slot answer next) words = mapped_extends (with_loop _) (each next words)
 
-  after_stretch_same : (e : Ending Stretch) → Extends (after_stretch program low short e) (after_stretch program high long e)
-  after_stretch_same Stuck = inr refl
-  after_stretch_same Unfinished = inl refl
-  after_stretch_same (Ended s) = after_turn_extends s.turn s.words
-
-  after_stretch_extends : (e f : Ending Stretch) → Extends e f → Extends (after_stretch program low short e) (after_stretch program high long f)
-  after_stretch_extends e f (inl un) = inl (subst (λ g. after_stretch program low short g ≡ Unfinished) (sym un) refl)
-  after_stretch_extends e f (inr same) = subst (λ g. Extends (after_stretch program low short e) (after_stretch program high long g)) (sym same) (after_stretch_same e)
+  after_stretch_extends : (s : Stretch) → Extends (after_stretch program low short s) (after_stretch program high long s)
+  after_stretch_extends s = after_turn_extends s.turn s.words
 
 main_extends : (program : Program) (low high : ℕ) → low ≤ high → (few many : ℕ) → few ≤ many → (m : Machine) (words : List ℕ) →
     Extends (main_from program low few m words) (main_from program high many m words)
 main_extends program low high h zero many k m words = inl refl
 main_extends program low high h (suc few) zero k m words = absurd (omega arith)
 main_extends program low high h (suc few) (suc many) k m words =
-    after_stretch_extends program low high h (main_from program low few) (main_from program high many)
-    (main_extends program low high h few many (omega arith)) (run program low m words) (run program high m words) (run_extends program low high h m words)
+    followed_extends (after_stretch program low (main_from program low few)) (after_stretch program high (main_from program high many))
+    (after_stretch_extends program low high h (main_from program low few) (main_from program high many) (main_extends program low high h few many (omega arith)))
+    (run program low m words) (run program high m words) (run_extends program low high h m words)
 
 pub program_extends : (program : Program) (low high : ℕ) → low ≤ high → (argument : ℕ) (words : List ℕ) →
     Extends (program_in_order program low argument words) (program_in_order program high argument words)

@@ -1,13 +1,13 @@
 -- A run is a list of states.
-use Rattle.std.proofs.Common.{◌≡◌, ℕ, zero, suc, ◌≤◌, List, [], ◌∷◌, ◌++◌, Option, Some, None, refl, sym, ◌∙◌, ap, subst, arith}
+use Rattle.std.proofs.Common.{◌≡◌, ℕ, zero, suc, ◌≤◌, List, [], ◌∷◌, Option, Some, None, refl, sym, ◌∙◌, ap, subst, arith}
 use Rattle.std.specs.Prelude.{slice_get}
 use Rattle.array_maps.specs.Accesses.{Access, words_after}
 use Rattle.bpf_insn_form.specs.Program.{Program}
 use Rattle.bpf_step_model.specs.State.{Machine}
 use Rattle.bpf_step_model.specs.Step.{Request, Move, NoStep, Next, Asks, Loops, Refuses, Exits, step}
-use Rattle.bpf_step_model.specs.Run.{Ending, Ended, Turn, Exit, Loop, Refused, Stretch, told, one_more, one_more_with, ended_by, after_access, after_move, run}
+use Rattle.bpf_step_model.specs.Run.{Ending, Ended, Turn, Exit, Loop, Refused, Stretch, told, mapped, with_first, ended_by, after_access, after_move, run}
 use Rattle.bpf_step_model.specs.Steps.{access_of, GoesOn, EndsBy, Steps, IsListOfStates, RunIsListOfStates}
-use Rattle.bpf_step_model.proofs.Endings.{one_more_from, one_more_with_from, ended_same}
+use Rattle.bpf_step_model.proofs.Endings.{mapped_from, ended_same}
 
 module _ (program : Program) where
   -- what is claimed of a run that ended
@@ -22,7 +22,7 @@ module _ (program : Program) where
   -- the first instruction goes on
   more_listed : (bound : ℕ) (m next : Machine) (words between : List ℕ) (first : List Access) (s : Stretch) → GoesOn (step program m) words first next between →
       IsListed bound next between s →
-      IsListed (suc bound) m words (record { turn = s.turn; steps = suc s.steps; accesses = first ++ s.accesses; words = s.words })
+      IsListed (suc bound) m words (with_first first s)
   more_listed bound m next words between first s goes listed =
       let states = listed.1 in (
         (let short = listed.0 in omega arith),
@@ -45,7 +45,7 @@ module _ (program : Program) where
   by_access bound lists m next element request moves words s None there h = absurd (cc)
   by_access bound lists m next element request moves words s (Some word) there h =
       let access : Access = access_of element request word in
-      let before = one_more_with_from access (run program bound (told request word next) (words_after access words)) s h in
+      let before = mapped_from (with_first (access ∷ [])) (run program bound (told request word next) (words_after access words)) s h in
       let goes : GoesOn (step program m) words (access ∷ []) (told request word next) (words_after access words) =
       subst (λ (move : Move). GoesOn move words (access ∷ []) (told request word next) (words_after access words)) (sym moves) (word, there, refl, refl, refl) in
       subst (λ (t : Stretch). IsListed (suc bound) m words t) (sym before.2)
@@ -56,7 +56,7 @@ module _ (program : Program) where
       after_move (run program bound) m.slot move words ≡ Ended s → IsListed (suc bound) m words s
   by_move bound lists m words s NoStep moves h = absurd (cc)
   by_move bound lists m words s (Next next) moves h =
-      let before = one_more_from (run program bound next words) s h in
+      let before = mapped_from (with_first []) (run program bound next words) s h in
       let goes : GoesOn (step program m) words [] next words = subst (λ (move : Move). GoesOn move words [] next words) (sym moves) (refl, refl, refl) in
       subst (λ (t : Stretch). IsListed (suc bound) m words t) (sym before.2)
       (more_listed bound m next words words [] before.0 goes (lists next words before.0 before.1))
@@ -85,23 +85,19 @@ module _ (program : Program) where
   run_ends go_on slot (Refuses answer next) words turn h = ap (λ t. ended_by t words) (sym h)
   run_ends go_on slot (Exits ret) words turn h = ap (λ t. ended_by t words) (sym h)
 
-  -- a stretch with its first accesses and one instruction more in front
-  abbrev pub with_first : List Access → Stretch → Stretch
-  with_first first s = record { turn = s.turn; steps = suc s.steps; accesses = first ++ s.accesses; words = s.words }
-
   run_goes : (go_on : Machine → List ℕ → Ending Stretch) (slot : ℕ) (move : Move) (words between : List ℕ) (first : List Access) (next : Machine) (s : Stretch) →
       GoesOn move words first next between → go_on next between ≡ Ended s → after_move go_on slot move words ≡ Ended (with_first first s)
   run_goes go_on slot NoStep words between first next s goes h = absurd goes
   run_goes go_on slot (Next m) words between first next s goes h =
       let same : go_on m words ≡ Ended s = subst (λ (n : Machine). go_on n words ≡ Ended s) goes.1 (subst (λ (ws : List ℕ). go_on next ws ≡ Ended s) goes.2 h) in
-      subst (λ (made : List Access). one_more (go_on m words) ≡ Ended (with_first made s)) (sym goes.0) (ap one_more same)
+      subst (λ (made : List Access). mapped (with_first []) (go_on m words) ≡ Ended (with_first made s)) (sym goes.0) (ap (mapped (with_first [])) same)
   run_goes go_on slot (Asks element request m) words between first next s goes h =
       let word : ℕ = goes.0 in
       let access : Access = access_of element request word in
       let same : go_on (told request word m) (words_after access words) ≡ Ended s =
       subst (λ (n : Machine). go_on n (words_after access words) ≡ Ended s) goes.3 (subst (λ (ws : List ℕ). go_on next ws ≡ Ended s) goes.4 h) in
       subst (λ (made : List Access). after_access go_on element request m words (slice_get words element) ≡ Ended (with_first made s)) (sym goes.2)
-      (subst (λ (o : Option ℕ). after_access go_on element request m words o ≡ Ended (with_first (access ∷ []) s)) (sym goes.1) (ap (one_more_with access) same))
+      (subst (λ (o : Option ℕ). after_access go_on element request m words o ≡ Ended (with_first (access ∷ []) s)) (sym goes.1) (ap (mapped (with_first (access ∷ []))) same))
   run_goes go_on slot (Loops call m) words between first next s goes h = absurd goes
   run_goes go_on slot (Refuses answer m) words between first next s goes h = absurd goes
   run_goes go_on slot (Exits ret) words between first next s goes h = absurd goes

@@ -5,18 +5,9 @@ use Rattle.array_maps.specs.Accesses.{Access, words_after}
 use Rattle.bpf_insn_form.specs.Program.{Program}
 use Rattle.bpf_step_model.specs.State.{Machine}
 use Rattle.bpf_step_model.specs.Step.{Request, Move, NoStep, Next, Asks, Loops, Refuses, Exits, step}
-use Rattle.bpf_step_model.specs.Run.{Ending, Ended, Stuck, Unfinished, Stretch, told, one_more, one_more_with, after_access, after_move, run}
+use Rattle.bpf_step_model.specs.Run.{Ending, Stuck, Stretch, told, mapped, with_first, after_access, after_move, run}
 use Rattle.bpf_step_model.specs.Steps.{access_of, GoesOn, Steps, HasNoStep, LeadsToNoStep, RunIsStuck}
-
-stuck_before : (e : Ending Stretch) → one_more e ≡ Stuck → e ≡ Stuck
-stuck_before Stuck h = refl
-stuck_before Unfinished h = absurd (cc)
-stuck_before (Ended s) h = absurd (cc)
-
-stuck_before_access : (access : Access) (e : Ending Stretch) → one_more_with access e ≡ Stuck → e ≡ Stuck
-stuck_before_access access Stuck h = refl
-stuck_before_access access Unfinished h = absurd (cc)
-stuck_before_access access (Ended s) h = absurd (cc)
+use Rattle.bpf_step_model.proofs.Endings.{mapped_stuck}
 
 module _ (program : Program) where
   -- what is claimed of a run that is stuck
@@ -55,14 +46,14 @@ module _ (program : Program) where
       let goes : GoesOn (step program m) words (access ∷ []) (told request word next) (words_after access words) =
       subst (λ (move : Move). GoesOn move words (access ∷ []) (told request word next) (words_after access words)) (sym moves) (word, there, refl, refl, refl) in
       no_step_later bound m (told request word next) words (words_after access words) (access ∷ []) goes
-      (leads (told request word next) (words_after access words) (stuck_before_access access (run program bound (told request word next) (words_after access words)) h))
+      (leads (told request word next) (words_after access words) (mapped_stuck (with_first (access ∷ [])) (run program bound (told request word next) (words_after access words)) h))
 
   by_move : (bound : ℕ) → Leads bound → (m : Machine) (words : List ℕ) (move : Move) → step program m ≡ move →
       after_move (run program bound) m.slot move words ≡ Stuck → IsLed (suc bound) m words
   by_move bound leads m words NoStep moves h = no_step_here bound m words (subst (λ (move : Move). HasNoStep move words) (sym moves) tt)
   by_move bound leads m words (Next next) moves h =
       let goes : GoesOn (step program m) words [] next words = subst (λ (move : Move). GoesOn move words [] next words) (sym moves) (refl, refl, refl) in
-      no_step_later bound m next words words [] goes (leads next words (stuck_before (run program bound next words) h))
+      no_step_later bound m next words words [] goes (leads next words (mapped_stuck (with_first []) (run program bound next words) h))
   by_move bound leads m words (Asks element request next) moves h = by_access bound leads m next element request moves words (slice_get words element) refl h
   by_move bound leads m words (Loops call next) moves h = absurd (cc)
   by_move bound leads m words (Refuses answer next) moves h = absurd (cc)
@@ -85,12 +76,12 @@ module _ (program : Program) where
       GoesOn move words first next between → go_on next between ≡ Stuck → after_move go_on slot move words ≡ Stuck
   move_goes go_on slot NoStep words between first next goes h = absurd goes
   move_goes go_on slot (Next m) words between first next goes h =
-      ap one_more (subst (λ (n : Machine). go_on n words ≡ Stuck) goes.1 (subst (λ (ws : List ℕ). go_on next ws ≡ Stuck) goes.2 h))
+      ap (mapped (with_first [])) (subst (λ (n : Machine). go_on n words ≡ Stuck) goes.1 (subst (λ (ws : List ℕ). go_on next ws ≡ Stuck) goes.2 h))
   move_goes go_on slot (Asks element request m) words between first next goes h =
       let access : Access = access_of element request goes.0 in
       let stuck : go_on (told request goes.0 m) (words_after access words) ≡ Stuck =
       subst (λ (n : Machine). go_on n (words_after access words) ≡ Stuck) goes.3 (subst (λ (ws : List ℕ). go_on next ws ≡ Stuck) goes.4 h) in
-      subst (λ (o : Option ℕ). after_access go_on element request m words o ≡ Stuck) (sym goes.1) (ap (one_more_with access) stuck)
+      subst (λ (o : Option ℕ). after_access go_on element request m words o ≡ Stuck) (sym goes.1) (ap (mapped (with_first (access ∷ []))) stuck)
   move_goes go_on slot (Loops call m) words between first next goes h = absurd goes
   move_goes go_on slot (Refuses answer m) words between first next goes h = absurd goes
   move_goes go_on slot (Exits ret) words between first next goes h = absurd goes

@@ -10,5 +10,8 @@ pub mod Lines
 pub mod ProgramRows
 pub mod LoopRows
 pub mod StepRows
+pub mod MapRows
 pub mod Steps
 pub mod Bounds
+pub mod Atomics
+pub mod SoundMachine

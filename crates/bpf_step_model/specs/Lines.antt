@@ -1,13 +1,17 @@
--- Lines that worked programs are made of.
-use Rattle.std.specs.Prelude.{ℕ, pos, List, [], ◌∷◌}
+-- Lines that worked programs are made of, and what such programs give.
+use Rattle.std.specs.Prelude.{◌≡◌, ℕ, ℤ, pos, negsuc, List, [], ◌∷◌}
+use Rattle.bpf_insn_form.specs.declared.insn.Size.TheVariants.{Dw}
 use Rattle.bpf_insn_form.specs.declared.insn.Width.TheVariants.{W64}
 use Rattle.bpf_insn_form.specs.declared.insn.AluOp.{AluOp}
-use Rattle.bpf_insn_form.specs.declared.insn.AluOp.TheVariants.{Add, Lsh, Mov}
+use Rattle.bpf_insn_form.specs.declared.insn.AluOp.TheVariants.{Add, Sub, Lsh, Mov}
 use Rattle.bpf_insn_form.specs.declared.insn.Operand.TheVariants.{Imm, Reg}
 use Rattle.bpf_insn_form.specs.declared.insn.Callee.TheVariants.{Helper}
-use Rattle.bpf_insn_form.specs.declared.insn.ImmKind.TheVariants.{Code, MapValue}
+use Rattle.bpf_insn_form.specs.declared.insn.ImmKind.TheVariants.{Code, Map, MapValue}
 use Rattle.bpf_insn_form.specs.declared.insn.Insn.{Insn}
-use Rattle.bpf_insn_form.specs.declared.insn.Insn.TheVariants.{Alu, Call, Exit, LoadImm}
+use Rattle.bpf_insn_form.specs.declared.insn.Insn.TheVariants.{Alu, Call, Exit, Load, StoreImm, LoadImm}
+use Rattle.bpf_insn_form.specs.Program.{Program}
+use Rattle.bpf_step_model.specs.Run.{Ended, Stuck, mapped}
+use Rattle.bpf_step_model.specs.ProgramInOrder.{Finished, program_in_order}
 
 -- mov64 r, n
 abbrev pub mov : ℕ → ℕ → Insn
@@ -24,6 +28,18 @@ alu_reg op dst src = Alu W64 op dst (Reg src)
 abbrev pub map_value : ℕ → ℕ → ℕ → Insn
 map_value r map offset = LoadImm MapValue r (pos map) (pos offset)
 
+-- st64 [r10+offset], n
+abbrev pub store_imm : ℤ → ℕ → Insn
+store_imm offset n = StoreImm Dw 10 offset (pos n)
+
+-- ldx64 r0, [r10-8] and exit
+abbrev pub read_top : List Insn
+read_top = Load Dw 0 10 (negsuc 7) ∷ Exit ∷ []
+
+-- a map is looked up by the key that begins so many bytes below r10
+abbrev pub look_up : (map below : ℕ) → List Insn
+look_up map below = LoadImm Map 1 (pos map) (pos 0) ∷ alu_reg Mov 2 10 ∷ alu_imm Sub 2 below ∷ Call Helper (pos 1) ∷ []
+
 -- mov64 r0, 0 and exit
 abbrev pub end : List Insn
 end = mov 0 0 ∷ Exit ∷ []
@@ -39,3 +55,29 @@ loop_with n flags callback =
 
 abbrev pub loop_of : ℕ → List Insn → List Insn
 loop_of n callback = loop_with n 0 callback
+
+-- the words that a program leaves
+abbrev pub final_words : Finished → List ℕ
+final_words f = f.words
+
+-- a program over one map of two elements
+abbrev pub over_two : List Insn → Program
+over_two insns = record { sizes = 2 ∷ []; insns = insns }
+
+-- from these two elements the lines return this and leave those
+abbrev pub Gives : List Insn → (first second ret first' second' : ℕ) → Type 0
+Gives insns first second ret first' second' =
+    program_in_order (over_two insns) 20 0 (first ∷ second ∷ []) ≡ Ended (record { ret = ret; loops = []; words = first' ∷ second' ∷ [] })
+
+-- the lines return this, and touch no map
+abbrev pub Returns : List Insn → ℕ → Type 0
+Returns insns ret = Gives insns 0 0 ret 0 0
+
+-- the lines, whatever they return, turn these two elements into those
+abbrev pub Leaves : List Insn → (first second first' second' : ℕ) → Type 0
+Leaves insns first second first' second' =
+    mapped final_words (program_in_order (over_two insns) 20 0 (first ∷ second ∷ [])) ≡ Ended (first' ∷ second' ∷ [])
+
+-- the lines come to a place where there is no step
+abbrev pub IsStuck : List Insn → Type 0
+IsStuck insns = program_in_order (over_two insns) 20 0 (0 ∷ 0 ∷ []) ≡ Stuck

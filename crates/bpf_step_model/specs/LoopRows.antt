@@ -8,14 +8,14 @@ use Rattle.bpf_insn_form.specs.declared.insn.AluOp.TheVariants.{Add, Or, And, Mo
 use Rattle.bpf_insn_form.specs.declared.insn.Compare.TheVariants.{Ne}
 use Rattle.bpf_insn_form.specs.declared.insn.Operand.TheVariants.{Imm}
 use Rattle.bpf_insn_form.specs.declared.insn.Callee.TheVariants.{Helper}
-use Rattle.bpf_insn_form.specs.declared.insn.ImmKind.TheVariants.{Code}
+use Rattle.bpf_insn_form.specs.declared.insn.ImmKind.TheVariants.{Code, Number}
 use Rattle.bpf_insn_form.specs.declared.insn.Insn.{Insn}
 use Rattle.bpf_insn_form.specs.declared.insn.Insn.TheVariants.{Alu, Call, Exit, Jump, Load, Store, StoreImm, Atomic, LoadImm}
 use Rattle.bpf_insn_form.specs.Program.{Program}
 use Rattle.bpf_step_model.specs.State.{LoopCall, Bytes, fresh_frame}
 use Rattle.bpf_step_model.specs.Memory.{written_at}
-use Rattle.bpf_step_model.specs.Run.{Ended}
-use Rattle.bpf_step_model.specs.ProgramInOrder.{LoopMade, program_in_order}
+use Rattle.bpf_step_model.specs.Run.{Ended, Stuck}
+use Rattle.bpf_step_model.specs.ProgramInOrder.{LoopMade, Finished, program_in_order}
 use Rattle.bpf_step_model.specs.Lines.{mov, alu_imm, alu_reg, map_value, end, element_address, loop_with, loop_of}
 
 -- jne64 r, n, +distance
@@ -110,6 +110,30 @@ pub record RefusedRows : Type 0 where
   pub flags : Refuses 8388608 1 (negsuc 21) 18446744073709551594
   pub flags_first : Refuses 8388609 1 (negsuc 21) 18446744073709551594
 
+-- a valid call of main, where the words stood so
+abbrev pub made : (slot callback n : ℕ) → Option ℕ → Bytes → List ℕ → LoopMade
+made slot callback n ctx frame words =
+    record { slot = slot; answer = pos n; words = words; call = Some (record { slot = slot; callback = callback; n = n; ctx = ctx; frame = frame }) }
+
+-- calls whose first or fourth argument is a number of more than 32 bits, at slot 6, or whose third is 1
+abbrev pub arguments : Insn → Insn → Insn → ℤ → List Insn
+arguments count ctx flags distance = count ∷ LoadImm Code 2 distance (pos 0) ∷ ctx ∷ flags ∷ Call Helper (pos 181) ∷ Exit ∷ add_index
+
+abbrev pub wide_number : ℕ → (low high : ℕ) → Insn
+wide_number r low high = LoadImm Number r (pos low) (pos high)
+
+-- from one element that is 0
+abbrev pub Finishes : List Insn → Finished → Type 0
+Finishes insns finished = program_in_order (record { sizes = 1 ∷ []; insns = insns }) 20 0 (0 ∷ []) ≡ Ended finished
+
+-- 2 ^ 32 + 4 iterations are 4; flags 2 ^ 32 aren't 0; ctx is an address or 0
+pub record ArgumentRows : Type 0 where
+  pub count_modulo : Finishes (arguments (wide_number 1 4 1) (mov 3 0) (mov 4 0) (pos 5))
+      (record { ret = 4; loops = made 6 8 4 None fresh_frame (0 ∷ []) ∷ []; words = 6 ∷ [] })
+  pub wide_flags : Finishes (arguments (mov 1 4) (mov 3 0) (wide_number 4 0 1) (pos 6))
+      (record { ret = 18446744073709551594; loops = record { slot = 6; answer = negsuc 21; words = 0 ∷ []; call = None } ∷ []; words = 0 ∷ [] })
+  pub ctx_of_one : program_in_order (record { sizes = 1 ∷ []; insns = arguments (mov 1 4) (mov 3 1) (mov 4 0) (pos 5) }) 20 0 (0 ∷ []) ≡ Stuck
+
 -- main stores 5 on its frame, and each iteration adds that through ctx
 abbrev pub through_ctx : Program
 through_ctx = record {
@@ -131,10 +155,6 @@ two_loops = record {
   insns = mov 6 3 ∷ (loop_lines (pos 11) ++ (loop_lines (pos 5) ++ (Exit ∷ map_value 3 0 8 ∷ Atomic W64 (Simple AddOp) 3 1 (pos 0) ∷ end)));
 }
 
-abbrev pub made : (slot callback n : ℕ) → Option ℕ → Bytes → List ℕ → LoopMade
-made slot callback n ctx frame words =
-    record { slot = slot; answer = pos n; words = words; call = Some (record { slot = slot; callback = callback; n = n; ctx = ctx; frame = frame }) }
-
 -- main's frame through ctx, and a second loop that starts from what the first left
 pub record MainRows : Type 0 where
   pub ctx : program_in_order through_ctx 20 0 (0 ∷ [])
@@ -146,4 +166,5 @@ pub record MainRows : Type 0 where
 pub record LoopRows : Type 0 where
   pub one : OneLoopRows
   pub refused : RefusedRows
+  pub arguments : ArgumentRows
   pub main : MainRows

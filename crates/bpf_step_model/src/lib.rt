@@ -2,8 +2,10 @@
 //! laws alone: nothing runs here.
 #![tactic(auto)]
 
+ghost use Rattle.bpf_step_model.specs.Atomics.{AtomicsAgree};
 ghost use Rattle.bpf_step_model.specs.Bounds.{GreaterBoundAgrees};
 ghost use Rattle.bpf_step_model.specs.LoopRows.{LoopRows};
+ghost use Rattle.bpf_step_model.specs.MapRows.{MapRows};
 ghost use Rattle.bpf_step_model.specs.ProgramRows.{ProgramRows};
 ghost use Rattle.bpf_step_model.specs.StepRows.{StepRows};
 ghost use Rattle.bpf_step_model.specs.Steps.{RunIsListOfStates, RunIsStuck};
@@ -26,6 +28,12 @@ pub fn worked_steps()
     ensures { StepRows }
 {}
 
+/// The definitions give what accesses of maps do: elements of two maps, and halves of elements, each
+/// with what it reads, writes or reduces.
+pub fn worked_maps()
+    ensures { MapRows }
+{}
+
 /// The law of runs: a run that ends within its bound is a list of states from its entry, each the
 /// step of the one before, and its length is the number of its instructions; and each such list of
 /// states is a run. It is stuck exactly where fewer steps than its bound lead to a state that has none.
@@ -37,4 +45,10 @@ pub fn law_of_runs()
 /// The law of bounds: with a greater bound what ended ends the same way, and what was stuck is stuck.
 pub fn law_of_bounds()
     ensures { GreaterBoundAgrees }
+{}
+
+/// The law of atomic operations: on a frame and on a part of a map's element they apply the same
+/// operator, tell the same register the same number, and leave the other half of the element alone.
+pub fn law_of_atomics()
+    ensures { AtomicsAgree }
 {}

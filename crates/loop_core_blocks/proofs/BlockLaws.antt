@@ -1,11 +1,11 @@
 -- The scan of adjacent intervals.
 use Rattle.std.proofs.Common.{◌≡◌, ℕ, zero, suc, ◌+◌, Bool, true, false, ◌||◌, List, [], ◌∷◌, ◌++◌, refl, sym, ◌∙◌, ap, arith}
 use Rattle.std.specs.Prelude.{if◌then◌else◌, ◌==◌}
-use Rattle.bpf_step_model.specs.Run.{Ending, Ended, Stuck, Unfinished}
+use Rattle.bpf_step_model.specs.Run.{Ending, Ended, Stuck, Unfinished, mapped, followed}
 use Rattle.bpf_step_model.specs.Iteration.{Iterated}
-use Rattle.loop_core_law.specs.LeastBreak.{mapped}
+use Rattle.loop_core_law.specs.LeastBreak.{in_front_of}
 use Rattle.loop_core_law.specs.Scan.{up_to_break, scan}
-use Rattle.loop_core_blocks.specs.Block.{has_break, followed, ScansFollow}
+use Rattle.loop_core_blocks.specs.Block.{has_break, unless_broken, ScansFollow}
 
 mapped_same : (e : Ending (List Iterated)) → mapped (λ others. [] ++ others) e ≡ e
 mapped_same Stuck = refl
@@ -20,23 +20,25 @@ mapped_twice it iterations (Ended others) = refl
 
 -- an iteration that doesn't break in front of a scan
 more_followed : (it : Iterated) (near far : Ending (List Iterated)) → (it.ret == 1) ≡ false →
-    mapped (λ others. it ∷ others) (followed near far) ≡ followed (mapped (λ others. it ∷ others) near) far
+    in_front_of (followed (unless_broken far) near) it ≡ followed (unless_broken far) (in_front_of near it)
 more_followed it Stuck far on = refl
 more_followed it Unfinished far on = refl
 more_followed it (Ended iterations) far on = rw on (go (has_break iterations))
   where
-    go : (b : Bool) → mapped (λ others. it ∷ others) (if b then Ended iterations else mapped (λ others. iterations ++ others) far)
+    go : (b : Bool) → in_front_of (if b then Ended iterations else mapped (λ others. iterations ++ others) far) it
         ≡ (if b then Ended (it ∷ iterations) else mapped (λ others. (it ∷ iterations) ++ others) far)
     go true = refl
     go false = mapped_twice it iterations far
 
-one_followed : (near far : Ending (List Iterated)) (e : Ending Iterated) → up_to_break (followed near far) e ≡ followed (up_to_break near e) far
+one_followed : (near far : Ending (List Iterated)) (e : Ending Iterated) →
+    followed (up_to_break (followed (unless_broken far) near)) e ≡ followed (unless_broken far) (followed (up_to_break near) e)
 one_followed near far Stuck = refl
 one_followed near far Unfinished = refl
 one_followed near far (Ended it) = go (it.ret == 1) refl
   where
     go : (b : Bool) → (it.ret == 1) ≡ b →
-        (if b then Ended (it ∷ []) else mapped (λ others. it ∷ others) (followed near far)) ≡ followed (if b then Ended (it ∷ []) else mapped (λ others. it ∷ others) near) far
+        (if b then Ended (it ∷ []) else in_front_of (followed (unless_broken far) near) it)
+        ≡ followed (unless_broken far) (if b then Ended (it ∷ []) else in_front_of near it)
     go true breaks = rw breaks refl
     go false on = more_followed it near far on
 
@@ -44,11 +46,11 @@ pub scans_follow : ScansFollow
 scans_follow iterate zero more index =
     let none : zero + more ≡ more = omega arith in
     let here : index + zero ≡ index = omega arith in
-    ap (λ n. scan iterate n index) none ∙ sym (mapped_same (scan iterate more index)) ∙ ap (λ i. followed (Ended []) (scan iterate more i)) (sym here)
+    ap (λ n. scan iterate n index) none ∙ sym (mapped_same (scan iterate more index)) ∙ ap (λ i. followed (unless_broken (scan iterate more i)) (Ended [])) (sym here)
 scans_follow iterate (suc few) more index =
     let one_more : suc few + more ≡ suc (few + more) = omega arith in
     let there : index + 1 + few ≡ index + suc few = omega arith in
     ap (λ n. scan iterate n index) one_more
-    ∙ ap (λ rest. up_to_break rest (iterate index)) (scans_follow iterate few more (index + 1))
+    ∙ ap (λ rest. followed (up_to_break rest) (iterate index)) (scans_follow iterate few more (index + 1))
     ∙ one_followed (scan iterate few (index + 1)) (scan iterate more (index + 1 + few)) (iterate index)
-    ∙ ap (λ i. followed (scan iterate (suc few) index) (scan iterate more i)) there
+    ∙ ap (λ i. followed (unless_broken (scan iterate more i)) (scan iterate (suc few) index)) there

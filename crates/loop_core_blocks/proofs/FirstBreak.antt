@@ -3,12 +3,12 @@ use Rattle.std.proofs.Common.{◌≡◌, ℕ, zero, suc, ◌+◌, ◌≤◌, ◌
 use Rattle.std.specs.Prelude.{if◌then◌else◌, ◌==◌, min, is_some}
 use Rattle.std.proofs.lemmas.Bool.{cases_lt}
 use Rattle.std.proofs.lemmas.Bool.Decides.{eqb_tells}
-use Rattle.bpf_step_model.specs.Run.{Ending, Ended, Stuck, Unfinished}
+use Rattle.bpf_step_model.specs.Run.{Ending, Ended, Stuck, Unfinished, followed}
 use Rattle.bpf_step_model.specs.Iteration.{Iterated}
-use Rattle.loop_core_law.specs.LeastBreak.{is_break, lesser, mapped}
+use Rattle.bpf_step_model.proofs.Endings.{mapped_from}
+use Rattle.loop_core_law.specs.LeastBreak.{is_break, in_front_of}
 use Rattle.loop_core_law.specs.Scan.{up_to_break, scan}
 use Rattle.loop_core_law.proofs.Least.{IsLeast, LeastIs}
-use Rattle.loop_core_law.proofs.LoopAgain.{one_more_from}
 use Rattle.loop_core_blocks.specs.Block.{has_break, break_from}
 
 -- no index of an interval passes
@@ -111,15 +111,15 @@ module _ (iterate : ℕ → Ending Iterated) where
   scan_first (suc left) index ran h = by_first (iterate index) refl h (scan_first left (index + 1))
     where
       by_break : (it : Iterated) → iterate index ≡ Ended it → (b : Bool) → (it.ret == 1) ≡ b →
-          (if b then Ended (it ∷ []) else mapped (λ others. it ∷ others) (scan iterate left (index + 1))) ≡ Ended ran →
+          (if b then Ended (it ∷ []) else in_front_of (scan iterate left (index + 1)) it) ≡ Ended ran →
           ((its : List Iterated) → scan iterate left (index + 1) ≡ Ended its → FirstIs breaking (index + 1) (index + 1 + left) (break_from (index + 1) its)) →
           FirstIs breaking index (index + suc left) (break_from index ran)
       by_break it same true one h later = breaks_at_once left index it ran same one (let e : it ∷ [] ≡ ran = cc in sym e)
       by_break it same false on h later =
-          let parts = one_more_from it (scan iterate left (index + 1)) ran h in
+          let parts = mapped_from (λ others. it ∷ others) (scan iterate left (index + 1)) ran h in
           goes_on left index it parts.0 ran same on parts.2 (later parts.0 parts.1)
 
-      by_first : (e : Ending Iterated) → iterate index ≡ e → up_to_break (scan iterate left (index + 1)) e ≡ Ended ran →
+      by_first : (e : Ending Iterated) → iterate index ≡ e → followed (up_to_break (scan iterate left (index + 1))) e ≡ Ended ran →
           ((its : List Iterated) → scan iterate left (index + 1) ≡ Ended its → FirstIs breaking (index + 1) (index + 1 + left) (break_from (index + 1) its)) →
           FirstIs breaking index (index + suc left) (break_from index ran)
       by_first Stuck same h later = absurd (cc)

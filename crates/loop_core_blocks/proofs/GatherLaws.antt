@@ -6,17 +6,17 @@ use Rattle.std.proofs.lemmas.Bool.{cases_lt, eqb-true, ltb-false, le-ltb, lt-ltb
 use Rattle.std.proofs.lemmas.List.{append-nil}
 use Rattle.bpf_insn_form.specs.Program.{Program}
 use Rattle.bpf_step_model.specs.State.{LoopCall}
-use Rattle.bpf_step_model.specs.Run.{Ending, Ended}
+use Rattle.bpf_step_model.specs.Run.{Ending, Ended, mapped, followed}
 use Rattle.bpf_step_model.specs.Iteration.{Iterated, iteration}
 use Rattle.loop_core_law.specs.Actions.{joined}
-use Rattle.loop_core_law.specs.LeastBreak.{is_break, least_below, lesser, mapped, least_break, counted_iterations, all_ended}
+use Rattle.loop_core_law.specs.LeastBreak.{is_break, least_below, lesser, least_break, counted_iterations, all_ended}
 use Rattle.loop_core_law.specs.Scan.{scan}
 use Rattle.loop_core_law.proofs.Least.{LeastIs, least_is}
 use Rattle.loop_core_law.proofs.OneElement.{or_false_left, or_false_right, and_true_left, and_true_right}
 use Rattle.loop_core_law.proofs.ScanLaws.{counted_are_scanned}
 use Rattle.loop_core_blocks.specs.declared.faults.SplitFault.{SplitFault}
 use Rattle.loop_core_blocks.specs.declared.faults.GatherFault.{GatherFault}
-use Rattle.loop_core_blocks.specs.Block.{block, has_break, break_from, followed}
+use Rattle.loop_core_blocks.specs.Block.{block, has_break, break_from, unless_broken}
 use Rattle.loop_core_blocks.specs.Split.{falls, last_bound, ends_amiss, split_fault}
 use Rattle.loop_core_blocks.specs.Gather.{Block, IsRunOf, least_of, starts_late, with_number, lacks, in_front, counting, lacks_some, twice, is_bound, stands_in, gather_fault, gathered, Gathers, BlocksGather}
 use Rattle.loop_core_blocks.proofs.BlockLaws.{scans_follow}
@@ -196,10 +196,10 @@ module _ (iterate : ℕ → Ending Iterated) (whole : List ℕ) (n : ℕ) (least
   with_block k first past bounds b there on_time first_is past_is order small rises run at_most real none later =
       let long : n - first ≡ (past - first) + (n - past) = omega arith in
       let next : first + (past - first) ≡ past = omega arith in
-      let whole_scan : scan iterate (n - first) first ≡ followed (Ended b.ran) (scan iterate (n - past) past) =
+      let whole_scan : scan iterate (n - first) first ≡ followed (unless_broken (scan iterate (n - past) past)) (Ended b.ran) =
           ap (λ m. scan iterate m first) long ∙ scans_follow iterate (past - first) (n - past) first
-          ∙ ap (λ e. followed e (scan iterate (n - past) (first + (past - first)))) run
-          ∙ ap (λ m. followed (Ended b.ran) (scan iterate (n - past) m)) next in
+          ∙ ap (λ e. followed (unless_broken (scan iterate (n - past) (first + (past - first)))) e) run
+          ∙ ap (λ m. followed (unless_broken (scan iterate (n - past) m)) (Ended b.ran)) next in
       let break_is : FirstIs (breaking iterate) first past (break_from first b.ran) =
           subst (λ (m : ℕ). FirstIs (breaking iterate) first m (break_from first b.ran)) next (scan_first iterate (past - first) first b.ran run) in
       let counts : gathered_from least blocks k first (past ∷ bounds) ≡ b.ran ++ gathered_from least blocks (k + 1) past bounds =
@@ -207,7 +207,7 @@ module _ (iterate : ℕ → Ending Iterated) (whole : List ℕ) (n : ℕ) (least
       go (break_from first b.ran) refl break_is at_most whole_scan counts
     where
       broken : (j i : ℕ) → least ≡ Some i → break_from first b.ran ≡ Some j → IsFirst (breaking iterate) first past j → i ≤ j → breaking iterate i ≡ true →
-          scan iterate (n - first) first ≡ followed (Ended b.ran) (scan iterate (n - past) past) →
+          scan iterate (n - first) first ≡ followed (unless_broken (scan iterate (n - past) past)) (Ended b.ran) →
           gathered_from least blocks k first (past ∷ bounds) ≡ b.ran ++ gathered_from least blocks (k + 1) past bounds → FromBound k first (past ∷ bounds)
       broken j i is_least is_break here at_most on whole_scan counts =
           let facts = broke_here first past i j small at_most on none here in
@@ -220,13 +220,13 @@ module _ (iterate : ℕ → Ending Iterated) (whole : List ℕ) (n : ℕ) (least
           }
 
       by_least : (o : Option ℕ) → least ≡ o → (j : ℕ) → break_from first b.ran ≡ Some j → IsFirst (breaking iterate) first past j → AtMost o (Some j) → IsReal (breaking iterate) n o →
-          scan iterate (n - first) first ≡ followed (Ended b.ran) (scan iterate (n - past) past) →
+          scan iterate (n - first) first ≡ followed (unless_broken (scan iterate (n - past) past)) (Ended b.ran) →
           gathered_from least blocks k first (past ∷ bounds) ≡ b.ran ++ gathered_from least blocks (k + 1) past bounds → FromBound k first (past ∷ bounds)
       by_least None is_least j is_break here at_most real whole_scan counts = absurd at_most
       by_least (Some i) is_least j is_break here at_most real whole_scan counts = broken j i is_least is_break here at_most real.0 whole_scan counts
 
       goes_on : (none_here : NoneIn (breaking iterate) first past) → break_from first b.ran ≡ None → FromBound (k + 1) past bounds →
-          scan iterate (n - first) first ≡ followed (Ended b.ran) (scan iterate (n - past) past) →
+          scan iterate (n - first) first ≡ followed (unless_broken (scan iterate (n - past) past)) (Ended b.ran) →
           gathered_from least blocks k first (past ∷ bounds) ≡ b.ran ++ gathered_from least blocks (k + 1) past bounds → FromBound k first (past ∷ bounds)
       goes_on none_here is_break rest whole_scan counts =
           let on : has_break b.ran ≡ false = break_there first b.ran ∙ ap is_some is_break in
@@ -239,7 +239,7 @@ module _ (iterate : ℕ → Ending Iterated) (whole : List ℕ) (n : ℕ) (least
       none_to none_here = widened (breaking iterate) 0 first past None (omega arith) none none_here
 
       go : (o : Option ℕ) → break_from first b.ran ≡ o → FirstIs (breaking iterate) first past o → AtMost least o →
-          scan iterate (n - first) first ≡ followed (Ended b.ran) (scan iterate (n - past) past) →
+          scan iterate (n - first) first ≡ followed (unless_broken (scan iterate (n - past) past)) (Ended b.ran) →
           gathered_from least blocks k first (past ∷ bounds) ≡ b.ran ++ gathered_from least blocks (k + 1) past bounds → FromBound k first (past ∷ bounds)
       go None is_break none_here at_most whole_scan counts = goes_on none_here is_break (later (none_to none_here)) whole_scan counts
       go (Some j) is_break here at_most whole_scan counts = by_least least refl j is_break here at_most real whole_scan counts

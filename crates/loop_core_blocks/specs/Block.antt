@@ -4,9 +4,8 @@ use Rattle.std.specs.Prelude.{◌≡◌, ℕ, ◌+◌, ◌-◌, Bool, ◌==◌, 
 use Rattle.std.specs.List.{list_any}
 use Rattle.bpf_insn_form.specs.Program.{Program}
 use Rattle.bpf_step_model.specs.State.{LoopCall}
-use Rattle.bpf_step_model.specs.Run.{Ending, Ended, Stuck, Unfinished}
+use Rattle.bpf_step_model.specs.Run.{Ending, Ended, mapped, followed}
 use Rattle.bpf_step_model.specs.Iteration.{Iterated, iteration}
-use Rattle.loop_core_law.specs.LeastBreak.{mapped}
 use Rattle.loop_core_law.specs.Scan.{scan}
 
 -- what is run of the interval from a first index up to, and without, another
@@ -22,13 +21,11 @@ abbrev pub break_from : ℕ → List Iterated → Option ℕ
 break_from index [] = None
 break_from index (it ∷ rest) = if it.ret == 1 then Some index else break_from (index + 1) rest
 
--- a scan, and unless it broke the one behind it
-abbrev pub followed : Ending (List Iterated) → Ending (List Iterated) → Ending (List Iterated)
-followed Stuck behind = Stuck
-followed Unfinished behind = Unfinished
-followed (Ended iterations) behind = if has_break iterations then Ended iterations else mapped (λ others. iterations ++ others) behind
+-- what was run, and unless it broke what is run behind it
+abbrev pub unless_broken : Ending (List Iterated) → List Iterated → Ending (List Iterated)
+unless_broken behind iterations = if has_break iterations then Ended iterations else mapped (λ others. iterations ++ others) behind
 
 -- the scan of two adjacent intervals is the scan of the first and then, unless it broke, of the second
 abbrev pub ScansFollow : Type 0
 ScansFollow = (iterate : ℕ → Ending Iterated) (few more index : ℕ) →
-    scan iterate (few + more) index ≡ followed (scan iterate few index) (scan iterate more (index + few))
+    scan iterate (few + more) index ≡ followed (unless_broken (scan iterate more (index + few))) (scan iterate few index)

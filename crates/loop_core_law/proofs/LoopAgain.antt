@@ -7,14 +7,15 @@ use Rattle.array_maps.specs.Accesses.{Action, Access, words_after_all}
 use Rattle.array_maps.proofs.ElementLaws.{length-words_after_all}
 use Rattle.bpf_insn_form.specs.Program.{Program}
 use Rattle.bpf_step_model.specs.State.{LoopCall}
-use Rattle.bpf_step_model.specs.Run.{Ending, Ended, Stuck, Unfinished}
+use Rattle.bpf_step_model.specs.Run.{Ending, Ended, Stuck, Unfinished, mapped, followed}
 use Rattle.bpf_step_model.specs.Iteration.{Iterated, iteration}
 use Rattle.bpf_step_model.specs.LoopInOrder.{Looped, behind, loop_from, loop_in_order}
+use Rattle.bpf_step_model.proofs.Endings.{mapped_from}
 use Rattle.loop_core_law.specs.declared.loop_test.Test.{Test}
 use Rattle.loop_core_law.specs.declared.loop_test.Test.TheVariants.{Lrpd, Flow}
 use Rattle.loop_core_law.specs.Actions.{joined, only_operator}
 use Rattle.loop_core_law.specs.Conflict.{clash, harm, conflicts, at_element, conflicting}
-use Rattle.loop_core_law.specs.LeastBreak.{is_break, counted, counted_iterations, mapped, all_ended, accesses_of_each, counted_runs}
+use Rattle.loop_core_law.specs.LeastBreak.{is_break, counted, counted_iterations, all_ended, accesses_of_each, counted_runs}
 use Rattle.loop_core_law.specs.Committed.{committed_words}
 use Rattle.loop_core_law.specs.Law.{LoopLaw}
 use Rattle.loop_core_law.proofs.OneElement.{and_false, Unharmed, harm-clash}
@@ -39,34 +40,22 @@ pub record AreEnded (endings : List (Ending Iterated)) (runs : List (List Access
   pub each : AllByRecursion IsEnded endings
   pub made : map accesses_of endings ≡ runs
 
-pub one_more_from : (it : Iterated) (rest : Ending (List Iterated)) (its : List Iterated) → mapped (λ others. it ∷ others) rest ≡ Ended its →
-    (others : List Iterated) × (rest ≡ Ended others) × (its ≡ it ∷ others)
-one_more_from it Stuck its h = absurd (cc)
-one_more_from it Unfinished its h = absurd (cc)
-one_more_from it (Ended others) its h = (others, refl, cc)
-
-are_ended : (endings : List (Ending Iterated)) (its : List Iterated) → all_ended endings ≡ Ended its → AreEnded endings (map (λ (it : Iterated). it.accesses) its)
-are_ended [] its h = record { each = tt; made = (let none : [] ≡ its = cc in ap (map (λ (it : Iterated). it.accesses)) none) }
+are_ended : (endings : List (Ending Iterated)) (its : List Iterated) → all_ended endings ≡ Ended its → AreEnded endings (accesses_of_each its)
+are_ended [] its h = record { each = tt; made = (let none : [] ≡ its = cc in ap accesses_of_each none) }
 are_ended (Stuck ∷ endings) its h = absurd (cc)
 are_ended (Unfinished ∷ endings) its h = absurd (cc)
 are_ended (Ended it ∷ endings) its h =
-    let parts = one_more_from it (all_ended endings) its h in
+    let parts = mapped_from (λ others. it ∷ others) (all_ended endings) its h in
     let rest = are_ended endings parts.0 parts.1 in
     record {
       each = (tt, rest.each);
-      made = ap (λ runs. it.accesses ∷ runs) rest.made ∙ ap (map (λ (i : Iterated). i.accesses)) (sym parts.2);
+      made = ap (λ runs. it.accesses ∷ runs) rest.made ∙ ap accesses_of_each (sym parts.2);
     }
-
-accesses_from : (ending : Ending (List Iterated)) (runs : List (List Access)) → mapped accesses_of_each ending ≡ Ended runs →
-    (its : List Iterated) × (ending ≡ Ended its) × (map (λ (it : Iterated). it.accesses) its ≡ runs)
-accesses_from Stuck runs h = absurd (cc)
-accesses_from Unfinished runs h = absurd (cc)
-accesses_from (Ended its) runs h = (its, refl, cc)
 
 runs_ended : (endings : List (Ending Iterated)) (runs : List (List Access)) → mapped accesses_of_each (all_ended endings) ≡ Ended runs → AreEnded endings runs
 runs_ended endings runs h =
-    let parts = accesses_from (all_ended endings) runs h in
-    subst (AreEnded endings) parts.2 (are_ended endings parts.0 parts.1)
+    let parts = mapped_from accesses_of_each (all_ended endings) runs h in
+    subst (AreEnded endings) (sym parts.2) (are_ended endings parts.0 parts.1)
 
 -- the loop's end
 abbrev pub loop_end : ℕ → List ℕ → Ending Looped
@@ -92,7 +81,7 @@ module _ (program : Program) (bound : ℕ) (call : LoopCall) (start : List ℕ) 
       loop_from program bound call (suc left) index now
       ≡ (if it.ret == 1 then loop_end (index + 1) (words_after_all it.accesses now) else loop_from program bound call left (index + 1) (words_after_all it.accesses now))
   step_again left index now it same long saws =
-      ap (behind (loop_from program bound call left (index + 1)) index) ((iteration_local program bound call index).again start now it same long saws)
+      ap (followed (behind (loop_from program bound call left (index + 1)) index)) ((iteration_local program bound call index).again start now it same long saws)
 
   -- the first iteration breaks: it is the last
   last_one : (count : ℕ) (left index : ℕ) (now : List ℕ) (it : Iterated) → speculated index ≡ Ended it → (it.ret == 1) ≡ true →

@@ -207,9 +207,6 @@ pub left-committed : (start : ℕ) (iterations : List (List Action)) → Unharme
 left-committed start iterations unharmed = committed_with start iterations (only_operator (joined iterations)) refl unharmed
 
 -- where nothing clashes, nothing is harmed
-unharmed_and : (b c : Bool) → (b || c) ≡ false → (b ≡ false) × (c ≡ false)
-unharmed_and b c h = (or_false_left b c h, or_false_right b c h)
-
 or_false : (a b : Bool) → a ≡ false → b ≡ false → (a || b) ≡ false
 or_false a b h k = rw (h, k) refl
 

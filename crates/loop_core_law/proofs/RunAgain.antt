@@ -7,10 +7,10 @@ use Rattle.array_maps.specs.Accesses.{Action, Read, Write, ReadWrite, Reduce, Ac
 use Rattle.array_maps.proofs.ElementLaws.{length-words_after, element_after_all}
 use Rattle.bpf_insn_form.specs.Program.{Program}
 use Rattle.bpf_step_model.specs.State.{Machine, LoopCall, callback_entry}
-use Rattle.bpf_step_model.specs.Step.{Request, Load, Store, Update, Fetch, Move, NoStep, Next, Asks, Loops, Refuses, Exits, step}
-use Rattle.bpf_step_model.specs.Run.{Ending, Ended, Stuck, Unfinished, Turn, Exit, Loop, Refused, Stretch, action_of, told, one_more, one_more_with, ended_by, after_access, after_move, run}
-use Rattle.bpf_step_model.specs.Iteration.{Iterated, exited, to_exit, iteration}
-use Rattle.bpf_step_model.proofs.Endings.{more_with, one_more_from, one_more_with_from, ended_same}
+use Rattle.bpf_step_model.specs.Step.{Request, Load, Store, StoreHalf, Update, Fetch, Move, NoStep, Next, Asks, Loops, Refuses, Exits, step}
+use Rattle.bpf_step_model.specs.Run.{Ending, Ended, Stuck, Unfinished, Turn, Exit, Loop, Refused, Stretch, action_of, told, mapped, followed, with_first, ended_by, after_access, after_move, run}
+use Rattle.bpf_step_model.specs.Iteration.{Iterated, exited_by, exited, iteration}
+use Rattle.bpf_step_model.proofs.Endings.{mapped_from, ended_same}
 use Rattle.loop_core_law.proofs.Turns.{Saws}
 
 -- the first access saw the word of its element
@@ -49,23 +49,26 @@ saws_cons access accesses words saw saws e inside =
 
 -- a request at a word saw that word
 action_saw : (request : Request) (word : ℕ) → Saw (action_of request word) word
-action_saw (Load into) word = refl
+action_saw (Load part extension into) word = refl
 action_saw (Store value) word = tt
+action_saw (StoreHalf half value) word = refl
 action_saw (Update op operand) word = tt
-action_saw (Fetch rmw value compare into) word = refl
+action_saw (Fetch part rmw value compare into) word = refl
 
 -- a request that would have seen another word too does the same there
 same_action : (request : Request) (word other : ℕ) → Saw (action_of request word) other → action_of request other ≡ action_of request word
-same_action (Load into) word other saw = ap (action_of (Load into)) (sym saw)
+same_action (Load part extension into) word other saw = ap (action_of (Load part extension into)) (sym saw)
 same_action (Store value) word other saw = refl
+same_action (StoreHalf half value) word other saw = ap (action_of (StoreHalf half value)) (sym saw)
 same_action (Update op operand) word other saw = refl
-same_action (Fetch rmw value compare into) word other saw = ap (action_of (Fetch rmw value compare into)) (sym saw)
+same_action (Fetch part rmw value compare into) word other saw = ap (action_of (Fetch part rmw value compare into)) (sym saw)
 
 same_told : (request : Request) (word other : ℕ) (m : Machine) → Saw (action_of request word) other → told request other m ≡ told request word m
-same_told (Load into) word other m saw = ap (λ w. told (Load into) w m) (sym saw)
+same_told (Load part extension into) word other m saw = ap (λ w. told (Load part extension into) w m) (sym saw)
 same_told (Store value) word other m saw = refl
+same_told (StoreHalf half value) word other m saw = refl
 same_told (Update op operand) word other m saw = refl
-same_told (Fetch rmw value compare into) word other m saw = ap (λ w. told (Fetch rmw value compare into) w m) (sym saw)
+same_told (Fetch part rmw value compare into) word other m saw = ap (λ w. told (Fetch part rmw value compare into) w m) (sym saw)
 
 -- a stretch over other words
 abbrev pub over : List ℕ → Stretch → Stretch
@@ -89,7 +92,7 @@ module _ (go_on : Machine → List ℕ → Ending Stretch) (is_local : IsLocal g
   access_saw element request next words s None there h = absurd (cc)
   access_saw element request next words s (Some word) there h =
       let access : Access = record { element = element; action = action_of request word } in
-      let before = one_more_with_from access (go_on (told request word next) (words_after access words)) s h in
+      let before = mapped_from (with_first (access ∷ [])) (go_on (told request word next) (words_after access words)) s h in
       let word_there : slice_index words element ≡ word = get_or_from_slice_get words element word 0 there in
       subst (λ (t : Stretch). Saws t.accesses words) (sym before.2)
       (saws_cons access before.0.accesses words (subst (Saw (action_of request word)) (sym word_there) (action_saw request word))
@@ -98,7 +101,7 @@ module _ (go_on : Machine → List ℕ → Ending Stretch) (is_local : IsLocal g
   move_saw : (slot : ℕ) (move : Move) (words : List ℕ) (s : Stretch) → after_move go_on slot move words ≡ Ended s → Saws s.accesses words
   move_saw slot NoStep words s h = absurd (cc)
   move_saw slot (Next next) words s h =
-      let before = one_more_from (go_on next words) s h in
+      let before = mapped_from (with_first []) (go_on next words) s h in
       subst (λ (t : Stretch). Saws t.accesses words) (sym before.2) (is_local.saw next words before.0 before.1)
   move_saw slot (Asks element request next) words s h = access_saw element request next words s (slice_get words element) refl h
   move_saw slot (Loops call next) words s h = subst (λ (t : Stretch). Saws t.accesses words) (ended_same (at_once (Loop call next) words) s h) (λ e inside. tt)
@@ -111,14 +114,14 @@ module _ (go_on : Machine → List ℕ → Ending Stretch) (is_local : IsLocal g
   access_left element request next words s None h = absurd (cc)
   access_left element request next words s (Some word) h =
       let access : Access = record { element = element; action = action_of request word } in
-      let before = one_more_with_from access (go_on (told request word next) (words_after access words)) s h in
+      let before = mapped_from (with_first (access ∷ [])) (go_on (told request word next) (words_after access words)) s h in
       subst (λ (t : Stretch). t.words ≡ words_after_all t.accesses words) (sym before.2)
       (is_local.left (told request word next) (words_after access words) before.0 before.1)
 
   move_left : (slot : ℕ) (move : Move) (words : List ℕ) (s : Stretch) → after_move go_on slot move words ≡ Ended s → s.words ≡ words_after_all s.accesses words
   move_left slot NoStep words s h = absurd (cc)
   move_left slot (Next next) words s h =
-      let before = one_more_from (go_on next words) s h in
+      let before = mapped_from (with_first []) (go_on next words) s h in
       subst (λ (t : Stretch). t.words ≡ words_after_all t.accesses words) (sym before.2) (is_local.left next words before.0 before.1)
   move_left slot (Asks element request next) words s h = access_left element request next words s (slice_get words element) h
   move_left slot (Loops call next) words s h = subst (λ (t : Stretch). t.words ≡ words_after_all t.accesses words) (ended_same (at_once (Loop call next) words) s h) refl
@@ -132,7 +135,7 @@ module _ (go_on : Machine → List ℕ → Ending Stretch) (is_local : IsLocal g
   access_again element request next words others s None there h same saws = absurd (cc)
   access_again element request next words others s (Some word) there h same saws =
       let access : Access = record { element = element; action = action_of request word } in
-      let before = one_more_with_from access (go_on (told request word next) (words_after access words)) s h in
+      let before = mapped_from (with_first (access ∷ [])) (go_on (told request word next) (words_after access words)) s h in
       let inside : element < length others = subst (λ (n : ℕ). element < n) (sym same) (slice_get_within words element word there) in
       let saws' : Saws (access ∷ before.0.accesses) others = subst (λ (t : Stretch). Saws t.accesses others) before.2 saws in
       let saw : Saw (action_of request word) (slice_index others element) = saws_head access before.0.accesses others inside saws' in
@@ -141,25 +144,25 @@ module _ (go_on : Machine → List ℕ → Ending Stretch) (is_local : IsLocal g
       let rest : go_on (told request word next) (words_after access others) ≡ Ended (over (words_after access others) before.0) =
       is_local.again (told request word next) (words_after access words) (words_after access others) before.0 before.1 longer
       (saws_tail access before.0.accesses others saws') in
-      let whole : one_more_with access (go_on (told request word next) (words_after access others)) ≡ Ended (over others (more_with access before.0)) =
-      ap (one_more_with access) rest in
+      let whole : mapped (with_first (access ∷ [])) (go_on (told request word next) (words_after access others)) ≡ Ended (over others (with_first (access ∷ []) before.0)) =
+      ap (mapped (with_first (access ∷ []))) rest in
       let there_too : slice_get others element ≡ Some (slice_index others element) = slice_get-get_or others element 0 inside in
       subst (λ (o : Option ℕ). after_access go_on element request next others o ≡ Ended (over others s)) (sym there_too)
-      (subst (λ (a : Action). one_more_with (record { element = element; action = a })
+      (subst (λ (a : Action). mapped (with_first (record { element = element; action = a } ∷ []))
       (go_on (told request (slice_index others element) next) (words_after (record { element = element; action = a }) others)) ≡ Ended (over others s))
       (sym (same_action request word (slice_index others element) saw))
-      (subst (λ (m : Machine). one_more_with access (go_on m (words_after access others)) ≡ Ended (over others s))
+      (subst (λ (m : Machine). mapped (with_first (access ∷ [])) (go_on m (words_after access others)) ≡ Ended (over others s))
       (sym (same_told request word (slice_index others element) next saw))
-      (subst (λ (t : Stretch). one_more_with access (go_on (told request word next) (words_after access others)) ≡ Ended (over others t))
+      (subst (λ (t : Stretch). mapped (with_first (access ∷ [])) (go_on (told request word next) (words_after access others)) ≡ Ended (over others t))
       (sym before.2) whole)))
 
   move_again : (slot : ℕ) (move : Move) (words others : List ℕ) (s : Stretch) → after_move go_on slot move words ≡ Ended s →
       length others ≡ length words → Saws s.accesses others → after_move go_on slot move others ≡ Ended (over others s)
   move_again slot NoStep words others s h same saws = absurd (cc)
   move_again slot (Next next) words others s h same saws =
-      let before = one_more_from (go_on next words) s h in
-      subst (λ (t : Stretch). one_more (go_on next others) ≡ Ended (over others t)) (sym before.2)
-      (ap one_more (is_local.again next words others before.0 before.1 same (subst (λ (t : Stretch). Saws t.accesses others) before.2 saws)))
+      let before = mapped_from (with_first []) (go_on next words) s h in
+      subst (λ (t : Stretch). mapped (with_first []) (go_on next others) ≡ Ended (over others t)) (sym before.2)
+      (ap (mapped (with_first [])) (is_local.again next words others before.0 before.1 same (subst (λ (t : Stretch). Saws t.accesses others) before.2 saws)))
   move_again slot (Asks element request next) words others s h same saws =
       access_again element request next words others s (slice_get words element) refl h same saws
   move_again slot (Loops call next) words others s h same saws =
@@ -199,7 +202,7 @@ pub record IterationIsLocal (program : Program) (bound : ℕ) (call : LoopCall) 
 abbrev pub stretch_of : Iterated → Stretch
 stretch_of it = record { turn = Exit it.ret; steps = it.steps; accesses = it.accesses; words = it.words }
 
-exited_from : (s : Stretch) (turn : Turn) (it : Iterated) → s.turn ≡ turn → exited s turn ≡ Ended it → s ≡ stretch_of it
+exited_from : (s : Stretch) (turn : Turn) (it : Iterated) → s.turn ≡ turn → exited_by turn s ≡ Ended it → s ≡ stretch_of it
 exited_from s (Exit ret) it same h = exit_same s ret it same (cc)
   where
     exit_same : (s : Stretch) (ret : ℕ) (it : Iterated) → s.turn ≡ Exit ret → record { ret = ret; steps = s.steps; accesses = s.accesses; words = s.words } ≡ it → s ≡ stretch_of it
@@ -207,7 +210,7 @@ exited_from s (Exit ret) it same h = exit_same s ret it same (cc)
 exited_from s (Loop call next) it same h = absurd (cc)
 exited_from s (Refused slot answer next) it same h = absurd (cc)
 
-to_exit_from : (e : Ending Stretch) (it : Iterated) → to_exit e ≡ Ended it → e ≡ Ended (stretch_of it)
+to_exit_from : (e : Ending Stretch) (it : Iterated) → followed exited e ≡ Ended it → e ≡ Ended (stretch_of it)
 to_exit_from (Ended s) it h = ap Ended (exited_from s s.turn it refl h)
 to_exit_from Stuck it h = absurd (cc)
 to_exit_from Unfinished it h = absurd (cc)
@@ -217,6 +220,6 @@ unfolding iteration
 iteration_local program bound call index = record {
   saw = λ words it h. (run_local program bound).saw (callback_entry call index) words (stretch_of it) (to_exit_from (run program bound (callback_entry call index) words) it h);
   again = λ words others it h same saws.
-      ap to_exit ((run_local program bound).again (callback_entry call index) words others (stretch_of it)
+      ap (followed exited) ((run_local program bound).again (callback_entry call index) words others (stretch_of it)
       (to_exit_from (run program bound (callback_entry call index) words) it h) same saws);
 }

@@ -2,9 +2,9 @@
 use Rattle.std.proofs.Common.{◌≡◌, ℕ, zero, suc, ◌+◌, ◌≤◌, Bool, true, false, List, [], ◌∷◌, map, refl, ◌∙◌, ap, arith}
 use Rattle.std.specs.Prelude.{if◌then◌else◌, ◌==◌}
 use Rattle.std.specs.List.{range_with_len}
-use Rattle.bpf_step_model.specs.Run.{Ending, Ended, Stuck, Unfinished}
+use Rattle.bpf_step_model.specs.Run.{Ending, Ended, Stuck, Unfinished, followed}
 use Rattle.bpf_step_model.specs.Iteration.{Iterated, iteration}
-use Rattle.loop_core_law.specs.LeastBreak.{is_break, least_below, count_to, mapped, all_ended}
+use Rattle.loop_core_law.specs.LeastBreak.{is_break, least_below, count_to, in_front_of, all_ended}
 use Rattle.loop_core_law.specs.Scan.{up_to_break, scan, CountedAreScanned}
 use Rattle.loop_core_law.proofs.Least.{EndsAt, counts_to, ends_here, ends_next, ends_somewhere, ends_at_zero}
 
@@ -15,18 +15,18 @@ module _ (iterate : ℕ → Ending Iterated) where
   -- the counted iterations are those up to the first that breaks
   one_scanned : (count left index : ℕ) (e : Ending Iterated) → iterate index ≡ e → EndsAt breaks_at (suc count) (suc left) index →
       (breaks_at index ≡ false → all_ended (map iterate (range_with_len (index + 1) count)) ≡ scan iterate left (index + 1)) →
-      all_ended (e ∷ map iterate (range_with_len (index + 1) count)) ≡ up_to_break (scan iterate left (index + 1)) e
+      all_ended (e ∷ map iterate (range_with_len (index + 1) count)) ≡ followed (up_to_break (scan iterate left (index + 1))) e
   one_scanned count left index Stuck same ends later = refl
   one_scanned count left index Unfinished same ends later = refl
   one_scanned count left index (Ended it) same ends later = go (it.ret == 1) refl
     where
       go : (one : Bool) → (it.ret == 1) ≡ one →
-          mapped (λ others. it ∷ others) (all_ended (map iterate (range_with_len (index + 1) count)))
-          ≡ (if one then Ended (it ∷ []) else mapped (λ others. it ∷ others) (scan iterate left (index + 1)))
+          in_front_of (all_ended (map iterate (range_with_len (index + 1) count))) it
+          ≡ (if one then Ended (it ∷ []) else in_front_of (scan iterate left (index + 1)) it)
       go true one =
           let none : count ≡ 0 = ends_here breaks_at count left index (ap is_break same ∙ one) ends in
-          ap (λ (n : ℕ). mapped (λ others. it ∷ others) (all_ended (map iterate (range_with_len (index + 1) n)))) none
-      go false one = ap (mapped (λ others. it ∷ others)) (later (ap is_break same ∙ one))
+          ap (λ (n : ℕ). in_front_of (all_ended (map iterate (range_with_len (index + 1) n))) it) none
+      go false one = ap (λ rest. in_front_of rest it) (later (ap is_break same ∙ one))
 
   scan_is : (count left index : ℕ) → count ≤ left → EndsAt breaks_at count left index → all_ended (map iterate (range_with_len index count)) ≡ scan iterate left index
   scan_is zero zero index within ends = refl

@@ -5,7 +5,7 @@ use Rattle.std.specs.Option.{option_or}
 use Rattle.array_maps.specs.Accesses.{Access}
 use Rattle.bpf_insn_form.specs.Program.{Program}
 use Rattle.bpf_step_model.specs.State.{LoopCall}
-use Rattle.bpf_step_model.specs.Run.{Ending, Ended, Stuck, Unfinished}
+use Rattle.bpf_step_model.specs.Run.{Ending, Ended, Stuck, Unfinished, mapped, followed}
 use Rattle.bpf_step_model.specs.Iteration.{Iterated, iteration}
 
 -- the least number below n that passes a test
@@ -43,18 +43,14 @@ abbrev pub counted_iterations : Program → ℕ → LoopCall → List ℕ → Li
 counted_iterations program bound call words =
     map (λ index. iteration program bound call index words) (range_with_len 0 (counted program bound call words))
 
--- a value made of one that ended
-abbrev pub mapped : {A B : Type 0} → (A → B) → Ending A → Ending B
-mapped make (Ended a) = Ended (make a)
-mapped make Stuck = Stuck
-mapped make Unfinished = Unfinished
+-- a value in front of others that ended
+abbrev pub in_front_of : {A : Type 0} → Ending (List A) → A → Ending (List A)
+in_front_of rest a = mapped (λ others. a ∷ others) rest
 
 -- what all of a list gave, where each ended; else how the first that didn't stands
 abbrev pub all_ended : {A : Type 0} → List (Ending A) → Ending (List A)
 all_ended [] = Ended []
-all_ended (Stuck ∷ rest) = Stuck
-all_ended (Unfinished ∷ rest) = Unfinished
-all_ended (Ended a ∷ rest) = mapped (λ others. a ∷ others) (all_ended rest)
+all_ended (e ∷ rest) = followed (in_front_of (all_ended rest)) e
 
 -- the accesses of some iterations
 abbrev pub accesses_of_each : List Iterated → List (List Access)

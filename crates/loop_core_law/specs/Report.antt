@@ -2,14 +2,14 @@
 use Rattle.std.specs.Prelude.{ℕ, ◌+◌, List, [], ◌∷◌, map, length, Option, Some, None}
 use Rattle.bpf_insn_form.specs.Program.{Program}
 use Rattle.bpf_step_model.specs.State.{LoopCall}
-use Rattle.bpf_step_model.specs.Run.{Ending, Ended, Stuck, Unfinished}
+use Rattle.bpf_step_model.specs.Run.{Ending, Ended, mapped, followed}
 use Rattle.bpf_step_model.specs.ProgramInOrder.{LoopMade, Finished, program_in_order}
 use Rattle.loop_core_law.specs.declared.loop_test.Test.{Test}
 use Rattle.loop_core_law.specs.declared.verdict.Verdict.{Verdict}
 use Rattle.loop_core_law.specs.declared.verdict.Verdict.TheVariants.{Parallel, Conflict, Refused, InOrder}
 use Rattle.loop_core_law.specs.declared.verdict.LoopReport.{LoopReport}
 use Rattle.loop_core_law.specs.Conflict.{conflicting}
-use Rattle.loop_core_law.specs.LeastBreak.{mapped, all_ended, counted_runs}
+use Rattle.loop_core_law.specs.LeastBreak.{all_ended, counted_runs}
 
 -- the verdict on a loop whose conflicting elements are these, rising: it passes where there is none; else they are
 -- counted, and the least is named
@@ -54,11 +54,13 @@ pub record Reported : Type 0 where
 abbrev pub with_lines : Finished → List LoopReport → Reported
 with_lines f lines = record { ret = f.ret; loops = lines; words = f.words }
 
--- the report of a program that finished, line by line
+-- the same, where each line is there
+abbrev pub with_each_line : (LoopMade → Ending LoopReport) → Finished → Ending Reported
+with_each_line line f = mapped (with_lines f) (all_ended (map line f.loops))
+
+-- the report of a program, line by line, where it finished
 abbrev pub reported_with : (LoopMade → Ending LoopReport) → Ending Finished → Ending Reported
-reported_with line Stuck = Stuck
-reported_with line Unfinished = Unfinished
-reported_with line (Ended f) = mapped (with_lines f) (all_ended (map line f.loops))
+reported_with line f = followed (with_each_line line) f
 
 -- the report of a program that may run its loops in parallel
 abbrev pub report : Test → Program → ℕ → ℕ → List ℕ → Ending Reported

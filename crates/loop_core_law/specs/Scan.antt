@@ -2,20 +2,18 @@
 use Rattle.std.specs.Prelude.{◌≡◌, ℕ, zero, suc, ◌+◌, ◌==◌, if◌then◌else◌, List, [], ◌∷◌}
 use Rattle.bpf_insn_form.specs.Program.{Program}
 use Rattle.bpf_step_model.specs.State.{LoopCall}
-use Rattle.bpf_step_model.specs.Run.{Ending, Ended, Stuck, Unfinished}
+use Rattle.bpf_step_model.specs.Run.{Ending, Ended, followed}
 use Rattle.bpf_step_model.specs.Iteration.{Iterated, iteration}
-use Rattle.loop_core_law.specs.LeastBreak.{mapped, all_ended, counted_iterations}
+use Rattle.loop_core_law.specs.LeastBreak.{in_front_of, all_ended, counted_iterations}
 
 -- an iteration, and unless it breaks the ones behind it
-abbrev pub up_to_break : Ending (List Iterated) → Ending Iterated → Ending (List Iterated)
-up_to_break behind Stuck = Stuck
-up_to_break behind Unfinished = Unfinished
-up_to_break behind (Ended it) = if it.ret == 1 then Ended (it ∷ []) else mapped (λ others. it ∷ others) behind
+abbrev pub up_to_break : Ending (List Iterated) → Iterated → Ending (List Iterated)
+up_to_break behind it = if it.ret == 1 then Ended (it ∷ []) else in_front_of behind it
 
 -- at most so many iterations from an index on, up to the first that breaks
 abbrev pub scan : (ℕ → Ending Iterated) → (left index : ℕ) → Ending (List Iterated)
 scan iterate zero index = Ended []
-scan iterate (suc left) index = up_to_break (scan iterate left (index + 1)) (iterate index)
+scan iterate (suc left) index = followed (up_to_break (scan iterate left (index + 1))) (iterate index)
 
 -- the counted iterations are the scan of all
 abbrev pub CountedAreScanned : Type 0

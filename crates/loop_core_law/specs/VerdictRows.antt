@@ -1,9 +1,12 @@
 -- Worked verdicts: what is reported of loops that may run in parallel. Each is worked out by hand.
 use Rattle.std.specs.Prelude.{◌≡◌, ℕ, pos, negsuc, List, [], ◌∷◌, ◌++◌, replicate}
-use Rattle.bpf_insn_form.specs.declared.insn.Size.TheVariants.{Dw}
+use Rattle.bpf_insn_form.specs.declared.insn.Size.TheVariants.{W, Dw}
+use Rattle.bpf_insn_form.specs.declared.insn.Width.TheVariants.{W32, W64}
+use Rattle.bpf_insn_form.specs.declared.insn.SimpleOp.TheVariants.{Add as AddOp, Or as OrOp}
+use Rattle.bpf_insn_form.specs.declared.insn.AtomicOp.TheVariants.{Simple}
 use Rattle.bpf_insn_form.specs.declared.insn.AluOp.TheVariants.{Add}
 use Rattle.bpf_insn_form.specs.declared.insn.Insn.{Insn}
-use Rattle.bpf_insn_form.specs.declared.insn.Insn.TheVariants.{Exit, Load, Store, StoreImm}
+use Rattle.bpf_insn_form.specs.declared.insn.Insn.TheVariants.{Exit, Load, Store, StoreImm, Atomic}
 use Rattle.bpf_step_model.specs.Run.{Ended}
 use Rattle.bpf_step_model.specs.Lines.{mov, alu_imm, map_value, end, loop_with}
 use Rattle.bpf_step_model.specs.LoopRows.{looping, skip_unless, add_index, increment, shift_right, shift_left, last_writer, mixed_operators, break_at_five, break_that_never_comes, and_operands, add_fetched, two_loops}
@@ -20,6 +23,22 @@ read_by_all = map_value 3 0 0 ∷ Load Dw 4 3 (pos 0) ∷ mov 0 0 ∷ skip_unles
 -- each iteration reads element 64, adds 1 and writes it
 abbrev pub increment_last : List Insn
 increment_last = map_value 3 0 512 ∷ Load Dw 4 3 (pos 0) ∷ alu_imm Add 4 1 ∷ Store Dw 3 4 (pos 0) ∷ end
+
+-- 4-byte operations: each iteration adds 1 to the lower half and its index to the upper
+abbrev pub add_halves : List Insn
+add_halves = map_value 3 0 0 ∷ mov 4 1 ∷ Atomic W32 (Simple AddOp) 3 4 (pos 0) ∷ Atomic W32 (Simple AddOp) 3 1 (pos 4) ∷ end
+
+-- adds 1 to the lower half, and then to the whole word
+abbrev pub add_half_and_whole : List Insn
+add_half_and_whole = map_value 3 0 0 ∷ mov 4 1 ∷ Atomic W32 (Simple AddOp) 3 4 (pos 0) ∷ Atomic W64 (Simple AddOp) 3 4 (pos 0) ∷ end
+
+-- ors the index into the upper half, and into the whole word
+abbrev pub or_half_and_whole : List Insn
+or_half_and_whole = map_value 3 0 0 ∷ Atomic W32 (Simple OrOp) 3 1 (pos 4) ∷ Atomic W64 (Simple OrOp) 3 1 (pos 0) ∷ end
+
+-- stores the index in the lower half
+abbrev pub store_half : List Insn
+store_half = map_value 3 0 0 ∷ Store W 3 1 (pos 0) ∷ end
 
 -- by a test the loop of n iterations is reported with this answer and verdict, and turns the words before into those
 -- after
@@ -50,6 +69,14 @@ pub record AheadRows (test : Test) (carried one : Verdict) : Type 0 where
   pub carried_left : Reports test (5 ∷ []) 4 shift_left (1 ∷ 2 ∷ 3 ∷ 4 ∷ 5 ∷ []) 4 carried (2 ∷ 3 ∷ 4 ∷ 5 ∷ 5 ∷ [])
   pub written_last : Reports test (1 ∷ []) 4 read_by_all (5 ∷ []) 4 one (9 ∷ [])
 
+-- loops over halves of words: halves are added apart, by an operator of their own, and a half is stored by a read and a
+-- write of its word
+pub record HalfRows (test : Test) : Type 0 where
+  pub apart : Reports test (1 ∷ []) 4 add_halves (4294967295 ∷ []) 4 Parallel (25769803779 ∷ [])
+  pub two_adds : Reports test (1 ∷ []) 2 add_half_and_whole (0 ∷ []) 2 (Conflict 1 0) (4 ∷ [])
+  pub one_or : Reports test (1 ∷ []) 4 or_half_and_whole (0 ∷ []) 4 Parallel (12884901891 ∷ [])
+  pub stored : Reports test (1 ∷ []) 2 store_half (4294967296 ∷ []) 2 (Conflict 1 0) (4294967297 ∷ [])
+
 -- a refused call, and two calls that pass
 pub record CallRows (test : Test) : Type 0 where
   pub refused : report test (record { sizes = 1 ∷ []; insns = loop_with 8388609 0 end }) 20 0 (0 ∷ [])
@@ -67,4 +94,5 @@ pub record VerdictRows : Type 0 where
   pub conflict : (test : Test) → ConflictRows test
   pub ahead_by_lrpd : AheadRows Lrpd (Conflict 3 1) (Conflict 1 0)
   pub ahead_by_flow : AheadRows Flow Parallel Parallel
+  pub halves : (test : Test) → HalfRows test
   pub calls : (test : Test) → CallRows test

@@ -1,3 +1,4 @@
 pub mod FlagLaws
 pub mod ReductionLaws
 pub mod MarkLaws
+pub mod PlaneLaws

@@ -1,3 +1,4 @@
 pub mod Flags
 pub mod Marks
 pub mod MarkLaw
+pub mod Planes

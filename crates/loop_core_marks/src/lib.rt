@@ -7,6 +7,7 @@ pub mod access;
 
 ghost use Rattle.loop_core_marks.specs.Flags.{FlagsFollowKinds};
 ghost use Rattle.loop_core_marks.specs.MarkLaw.{MarksTell, FirstIsNumber, MarksMerge};
+ghost use Rattle.loop_core_marks.specs.Planes.{PlaneHasElements, PlaneJudges};
 
 pub use access::Access;
 
@@ -23,4 +24,12 @@ pub fn law_of_marks()
     ensures tell { MarksTell }
     ensures number { FirstIsNumber }
     ensures merge { MarksMerge }
+{}
+
+/// The law of planes: a plane of bits, a word for each 64 elements, whose bits say what a test says of
+/// each element and are zero past the end, has just the elements that pass; so they are counted and the
+/// least of them found in the bits.
+pub fn law_of_planes()
+    ensures elements { PlaneHasElements }
+    ensures verdict { PlaneJudges }
 {}

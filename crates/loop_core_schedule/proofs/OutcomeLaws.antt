@@ -3,15 +3,15 @@ use Rattle.std.proofs.Common.{◌≡◌, ℕ, List, length, refl, ◌∙◌, ap}
 use Rattle.array_maps.specs.Accesses.{Access}
 use Rattle.bpf_insn_form.specs.Program.{Program}
 use Rattle.bpf_step_model.specs.State.{LoopCall}
-use Rattle.bpf_step_model.specs.Run.{Ending, Ended}
+use Rattle.bpf_step_model.specs.Run.{Ending, Ended, mapped, followed}
 use Rattle.bpf_step_model.specs.LoopInOrder.{Looped, loop_in_order}
 use Rattle.loop_core_law.specs.declared.loop_test.Test.{Test}
 use Rattle.loop_core_law.specs.declared.verdict.Verdict.{Verdict}
 use Rattle.loop_core_law.specs.Conflict.{conflicting}
-use Rattle.loop_core_law.specs.LeastBreak.{mapped, counted_runs}
+use Rattle.loop_core_law.specs.LeastBreak.{counted_runs}
 use Rattle.loop_core_law.specs.Report.{judged, verdict}
 use Rattle.loop_core_law.proofs.LoopAgain.{loop_law}
-use Rattle.loop_core_schedule.specs.Outcome.{Outcome, judged_if_ended, outcome}
+use Rattle.loop_core_schedule.specs.Outcome.{judged_as, outcome}
 use Rattle.loop_core_schedule.specs.OutcomeLaw.{OutcomeByTest}
 
 outcome_is : (test : Test) (program : Program) (bound : ℕ) (call : LoopCall) (words : List ℕ) (runs : List (List Access)) (elements : List ℕ) (looped : Looped) →
@@ -20,7 +20,7 @@ outcome_is : (test : Test) (program : Program) (bound : ℕ) (call : LoopCall) (
 outcome_is test program bound call words runs elements looped r c l =
     let told : verdict test program bound call words ≡ Ended (judged elements) =
         ap (mapped (λ (rs : List (List Access)). judged (conflicting test rs (length words)))) r ∙ ap (λ (es : List ℕ). Ended (judged es)) c in
-    ap (judged_if_ended (verdict test program bound call words)) l ∙ ap (λ (v : Ending Verdict). judged_if_ended v (Ended looped)) told
+    ap (followed (judged_as (verdict test program bound call words))) l ∙ ap (λ (v : Ending Verdict). judged_as v looped) told
 
 pub outcome_by_test : OutcomeByTest
 outcome_by_test = record {

@@ -3,11 +3,11 @@ use Rattle.std.proofs.Common.{◌≡◌, ℕ, zero, suc, ◌+◌, ◌-◌, ◌<�
 use Rattle.std.specs.Prelude.{not, ◌&&◌, ◌==◌, map, length, cond, is_none, slice_get, slice_index, if◌then◌else◌}
 use Rattle.std.specs.List.{find, list_any, AllByRecursion}
 use Rattle.std.proofs.lemmas.Bool.{eqb-true, eq-eqb, cases_Bool, and_parts, and_left, and_right, not_from_true, or_from}
-use Rattle.bpf_step_model.specs.Run.{Ending, Ended, Stuck, Unfinished}
+use Rattle.bpf_step_model.specs.Run.{Ending, Ended, Stuck, Unfinished, followed}
 use Rattle.bpf_step_model.specs.Iteration.{Iterated}
-use Rattle.loop_core_law.specs.LeastBreak.{is_break, lesser, mapped}
+use Rattle.bpf_step_model.proofs.Endings.{mapped_from}
+use Rattle.loop_core_law.specs.LeastBreak.{is_break, lesser, in_front_of}
 use Rattle.loop_core_law.specs.Scan.{up_to_break, scan}
-use Rattle.loop_core_law.proofs.LoopAgain.{one_more_from}
 use Rattle.loop_core_blocks.specs.Block.{break_from}
 use Rattle.loop_core_blocks.specs.Gather.{Block, starts_late, with_number, least_of, lacks, lacks_some, twice, is_bound, stands_in}
 use Rattle.loop_core_schedule.specs.Intervals.{blocks_of, start_of, end_of}
@@ -110,15 +110,15 @@ module _ (iterate : ℕ → Ending Iterated) where
   scan_break (suc left) index ran h = by_first (iterate index) refl h (λ its e. scan_break left (index + 1) its e)
     where
       by_break : (it : Iterated) → iterate index ≡ Ended it → (b : Bool) → (it.ret == 1) ≡ b →
-          (if b then Ended (it ∷ []) else mapped (λ others. it ∷ others) (scan iterate left (index + 1))) ≡ Ended ran →
+          (if b then Ended (it ∷ []) else in_front_of (scan iterate left (index + 1)) it) ≡ Ended ran →
           ((its : List Iterated) → scan iterate left (index + 1) ≡ Ended its → break_from (index + 1) its ≡ first_break breaking left (index + 1)) →
           break_from index ran ≡ first_break breaking (suc left) index
       by_break it same true one h later = broke_once left index it ran same one (cc)
       by_break it same false on h later =
-          let parts = one_more_from it (scan iterate left (index + 1)) ran h in
+          let parts = mapped_from (λ others. it ∷ others) (scan iterate left (index + 1)) ran h in
           went_on left index it parts.0 ran same on parts.2 (later parts.0 parts.1)
 
-      by_first : (e : Ending Iterated) → iterate index ≡ e → up_to_break (scan iterate left (index + 1)) e ≡ Ended ran →
+      by_first : (e : Ending Iterated) → iterate index ≡ e → followed (up_to_break (scan iterate left (index + 1))) e ≡ Ended ran →
           ((its : List Iterated) → scan iterate left (index + 1) ≡ Ended its → break_from (index + 1) its ≡ first_break breaking left (index + 1)) →
           break_from index ran ≡ first_break breaking (suc left) index
       by_first Stuck same h later = absurd (cc)

@@ -5,11 +5,12 @@ use Rattle.std.specs.List.{filter, range_with_len}
 use Rattle.array_maps.specs.declared.access.Op.{Op}
 use Rattle.array_maps.specs.declared.access.Op.TheVariants.{Add, Or, And, AddH}
 use Rattle.bpf_insn_form.specs.declared.insn.Insn.{Insn}
-use Rattle.bpf_step_model.specs.Run.{Ending, Ended}
+use Rattle.bpf_step_model.specs.Run.{Ending, Ended, mapped}
 use Rattle.bpf_step_model.specs.Iteration.{Iterated}
 use Rattle.bpf_step_model.specs.LoopRows.{looping, call_of, add_index, increment, shift_right, shift_left, last_writer, mixed_operators, and_operands}
 use Rattle.loop_core_law.specs.Conflict.{at_element}
-use Rattle.loop_core_law.specs.LeastBreak.{mapped, accesses_of_each}
+use Rattle.loop_core_law.specs.LeastBreak.{accesses_of_each}
+use Rattle.loop_core_law.specs.VerdictRows.{add_halves, add_half_and_whole, store_half}
 use Rattle.loop_core_marks.specs.Marks.{Marks, marks_of, numbered}
 use Rattle.loop_core_blocks.specs.Block.{block}
 use Rattle.loop_core_blocks.specs.Kept.{Kept, kept}
@@ -82,6 +83,15 @@ pub record PartialRows : Type 0 where
   pub add_high : kept_at_0 (block_of 1 8 add_index (10 ∷ []) 4 8) 10 ≡ Ended (record { last_value = Some 17; partial = Some (Add, 22) })
   pub ands : kept_at_0 (block_of 1 3 and_operands (15 ∷ []) 0 3) 15 ≡ Ended (record { last_value = Some 14; partial = Some (And, 12) })
 
+-- halves that are added apart: a block of four, and marks of a mix with whole words
+pub record HalfBlockRows : Type 0 where
+  pub kept : kept_at_0 (block_of 1 4 add_halves (4294967295 ∷ []) 0 4) 4294967295
+      ≡ Ended (record { last_value = Some 12884901888; partial = Some (AddH, 25769803780) })
+  pub addh : marked 1 0 (λ m. m.by AddH) (block_of 1 4 add_halves (4294967295 ∷ []) 0 4) ≡ Ended (0 ∷ [])
+  pub no_add : marked 1 0 (λ m. m.by Add) (block_of 1 4 add_halves (4294967295 ∷ []) 0 4) ≡ Ended []
+  pub both : marked 1 0 (λ m. m.by Add && m.by AddH) (block_of 1 2 add_half_and_whole (0 ∷ []) 0 2) ≡ Ended (0 ∷ [])
+  pub stored : marked 1 0 (λ m. m.read_and_written && (m.written_by_two && m.plain)) (block_of 1 2 store_half (0 ∷ []) 0 2) ≡ Ended (0 ∷ [])
+
 -- all of them
 pub record BlockRows : Type 0 where
   pub right : RightRows
@@ -89,3 +99,4 @@ pub record BlockRows : Type 0 where
   pub mixed : MixedRows
   pub writer : WriterRows
   pub partial : PartialRows
+  pub halves : HalfBlockRows

@@ -2,12 +2,12 @@
 use Rattle.std.specs.Prelude.{ℕ, Bool, List, Result, Ok, Err}
 use Rattle.bpf_insn_form.specs.Program.{Program}
 use Rattle.bpf_step_model.specs.State.{LoopCall}
-use Rattle.bpf_step_model.specs.Run.{Ending, Ended, Stuck, Unfinished}
+use Rattle.bpf_step_model.specs.Run.{Ending, mapped, followed}
 use Rattle.bpf_step_model.specs.Iteration.{iteration}
 use Rattle.bpf_step_model.specs.LoopInOrder.{Looped, loop_in_order}
 use Rattle.loop_core_law.specs.declared.loop_test.Test.{Test}
 use Rattle.loop_core_law.specs.declared.verdict.Verdict.{Verdict}
-use Rattle.loop_core_law.specs.LeastBreak.{is_break, mapped}
+use Rattle.loop_core_law.specs.LeastBreak.{is_break}
 use Rattle.loop_core_law.specs.Report.{verdict}
 use Rattle.loop_core_schedule.specs.declared.event.Event.{Event}
 use Rattle.loop_core_schedule.specs.declared.replay_fault.ReplayFault.{ReplayFault}
@@ -23,16 +23,10 @@ pub record Outcome : Type 0 where
 abbrev pub judged_as : Ending Verdict → Looped → Ending Outcome
 judged_as told looped = mapped (λ v. record { verdict = v; answer = looped.answer; words = looped.words }) told
 
--- the same where the loop ended
-abbrev pub judged_if_ended : Ending Verdict → Ending Looped → Ending Outcome
-judged_if_ended told Stuck = Stuck
-judged_if_ended told Unfinished = Unfinished
-judged_if_ended told (Ended looped) = judged_as told looped
-
 -- the outcome of a loop call by a test: the answer and the words of the loop in order, and the verdict. No split, worker
 -- or schedule occurs in it
 abbrev pub outcome : Test → Program → ℕ → LoopCall → List ℕ → Ending Outcome
-outcome test program bound call words = judged_if_ended (verdict test program bound call words) (loop_in_order program bound call words)
+outcome test program bound call words = followed (judged_as (verdict test program bound call words)) (loop_in_order program bound call words)
 
 -- whether an iteration on the start words returns 1
 abbrev pub breaks_at : Program → ℕ → LoopCall → List ℕ → ℕ → Bool

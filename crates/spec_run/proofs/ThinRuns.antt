@@ -3,15 +3,14 @@ use Rattle.std.proofs.Common.{◌≡◌, ℕ, zero, suc, ℤ, pos, negsuc, ◌+�
 use Rattle.std.specs.List.{sum}
 use Rattle.std.proofs.lemmas.Bool.Decides.{nat_tests}
 use Rattle.array_maps.specs.declared.access.Op.TheVariants.{Add as Adds}
-use Rattle.array_maps.specs.Accesses.{combined}
-use Rattle.array_maps.specs.Store.{added}
+use Rattle.array_maps.specs.Accesses.{Reduce, combined}
 use Rattle.bpf_insn_words.specs.Words.{alu, word_of}
 use Rattle.bpf_step_model.specs.State.{Machine, LoopCall, Unwritten, Word, Frame, Code, fresh_frame, after_call, advanced, main_entry}
-use Rattle.bpf_step_model.specs.Run.{Ended, Loop, one_more, after_move, run}
+use Rattle.bpf_step_model.specs.Run.{Ending, Ended, Loop, Stretch, mapped, followed, with_first, after_move, run}
 use Rattle.bpf_step_model.specs.Step.{Move, Refuses, Loops, lands, counts_loop, step}
 use Rattle.bpf_step_model.specs.Iteration.{iteration}
 use Rattle.bpf_step_model.specs.LoopInOrder.{behind, loop_from, loop_in_order}
-use Rattle.bpf_step_model.specs.ProgramInOrder.{one_loop_more, resumed, after_loop, after_stretch, main_from, program_in_order}
+use Rattle.bpf_step_model.specs.ProgramInOrder.{with_loop, resumed, after_loop, after_stretch, main_from, program_in_order}
 use Rattle.array_maps.specs.MapList.{MapList, base_of}
 use Rattle.bpf_insn_form.specs.Program.{Program}
 use Rattle.loop_core_law.specs.declared.verdict.LoopReport.{LoopReport}
@@ -27,7 +26,7 @@ thin_call n = record { slot = 5; callback = 7; n = n; ctx = None; frame = fresh_
 
 -- an iteration adds its index
 iterates : (n index word : ℕ) → iteration (thin_program n) 4096 (thin_call n) index (word ∷ [])
-    ≡ Ended (record { ret = 0; steps = 4; accesses = added index 0 ∷ []; words = combined Adds word index ∷ [] })
+    ≡ Ended (record { ret = 0; steps = 4; accesses = record { element = 0; action = Reduce Adds index } ∷ []; words = combined Adds word index ∷ [] })
 unfolding iteration step
 iterates n index word = refl
 
@@ -52,7 +51,7 @@ loops_from n word zero index =
     let count : index ≡ index + 0 = grind arith in
     ap (λ (k : ℕ). Ended (record { answer = k; words = after_indices word k ∷ [] })) count
 loops_from n word (suc left) index =
-    let first = ap (behind (loop_from (thin_program n) 4096 (thin_call n) left (index + 1)) index) (iterates n index (after_indices word index)) in
+    let first = ap (followed (behind (loop_from (thin_program n) 4096 (thin_call n) left (index + 1)) index)) (iterates n index (after_indices word index)) in
     let second = ap (λ (w : ℕ). loop_from (thin_program n) 4096 (thin_call n) left (index + 1) (w ∷ [])) (next_index word index) in
     let count : index + 1 + left ≡ index + suc left = grind arith in
     first ∙ second ∙ loops_from n word left (index + 1) ∙ ap (λ (k : ℕ). Ended (record { answer = k; words = after_indices word k ∷ [] })) count
@@ -91,12 +90,16 @@ unfolding step
 calls n few =
     ap (λ k. lands (thin_program n) 5 (counts_loop (calling n) 7 k None)) (counted n few) ∙ counts n (grind (arith, nat_tests))
 
+-- four instructions in front of a run
+abbrev pub after_four : Ending Stretch → Ending Stretch
+after_four rest = mapped (with_first []) (mapped (with_first []) (mapped (with_first []) (mapped (with_first []) rest)))
+
 -- main up to its call
 main_calls : (n argument : ℕ) (words : List ℕ) → n ≤ 8388608 → run (thin_program n) 4096 (main_entry argument) words
     ≡ Ended (record { turn = Loop (thin_call n) called; steps = 5; accesses = []; words = words })
 unfolding step
 main_calls n argument words few =
-    ap (λ (move : Move). one_more (one_more (one_more (one_more (after_move (run (thin_program n) 4091) 5 move words))))) (calls n few)
+    ap (λ (move : Move). after_four (after_move (run (thin_program n) 4091) 5 move words)) (calls n few)
 
 -- main behind its loop
 main_ends : (n answer turns : ℕ) (words : List ℕ) → main_from (thin_program n) 4096 (suc turns) (resumed called answer) words
@@ -113,9 +116,9 @@ pub thin_in_order : (n argument word : ℕ) → n ≤ 8388608 → program_in_ord
     })
 unfolding program_in_order
 thin_in_order n argument word few =
-    ap (after_stretch (thin_program n) 4096 (main_from (thin_program n) 4096 4095)) (main_calls n argument (word ∷ []) few)
-    ∙ ap (after_loop (main_from (thin_program n) 4096 4095) (thin_call n) called (word ∷ [])) (loops n word)
-    ∙ ap (one_loop_more (record { slot = 5; answer = pos n; words = word ∷ []; call = Some (thin_call n) })) (main_ends n n 4094 (after_indices word n ∷ []))
+    ap (followed (after_stretch (thin_program n) 4096 (main_from (thin_program n) 4096 4095))) (main_calls n argument (word ∷ []) few)
+    ∙ ap (followed (after_loop (main_from (thin_program n) 4096 4095) (thin_call n) called (word ∷ []))) (loops n word)
+    ∙ ap (mapped (with_loop (record { slot = 5; answer = pos n; words = word ∷ []; call = Some (thin_call n) }))) (main_ends n n 4094 (after_indices word n ∷ []))
 
 -- words of one element
 one_word : (words : List ℕ) → length words ≡ 1 → words ≡ slice_index words 0 ∷ []

@@ -10,7 +10,7 @@ ghost use Rattle.bpf_insn_form.specs.declared.insn.AtomicOp.TheVariants.{Simple}
 ghost use Rattle.bpf_insn_form.specs.declared.insn.ImmKind.TheVariants.{Code};
 ghost use Rattle.bpf_insn_form.specs.declared.insn.Callee.TheVariants.{Helper};
 ghost use Rattle.bpf_insn_form.specs.declared.insn.Insn.TheVariants.{Alu, Atomic, Call, Exit, LoadImm};
-ghost use Rattle.array_maps.specs.MapList.{AreSizes};
+ghost use Rattle.bpf_insn_form.specs.Limits.{AreSizes};
 ghost use Rattle.bpf_step_model.specs.Lines.{loop_of, map_value};
 ghost use Rattle.bpf_insn_form.specs.Program.{Program};
 ghost use Rattle.spec_run.specs.Thin.{adds_index, thin_program, Thin};

@@ -5,7 +5,7 @@ use Rattle.array_maps.specs.Accesses.{combined}
 use Rattle.bpf_step_model.specs.Step.{step}
 use Rattle.bpf_step_model.specs.Iteration.{iteration}
 use Rattle.bpf_step_model.specs.ProgramInOrder.{program_in_order}
-use Rattle.bpf_step_model.specs.LoopRows.{OneLoopRows, RefusedRows, MainRows}
+use Rattle.bpf_step_model.specs.LoopRows.{OneLoopRows, RefusedRows, ArgumentRows, MainRows}
 use Rattle.bpf_step_model.proofs.worked_loops.Goals as goal
 
 one : OneLoopRows
@@ -32,6 +32,14 @@ refused = record {
   flags_first = refl;
 }
 
+arguments : ArgumentRows
+unfolding program_in_order iteration step alu holds combined
+arguments = record {
+  count_modulo = refl;
+  wide_flags = refl;
+  ctx_of_one = refl;
+}
+
 main : MainRows
 unfolding program_in_order iteration step alu holds combined
 main = record {
@@ -40,4 +48,4 @@ main = record {
 }
 
 pub returns : goal.returns
-returns c = record { one = one; refused = refused; main = main }
+returns c = record { one = one; refused = refused; arguments = arguments; main = main }

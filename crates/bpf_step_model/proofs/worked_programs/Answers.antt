@@ -1,13 +1,13 @@
 -- Each row is computed.
 use Rattle.std.proofs.Common.{refl}
-use Rattle.bpf_insn_words.specs.Words.{alu, holds}
+use Rattle.bpf_insn_words.specs.Words.{alu, holds, negated, moved_signed, in_order}
 use Rattle.bpf_step_model.specs.Step.{step}
 use Rattle.bpf_step_model.specs.ProgramInOrder.{program_in_order}
-use Rattle.bpf_step_model.specs.ProgramRows.{ArithmeticRows, MemoryRows}
+use Rattle.bpf_step_model.specs.ProgramRows.{ArithmeticRows, OtherRows, MemoryRows}
 use Rattle.bpf_step_model.proofs.worked_programs.Goals as goal
 
 arithmetic : ArithmeticRows
-unfolding program_in_order step alu holds
+unfolding program_in_order step alu holds negated moved_signed in_order
 arithmetic = record {
   div_by_zero = refl;
   mod_by_zero = refl;
@@ -21,8 +21,23 @@ arithmetic = record {
   argument = refl;
 }
 
+other : OtherRows
+unfolding program_in_order step alu holds negated moved_signed in_order
+other = record {
+  negated = refl;
+  negated_half = refl;
+  signed_byte = refl;
+  signed_in_half = refl;
+  big_endian = refl;
+  little_endian = refl;
+  swapped = refl;
+  long_jump = refl;
+  compared_registers = refl;
+  compared_halves = refl;
+}
+
 memory : MemoryRows
-unfolding program_in_order step alu holds
+unfolding program_in_order step alu holds negated moved_signed in_order
 memory = record {
   hit = refl;
   miss = refl;
@@ -31,4 +46,4 @@ memory = record {
 }
 
 pub returns : goal.returns
-returns c = record { arithmetic = arithmetic; memory = memory }
+returns c = record { arithmetic = arithmetic; other = other; memory = memory }

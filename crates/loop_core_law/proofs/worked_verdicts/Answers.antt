@@ -9,7 +9,7 @@ use Rattle.bpf_step_model.specs.ProgramInOrder.{program_in_order}
 use Rattle.loop_core_law.specs.declared.loop_test.Test.{Test}
 use Rattle.loop_core_law.specs.declared.loop_test.Test.TheVariants.{Lrpd, Flow}
 use Rattle.loop_core_law.specs.declared.verdict.Verdict.TheVariants.{Parallel, Conflict}
-use Rattle.loop_core_law.specs.VerdictRows.{ParallelRows, ConflictRows, AheadRows, CallRows}
+use Rattle.loop_core_law.specs.VerdictRows.{ParallelRows, ConflictRows, AheadRows, HalfRows, CallRows}
 use Rattle.loop_core_law.proofs.worked_verdicts.Goals as goal
 
 parallel : (test : Test) → ParallelRows test
@@ -30,10 +30,15 @@ ahead_by_flow : AheadRows Flow Parallel Parallel
 unfolding program_in_order iteration step alu holds combined half_of with_half halves_added
 ahead_by_flow = record { carried_left = refl; written_last = refl }
 
+halves : (test : Test) → HalfRows test
+unfolding program_in_order iteration step alu holds combined half_of with_half halves_added
+halves Lrpd = record { apart = refl; two_adds = refl; one_or = refl; stored = refl }
+halves Flow = record { apart = refl; two_adds = refl; one_or = refl; stored = refl }
+
 calls : (test : Test) → CallRows test
 unfolding program_in_order iteration step alu holds combined half_of with_half halves_added
 calls Lrpd = record { refused = refl; two = refl }
 calls Flow = record { refused = refl; two = refl }
 
 pub returns : goal.returns
-returns c = record { parallel = parallel; conflict = conflict; ahead_by_lrpd = ahead_by_lrpd; ahead_by_flow = ahead_by_flow; calls = calls }
+returns c = record { parallel = parallel; conflict = conflict; ahead_by_lrpd = ahead_by_lrpd; ahead_by_flow = ahead_by_flow; halves = halves; calls = calls }

@@ -5,7 +5,7 @@ use Rattle.array_maps.specs.Accesses.{combined}
 use Rattle.array_maps.specs.Halves.{half_of, with_half, halves_added}
 use Rattle.bpf_step_model.specs.Step.{step}
 use Rattle.bpf_step_model.specs.Iteration.{iteration}
-use Rattle.loop_core_schedule.specs.BlockRows.{RightRows, LeftRows, MixedRows, WriterRows, PartialRows}
+use Rattle.loop_core_schedule.specs.BlockRows.{RightRows, LeftRows, MixedRows, WriterRows, PartialRows, HalfBlockRows}
 use Rattle.loop_core_schedule.proofs.worked_blocks.Goals as goal
 
 right : RightRows
@@ -28,5 +28,9 @@ partial : PartialRows
 unfolding iteration step alu holds combined half_of with_half halves_added
 partial = record { add_low = refl; add_high = refl; ands = refl }
 
+halves : HalfBlockRows
+unfolding iteration step alu holds combined half_of with_half halves_added
+halves = record { kept = refl; addh = refl; no_add = refl; both = refl; stored = refl }
+
 pub returns : goal.returns
-returns c = record { right = right; left = left; mixed = mixed; writer = writer; partial = partial }
+returns c = record { right = right; left = left; mixed = mixed; writer = writer; partial = partial; halves = halves }

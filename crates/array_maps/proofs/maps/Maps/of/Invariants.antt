@@ -1,7 +1,10 @@
 use Rattle.std.proofs.Common.{◌≡◌, take}
 use Rattle.std.specs.List.{concat}
-use Rattle.array_maps.specs.MapList.{lists}
+use Rattle.array_maps.specs.MapList.{AreWords, lists}
 use Rattle.array_maps.proofs.maps.Maps.of.Given as goal
 
 abbrev pub invariant-loop-map : goal.invariant-loop-map
-invariant-loop-map l = l.words.items ≡ concat (lists (take l.map-index l.values))
+invariant-loop-map l = record {
+  so_far : l.words.items ≡ concat (lists (take l.map-index l.values));
+  fit : AreWords l.words.items;
+}

@@ -1,5 +1,7 @@
-use super::*;
+//! Operators, comparisons and byte orders, as they run.
+
 use bpf_insn_form::{AluOp, ByteOrder, Compare, EndianBits, MovsxBits, Width};
+use bpf_insn_words::{alu_word, compare_words, endian_word, movsx_word, neg_word, shift_amount};
 use std::test::Fail;
 
 // Two's complements at 64 and at 32 bits.

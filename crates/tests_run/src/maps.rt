@@ -3,9 +3,10 @@
 ghost use Rattle.std.specs.Prelude.{◌≡◌, ℕ, ◌<◌, ◌≤◌, length, map};
 ghost use Rattle.std.specs.List.{All};
 ghost use Rattle.array_maps.specs.Accesses.{words_after_all};
-ghost use Rattle.array_maps.specs.Store.{Effects, added};
+ghost use Rattle.array_maps.specs.Store.{Effects};
+ghost use Rattle.tests_run.specs.Added.{added};
 
-use crate::{Maps, MapsError, Op, Part, Rmw, Store};
+use array_maps::{Half, Maps, MapsError, Op, Part, Rmw, Store};
 use std::alloc::Global;
 use std::test::Fail;
 
@@ -98,6 +99,31 @@ fn a_store_answers_old_words(rt: HostRuntime) -> Result<(), Fail> {
     assert_eq!(rt; maps.fetch(2, Part::Whole, Rmw::Op(Op::Add), 2, 0), 9);
     assert_eq!(rt; maps.fetch(2, Part::Whole, Rmw::Xchg, 4, 0), 11);
     assert_eq!(rt; (maps.load(2), maps.get(1, 1)), (4, 4));
+    Ok(())
+}
+
+#[test]
+fn a_store_reaches_halves(rt: HostRuntime) -> Result<(), Fail> {
+    let mut maps = Maps::new(rt.alloc(), &[1])?;
+    maps.store(0, 0xffff_ffff);
+    maps.update(0, Op::AddH, 1);
+    assert_eq!(rt; maps.load(0), 0);
+    maps.store_half(0, Half::High, 7);
+    maps.store_half(0, Half::Low, 5);
+    assert_eq!(rt; maps.load(0), 0x7_0000_0005);
+    assert_eq!(rt;
+        maps.fetch(0, Part::Half(Half::High), Rmw::Op(Op::Add), 0xffff_ffff, 0),
+        7
+    );
+    assert_eq!(rt;
+        maps.fetch(0, Part::Half(Half::Low), Rmw::CmpXchg, 9, 0x1_0000_0005),
+        5
+    );
+    assert_eq!(rt;
+        maps.fetch(0, Part::Whole, Rmw::CmpXchg, 1, 9),
+        0x6_0000_0009
+    );
+    assert_eq!(rt; maps.load(0), 0x6_0000_0009);
     Ok(())
 }
 

@@ -1,0 +1,39 @@
+-- Conflicting elements as a plane: a word for each 64 elements, of which each bit says whether an element is one.
+use Rattle.std.specs.Prelude.{◌≡◌, ℕ, ◌*◌, ◌/◌, ◌%◌, ◌≤◌, ◌<◌, Bool, false, ◌==◌, List, [], ◌∷◌, length, slice_index_or, Option, Some, None}
+use Rattle.std.specs.Int.{bit_at}
+use Rattle.std.specs.List.{filter, range_with_len}
+use Rattle.loop_core_law.specs.declared.verdict.Verdict.{Verdict}
+use Rattle.loop_core_law.specs.declared.verdict.Verdict.TheVariants.{Parallel, Conflict}
+use Rattle.loop_core_law.specs.Report.{judged}
+
+-- the bit of an element
+abbrev pub bit_of : List ℕ → ℕ → Bool
+bit_of words e = bit_at (slice_index_or words (e / 64) 0) (e % 64) == 1
+
+-- the elements whose bits are set, rising
+abbrev pub elements_of : List ℕ → List ℕ
+elements_of words = filter (bit_of words) (range_with_len 0 (64 * length words))
+
+-- the least of some elements that rise
+abbrev pub least_in : List ℕ → Option ℕ
+least_in [] = None
+least_in (least ∷ others) = Some least
+
+-- the verdict by how many elements conflict and which is the least
+abbrev pub judged_by : (count : ℕ) → (least : Option ℕ) → Verdict
+judged_by count None = Parallel
+judged_by count (Some least) = Conflict count least
+
+-- the verdict that a plane of conflicts tells
+abbrev pub plane_verdict : List ℕ → Verdict
+plane_verdict words = judged_by (length (elements_of words)) (least_in (elements_of words))
+
+-- a plane whose bits say what a test says of so many elements, and are zero past the end, has just the elements that pass
+abbrev pub PlaneHasElements : Type 0
+PlaneHasElements = (words : List ℕ) (test : ℕ → Bool) (elements : ℕ) → elements ≤ 64 * length words →
+    ((e : ℕ) → e < elements → bit_of words e ≡ test e) → ((e : ℕ) → elements ≤ e → e < 64 * length words → bit_of words e ≡ false) →
+    elements_of words ≡ filter test (range_with_len 0 elements)
+
+-- and the verdict that it tells is that on those elements
+abbrev pub PlaneJudges : Type 0
+PlaneJudges = (words : List ℕ) → plane_verdict words ≡ judged (elements_of words)

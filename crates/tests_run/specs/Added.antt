@@ -1,0 +1,8 @@
+-- An access that tests make.
+use Rattle.std.specs.Prelude.{ℕ}
+use Rattle.array_maps.specs.declared.access.Op.TheVariants.{Add}
+use Rattle.array_maps.specs.Accesses.{Access, Reduce}
+
+-- an operand added to an element
+abbrev pub added : ℕ → ℕ → Access
+added operand element = record { element = element; action = Reduce Add operand }
