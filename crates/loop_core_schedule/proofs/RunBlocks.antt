@@ -1,7 +1,7 @@
 -- Blocks of a split that were run, and their numbers.
 use Rattle.std.proofs.Common.{◌≡◌, ℕ, zero, suc, ◌+◌, ◌-◌, ◌<◌, ◌≤◌, Bool, true, false, ◌⊎◌, inl, inr, List, [], ◌∷◌, Option, Some, None, refl, sym, ◌∙◌, ap, subst, arith}
 use Rattle.std.specs.Prelude.{not, ◌&&◌, ◌==◌, map, length, cond, is_none, slice_get, slice_index, if◌then◌else◌}
-use Rattle.std.specs.List.{find, list_any, AllByRecursion}
+use Rattle.std.specs.List.{list_any, AllByRecursion}
 use Rattle.std.proofs.lemmas.Bool.{eqb-true, eq-eqb, cases_Bool, and_parts, and_left, and_right, not_from_true, or_from}
 use Rattle.bpf_step_model.specs.Run.{Ending, Ended, Stuck, Unfinished, followed}
 use Rattle.bpf_step_model.specs.Iteration.{Iterated}
@@ -60,8 +60,8 @@ none_lacks_from least blocks number first [] each = refl
 none_lacks_from least blocks number first (past ∷ bounds) each =
     or_from (not (starts_late least first) && is_none (with_number number blocks)) (lacks least blocks (number + 1) past bounds) (go (each 0 (omega arith)))
     (none_lacks_from least blocks (number + 1) past bounds (λ j h.
-        let same : number + suc j ≡ number + 1 + j = omega arith in
-        subst (λ (k : ℕ). (is_none (with_number k blocks) ≡ false) ⊎ (starts_late least (slice_index (past ∷ bounds) j) ≡ true)) same (each (suc j) (omega arith))))
+    let same : number + suc j ≡ number + 1 + j = omega arith in
+    subst (λ (k : ℕ). (is_none (with_number k blocks) ≡ false) ⊎ (starts_late least (slice_index (past ∷ bounds) j) ≡ true)) same (each (suc j) (omega arith))))
   where
     go : (is_none (with_number (number + 0) blocks) ≡ false) ⊎ (starts_late least first ≡ true) → (not (starts_late least first) && is_none (with_number number blocks)) ≡ false
     go (inl there) =
@@ -74,8 +74,8 @@ pub none_lacks : (bounds : List ℕ) (blocks : List Block) →
 none_lacks [] blocks each = refl
 none_lacks (first ∷ bounds) blocks each =
     none_lacks_from (least_of blocks) blocks 0 first bounds (λ j h.
-        let same : j ≡ 0 + j = omega arith in
-        subst (λ (k : ℕ). (is_none (with_number k blocks) ≡ false) ⊎ (starts_late (least_of blocks) (slice_index (first ∷ bounds) j) ≡ true)) same (each j (omega arith)))
+    let same : j ≡ 0 + j = omega arith in
+    subst (λ (k : ℕ). (is_none (with_number k blocks) ≡ false) ⊎ (starts_late (least_of blocks) (slice_index (first ∷ bounds) j) ≡ true)) same (each j (omega arith)))
 
 -- a bound that is there
 bound_is : (bounds : List ℕ) (k x : ℕ) → is_bound (slice_get bounds k) x ≡ true → slice_index bounds k ≡ x

@@ -1,8 +1,8 @@
 -- Every ended list of events leaves a complete list of blocks.
 use Rattle.std.proofs.Common.{◌≡◌, ℕ, zero, suc, ◌+◌, ◌<◌, ◌≤◌, Bool, true, false, ◌⊎◌, inl, inr, List, [], ◌∷◌, Option, Some, None, refl, sym, ◌∙◌, ap, subst, arith}
-use Rattle.std.specs.Prelude.{not, ◌&&◌, ◌==◌, nat_lt, is_none, map, length, replicate, slice_index_or, slice_set, Result, Ok, Err, if◌then◌else◌}
-use Rattle.std.specs.List.{list_all, list_any, range_with_len, AllByRecursion}
-use Rattle.std.proofs.lemmas.Bool.{both_ways, ltb-false, ltb-true, eqb-true, ne_eqb, eq-eqb, cases_eq, cases_Bool, and_parts, and_left, and_right, not_from_true, or_parts, or_cases, or_from, or_left, or_right}
+use Rattle.std.specs.Prelude.{not, ◌==◌, nat_lt, is_none, map, length, replicate, slice_index_or, slice_set, Result, Ok, Err, if◌then◌else◌}
+use Rattle.std.specs.List.{list_all, list_any}
+use Rattle.std.proofs.lemmas.Bool.{both_ways, ltb-false, eqb-true, eq-eqb, cases_eq, cases_Bool, and_parts, or_parts, or_cases}
 use Rattle.std.proofs.lemmas.List.{length-set, get_or-set_same, get_or-set_other}
 use Rattle.bpf_insn_form.specs.Program.{Program}
 use Rattle.bpf_step_model.specs.State.{LoopCall}
@@ -16,11 +16,11 @@ use Rattle.loop_core_blocks.proofs.GatherLaws.{blocks_gather}
 use Rattle.loop_core_schedule.specs.declared.event.Event.{Event}
 use Rattle.loop_core_schedule.specs.declared.replay_fault.ReplayFault.{ReplayFault}
 use Rattle.loop_core_schedule.specs.declared.replay_fault.ReplayFault.TheVariants as faults
-use Rattle.loop_core_schedule.specs.Intervals.{blocks_of, start_of, end_of}
+use Rattle.loop_core_schedule.specs.Intervals.{blocks_of, start_of}
 use Rattle.loop_core_schedule.specs.Events.{Worker, Idle, Holding, Running, Posting, Drained, Stopped, Shared, Moved, event}
-use Rattle.loop_core_schedule.specs.Schedule.{State, at_first, worker_of, if_enabled, after_event, and_then, after_events, is_stopped, has_ended, if_ended, replay}
+use Rattle.loop_core_schedule.specs.Schedule.{State, at_first, worker_of, if_enabled, after_event, and_then, after_events, is_stopped, has_ended, if_ended}
 use Rattle.loop_core_schedule.specs.Outcome.{breaks_at}
-use Rattle.loop_core_schedule.specs.ScheduleLaw.{AreRun, Complete, Left, EndedSchedulesComplete}
+use Rattle.loop_core_schedule.specs.ScheduleLaw.{AreRun, Complete, EndedSchedulesComplete}
 use Rattle.loop_core_schedule.proofs.SplitLaws.{faultless}
 use Rattle.loop_core_schedule.proofs.RunBlocks.{none_lacks, once_each, some_times, none_foreign, least_is_least}
 use Rattle.loop_core_schedule.proofs.Totals.{total, others, one_and_others, changed, none_of_all}
@@ -104,10 +104,12 @@ module _ (breaks : ℕ → Bool) (bounds : List ℕ) (rises : falls 0 bounds ≡
   event_before : (e : Event) (events : List Event) (first next : State) → ((w : ℕ) → (w ≡ e.worker → ⊥) → worker_of next w ≡ worker_of first w) →
       (r : Result State ReplayFault) → AllOk events next r → AllOk (e ∷ events) first r
   event_before e events first next same (Err fault) ok = tt
-  event_before e events first next same (Ok after) ok =
-      (ok.0, λ w none.
-          let parts = or_parts (e.worker == w) (names w events) none in
-          ok.1 w parts.1 ∙ same w (λ here. both_ways (e.worker == w) parts.0 (eq-eqb e.worker w (sym here))))
+  event_before e events first next same (Ok after) ok = (
+    ok.0,
+    λ w none.
+        let parts = or_parts (e.worker == w) (names w events) none in
+        ok.1 w parts.1 ∙ same w (λ here. both_ways (e.worker == w) parts.0 (eq-eqb e.worker w (sym here))),
+  )
 
   events_on : (e : Event) (events : List Event) (place : ℕ) (state : State) →
       ((next : State) → Sound breaks bounds next → AllOk events next (after_events breaks bounds events (place + 1) next)) →
@@ -288,5 +290,5 @@ ended_schedules_complete program bound call words bounds events state fine h =
     let breaks : ℕ → Bool = breaks_at program bound call words in
     let rises = (faultless call.n bounds fine).rises in
     let end : AtEnd breaks bounds state.shared = ended_by breaks bounds rises events state (after_events breaks bounds events 0 at_first)
-        (events_ok breaks bounds rises events 0 at_first (sound_at_first breaks bounds rises)) h in
+    (events_ok breaks bounds rises events 0 at_first (sound_at_first breaks bounds rises)) h in
     record { taken = end.taken; complete = complete program bound call words bounds state.shared fine end }

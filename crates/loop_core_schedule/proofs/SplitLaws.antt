@@ -1,11 +1,10 @@
 -- Bounds without a fault are a partition.
-use Rattle.std.proofs.Common.{◌≡◌, ℕ, zero, suc, ◌+◌, ◌-◌, ◌<◌, ◌≤◌, Bool, true, false, ◌⊎◌, inl, inr, List, [], ◌∷◌, length, Option, Some, None, refl, sym, ◌∙◌, ap, subst, arith}
+use Rattle.std.proofs.Common.{◌≡◌, ℕ, zero, suc, ◌+◌, ◌<◌, ◌≤◌, Bool, true, false, ◌⊎◌, inl, inr, List, [], ◌∷◌, length, Some, None, refl, sym, ◌∙◌, ap, subst, arith}
 use Rattle.std.specs.Prelude.{not, ◌||◌, ◌==◌, nat_lt, slice_index, if◌then◌else◌}
 use Rattle.std.proofs.lemmas.Bool.{ltb-false, eqb-true, not-false, cases_lt, cases_order, or_parts}
-use Rattle.loop_core_blocks.specs.declared.faults.SplitFault.{SplitFault}
 use Rattle.loop_core_blocks.specs.declared.faults.SplitFault.TheVariants.{Falling, Number, Ends}
 use Rattle.loop_core_blocks.specs.Split.{falls, last_bound, ends_amiss, split_fault}
-use Rattle.loop_core_schedule.specs.Intervals.{blocks_of, start_of, end_of}
+use Rattle.loop_core_schedule.specs.Intervals.{blocks_of}
 use Rattle.loop_core_schedule.specs.SplitLaw.{Has, Partition, SplitsPartition}
 
 -- what it is to have no fault
@@ -93,7 +92,7 @@ module _ (n : ℕ) (bounds : List ℕ) (sound : Faultless n bounds) where
           let low : x ≤ index = (let first = sound.first in let same : slice_index bounds 0 ≡ x = ap (λ (ys : List ℕ). slice_index ys 0) e in omega arith) in
           let here : blocks_of bounds ≡ length xs = (let same = ap length e in omega arith) in
           let high : index < slice_index (x ∷ xs) (length xs) =
-              subst (λ (k : ℕ). index < slice_index (x ∷ xs) k) here (subst (λ (ys : List ℕ). index < slice_index ys (blocks_of bounds)) e (let last = sound.last in omega arith)) in
+          subst (λ (k : ℕ). index < slice_index (x ∷ xs) k) here (subst (λ (ys : List ℕ). index < slice_index ys (blocks_of bounds)) e (let last = sound.last in omega arith)) in
           let found : Between bounds index = subst (λ (ys : List ℕ). Between ys index) (sym e) (between x xs index low high) in
           (found.block, record { block_within = (let w = found.within in omega arith); started = found.started; not_ended = found.not_ended })
 

@@ -1,5 +1,5 @@
 -- Worked splits. Each is worked out by hand.
-use Rattle.std.specs.Prelude.{◌≡◌, List, [], ◌∷◌, replicate, Some, None}
+use Rattle.std.specs.Prelude.{◌≡◌, [], ◌∷◌, replicate, Some, None}
 use Rattle.loop_core_blocks.specs.declared.faults.SplitFault.TheVariants.{Falling, Number, Ends}
 use Rattle.loop_core_blocks.specs.Split.{even_bounds, split_fault}
 
