@@ -1,5 +1,5 @@
 -- Worked lists of events. Each is worked out by hand.
-use Rattle.std.specs.Prelude.{◌≡◌, ℕ, pos, List, [], ◌∷◌, ◌++◌, replicate, Ok, Err}
+use Rattle.std.specs.Prelude.{◌≡◌, ℕ, ◌-◌, pos, List, [], ◌∷◌, ◌++◌, length, replicate, Option, Some, None, Result, Ok, Err}
 use Rattle.bpf_insn_form.specs.declared.insn.Size.TheVariants.{Dw}
 use Rattle.bpf_insn_form.specs.declared.insn.Width.TheVariants.{W64}
 use Rattle.bpf_insn_form.specs.declared.insn.Compare.TheVariants.{Eq}
@@ -16,7 +16,8 @@ use Rattle.loop_core_schedule.specs.declared.event.EventKind.TheVariants.{Claim,
 use Rattle.loop_core_schedule.specs.declared.event.Event.{Event}
 use Rattle.loop_core_schedule.specs.declared.replay_fault.ReplayFault.{ReplayFault}
 use Rattle.loop_core_schedule.specs.declared.replay_fault.ReplayFault.TheVariants as faults
-use Rattle.loop_core_schedule.specs.Schedule.{replay}
+use Rattle.loop_core_schedule.specs.Events.{Shared}
+use Rattle.loop_core_schedule.specs.Schedule.{State, replay}
 use Rattle.loop_core_schedule.specs.Outcome.{breaks_at, replayed}
 
 -- the events of a worker
@@ -84,6 +85,27 @@ pub record EndedRows (test : Test) : Type 0 where
   pub no_iterations : replayed test (looping (5 ∷ []) 0 shift_right) 20 (call_of 0) (replicate 5 9) (0 ∷ 0 ∷ 0 ∷ []) (c 2 ∷ l 2 ∷ c 2 ∷ l 2 ∷ c 2 ∷ s 2 ∷ [])
       ≡ Ok (Ended (record { verdict = Parallel; answer = 0; words = replicate 5 9 }))
 
+-- what the workers share at the end of a list that has ended
+abbrev pub shared_after : Result State ReplayFault → Option Shared
+shared_after (Err fault) = None
+shared_after (Ok state) = Some state.shared
+
+-- over this split of that loop the workers posted this least break and ran these blocks, the latest first
+abbrev pub Leaves : List ℕ → List Event → (least : ℕ) → (runs : List ℕ) → Type 0
+Leaves bounds events least runs =
+    shared_after (replay (breaks_at two_breaks 20 (call_of 16) (replicate 16 0)) bounds events)
+    ≡ Some (record { next = length bounds - 1; least = Some least; runs = runs })
+
+-- while worker 1 holds the empty block from 3 on, worker 0 posts 3
+abbrev pub held_empty : List Event
+held_empty = c 0 ∷ l 0 ∷ t 0 ∷ t 0 ∷ t 0 ∷ c 1 ∷ c 0 ∷ l 0 ∷ t 0 ∷ p 0 ∷ l 1 ∷ c 1 ∷ s 1 ∷ c 0 ∷ s 0 ∷ []
+
+-- which blocks are run: all, the first alone, and with those that start at the break an empty one
+pub record LeftRows : Type 0 where
+  pub all : Leaves quarters (two_workers ++ s 0 ∷ []) 3 (0 ∷ 3 ∷ 2 ∷ 1 ∷ [])
+  pub first : Leaves quarters (first_block ++ p 0 ∷ c 0 ∷ l 0 ∷ c 0 ∷ l 0 ∷ c 0 ∷ l 0 ∷ c 0 ∷ s 0 ∷ []) 3 (0 ∷ [])
+  pub empty_at_the_break : Leaves (0 ∷ 3 ∷ 3 ∷ 16 ∷ []) held_empty 3 (1 ∷ 2 ∷ 0 ∷ [])
+
 -- lists on that loop that aren't schedules
 pub record RefusedRows : Type 0 where
   pub not_ended : Refused two_workers (faults.NotEnded 26)
@@ -105,4 +127,5 @@ pub record RefusedRows : Type 0 where
 -- all of them, by either test
 pub record ReplayRows : Type 0 where
   pub ended : (test : Test) → EndedRows test
+  pub left : LeftRows
   pub refused : RefusedRows

@@ -6,13 +6,17 @@ use Rattle.bpf_step_model.specs.Step.{step}
 use Rattle.bpf_step_model.specs.Iteration.{iteration}
 use Rattle.loop_core_law.specs.declared.loop_test.Test.{Test}
 use Rattle.loop_core_law.specs.declared.loop_test.Test.TheVariants.{Lrpd, Flow}
-use Rattle.loop_core_schedule.specs.ReplayRows.{EndedRows, RefusedRows}
+use Rattle.loop_core_schedule.specs.ReplayRows.{EndedRows, LeftRows, RefusedRows}
 use Rattle.loop_core_schedule.proofs.worked_replays.Goals as goal
 
 ended : (test : Test) → EndedRows test
 unfolding iteration step alu holds combined
 ended Lrpd = record { two = refl; skips = refl; lesser_post = refl; conflict = refl; no_iterations = refl }
 ended Flow = record { two = refl; skips = refl; lesser_post = refl; conflict = refl; no_iterations = refl }
+
+left : LeftRows
+unfolding iteration step alu holds combined
+left = record { all = refl; first = refl; empty_at_the_break = refl }
 
 refused : RefusedRows
 unfolding iteration step alu holds combined
@@ -35,4 +39,4 @@ refused = record {
 }
 
 pub returns : goal.returns
-returns c = record { ended = ended; refused = refused }
+returns c = record { ended = ended; left = left; refused = refused }
