@@ -1,5 +1,5 @@
 -- The scan of adjacent intervals.
-use Rattle.std.proofs.Common.{◌≡◌, ℕ, zero, suc, ◌+◌, Bool, true, false, ◌||◌, List, [], ◌∷◌, ◌++◌, refl, sym, ◌∙◌, ap, arith}
+use Rattle.std.proofs.Common.{◌≡◌, zero, suc, ◌+◌, Bool, true, false, List, [], ◌∷◌, ◌++◌, refl, sym, ◌∙◌, ap, arith}
 use Rattle.std.specs.Prelude.{if◌then◌else◌, ◌==◌}
 use Rattle.bpf_step_model.specs.Run.{Ending, Ended, Stuck, Unfinished, mapped, followed}
 use Rattle.bpf_step_model.specs.Iteration.{Iterated}

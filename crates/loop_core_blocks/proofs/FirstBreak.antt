@@ -1,6 +1,6 @@
 -- Where a scan breaks: at the first index of its interval whose iteration returns 1.
 use Rattle.std.proofs.Common.{◌≡◌, ℕ, zero, suc, ◌+◌, ◌≤◌, ◌<◌, Bool, true, false, ◌||◌, ◌⊎◌, inl, inr, List, [], ◌∷◌, Option, Some, None, refl, sym, ◌∙◌, ap, subst, arith, eqb}
-use Rattle.std.specs.Prelude.{if◌then◌else◌, ◌==◌, min, is_some}
+use Rattle.std.specs.Prelude.{if◌then◌else◌, ◌==◌, is_some}
 use Rattle.std.proofs.lemmas.Bool.{cases_lt}
 use Rattle.std.proofs.lemmas.Bool.Decides.{eqb_tells}
 use Rattle.bpf_step_model.specs.Run.{Ending, Ended, Stuck, Unfinished, followed}
@@ -8,7 +8,7 @@ use Rattle.bpf_step_model.specs.Iteration.{Iterated}
 use Rattle.bpf_step_model.proofs.Endings.{mapped_from}
 use Rattle.loop_core_law.specs.LeastBreak.{is_break, in_front_of}
 use Rattle.loop_core_law.specs.Scan.{up_to_break, scan}
-use Rattle.loop_core_law.proofs.Least.{IsLeast, LeastIs}
+use Rattle.loop_core_law.proofs.Least.{LeastIs}
 use Rattle.loop_core_blocks.specs.Block.{has_break, break_from}
 
 -- no index of an interval passes

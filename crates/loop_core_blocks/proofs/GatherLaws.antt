@@ -1,7 +1,7 @@
 -- Blocks of a split without a fault give the least break and the counted iterations.
 use Rattle.std.proofs.Common.{◌≡◌, ℕ, zero, suc, ◌+◌, ◌-◌, ◌≤◌, ◌<◌, Bool, true, false, not, ◌&&◌, ◌||◌, ◌⊎◌, inl, inr, List, [], ◌∷◌, ◌++◌, map, length, Option, Some, None, refl, sym, ◌∙◌, ap, subst, arith}
 use Rattle.std.specs.Prelude.{if◌then◌else◌, ◌==◌, nat_lt, min, cond, is_none, is_some, slice_get}
-use Rattle.std.specs.List.{find, list_any, AllByRecursion}
+use Rattle.std.specs.List.{list_any, AllByRecursion}
 use Rattle.std.proofs.lemmas.Bool.{cases_lt, eqb-true, ltb-false, le-ltb, lt-ltb}
 use Rattle.std.proofs.lemmas.List.{append-nil}
 use Rattle.bpf_insn_form.specs.Program.{Program}
@@ -9,16 +9,14 @@ use Rattle.bpf_step_model.specs.State.{LoopCall}
 use Rattle.bpf_step_model.specs.Run.{Ending, Ended, mapped, followed}
 use Rattle.bpf_step_model.specs.Iteration.{Iterated, iteration}
 use Rattle.loop_core_law.specs.Actions.{joined}
-use Rattle.loop_core_law.specs.LeastBreak.{is_break, least_below, lesser, least_break, counted_iterations, all_ended}
+use Rattle.loop_core_law.specs.LeastBreak.{is_break, least_below, lesser}
 use Rattle.loop_core_law.specs.Scan.{scan}
-use Rattle.loop_core_law.proofs.Least.{LeastIs, least_is}
+use Rattle.loop_core_law.proofs.Least.{least_is}
 use Rattle.loop_core_law.proofs.OneElement.{or_false_left, or_false_right, and_true_left, and_true_right}
 use Rattle.loop_core_law.proofs.ScanLaws.{counted_are_scanned}
-use Rattle.loop_core_blocks.specs.declared.faults.SplitFault.{SplitFault}
-use Rattle.loop_core_blocks.specs.declared.faults.GatherFault.{GatherFault}
-use Rattle.loop_core_blocks.specs.Block.{block, has_break, break_from, unless_broken}
-use Rattle.loop_core_blocks.specs.Split.{falls, last_bound, ends_amiss, split_fault}
-use Rattle.loop_core_blocks.specs.Gather.{Block, IsRunOf, least_of, starts_late, with_number, lacks, in_front, counting, lacks_some, twice, is_bound, stands_in, gather_fault, gathered, Gathers, BlocksGather}
+use Rattle.loop_core_blocks.specs.Block.{has_break, break_from, unless_broken}
+use Rattle.loop_core_blocks.specs.Split.{falls, last_bound, ends_amiss}
+use Rattle.loop_core_blocks.specs.Gather.{Block, IsRunOf, least_of, starts_late, with_number, lacks, counting, lacks_some, twice, is_bound, stands_in, gathered, Gathers, BlocksGather}
 use Rattle.loop_core_blocks.proofs.BlockLaws.{scans_follow}
 use Rattle.loop_core_blocks.proofs.FirstBreak.{NoneIn, IsFirst, FirstIs, widened, one_first, break_there, breaking, scan_first}
 
@@ -197,13 +195,13 @@ module _ (iterate : ℕ → Ending Iterated) (whole : List ℕ) (n : ℕ) (least
       let long : n - first ≡ (past - first) + (n - past) = omega arith in
       let next : first + (past - first) ≡ past = omega arith in
       let whole_scan : scan iterate (n - first) first ≡ followed (unless_broken (scan iterate (n - past) past)) (Ended b.ran) =
-          ap (λ m. scan iterate m first) long ∙ scans_follow iterate (past - first) (n - past) first
-          ∙ ap (λ e. followed (unless_broken (scan iterate (n - past) (first + (past - first)))) e) run
-          ∙ ap (λ m. followed (unless_broken (scan iterate (n - past) m)) (Ended b.ran)) next in
+      ap (λ m. scan iterate m first) long ∙ scans_follow iterate (past - first) (n - past) first
+      ∙ ap (λ e. followed (unless_broken (scan iterate (n - past) (first + (past - first)))) e) run
+      ∙ ap (λ m. followed (unless_broken (scan iterate (n - past) m)) (Ended b.ran)) next in
       let break_is : FirstIs (breaking iterate) first past (break_from first b.ran) =
-          subst (λ (m : ℕ). FirstIs (breaking iterate) first m (break_from first b.ran)) next (scan_first iterate (past - first) first b.ran run) in
+      subst (λ (m : ℕ). FirstIs (breaking iterate) first m (break_from first b.ran)) next (scan_first iterate (past - first) first b.ran run) in
       let counts : gathered_from least blocks k first (past ∷ bounds) ≡ b.ran ++ gathered_from least blocks (k + 1) past bounds =
-          rw (on_time, there) refl in
+      rw (on_time, there) refl in
       go (break_from first b.ran) refl break_is at_most whole_scan counts
     where
       broken : (j i : ℕ) → least ≡ Some i → break_from first b.ran ≡ Some j → IsFirst (breaking iterate) first past j → i ≤ j → breaking iterate i ≡ true →
@@ -212,7 +210,7 @@ module _ (iterate : ℕ → Ending Iterated) (whole : List ℕ) (n : ℕ) (least
       broken j i is_least is_break here at_most on whole_scan counts =
           let facts = broke_here first past i j small at_most on none here in
           let no_more : gathered_from least blocks (k + 1) past bounds ≡ [] =
-              ap (λ o. gathered_from o blocks (k + 1) past bounds) is_least ∙ ap (λ bs. joined (map (λ (c : Block). c.ran) bs)) (none_counts i blocks (k + 1) past bounds facts.0 rises) in
+          ap (λ o. gathered_from o blocks (k + 1) past bounds) is_least ∙ ap (λ bs. joined (map (λ (c : Block). c.ran) bs)) (none_counts i blocks (k + 1) past bounds facts.0 rises) in
           let breaks : has_break b.ran ≡ true = break_there first b.ran ∙ ap is_some is_break in
           record {
             scanned = whole_scan ∙ (rw breaks refl) ∙ ap Ended (sym (counts ∙ ap (λ rest. b.ran ++ rest) no_more ∙ append-nil b.ran));
@@ -287,8 +285,8 @@ split_from program bound call words (first ∷ bounds) blocks rises enough ends 
     let real : IsReal (breaking iterate) call.n (least_of blocks) = real_least iterate call.n (first ∷ bounds) small blocks runs there in
     let same_place : (j : ℕ) → 0 + j ≡ j = λ j. omega arith in
     let result : FromBound iterate (first ∷ bounds) call.n (least_of blocks) blocks 0 first bounds =
-        from_bound iterate (first ∷ bounds) call.n (least_of blocks) blocks (found iterate (first ∷ bounds) blocks runs there) real 0 first bounds
-        (λ j. ap (slice_get (first ∷ bounds)) (same_place j)) rises_on n_last complete (λ j low high. absurd (omega arith)) in
+    from_bound iterate (first ∷ bounds) call.n (least_of blocks) blocks (found iterate (first ∷ bounds) blocks runs there) real 0 first bounds
+    (λ j. ap (slice_get (first ∷ bounds)) (same_place j)) rises_on n_last complete (λ j low high. absurd (omega arith)) in
     let from_zero : call.n - 0 ≡ call.n = omega arith in
     record {
       break = one_first (breaking iterate) call.n (least_of blocks) (least_below (breaking iterate) call.n)

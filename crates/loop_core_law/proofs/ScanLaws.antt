@@ -1,5 +1,5 @@
 -- The counted iterations are the scan of all.
-use Rattle.std.proofs.Common.{◌≡◌, ℕ, zero, suc, ◌+◌, ◌≤◌, Bool, true, false, List, [], ◌∷◌, map, refl, ◌∙◌, ap, arith}
+use Rattle.std.proofs.Common.{◌≡◌, ℕ, zero, suc, ◌+◌, ◌≤◌, Bool, true, false, [], ◌∷◌, map, refl, ◌∙◌, ap, arith}
 use Rattle.std.specs.Prelude.{if◌then◌else◌, ◌==◌}
 use Rattle.std.specs.List.{range_with_len}
 use Rattle.bpf_step_model.specs.Run.{Ending, Ended, Stuck, Unfinished, followed}
@@ -41,7 +41,6 @@ module _ (iterate : ℕ → Ending Iterated) where
   counted_scan n =
       let counts = counts_to breaks_at n in
       scan_is (count_to n (least_below breaks_at n)) n 0 counts.within (ends_at_zero breaks_at n (count_to n (least_below breaks_at n)) counts)
-
 
 pub counted_are_scanned : CountedAreScanned
 counted_are_scanned program bound call words = counted_scan (λ index. iteration program bound call index words) call.n

@@ -1,12 +1,12 @@
 -- Each action changes an iteration's flags by its kind alone.
-use Rattle.std.proofs.Common.{◌≡◌, Bool, true, false, not, ◌&&◌, ◌||◌, List, [], ◌∷◌, ◌++◌, refl, sym, ◌∙◌, ap}
+use Rattle.std.proofs.Common.{◌≡◌, Bool, true, false, not, ◌&&◌, ◌||◌, List, [], ◌∷◌, ◌++◌, refl, ◌∙◌, ap}
 use Rattle.std.specs.List.{list_any}
 use Rattle.std.proofs.Math.Bool.{or-false}
 use Rattle.std.proofs.lemmas.List.Folds.{list_any-append}
 use Rattle.array_maps.specs.declared.access.Op.{Op}
 use Rattle.array_maps.specs.Accesses.{Action, Read, Write, ReadWrite, Reduce}
-use Rattle.loop_core_law.specs.Actions.{is_write, writes, is_plain_write, exposed, is_same, reduces_by}
-use Rattle.loop_core_marks.specs.Flags.{kind_of, is_plain, Flags, flags_of, no_flags, flagged, FlagsFollowKinds}
+use Rattle.loop_core_law.specs.Actions.{is_write, writes, is_plain_write, exposed, reduces_by}
+use Rattle.loop_core_marks.specs.Flags.{kind_of, is_plain, Flags, flags_of, flagged, FlagsFollowKinds}
 
 -- flags that agree are the same
 pub record FlagsAgree (a b : Flags) : Type 0 where

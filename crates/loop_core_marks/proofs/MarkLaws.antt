@@ -1,5 +1,5 @@
 -- What the marks of a set of iterations tell, and how they come about.
-use Rattle.std.proofs.Common.{◌≡◌, ℕ, zero, suc, ◌+◌, ◌-◌, ◌≤◌, ◌<◌, Bool, true, false, not, ◌&&◌, ◌||◌, ◌⊎◌, inl, inr, List, [], ◌∷◌, ◌++◌, map, Option, Some, None, refl, sym, ◌∙◌, ap, subst, arith}
+use Rattle.std.proofs.Common.{◌≡◌, ℕ, ◌+◌, ◌-◌, ◌≤◌, Bool, true, false, not, ◌&&◌, ◌||◌, ◌⊎◌, inl, inr, List, [], ◌∷◌, ◌++◌, Option, Some, None, refl, sym, ◌∙◌, ap, arith}
 use Rattle.std.specs.Prelude.{if◌then◌else◌, ◌==◌, nat_lt, min, max, is_some}
 use Rattle.std.specs.List.{list_any, count_by}
 use Rattle.std.proofs.Math.Bool.{or_assoc, or_comm, or-false}
@@ -14,9 +14,9 @@ use Rattle.loop_core_law.specs.Actions.{writes, exposed, reduces_by, joined, onl
 use Rattle.loop_core_law.specs.Conflict.{clash, harm, fails, conflicts}
 use Rattle.loop_core_law.specs.LeastBreak.{lesser}
 use Rattle.loop_core_marks.specs.Flags.{is_plain, flags_of}
-use Rattle.loop_core_marks.specs.Marks.{Visit, actions_of, numbered, Marks, two_write, first_writer, last_reader, marks_of, marked_reduction, stands_before, first_number, marked_fails, marked_conflict, no_marks, marks_of_one, merged}
+use Rattle.loop_core_marks.specs.Marks.{Visit, actions_of, numbered, Marks, two_write, first_writer, last_reader, marks_of, marked_reduction, stands_before, first_number, marked_fails, marked_conflict, marks_of_one, merged}
 use Rattle.loop_core_marks.specs.MarkLaw.{MarksTell, FirstIsNumber, MarksMerge}
-use Rattle.loop_core_marks.proofs.ReductionLaws.{only-kept, any-joined, plain, has}
+use Rattle.loop_core_marks.proofs.ReductionLaws.{only-kept, any-joined, has}
 
 -- marks that agree are the same
 pub record MarksAgree (a b : Marks) : Type 0 where

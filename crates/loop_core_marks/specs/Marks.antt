@@ -93,9 +93,14 @@ marked_conflict test marks = not (marked_reduction marks) && marked_fails test m
 -- the marks of no iteration
 abbrev pub no_marks : Marks
 no_marks = record {
-  written = false; written_by_two = false; read_only = false; read_and_written = false;
-  first = None; last = 0;
-  plain = false; by = λ op. false;
+  written = false;
+  written_by_two = false;
+  read_only = false;
+  read_and_written = false;
+  first = None;
+  last = 0;
+  plain = false;
+  by = λ op. false;
 }
 
 -- the marks of one iteration, by its index and flags
