@@ -26,7 +26,7 @@ pub const LOOP: &str =
 /// An accepted unit, told by the starts and counts of its functions.
 fn accepted(alloc: Global, verified: &Verified) -> Result<String, AllocError> {
     let mut told = String::from_str(alloc, "accepted")?;
-    for function in 0..verified.callbacks() + 1 {
+    for function in 0..=verified.callbacks() {
         let start = verified.start(function);
         let count = verified.count(function);
         write!(told, " | function {function} at {start} count {count}")?;
