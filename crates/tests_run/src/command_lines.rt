@@ -31,15 +31,14 @@ fn a_command_and_its_arguments_are_read(rt: HostRuntime) {
 }
 
 /// Asserts that the program's words ask for nothing, and the text that is told.
-fn is_told(
-    rt: &impl Abort,
-    alloc: Global,
-    words: &str,
-    text: &str,
-) -> Result<(), Fail> {
+fn is_told(rt: &impl Abort, alloc: Global, words: &str, text: &str) -> Result<(), Fail> {
     let ran = run_line(alloc, words, b"")?;
     let expected = text.replace(alloc, " | ", "\n")?;
-    assert_eq!(rt; str::from_utf8(&ran.messages), Ok(expected.as_str()), "of {words}");
+    assert_eq!(rt;
+        str::from_utf8(&ran.messages),
+        Ok(expected.as_str()),
+        "of {words}"
+    );
     assert_eq!(rt; (ran.status, ran.output.len()), (3, 0), "of {words}");
     Ok(())
 }
@@ -89,8 +88,7 @@ fn an_argument_that_is_no_number_is_named(rt: HostRuntime) -> Result<(), Fail> {
     for word in ["many", "18446744073709551616"] {
         let alloc = rt.alloc();
         let words = format!(in alloc; "order --arg {word}")?;
-        let text = format!(
-            in alloc;
+        let text = format!(in alloc;
             "error: invalid value '{word}' for '--arg <N>': \
             not a number from 0 to 18446744073709551615 |  | \
             Usage: bpfspec order [OPTIONS] |  | For more information, try '--help'. | "

@@ -147,7 +147,10 @@ fn disasm_writes_assembler_text(rt: HostRuntime) -> Result<(), Fail> {
 fn an_input_is_utf8_and_has_a_limit(rt: HostRuntime) -> Result<(), Fail> {
     let alloc = rt.alloc();
     let ran = run_line(alloc, "asm", b"maps 1 ; \xff")?;
-    assert_eq!(rt; ran.output.as_slice(), b"refused A1 at unit line 0\n".as_slice());
+    assert_eq!(rt;
+        ran.output.as_slice(),
+        b"refused A1 at unit line 0\n".as_slice()
+    );
     assert_eq!(rt; ran.status, 2);
     let mut input = String::from_str(alloc, "maps 1\n%%\n%%\n")?;
     for _ in input.len()..3_145_728 {
@@ -156,7 +159,10 @@ fn an_input_is_utf8_and_has_a_limit(rt: HostRuntime) -> Result<(), Fail> {
     assert_eq!(rt; run_line(alloc, "asm", input.as_bytes())?.status, 0);
     input.push_str("\u{e9}")?;
     let ran = run_line(alloc, "asm", input.as_bytes())?;
-    assert_eq!(rt; ran.output.as_slice(), b"refused A6 at unit line 0\n".as_slice());
+    assert_eq!(rt;
+        ran.output.as_slice(),
+        b"refused A6 at unit line 0\n".as_slice()
+    );
     assert_eq!(rt; ran.status, 2);
     Ok(())
 }
@@ -201,6 +207,9 @@ fn a_refused_growth_is_told(rt: HostRuntime) -> Result<(), Fail> {
         ran = run_on(alloc, &words, SEVEN, None, None);
     }
     assert_eq!(rt; ran.status, 0);
-    assert_eq!(rt; ran.output.as_slice(), b"accepted\nfunction 0 at 0 count 2\n".as_slice());
+    assert_eq!(rt;
+        ran.output.as_slice(),
+        b"accepted\nfunction 0 at 0 count 2\n".as_slice()
+    );
     Ok(())
 }

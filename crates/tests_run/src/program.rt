@@ -51,7 +51,12 @@ pub fn run_on(
     let mut source = Stumbling::new(input, reads_until_failure);
     let mut output = Narrow::new(alloc, writes_until_failure);
     let mut messages = Narrow::new(alloc, None);
-    let status = run(&(Words(words), alloc), &mut source, &mut output, &mut messages);
+    let status = run(
+        &(Words(words), alloc),
+        &mut source,
+        &mut output,
+        &mut messages,
+    );
     Ran {
         status,
         output: output.taken,
@@ -76,17 +81,16 @@ pub fn run_line(alloc: Global, line: &str, input: &[u8]) -> Result<Ran, AllocErr
 
 /// Asserts the exit status and the output of the program, row by row. A row has the lines of an input
 /// and, behind `=>`, the status and the lines of the output.
-pub fn are_answered(
-    rt: &impl Abort,
-    alloc: Global,
-    line: &str,
-    table: &str,
-) -> Result<(), Fail> {
+pub fn are_answered(rt: &impl Abort, alloc: Global, line: &str, table: &str) -> Result<(), Fail> {
     for row in table.trim().lines() {
         let (input, answer) = row.split_once("=>").ok_or("a row has an answer")?;
         let input = input.trim().replace(alloc, " | ", "\n")?;
         let ran = run_line(alloc, line, input.as_bytes())?;
-        let told = format!(in alloc; "{} {}", ran.status, str::from_utf8(&ran.output)?.trim_end())?;
+        let told = format!(in alloc;
+            "{} {}",
+            ran.status,
+            str::from_utf8(&ran.output)?.trim_end()
+        )?;
         let expected = answer.trim().replace(alloc, " | ", "\n")?;
         assert_eq!(rt; told.as_str(), expected.as_str(), "of {row}");
         assert!(rt; ran.messages.is_empty(), "of {row}");
