@@ -15,7 +15,7 @@ mod words;
 pub use fields::{read_fields, read_u32_fields};
 pub use head::read_head;
 pub use limits::{MAX_BYTES, MAX_TEXT};
-pub use lines::{Line, Lines, trim, trim_start};
+pub use lines::{Line, Lines, newline_at, trim, trim_start};
 pub use names::is_name;
 pub use numbers::{NumberError, has_only_digits, is_negative, is_number, is_numeral, read_number};
 pub use text_error::{TextError, TextFault};

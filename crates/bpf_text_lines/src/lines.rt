@@ -15,8 +15,8 @@ pub struct Line<'a> {
     pub content: &'a [u8],
 }
 
-/// Where the first newline stands.
-fn newline_at(text: &[u8]) -> Option<usize>
+/// Where the first newline of a text stands.
+pub fn newline_at(text: &[u8]) -> Option<usize>
     ensures { result ≡ position (λ b. b == 10) text.now }
 {
     text.iter().position(|b| *b == b'\n')

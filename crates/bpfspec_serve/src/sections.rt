@@ -1,8 +1,10 @@
 //! The sections of an input.
 
-ghost use Rattle.std.specs.Prelude.{◌≡◌, ◌+◌, ◌-◌, ◌<◌, ◌≤◌, length, slice_index, take, drop, ◌∷◌, ◌==◌, position};
+ghost use Rattle.std.specs.Prelude.{◌≡◌, ◌+◌, ◌-◌, ◌<◌, ◌≤◌, length, slice_index, take, drop, ◌∷◌};
 ghost use Rattle.std.specs.Str.{IsCharBoundary};
 ghost use Rattle.bpfspec_serve.specs.Sections.{whole_lines, is_mark, before_mark, behind_mark};
+
+use bpf_text_lines::newline_at;
 
 /// A text up to the first line that is exactly `%%`, and the text behind that line.
 #[derive(Clone, Copy, Debug, PartialEq, Eq)]
@@ -18,13 +20,6 @@ fn is_mark(line: &[u8]) -> bool
     ensures { result ≡ is_mark line.now }
 {
     line == b"%%\n".as_slice() || line == b"%%".as_slice()
-}
-
-/// Where the first newline stands.
-fn newline_at(text: &[u8]) -> Option<usize>
-    ensures { result ≡ position (λ b. b == 10) text.now }
-{
-    text.iter().position(|b| *b == b'\n')
 }
 
 /// How many bytes the first line of a text has, with its newline.

@@ -15,11 +15,10 @@ ghost use Rattle.bpf_step_model.specs.Lines.{loop_of, map_value};
 ghost use Rattle.bpf_insn_form.specs.Program.{Program};
 ghost use Rattle.spec_run.specs.Thin.{adds_index, thin_program, Thin};
 
-use bpf_insn_form::{AluOp, AtomicOp, Callee, ImmKind, Insn, Operand, SimpleOp, Unit, Width};
+use bpf_insn_form::{
+    AluOp, AtomicOp, Callee, ImmKind, Insn, MAX_ITERATIONS, Operand, SimpleOp, Unit, Width,
+};
 use std::marker::Model;
-
-/// The most iterations that a loop may have (bpf-helpers(7), bpf_loop).
-const MAX_ITERATIONS: u32 = 8_388_608;
 
 /// A program that was accepted. So far these are the thin ones: a loop that adds its index to the one
 /// element of its map.
