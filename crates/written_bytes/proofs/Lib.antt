@@ -1,1 +1,4 @@
+pub mod MarkLaws
 pub mod MeetLaws
+pub mod WordMeetLaws
+pub mod WriteLaws

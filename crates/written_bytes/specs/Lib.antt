@@ -1,1 +1,3 @@
 pub mod Written
+pub mod Words
+pub mod WordsBack

@@ -1,37 +1,39 @@
 //! A frame's written bytes.
 
-ghost use Rattle.std.specs.Prelude.{◌≡◌, ◌+◌, ◌≤◌, ◌&&◌};
+ghost use Rattle.std.specs.Prelude.{◌≡◌, ◌+◌, ◌≤◌, ◌%◌, ◌^◌};
 ghost use Rattle.written_bytes.specs.Written.{none_written, all_written, written_from, joined_written};
 
 use std::marker::Model;
 
-/// For each of a frame's 512 bytes, the lowest first, whether it is written.
+/// For each of a frame's 512 bytes, the lowest first, whether it is written: bit `i % 64` of word
+/// `i / 64` is byte `i`.
 #[derive(Clone, Copy)]
 pub struct WrittenBytes {
-    written: [bool; 512],
+    words: [u64; 8],
 }
 
 impl Model for WrittenBytes {
-    ghost use Rattle.std.specs.Prelude.{◌≡◌, Bool, List, length};
+    ghost use Rattle.std.specs.Prelude.{Bool, List};
+    ghost use Rattle.written_bytes.specs.Words.{AreWords, bytes_in, words_of};
+    ghost use Rattle.written_bytes.specs.WordsBack.{words_of-bytes_in};
 
     ghost Value = { List Bool };
 
-    ghost view = { λ w. w.written };
+    ghost view = { λ w. bytes_in w.words };
 
-    ghost invariant = { λ w. length w.written ≡ 512 };
+    ghost invariant = { λ w. AreWords w.words };
 
-    ghost inverse = { λ written. record { written = written } };
+    ghost inverse = { λ written. record { words = words_of written } };
+
+    ghost inverse_ok = { λ w h i. record { words = words_of-bytes_in w.words h.count h.small i } };
 }
 
 impl WrittenBytes {
     /// No byte is written.
-    #[tactic(auto, unfolding(crate::specs::Written::none_written))]
     pub fn none() -> WrittenBytes
         ensures { result ≡ none_written }
     {
-        WrittenBytes {
-            written: [false; 512],
-        }
+        WrittenBytes { words: [0; 8] }
     }
 
     /// Whether so many bytes from a position on are written.
@@ -39,31 +41,37 @@ impl WrittenBytes {
         requires { position + size ≤ 512 }
         ensures { result ≡ all_written self.now position size }
     {
-        self.written[position..position + size]
-            .iter()
-            .all(|written| *written)
+        for at in position..position + size {
+            if self.words[at / 64] & mark(at) == 0 {
+                return false;
+            }
+        }
+        true
     }
 
-    /// WrittenBytes so many bytes from a position on.
+    /// Marks so many bytes from a position on as written.
     pub fn write(&mut self, position: usize, size: usize)
         requires { position + size ≤ 512 }
         ensures { self.new ≡ written_from self.old position size }
     {
-        self.written[position..position + size].fill(true);
+        for at in position..position + size {
+            self.words[at / 64] |= mark(at);
+        }
     }
 
     /// Keeps what is written in another too.
     pub fn meet(&mut self, others: &WrittenBytes)
         ensures { self.new ≡ joined_written self.old others.now }
     {
-        for i in 0..512 {
-            self.written[i] = both(self.written[i], others.written[i]);
+        for row in 0..8 {
+            self.words[row] &= others.words[row];
         }
     }
 }
 
-fn both(a: bool, b: bool) -> bool
-    ensures { result ≡ (a && b) }
+/// A byte's bit in its word.
+fn mark(at: usize) -> u64
+    ensures { result ≡ 2 ^ (at % 64) }
 {
-    a && b
+    1 << (at % 64)
 }

@@ -1,19 +1,31 @@
-use Rattle.std.proofs.Common.{Bool, false, ◌&&◌, length, sym, ◌∙◌, ap, arith}
-use Rattle.written_bytes.proofs.MeetLaws.{met_to-none, length-met_to, met_to-step, met_to-end}
+use Rattle.std.proofs.Common.{◌≡◌, refl, sym, ◌∙◌, ap, arith, List, Bool, get_or}
+use Rattle.std.specs.Prelude.{bit_and}
+use Rattle.written_bytes.specs.Written.{joined_written}
+use Rattle.written_bytes.specs.Words.{bytes_in}
+use Rattle.written_bytes.proofs.MeetLaws.{met_to, met_to-none, met_to-step}
+use Rattle.written_bytes.proofs.WordMeetLaws.{AreWords-met, bytes_in-met}
 use Rattle.written_bytes.proofs.written.WrittenBytes.meet.Goals as goal
 
-pub loop-i-init : goal.loop-i-init
-loop-i-init c = sym (met_to-none (λ (x y : Bool). x && y) c.self.inside.written c.args.others.now)
+pub loop-row-init : goal.loop-row-init
+loop-row-init c = sym (met_to-none bit_and c.self.inside.words c.others.inside.words)
+
+pub loop-row-preserved : goal.loop-row-preserved
+loop-row-preserved c =
+    met_to-step bit_and c.self.inside.words c.loop-row.self-inside.words c.others.inside.words c.others.inside.words c.loop-row.row 0 0
+    (bit_and (get_or c.loop-row.self-inside.words c.loop-row.row 0) (get_or c.others.inside.words c.loop-row.row 0))
+    c.loop-row.invariant refl (omega (arith, c.self.invariant.count)) (omega (arith, c.others.invariant.count)) refl
 
 pub invariant_of-self : goal.invariant_of-self
-invariant_of-self c = ap length c.loop-i.invariant ∙ length-met_to (λ (x y : Bool). x && y) c.self.inside.written c.args.others.now c.loop-i.i ∙ c.self.invariant
-
-pub loop-i-preserved : goal.loop-i-preserved
-loop-i-preserved c =
-    met_to-step (λ (x y : Bool). x && y) c.self.inside.written c.loop-i.self-inside.written c.others.inside.written c.args.others.now c.loop-i.i false false c.both.result
-    c.loop-i.invariant c.others.view_is (omega (arith, c.self.invariant)) (omega (arith, c.others.invariant)) c.both.ensures
+invariant_of-self c =
+    let end : c.loop-row.row ≡ 8 = omega arith in
+    let met : c.loop-row.self-inside.words ≡ met_to bit_and c.self.inside.words c.others.inside.words 8 =
+    c.loop-row.invariant ∙ ap (met_to bit_and c.self.inside.words c.others.inside.words) end in
+    rw met (AreWords-met c.self.inside.words c.others.inside.words c.self.invariant c.others.invariant)
 
 pub returns : goal.returns
 returns c =
-    met_to-end (λ (x y : Bool). x && y) c.self.inside.written c.args.self.now c.loop-i.self-inside.written c.others.inside.written c.args.others.now c.loop-i.i 512
-    c.loop-i.invariant c.self.view_is c.others.view_is c.loop-i-test.false c.loop-i.auto.i-end c.self.invariant c.others.invariant
+    let end : c.loop-row.row ≡ 8 = omega arith in
+    ap bytes_in (c.loop-row.invariant ∙ ap (met_to bit_and c.self.inside.words c.others.inside.words) end)
+    ∙ bytes_in-met c.self.inside.words c.others.inside.words c.self.invariant.count c.others.invariant.count
+    ∙ ap (λ (l : List Bool). joined_written l (bytes_in c.others.inside.words)) c.self.view_is
+    ∙ ap (joined_written c.args.self.now) c.others.view_is

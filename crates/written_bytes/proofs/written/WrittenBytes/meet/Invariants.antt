@@ -1,6 +1,7 @@
-use Rattle.std.proofs.Common.{◌≡◌, Bool, ◌&&◌}
+use Rattle.std.proofs.Common.{◌≡◌}
+use Rattle.std.specs.Prelude.{bit_and}
 use Rattle.written_bytes.proofs.MeetLaws.{met_to}
 use Rattle.written_bytes.proofs.written.WrittenBytes.meet.Given as goal
 
-abbrev pub invariant-loop-i : goal.invariant-loop-i
-invariant-loop-i l = l.self-inside.written ≡ met_to (λ (x y : Bool). x && y) l.initial.self-inside.written l.others l.i
+abbrev pub invariant-loop-row : goal.invariant-loop-row
+invariant-loop-row l = l.self-inside.words ≡ met_to bit_and l.initial.self-inside.words l.others-inside.words l.row
