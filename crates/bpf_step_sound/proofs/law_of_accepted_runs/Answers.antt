@@ -1,0 +1,11 @@
+-- A run goes on as is known at each of its steps, each of which is shorter.
+use Rattle.bpf_step_sound.proofs.RunLaws.{run-known}
+use Rattle.bpf_step_sound.proofs.CountLaws.{run-within, run-exit}
+use Rattle.bpf_step_sound.proofs.law_of_accepted_runs.Goals as goal
+
+pub returns : goal.returns
+returns c = record {
+  stuck = run-known c.results_fit.ensures;
+  ends = run-within c.results_fit.ensures;
+  callbacks = run-exit c.results_fit.ensures;
+}

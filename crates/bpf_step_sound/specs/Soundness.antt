@@ -1,0 +1,159 @@
+-- The soundness of the verifier: an accepted program's machine is never stuck.
+use Rattle.std.specs.Prelude.{◌≡◌, ℕ, ◌+◌, ◌<◌, ◌≤◌, ◌^◌, true, List, length, is_some}
+use Rattle.std.specs.List.{AllByRecursion, sum}
+use Rattle.bpf_insn_form.specs.Values.{AreInsns}
+use Rattle.bpf_insn_form.specs.Program.{Program, slot_count}
+use Rattle.array_maps.specs.Accesses.{left_by}
+use Rattle.bpf_verify_model.specs.Accepted.{Accepted}
+use Rattle.bpf_verify_model.specs.Count.{longest}
+use Rattle.bpf_step_model.specs.State.{Machine, LoopCall, main_entry, callback_entry}
+use Rattle.bpf_step_model.specs.Step.{Move, NoStep, Next, Asks, Loops, Refuses, Exits, step}
+use Rattle.bpf_step_model.specs.Run.{Ending, Ended, Stuck, Unfinished, Turn, Exit, Loop, Refused, Stretch, told, action_of, run}
+use Rattle.bpf_step_model.specs.Iteration.{Iterated, iteration}
+use Rattle.bpf_step_model.specs.LoopInOrder.{Looped, loop_in_order}
+use Rattle.bpf_step_model.specs.ProgramInOrder.{Finished, resumed, program_in_order}
+use Rattle.bpf_step_sound.specs.Containment.{ContainedBefore}
+use Rattle.bpf_step_model.specs.SoundMachine.{SoundMachine, SoundCall}
+
+-- an accepted program of instructions whose fields fit
+pub record IsSoundProgram (program : Program) : Type 0 where
+  pub accepted : Accepted program
+  pub fits : AreInsns program.insns
+
+-- as many words as the sizes say, each below 2 ^ 64
+pub record AreMapWords (program : Program) (words : List ℕ) : Type 0 where
+  pub count : length words ≡ sum program.sizes
+  pub fit : AllByRecursion (λ word. word < 2 ^ 64) words
+
+-- a machine of a program, of which what is known before its slot is true
+pub record IsKnown (program : Program) (m : Machine) : Type 0 where
+  pub sound : SoundMachine program m
+  pub contained : ContainedBefore program m
+
+-- a loop call whose iterations begin as is known
+pub record IsKnownCall (program : Program) (call : LoopCall) : Type 0 where
+  pub entries : (index : ℕ) → index < call.n → IsKnown program (callback_entry call index)
+  pub few : call.n ≤ 8388608
+
+-- main waits for an answer, and goes on as is known whatever the answer is
+abbrev pub IsKnownOnceResumed : Program → Machine → Type 0
+IsKnownOnceResumed program next = (answer : ℕ) → answer < 2 ^ 64 → IsKnown program (resumed next answer)
+
+-- there is a step, and each machine that it leads to is contained before its slot, whatever word below 2 ^ 64 stands at
+-- the element
+abbrev pub StepContained : Program → Move → Type 0
+StepContained program NoStep = ⊥
+StepContained program (Next next) = ContainedBefore program next
+StepContained program (Asks element request next) =
+    (element < sum program.sizes) × ((word : ℕ) → word < 2 ^ 64 → ContainedBefore program (told request word next))
+StepContained program (Loops call next) =
+    ((index : ℕ) → index < call.n → ContainedBefore program (callback_entry call index)) × ((answer : ℕ) → answer < 2 ^ 64 → ContainedBefore program (resumed next answer))
+StepContained program (Refuses answer next) = ContainedBefore program next
+StepContained program (Exits ret) = Unit {0}
+
+-- a step keeps a machine sound, and the words of the maps below 2 ^ 64
+abbrev pub StepSound : Program → Move → Type 0
+StepSound program NoStep = Unit {0}
+StepSound program (Next next) = SoundMachine program next
+StepSound program (Asks element request next) =
+    (word : ℕ) → word < 2 ^ 64 → SoundMachine program (told request word next) × (left_by (action_of request word) word < 2 ^ 64)
+StepSound program (Loops call next) = SoundCall program call × ((answer : ℕ) → answer < 2 ^ 64 → SoundMachine program (resumed next answer))
+StepSound program (Refuses answer next) = SoundMachine program next
+StepSound program (Exits ret) = ret < 2 ^ 64
+
+-- there is a step, and each machine that it leads to is known, whatever word below 2 ^ 64 stands at the element; and
+-- what is left there is such a word again
+abbrev pub GoesOnKnown : Program → Move → Type 0
+GoesOnKnown program NoStep = ⊥
+GoesOnKnown program (Next next) = IsKnown program next
+GoesOnKnown program (Asks element request next) =
+    (element < sum program.sizes) × ((word : ℕ) → word < 2 ^ 64 → IsKnown program (told request word next) × (left_by (action_of request word) word < 2 ^ 64))
+GoesOnKnown program (Loops call next) = IsKnownCall program call × IsKnownOnceResumed program next
+GoesOnKnown program (Refuses answer next) = IsKnown program next
+GoesOnKnown program (Exits ret) = ret < 2 ^ 64
+
+-- the law of one step
+abbrev pub EachStepIsKnown : Type 0
+EachStepIsKnown = (program : Program) → IsSoundProgram program → (m : Machine) → IsKnown program m → GoesOnKnown program (step program m)
+
+-- main and callbacks start as is known
+abbrev pub EntryIsKnown : Type 0
+EntryIsKnown = (program : Program) → IsSoundProgram program → (argument : ℕ) → argument < 2 ^ 64 → IsKnown program (main_entry argument)
+
+-- a run isn't stuck, and where it comes to a turn, it goes on as is known from there, over words that are such again
+abbrev pub TurnsKnown : Program → Turn → Type 0
+TurnsKnown program (Exit ret) = ret < 2 ^ 64
+TurnsKnown program (Loop call next) = IsKnownCall program call × IsKnownOnceResumed program next
+TurnsKnown program (Refused slot answer next) = IsKnown program next
+
+abbrev pub RunsKnown : Program → Ending Stretch → Type 0
+RunsKnown program Stuck = ⊥
+RunsKnown program Unfinished = Unit {0}
+RunsKnown program (Ended s) = TurnsKnown program s.turn × AreMapWords program s.words
+
+abbrev pub NoRunIsStuck : Type 0
+NoRunIsStuck = (program : Program) → IsSoundProgram program → (bound : ℕ) (m : Machine) → IsKnown program m →
+    (words : List ℕ) → AreMapWords program words → RunsKnown program (run program bound m words)
+
+-- the most instructions from a slot on, over all jumps
+abbrev pub most_from : Program → ℕ → ℕ
+most_from program slot = longest program.insns (slot_count program.insns) slot
+
+-- the most that may come after a turn
+abbrev pub most_after : Program → Turn → ℕ
+most_after program (Exit ret) = 0
+most_after program (Loop call next) = most_from program next.slot
+most_after program (Refused slot answer next) = most_from program next.slot
+
+-- a run ends, and what it took with what may still come is at most so many instructions
+abbrev pub EndsWithin : Program → ℕ → Ending Stretch → Type 0
+EndsWithin program count Stuck = ⊥
+EndsWithin program count Unfinished = ⊥
+EndsWithin program count (Ended s) = (0 < s.steps) × (s.steps + most_after program s.turn ≤ count)
+
+-- so each run does, from its slot on: from the start of a function within its count
+abbrev pub EachRunEnds : Type 0
+EachRunEnds = (program : Program) → IsSoundProgram program → (bound : ℕ) (m : Machine) → IsKnown program m → (words : List ℕ) → AreMapWords program words →
+    most_from program m.slot ≤ bound → EndsWithin program (most_from program m.slot) (run program bound m words)
+
+-- a callback's run ends at an exit alone, with 0 or 1
+abbrev pub IsExit : Turn → Type 0
+IsExit (Exit ret) = ret ≤ 1
+IsExit (Loop call next) = ⊥
+IsExit (Refused slot answer next) = ⊥
+
+abbrev pub EndsAtExit : Ending Stretch → Type 0
+EndsAtExit Stuck = Unit {0}
+EndsAtExit Unfinished = Unit {0}
+EndsAtExit (Ended s) = IsExit s.turn
+
+abbrev pub CallbacksExit : Type 0
+CallbacksExit = (program : Program) → IsSoundProgram program → (bound : ℕ) (m : Machine) → IsKnown program m → is_some m.caller ≡ true →
+    (words : List ℕ) → AreMapWords program words → EndsAtExit (run program bound m words)
+
+-- an iteration ends within so many instructions with 0 or 1, and leaves words of the maps again
+abbrev pub IterationEnds : Program → ℕ → Ending Iterated → Type 0
+IterationEnds program count Stuck = ⊥
+IterationEnds program count Unfinished = ⊥
+IterationEnds program count (Ended it) = (it.ret ≤ 1) × (it.steps ≤ count) × AreMapWords program it.words
+
+-- so does a loop in order, with a word as its answer
+abbrev pub LoopEnds : Program → Ending Looped → Type 0
+LoopEnds program Stuck = ⊥
+LoopEnds program Unfinished = ⊥
+LoopEnds program (Ended l) = (l.answer < 2 ^ 64) × AreMapWords program l.words
+
+-- and a program in order
+abbrev pub ProgramEnds : Program → Ending Finished → Type 0
+ProgramEnds program Stuck = ⊥
+ProgramEnds program Unfinished = ⊥
+ProgramEnds program (Ended f) = (f.ret < 2 ^ 64) × AreMapWords program f.words
+
+-- at a bound that isn't less than the program's slots each of them ends
+pub record EachProgramEnds : Type 0 where
+  pub iterations : (program : Program) → IsSoundProgram program → (bound : ℕ) → slot_count program.insns ≤ bound → (call : LoopCall) → IsKnownCall program call →
+      (index : ℕ) → index < call.n → (words : List ℕ) → AreMapWords program words → IterationEnds program (most_from program call.callback) (iteration program bound call index words)
+  pub loops : (program : Program) → IsSoundProgram program → (bound : ℕ) → slot_count program.insns ≤ bound → (call : LoopCall) → IsKnownCall program call →
+      (words : List ℕ) → AreMapWords program words → LoopEnds program (loop_in_order program bound call words)
+  pub programs : (program : Program) → IsSoundProgram program → (bound : ℕ) → slot_count program.insns ≤ bound → (argument : ℕ) → argument < 2 ^ 64 →
+      (words : List ℕ) → AreMapWords program words → ProgramEnds program (program_in_order program bound argument words)
