@@ -1,5 +1,5 @@
 -- Iterations, loops in order and programs in order end.
-use Rattle.std.proofs.Common.{◌≡◌, ℕ, zero, suc, ◌+◌, ◌<◌, ◌≤◌, ◌^◌, Bool, true, false, List, refl, sym, ap, subst, arith}
+use Rattle.std.proofs.Common.{◌≡◌, ℕ, zero, suc, ◌+◌, ◌<◌, ◌≤◌, ◌^◌, Bool, true, false, inl, inr, List, refl, sym, ap, subst, arith}
 use Rattle.std.specs.Prelude.{◌==◌, if◌then◌else◌}
 use Rattle.bpf_insn_form.specs.Program.{Program, slot_count, function_of}
 use Rattle.bpf_insn_words.specs.WordBounds.{ResultsFit}
@@ -10,7 +10,9 @@ use Rattle.bpf_step_model.specs.Run.{Ending, Ended, Stuck, Unfinished, followed,
 use Rattle.bpf_step_model.specs.Iteration.{Iterated, exited_by, exited, iteration}
 use Rattle.bpf_step_model.specs.LoopInOrder.{Looped, behind, loop_from, loop_in_order}
 use Rattle.bpf_step_model.specs.ProgramInOrder.{LoopMade, Finished, with_loop, resumed, after_loop, after_turn, after_stretch, main_from, program_in_order}
-use Rattle.bpf_step_sound.specs.Soundness.{IsSoundProgram, AreMapWords, IsKnown, IsKnownCall, IsKnownOnceResumed, TurnsKnown, RunsKnown, most_from, most_after, EndsWithin, IsExit, EndsAtExit, callback_count, IterationEnds, LoopEnds, IsKnownLoop, ProgramEnds, EachProgramEnds}
+use Rattle.bpf_step_sound.specs.Soundness.{IsSoundProgram, AreMapWords, IsKnown, IsKnownCall, IsKnownOnceResumed, TurnsKnown, RunsKnown, most_from, most_after, EndsWithin, IsExit, EndsAtExit, callback_count, IterationEnds, LoopEnds, IsKnownLoop, ProgramEnds, EndsIfFinished, EachProgramEnds}
+use Rattle.bpf_step_model.specs.Bounds.{Extends}
+use Rattle.bpf_step_model.proofs.BoundLaws.{program_extends}
 use Rattle.bpf_step_sound.proofs.StartIndex.{start-function}
 use Rattle.bpf_step_sound.proofs.EntryLaws.{main-contained}
 use Rattle.bpf_step_sound.proofs.SoundLaws.{entry-sound}
@@ -140,5 +142,22 @@ main-within : ResultsFit → (program : Program) → IsSoundProgram program → 
 unfolding count_of
 main-within fit program sound bound few argument h words w = run-within fit program sound bound (main_entry argument) (main-starts program sound argument h) words w few
 
+-- with a smaller bound it ends the same way, or not yet
+if-finished : (program : Program) (low high : Ending Finished) → ProgramEnds program high → Extends low high → EndsIfFinished program low
+if-finished program low high ends (inl e) = subst (EndsIfFinished program) (sym e) tt
+if-finished program low high ends (inr e) = by_end program low (subst (ProgramEnds program) e ends)
+  where
+    by_end : (program : Program) (e : Ending Finished) → ProgramEnds program e → EndsIfFinished program e
+    by_end program Stuck i = i
+    by_end program Unfinished i = absurd i
+    by_end program (Ended f) i = i
+
+never-stuck : ResultsFit → (program : Program) → IsSoundProgram program → (bound argument : ℕ) → argument < 2 ^ 64 →
+    (words : List ℕ) → AreMapWords program words → EndsIfFinished program (program_in_order program bound argument words)
+never-stuck fit program sound bound argument h words w =
+    let enough : ℕ = bound + slot_count program.insns in
+    if-finished program (program_in_order program bound argument words) (program_in_order program enough argument words) (program-ends fit program sound enough (omega arith) argument h words w)
+    (program_extends program bound enough (omega arith) argument words)
+
 pub each-ends : ResultsFit → EachProgramEnds
-each-ends fit = record { main = main-within fit; iterations = iteration-ends fit; loops = loop-ends fit; programs = program-ends fit }
+each-ends fit = record { main = main-within fit; iterations = iteration-ends fit; loops = loop-ends fit; programs = program-ends fit; never_stuck = never-stuck fit }

@@ -178,6 +178,12 @@ ProgramEnds program Stuck = ⊥
 ProgramEnds program Unfinished = ⊥
 ProgramEnds program (Ended f) = (f.ret < 2 ^ 64) × AllByRecursion (IsKnownLoop program) f.loops × AreMapWords program f.words
 
+-- at any bound it isn't stuck, and ends so or isn't finished yet
+abbrev pub EndsIfFinished : Program → Ending Finished → Type 0
+EndsIfFinished program Stuck = ⊥
+EndsIfFinished program Unfinished = Unit {0}
+EndsIfFinished program (Ended f) = ProgramEnds program (Ended f)
+
 -- each of them ends: main up to its first turn, with what may still come, within main's count; an iteration within its
 -- callback's; a loop at a bound that isn't less than its callback's count, and a program at one that isn't less than its slots
 pub record EachProgramEnds : Type 0 where
@@ -189,3 +195,5 @@ pub record EachProgramEnds : Type 0 where
       (words : List ℕ) → AreMapWords program words → LoopEnds program call (loop_in_order program bound call words)
   pub programs : (program : Program) → IsSoundProgram program → (bound : ℕ) → slot_count program.insns ≤ bound → (argument : ℕ) → argument < 2 ^ 64 →
       (words : List ℕ) → AreMapWords program words → ProgramEnds program (program_in_order program bound argument words)
+  pub never_stuck : (program : Program) → IsSoundProgram program → (bound argument : ℕ) → argument < 2 ^ 64 →
+      (words : List ℕ) → AreMapWords program words → EndsIfFinished program (program_in_order program bound argument words)

@@ -37,7 +37,7 @@ pub fn law_of_accepted_runs()
 /// loop call that main can reach within its callback's, where the bound isn't less than that count. So each
 /// such loop in order ends, with an answer of at most its number of iterations. At a bound that isn't less
 /// than the program's slots the whole program in order ends; each loop call that it made was as is known.
-/// Each leaves words of the maps again.
+/// At any bound it isn't stuck. Each leaves words of the maps again.
 pub fn law_of_accepted_programs()
     ensures { EachProgramEnds }
 {
