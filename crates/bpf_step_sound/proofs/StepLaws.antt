@@ -18,7 +18,7 @@ use Rattle.bpf_step_model.specs.Step.{Move, NoStep, Next, Asks, Loops, Refuses, 
 use Rattle.bpf_step_model.specs.Run.{told}
 use Rattle.bpf_step_model.specs.ProgramInOrder.{resumed}
 use Rattle.bpf_step_sound.specs.Containment.{Contained, ContainedIf, ContainedBefore}
-use Rattle.bpf_step_sound.specs.KnownStates.{IsKnownState, IsKnownStateIf}
+use Rattle.bpf_step_sound.specs.KnownStates.{IsKnownState, IfKnown}
 use Rattle.bpf_step_sound.specs.Standing.{KeepsRules}
 use Rattle.bpf_step_sound.specs.Ways.{GoesBy, EntersBy, MoveFlows}
 use Rattle.bpf_step_sound.specs.Soundness.{StepContained}
@@ -69,7 +69,7 @@ insn-contained fit program m insn state accepted fits sound here reached spans c
 
 -- at any slot; where no instruction starts nothing is known
 by_state : ResultsFit → (program : Program) (m : Machine) (insn : Insn) (o : Option State) → Accepted program → AreInsns program.insns → SoundMachine program m →
-    insn_at program.insns m.slot ≡ Some insn → before program m.slot ≡ o → IsKnownStateIf o → ContainedIf o m → StepContained program (lands program m.slot (acts program m insn))
+    insn_at program.insns m.slot ≡ Some insn → before program m.slot ≡ o → IfKnown o → ContainedIf o m → StepContained program (lands program m.slot (acts program m insn))
 by_state fit program m insn None accepted fits sound here reached spans c = absurd c
 by_state fit program m insn (Some state) accepted fits sound here reached spans c = insn-contained fit program m insn state accepted fits sound here reached spans c
 

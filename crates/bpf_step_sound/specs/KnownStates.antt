@@ -24,6 +24,6 @@ pub record IsKnownState (state : State) : Type 0 where
   pub caller : HasCallerCount state.caller
 
 -- the same where something is known
-abbrev pub IsKnownStateIf : Option State → Type 0
-IsKnownStateIf None = Unit {0}
-IsKnownStateIf (Some state) = IsKnownState state
+abbrev pub IfKnown : Option State → Type 0
+IfKnown None = Unit {0}
+IfKnown (Some state) = IsKnownState state

@@ -14,7 +14,7 @@ use Rattle.bpf_step_model.specs.Iteration.{Iterated, iteration}
 use Rattle.bpf_step_model.specs.LoopInOrder.{Looped, loop_in_order}
 use Rattle.bpf_step_model.specs.ProgramInOrder.{LoopMade, Finished, resumed, program_in_order}
 use Rattle.bpf_step_sound.specs.Containment.{ContainedBefore}
-use Rattle.bpf_step_sound.specs.KnownStates.{IsKnownStateIf}
+use Rattle.bpf_step_sound.specs.KnownStates.{IfKnown}
 use Rattle.bpf_step_model.specs.SoundMachine.{IsStart, SoundMachine, SoundCall}
 
 -- an accepted program of instructions whose fields fit
@@ -80,7 +80,7 @@ EachStepIsKnown = (program : Program) → IsSoundProgram program → (m : Machin
 
 -- what is known before any slot is of eleven registers and 512 bytes, and its ranges are spans
 abbrev pub EachStateIsKnown : Type 0
-EachStateIsKnown = (program : Program) → IsSoundProgram program → (slot : ℕ) → IsKnownStateIf (before program slot)
+EachStateIsKnown = (program : Program) → IsSoundProgram program → (slot : ℕ) → IfKnown (before program slot)
 
 -- main starts as is known, whatever its argument is; of callbacks each loop call says it
 abbrev pub EntryIsKnown : Type 0
