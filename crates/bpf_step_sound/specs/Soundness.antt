@@ -63,6 +63,13 @@ StepSound program (Loops call next) = SoundCall program call × ((answer : ℕ) 
 StepSound program (Refuses answer next) = SoundMachine program next
 StepSound program (Exits ret) = ret < 2 ^ 64
 
+-- the law of machines of real runs, of an accepted program or not: main and each iteration of a valid loop call start as
+-- such, and each step keeps them
+pub record MachinesStaySound : Type 0 where
+  pub main : (program : Program) (argument : ℕ) → argument < 2 ^ 64 → SoundMachine program (main_entry argument)
+  pub callbacks : (program : Program) (call : LoopCall) → SoundCall program call → (index : ℕ) → index < call.n → SoundMachine program (callback_entry call index)
+  pub steps : (program : Program) → AreInsns program.insns → (m : Machine) → SoundMachine program m → StepSound program (step program m)
+
 -- there is a step, and each machine that it leads to is known, whatever word below 2 ^ 64 stands at the element; and
 -- what is left there is such a word again
 abbrev pub GoesOnKnown : Program → Move → Type 0

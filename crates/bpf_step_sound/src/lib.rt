@@ -1,18 +1,20 @@
 //! An accepted program's machine is never stuck. These are definitions and laws alone: nothing runs here.
 #![tactic(auto)]
 
-ghost use Rattle.bpf_step_sound.specs.Soundness.{EntryIsKnown, EachStepIsKnown, EachStateIsKnown, NoRunIsStuck, EachRunEnds, CallbacksExit, EachCallbackStartsItsFunction, EachCountIsSmall, EachProgramEnds};
+ghost use Rattle.bpf_step_sound.specs.Soundness.{EntryIsKnown, EachStepIsKnown, MachinesStaySound, EachStateIsKnown, NoRunIsStuck, EachRunEnds, CallbacksExit, EachCallbackStartsItsFunction, EachCountIsSmall, EachProgramEnds};
 
 use bpf_insn_words::results_fit;
 
 /// The law of one step: what is known before a slot of an accepted program is true of the machine there.
 /// Main starts so, at any argument. Where it is so there is a step, and it is so of each machine that the
 /// step leads to, whatever word stands at the element that it asks for, whatever a loop answers, and at
-/// whatever index below the number of iterations a callback starts. What is known before a slot is of
-/// eleven registers and 512 bytes, and its ranges are spans.
+/// whatever index below the number of iterations a callback starts. Each step of any program keeps words
+/// below 2^64 in registers, frames and maps. What is known before a slot is of eleven registers and 512
+/// bytes, and its ranges are spans.
 pub fn law_of_steps()
     ensures entry { EntryIsKnown }
     ensures step { EachStepIsKnown }
+    ensures machines { MachinesStaySound }
     ensures states { EachStateIsKnown }
 {
     results_fit();
