@@ -185,14 +185,15 @@ ProgramEnds program Stuck = ⊥
 ProgramEnds program Unfinished = ⊥
 ProgramEnds program (Ended f) = (f.ret < 2 ^ 64) × AllByRecursion (IsKnownLoop program) f.loops × AreMapWords program f.words
 
--- at any bound it isn't stuck, and ends so or isn't finished yet
+-- it isn't stuck, and ends so or isn't finished yet
 abbrev pub EndsIfFinished : Program → Ending Finished → Type 0
 EndsIfFinished program Stuck = ⊥
 EndsIfFinished program Unfinished = Unit {0}
 EndsIfFinished program (Ended f) = ProgramEnds program (Ended f)
 
 -- each of them ends: main up to its first turn, with what may still come, within main's count; an iteration within its
--- callback's; a loop at a bound that isn't less than its callback's count, and a program at one that isn't less than its slots
+-- callback's; a loop at a bound that isn't less than its callback's count, and a program at one that isn't less than its
+-- slots; at any bound a program isn't stuck
 pub record EachProgramEnds : Type 0 where
   pub main : (program : Program) → IsSoundProgram program → (bound : ℕ) → count_of program.insns 0 ≤ bound → (argument : ℕ) → argument < 2 ^ 64 →
       (words : List ℕ) → AreMapWords program words → EndsWithin program (count_of program.insns 0) (run program bound (main_entry argument) words)
