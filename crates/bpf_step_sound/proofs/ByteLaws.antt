@@ -4,7 +4,7 @@ use Rattle.std.specs.Prelude.{slice_range}
 use Rattle.std.specs.List.{list_all}
 use Rattle.std.specs.Int.{bytes_low_first, byte_at}
 use Rattle.std.proofs.Math.Nat.{pow-suc}
-use Rattle.std.proofs.lemmas.List.{length-take-le, length-drop, length-append, take-append-drop, append_assoc}
+use Rattle.std.proofs.lemmas.List.{length-take-le, length-drop, length-append, take-append-drop, append_assoc, length-replicate}
 use Rattle.std.proofs.lemmas.List.Folds.{drop_split}
 use Rattle.written_bytes.specs.Written.{all_written, written_from}
 use Rattle.bpf_step_model.specs.State.{Bytes}
@@ -77,7 +77,7 @@ low-written [] i size n h = tt
 low-written (x ∷ marks) i zero n h = absurd (omega arith)
 low-written (x ∷ marks) i (suc size) n h = (any-written x (byte_at i n) (byte-below i n), low-written marks (suc i) size n (omega arith))
 
-length-low : (i size n : ℕ) → length (map Some (bytes_low_first i size n)) ≡ size
+pub length-low : (i size n : ℕ) → length (map Some (bytes_low_first i size n)) ≡ size
 length-low i zero n = refl
 length-low i (suc size) n = ap suc (length-low (suc i) size n)
 
@@ -92,14 +92,10 @@ middle-written marks middle bytes p size n c same h k =
     (append-written (take p marks) middle (take p bytes) (map Some (bytes_low_first 0 size n)) first (take-written marks bytes p c) (low-written middle 0 size n (omega arith)))
     (drop-written marks bytes (p + size) c)
 
-length-replicate-true : (size : ℕ) → length (replicate size true) ≡ size
-length-replicate-true zero = refl
-length-replicate-true (suc size) = ap suc (length-replicate-true size)
-
 -- a write that is known
 pub write-known : (marks : List Bool) (bytes : Bytes) (p size n : ℕ) → AreWritten marks bytes → p + size ≤ length marks → p + size ≤ length bytes →
     AreWritten (written_from marks p size) (written_at bytes p size n)
-write-known marks bytes p size n c h k = middle-written marks (replicate size true) bytes p size n c (length-replicate-true size) h k
+write-known marks bytes p size n c h k = middle-written marks (replicate size true) bytes p size n c (length-replicate size true) h k
 
 -- and one that isn't
 parts : (marks : List Bool) (p size : ℕ) → p + size ≤ length marks → take p marks ++ slice_range marks p (p + size) ++ drop (p + size) marks ≡ marks

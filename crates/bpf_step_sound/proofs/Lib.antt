@@ -17,6 +17,7 @@ pub mod AtomicForms
 pub mod AfterCalls
 pub mod EndForms
 pub mod StartLaws
+pub mod StartIndex
 pub mod WideForms
 pub mod LookupForms
 pub mod LoopForms

@@ -27,9 +27,10 @@ use Rattle.bpf_step_sound.specs.Ways.{FollowsValue, MoveFlows}
 use Rattle.bpf_step_sound.proofs.RegisterLaws.{all-at}
 use Rattle.bpf_step_sound.proofs.ByteLaws.{IsNumberOf}
 use Rattle.bpf_step_sound.proofs.PlaceLaws.{PlaceIs, frame-goes}
+use Rattle.bpf_step_sound.proofs.NumberLaws.{there_if}
 use Rattle.bpf_step_sound.proofs.Operands.{register-known}
 use Rattle.bpf_step_sound.proofs.Loads.{own-number, main-number}
-use Rattle.bpf_step_sound.proofs.WideForms.{count-few, there_if}
+use Rattle.bpf_step_sound.proofs.WideForms.{count-few}
 use Rattle.bpf_step_sound.proofs.AfterCalls.{call-goes}
 use Rattle.bpf_step_sound.proofs.Tests.{and-one, and-two, not-not-true, or-left, or-right, test-fails, test-later}
 

@@ -71,10 +71,10 @@ moved-low : (n : ℕ) → meant (AluOperation Mov) W32 n n ≡ alu W32 Mov 0 n
 unfolding alu
 moved-low n = refl
 
--- where a test holds on both sides
-both_if : (x : AbstractValue) (v : Value) (test : Bool) → test ≡ true → ContainsValue x v → FollowsValue (Some x) (if test then Some v else None)
-both_if x v true e c = c
-both_if x v false e c = absurd cc
+-- a value where a test holds
+pub there_if : (x : AbstractValue) (v : Value) (test : Bool) → test ≡ true → ContainsValue x v → FollowsValue (Some x) (if test then Some v else None)
+there_if x v true e c = c
+there_if x v false e c = absurd cc
 
 -- a position moved by a number that is known
 position-follows : (x : ℕ → AbstractValue) (address : ℕ → Value) → ((q : ℕ) → ContainsValue (x q) (address q)) → (op : AluOp) (p : ℕ) (n : Span) (k : ℕ) → Contains n k →
@@ -87,7 +87,7 @@ position-follows x address same op p n k c = by_test x address same op p n k c (
     by_test x address same op p n k c true e =
         let one : n.lo ≡ k = sym (exact-number n k (and-one (n.lo == n.hi) (nat_le (alu W64 op p n.lo) 512) e) c) in
         subst (λ (j : ℕ). FollowsValue (Some (x (alu W64 op p n.lo))) (within_frame address (alu W64 op p j))) one
-        (both_if (x (alu W64 op p n.lo)) (address (alu W64 op p n.lo)) (nat_le (alu W64 op p n.lo) 512)
+        (there_if (x (alu W64 op p n.lo)) (address (alu W64 op p n.lo)) (nat_le (alu W64 op p n.lo) 512)
         (and-two (n.lo == n.hi) (nat_le (alu W64 op p n.lo) 512) e) (same (alu W64 op p n.lo)))
     by_test x address same op p n k c false e = tt
 
@@ -105,7 +105,7 @@ area-follows fit m a b i j n k c d = by_test fit m a b i j n k c d (nat_le (a.hi
     by_test fit m a b i j n k c d true e =
         let most : a.hi + b.hi ≤ 524288 = grind (arith, nat_tests) in
         let small : n + k ≤ 524288 = omega (arith, c.below, d.below) in
-        both_if (known.Area m (span_of (AluOperation Add) W64 a b)) (Area m (n + k)) (nat_le (n + k) 524288) (grind (arith, nat_tests))
+        there_if (known.Area m (span_of (AluOperation Add) W64 a b)) (Area m (n + k)) (nat_le (n + k) 524288) (grind (arith, nat_tests))
         (refl, subst (λ (o : ℕ). Contains (span_of (AluOperation Add) W64 a b) o) (small-sum n k small) (span-has fit (AluOperation Add) W64 a b i j n k c d))
     by_test fit m a b i j n k c d false e = tt
 

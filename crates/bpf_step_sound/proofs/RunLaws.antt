@@ -21,7 +21,7 @@ goes-known program NoStep c s = c
 goes-known program (Next next) c s = record { sound = s; contained = c }
 goes-known program (Asks element request next) c s = (c.0, λ word w. (record { sound = (s word w).0; contained = c.1 word w }, (s word w).1))
 goes-known program (Loops call next) c s = (
-  record { entries = λ index h. record { sound = call-sound program call index s.0 h; contained = c.0 index h }; few = s.0.iterations },
+  record { sound = s.0; entries = λ index h. record { sound = call-sound program call s.0 index h; contained = c.0 index h } },
   λ answer h. record { sound = s.1 answer h; contained = c.1 answer h },
 )
 goes-known program (Refuses answer next) c s = record { sound = s; contained = c }
@@ -29,7 +29,7 @@ goes-known program (Exits ret) c s = s
 
 pub step-known : ResultsFit → (program : Program) → IsSoundProgram program → (m : Machine) → IsKnown program m → GoesOnKnown program (step program m)
 step-known fit program sound m known =
-    goes-known program (step program m) (step-contained fit program m sound.accepted sound.fits known.sound known.contained) (step-sound fit program m sound known.sound)
+    goes-known program (step program m) (step-contained fit program m sound.accepted sound.fits known.sound known.contained) (step-sound fit program sound.fits m known.sound)
 
 -- an instruction more in front
 mapped-known : (program : Program) (accesses : List Access) (e : Ending Stretch) → RunsKnown program e → RunsKnown program (mapped (with_first accesses) e)

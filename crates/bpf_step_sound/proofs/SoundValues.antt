@@ -1,5 +1,5 @@
 -- Values, bytes and words of real runs.
-use Rattle.std.proofs.Common.{◌≡◌, ℕ, zero, suc, ◌+◌, ◌-◌, ◌/◌, ◌^◌, ◌<◌, ◌≤◌, Bool, true, false, List, [], ◌∷◌, ◌++◌, length, take, drop, map, Option, Some, None, refl, ap, arith}
+use Rattle.std.proofs.Common.{◌≡◌, ℕ, zero, suc, ◌+◌, ◌-◌, ◌/◌, ◌^◌, ◌<◌, ◌≤◌, Bool, true, false, List, [], ◌∷◌, ◌++◌, length, take, drop, map, Option, Some, None, refl, arith}
 use Rattle.std.specs.Prelude.{nat_le, ◌==◌, if◌then◌else◌, slice_range}
 use Rattle.std.specs.List.{AllByRecursion}
 use Rattle.std.specs.Int.{bytes_low_first}
@@ -28,7 +28,7 @@ use Rattle.bpf_step_model.specs.State.{Value, Unwritten, Word, Frame, Ctx, Map, 
 use Rattle.bpf_step_model.specs.Memory.{with_low_byte, number_of, number_at, written_at}
 use Rattle.bpf_step_model.specs.Values.{on_word, on_words, copied, area_address, shifted, result_of}
 use Rattle.bpf_step_model.specs.SoundMachine.{SoundValue, SoundByte, SoundFrame}
-use Rattle.bpf_step_sound.proofs.ByteLaws.{byte-below}
+use Rattle.bpf_step_sound.proofs.ByteLaws.{byte-below, length-low}
 
 -- a value, if there is one
 abbrev pub SoundIf : Program → Option Value → Type 0
@@ -133,10 +133,6 @@ number-below bytes p size all =
 low-sound : (i size n : ℕ) → AllByRecursion SoundByte (map Some (bytes_low_first i size n))
 low-sound i zero n = tt
 low-sound i (suc size) n = (byte-below i n, low-sound (suc i) size n)
-
-length-low : (i size n : ℕ) → length (map Some (bytes_low_first i size n)) ≡ size
-length-low i zero n = refl
-length-low i (suc size) n = ap suc (length-low (suc i) size n)
 
 pub written-sound : (bytes : Bytes) (p size n : ℕ) → SoundFrame bytes → p + size ≤ 512 → SoundFrame (written_at bytes p size n)
 written-sound bytes p size n frame h = record {

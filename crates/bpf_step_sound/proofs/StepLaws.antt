@@ -18,13 +18,12 @@ use Rattle.bpf_step_model.specs.Step.{Move, NoStep, Next, Asks, Loops, Refuses, 
 use Rattle.bpf_step_model.specs.Run.{told}
 use Rattle.bpf_step_model.specs.ProgramInOrder.{resumed}
 use Rattle.bpf_step_sound.specs.Containment.{Contained, ContainedIf, ContainedBefore}
-use Rattle.bpf_step_sound.specs.KnownStates.{IsKnownState}
+use Rattle.bpf_step_sound.specs.KnownStates.{IsKnownState, IfKnown}
 use Rattle.bpf_step_sound.specs.Standing.{KeepsRules}
 use Rattle.bpf_step_sound.specs.Ways.{GoesBy, EntersBy, MoveFlows}
 use Rattle.bpf_step_sound.specs.Soundness.{StepContained}
 use Rattle.bpf_step_sound.proofs.InflowLaws.{before-brings}
 use Rattle.bpf_step_sound.proofs.RuleLaws.{fault_of-none, accepted-at, accepted-sizes, fits_at}
-use Rattle.bpf_step_sound.proofs.KnownForms.{IfKnown}
 use Rattle.bpf_step_sound.proofs.KnownLaws.{incoming-known}
 use Rattle.bpf_step_sound.proofs.Moves.{lands-flows}
 use Rattle.bpf_step_sound.proofs.Forms.{acts-flow}

@@ -12,25 +12,20 @@ use Rattle.bpf_insn_form.specs.declared.insn.Insn.TheVariants.{LoadImm}
 use Rattle.bpf_insn_form.specs.Program.{Program, insn_at, code_target, callback_starts}
 use Rattle.value_range_model.specs.Spans.{Contains, exact}
 use Rattle.value_range_model.proofs.SpanLaws.{exact-contains}
-use Rattle.bpf_verify_model.specs.declared.abstract_value.AbstractValue.{AbstractValue}
 use Rattle.bpf_verify_model.specs.declared.abstract_value.AbstractValue.TheVariants as known
 use Rattle.bpf_verify_model.specs.declared.state.State.{State}
 use Rattle.bpf_verify_model.specs.Rules.{starts, count_of_map, has_byte}
 use Rattle.bpf_verify_model.specs.Flow.{known_code, known_wide, flow, known_behind}
-use Rattle.bpf_step_model.specs.State.{Value, Map, Area, Code, Machine}
+use Rattle.bpf_step_model.specs.State.{Map, Area, Code, Machine}
 use Rattle.bpf_step_model.specs.Step.{code_named, map_named, area_named, wide_value, acts}
-use Rattle.bpf_step_sound.specs.Containment.{ContainsValue, Contained}
+use Rattle.bpf_step_sound.specs.Containment.{Contained}
 use Rattle.bpf_step_sound.specs.Standing.{KeepsRules}
 use Rattle.bpf_step_sound.specs.Ways.{FollowsValue, MoveFlows}
+use Rattle.bpf_step_sound.proofs.NumberLaws.{there_if}
 use Rattle.bpf_step_sound.proofs.PlaceLaws.{base-below}
 use Rattle.bpf_step_sound.proofs.StartLaws.{start-there}
 use Rattle.bpf_step_sound.proofs.Moves.{follows-on, sets-flows}
 use Rattle.bpf_step_sound.proofs.Tests.{and-two, not-not-true}
-
--- a value where a test holds
-pub there_if : (x : AbstractValue) (v : Value) (test : Bool) → test ≡ true → ContainsValue x v → FollowsValue (Some x) (if test then Some v else None)
-there_if x v true e c = c
-there_if x v false e c = absurd cc
 
 -- a code address
 code-follows : (program : Program) (slot : ℕ) (imm next_imm : ℤ) (dst : ℕ) (target : Option ℕ) → insn_at program.insns slot ≡ Some (LoadImm CodeKind dst imm next_imm) → code_target CodeKind slot imm ≡ target →

@@ -22,3 +22,8 @@ pub record IsKnownState (state : State) : Type 0 where
   pub spans : AllByRecursion HasSpan state.registers
   pub own : length state.own ≡ 512
   pub caller : HasCallerCount state.caller
+
+-- the same where something is known
+abbrev pub IfKnown : Option State → Type 0
+IfKnown None = Unit {0}
+IfKnown (Some state) = IsKnownState state

@@ -9,3 +9,4 @@ pub mod Inflow
 pub mod Accepted
 pub mod Count
 pub mod LongestPath
+pub mod RuleRows

@@ -15,7 +15,7 @@ mod state;
 
 pub use abstract_value::AbstractValue;
 pub use helper::Helper;
-pub use laws::law_of_counts;
+pub use laws::{law_of_counts, worked_rules};
 pub use memory_access::{AccessKind, MemoryAccess};
 pub use outflow::{Edge, Outflow, Ways};
 pub use registers::{Registers, reg};
