@@ -6,3 +6,4 @@ pub mod WideForms
 pub mod JumpForms
 pub mod LookupForms
 pub mod LoopForms
+pub mod MemoryForms
