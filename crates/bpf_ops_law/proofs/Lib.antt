@@ -7,3 +7,8 @@ pub mod JumpForms
 pub mod LookupForms
 pub mod LoopForms
 pub mod MemoryForms
+pub mod Forms
+pub mod EntryForms
+pub mod StepForms
+pub mod CallSlots
+pub mod RunForms
