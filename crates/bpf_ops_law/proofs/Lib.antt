@@ -12,3 +12,4 @@ pub mod EntryForms
 pub mod StepForms
 pub mod CallSlots
 pub mod RunForms
+pub mod IterationForms
