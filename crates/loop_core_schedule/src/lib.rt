@@ -3,7 +3,6 @@
 //! function's contract is a law.
 #![tactic(auto)]
 
-pub mod event;
 pub mod replay_fault;
 
 ghost use Rattle.loop_core_schedule.specs.BlockRows.{BlockRows};
@@ -14,7 +13,7 @@ ghost use Rattle.loop_core_schedule.specs.ScheduleLaw.{EndedSchedulesComplete};
 ghost use Rattle.loop_core_schedule.specs.SplitLaw.{SplitsPartition};
 ghost use Rattle.loop_core_schedule.specs.SplitRows.{SplitRows};
 
-pub use event::{Event, EventKind};
+pub use loop_event::{Event, EventKind};
 pub use replay_fault::ReplayFault;
 
 /// The law of splits: each index of the loop lies in exactly one block, and the blocks reach no
