@@ -128,20 +128,14 @@ bits_in-none : (width : ℕ) → bits_in width 0 ≡ []
 unfolding bits_in
 bits_in-none width = filter-none (λ i. bit_at 0 i == 1) 0 width (λ e low high. ap (λ n. n == 1) (bit_at-zero e))
 
-head_word : (word : ℕ) (words : List ℕ) → AreWords (word ∷ words) → word < 2 ^ 64
-head_word word words are = are 0 0 (omega arith)
-
-other_words : (word : ℕ) (words : List ℕ) → AreWords (word ∷ words) → AreWords words
-other_words word words are = λ k d h. are (suc k) d (omega arith)
-
 elements-count : (width : ℕ) → width ≡ 64 → (words : List ℕ) → AreWords words → length (elements_of words) ≡ set_bits words
 elements-count width wide [] are = refl
 elements-count width wide (word ∷ words) are =
-    let fits : word < 2 ^ width = subst (λ (n : ℕ). word < 2 ^ n) (sym wide) (head_word word words are) in
+    let fits : word < 2 ^ width = subst (λ (n : ℕ). word < 2 ^ n) (sym wide) are.0 in
     ap length (elements-cons width wide word words)
     ∙ length-append (bits_in width word) (map (λ e. width + e) (elements_of words))
     ∙ ap₂ (λ m n. m + n) (bits_in-count width word fits)
-    (length-map (elements_of words) (λ e. width + e) ∙ elements-count width wide words (other_words word words are))
+    (length-map (elements_of words) (λ e. width + e) ∙ elements-count width wide words are.1)
 
 least-append : (xs ys : List ℕ) (least : ℕ) → least_in xs ≡ Some least → least_in (xs ++ ys) ≡ Some least
 least-append [] ys least is = cc
@@ -156,7 +150,7 @@ elements-least : (width : ℕ) → width ≡ 64 → (k : ℕ) (words : List ℕ)
 elements-least width wide k [] are = refl
 elements-least width wide k (word ∷ words) are =
     ap (λ es. option_map (λ e. 64 * k + e) (least_in es)) (elements-cons width wide word words)
-    ∙ by_word (word == 0) refl (elements-least width wide (k + 1) words (other_words word words are))
+    ∙ by_word (word == 0) refl (elements-least width wide (k + 1) words are.1)
   where
     by_word : (b : Bool) → (word == 0) ≡ b → option_map (λ e. 64 * (k + 1) + e) (least_in (elements_of words)) ≡ least_bit (k + 1) words →
         option_map (λ e. 64 * k + e) (least_in (bits_in width word ++ map (λ e. width + e) (elements_of words)))
@@ -168,7 +162,7 @@ elements-least width wide k (word ∷ words) are =
     by_word false is behind =
         let some : 0 < word = grind (arith, nat_tests) in
         ap (option_map (λ e. 64 * k + e))
-        (least-append (bits_in width word) (map (λ e. width + e) (elements_of words)) (trailing_zeros w64 word) (bits_in-least width word wide (head_word word words are) some))
+        (least-append (bits_in width word) (map (λ e. width + e) (elements_of words)) (trailing_zeros w64 word) (bits_in-least width word wide are.0 some))
 
 from_zero : (o : Option ℕ) → option_map (λ e. 64 * 0 + e) o ≡ o
 from_zero None = refl
