@@ -1,7 +1,7 @@
 -- A map list: the words of array maps of given sizes.
 use Rattle.std.specs.Prelude.{ℕ, ◌<◌, ◌^◌, List, Vec, length, map, take, replicate}
 use Rattle.std.specs.declared.alloc.Global.{Global}
-use Rattle.std.specs.List.{All, concat, sum}
+use Rattle.std.specs.List.{AllByRecursion, concat, sum}
 
 -- the sizes of maps, and their words: those of map 0, then those of map 1, and so on
 pub record MapList : Type 0 where
@@ -10,7 +10,7 @@ pub record MapList : Type 0 where
 
 -- each is below 2 ^ 64
 abbrev pub AreWords : List ℕ → Type 0
-AreWords words = All (λ word. word < 2 ^ 64) words
+AreWords words = AllByRecursion (λ word. word < 2 ^ 64) words
 
 -- where the words of a map begin
 abbrev pub base_of : List ℕ → ℕ → ℕ
