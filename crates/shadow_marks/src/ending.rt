@@ -10,7 +10,7 @@ ghost use Rattle.shadow_marks.specs.Bits.{ChangesNumber};
 ghost use Rattle.shadow_marks.specs.Ending.{OperatorsHave, LrpdHave, FlowHave, TestedHave, LrpdFolds, FlowFolds, TestedFolds, OperatorsFold, KeepsShape, Folds};
 
 use crate::bits::{is_also_set, or_bit};
-use crate::element_flags::{ElementFlags, Operators};
+use crate::element_flags::{ElementFlags, Flag};
 use crate::iter_flags::IterFlags;
 use crate::planes::{FlowPlanes, LrpdPlanes, OperatorPlanes, Planes, Tested};
 use array_maps::Op;
@@ -41,27 +41,27 @@ impl Planes {
         requires index { index < 4294967295 }
         ensures { Folds self.old self.new e index (flags_in kept) }
     {
-        or_bit(&mut self.plain, e, kept.plain);
-        self.operators.fold(e, kept.operators);
+        or_bit(&mut self.plain, e, kept.has(Flag::Plain));
+        self.operators.fold(e, kept);
         self.tested.fold(e, kept, index);
     }
 }
 
 impl OperatorPlanes {
-    /// Sets an element's bits of some operators.
+    /// Sets an element's bits of the operators that it was reduced by.
     #[inline]
-    fn fold(&mut self, e: u32, operators: Operators)
+    fn fold(&mut self, e: u32, kept: ElementFlags)
         requires { OperatorsHave self.old e }
-        ensures { OperatorsFold self.old self.new e operators }
+        ensures { OperatorsFold self.old self.new e (flags_in kept) }
     {
-        if operators.is_empty() {
+        if !kept.reduces() {
             return;
         }
-        or_bit(&mut self.add, e, operators.has(Op::Add));
-        or_bit(&mut self.or, e, operators.has(Op::Or));
-        or_bit(&mut self.and, e, operators.has(Op::And));
-        or_bit(&mut self.xor, e, operators.has(Op::Xor));
-        or_bit(&mut self.addh, e, operators.has(Op::AddH));
+        or_bit(&mut self.add, e, kept.has(Flag::By(Op::Add)));
+        or_bit(&mut self.or, e, kept.has(Flag::By(Op::Or)));
+        or_bit(&mut self.and, e, kept.has(Flag::By(Op::And)));
+        or_bit(&mut self.xor, e, kept.has(Flag::By(Op::Xor)));
+        or_bit(&mut self.addh, e, kept.has(Flag::By(Op::AddH)));
     }
 }
 
@@ -71,7 +71,7 @@ impl Tested {
     fn fold(&mut self, e: u32, kept: ElementFlags, index: u32)
         requires have { TestedHave self.old e }
         requires index { index < 4294967295 }
-        ensures { TestedFolds self.old self.new e kept index }
+        ensures { TestedFolds self.old self.new e (flags_in kept) index }
     {
         match self {
             Tested::Lrpd(planes) => planes.fold(e, kept),
@@ -84,11 +84,11 @@ impl LrpdPlanes {
     #[inline]
     fn fold(&mut self, e: u32, kept: ElementFlags)
         requires { LrpdHave self.old e }
-        ensures { LrpdFolds self.old self.new e kept }
+        ensures { LrpdFolds self.old self.new e (flags_in kept) }
     {
-        let by_two = is_also_set(kept.wrote, &self.written, e);
+        let by_two = is_also_set(kept.has(Flag::Wrote), &self.written, e);
         or_bit(&mut self.written_by_two, e, by_two);
-        or_bit(&mut self.written, e, kept.wrote);
+        or_bit(&mut self.written, e, kept.has(Flag::Wrote));
         or_bit(&mut self.read_only, e, kept.reads_only());
         or_bit(&mut self.read_and_written, e, kept.reads_and_writes());
     }
@@ -99,12 +99,12 @@ impl FlowPlanes {
     fn fold(&mut self, e: u32, kept: ElementFlags, index: u32)
         requires have { FlowHave self.old e }
         requires index { index < 4294967295 }
-        ensures { FlowFolds self.old self.new e kept index }
+        ensures { FlowFolds self.old self.new e (flags_in kept) index }
     {
-        if kept.wrote {
+        if kept.has(Flag::Wrote) {
             lower(&mut self.first, e, index);
         }
-        if kept.looked {
+        if kept.has(Flag::Looked) {
             raise(&mut self.last, e, index + 1);
         }
     }

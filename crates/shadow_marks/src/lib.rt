@@ -8,6 +8,6 @@ mod ending;
 pub mod iter_flags;
 pub mod planes;
 
-pub use element_flags::{ElementFlags, Operators};
+pub use element_flags::{ElementFlags, Flag};
 pub use iter_flags::{IterFlags, MAX_MARKS};
 pub use planes::{FlowPlanes, LrpdPlanes, OperatorPlanes, Planes, Tested};
