@@ -9,8 +9,8 @@ use array_maps::Op;
 use loop_core_marks::Access;
 
 /// What an iteration may have done at an element.
-#[derive(Clone, Copy, Debug, PartialEq, Eq)]
-pub enum Flag {
+#[derive(Clone, Copy)]
+pub(crate) enum Flag {
     /// It writes or reduces the element.
     Wrote,
     /// It read or reduced it before it wrote or reduced it itself: an exposed read.
@@ -23,8 +23,8 @@ pub enum Flag {
 
 /// The flags of an iteration at an element, a bit for each: what it did there so far. Each access sets
 /// one at least.
-#[derive(Clone, Copy, Debug, PartialEq, Eq)]
-pub struct ElementFlags {
+#[derive(Clone, Copy)]
+pub(crate) struct ElementFlags {
     bits: u8,
 }
 
@@ -34,7 +34,7 @@ const OPERATORS: u8 = 0b1111_1000;
 impl ElementFlags {
     /// No flag.
     #[inline]
-    pub fn none() -> ElementFlags
+    pub(crate) fn none() -> ElementFlags
         ensures { result ≡ nothing_kept }
     {
         ElementFlags { bits: 0 }
@@ -42,7 +42,7 @@ impl ElementFlags {
 
     /// Whether there is no flag: the element wasn't touched.
     #[inline]
-    pub fn is_none(self) -> bool
+    pub(crate) fn is_none(self) -> bool
         ensures { result ≡ (self.bits == 0) }
     {
         self.bits == 0
@@ -50,7 +50,7 @@ impl ElementFlags {
 
     /// Whether a flag is set.
     #[inline]
-    pub fn has(self, flag: Flag) -> bool
+    pub(crate) fn has(self, flag: Flag) -> bool
         ensures { result ≡ holds self flag }
     {
         self.bits & bit(flag) != 0
@@ -58,7 +58,7 @@ impl ElementFlags {
 
     /// Whether it reduced by any operator.
     #[inline]
-    pub fn reduces(self) -> bool
+    pub(crate) fn reduces(self) -> bool
         ensures { result ≡ false → (op : Operator) → (flags_in self).by op ≡ false }
     {
         self.bits & OPERATORS != 0
@@ -66,7 +66,7 @@ impl ElementFlags {
 
     /// Whether the iteration has an exposed read of the element and doesn't write it.
     #[inline]
-    pub fn reads_only(self) -> bool
+    pub(crate) fn reads_only(self) -> bool
         ensures { result ≡ ((flags_in self).looked && not (flags_in self).wrote) }
     {
         self.has(Flag::Looked) && !self.has(Flag::Wrote)
@@ -74,7 +74,7 @@ impl ElementFlags {
 
     /// Whether it has an exposed read of the element and writes it.
     #[inline]
-    pub fn reads_and_writes(self) -> bool
+    pub(crate) fn reads_and_writes(self) -> bool
         ensures { result ≡ ((flags_in self).looked && (flags_in self).wrote) }
     {
         self.has(Flag::Looked) && self.has(Flag::Wrote)
@@ -82,7 +82,7 @@ impl ElementFlags {
 
     /// The flags after one access more.
     #[inline]
-    pub fn after(self, access: Access) -> ElementFlags
+    pub(crate) fn after(self, access: Access) -> ElementFlags
         ensures { flags_in result ≡ flagged (flags_in self) access }
     {
         match access {

@@ -12,7 +12,7 @@ ghost use Rattle.shadow_marks.specs.Ending.{OperatorsHave, LrpdHave, FlowHave, T
 use crate::bits::{is_also_set, or_bit};
 use crate::element_flags::{ElementFlags, Flag};
 use crate::iter_flags::IterFlags;
-use crate::planes::{FlowPlanes, LrpdPlanes, OperatorPlanes, Planes, Tested};
+use crate::planes::{FlowPlanes, LrpdPlanes, NO_WRITER, OperatorPlanes, Planes, Tested};
 use array_maps::Op;
 
 impl Planes {
@@ -21,7 +21,7 @@ impl Planes {
     pub fn end_iteration(&mut self, flags: &mut IterFlags, index: u32)
         requires whole { ArePlanes self.old }
         requires elements { elements_of flags.old ≡ self.old.elements }
-        requires index { index < 4294967295 }
+        requires index { index < NO_WRITER }
         ensures shape { KeepsShape self.old self.new }
         ensures marks { (e : ℕ) (marks : Marks) → StandAt self.old e marks → StandAt self.new e (merged marks (marks_of_one index (flags_at flags.old e))) }
         ensures visits { (visits : ℕ → List Visit) (actions : ℕ → List Action) → AreFlagsOf actions flags.old → StandFor self.old visits → StandFor self.new (one_more visits index actions) }
@@ -38,7 +38,7 @@ impl Planes {
     fn fold(&mut self, e: u32, kept: ElementFlags, index: u32)
         requires whole { ArePlanes self.old }
         requires in_range { e < self.old.elements }
-        requires index { index < 4294967295 }
+        requires index { index < NO_WRITER }
         ensures { Folds self.old self.new e index (flags_in kept) }
     {
         or_bit(&mut self.plain, e, kept.has(Flag::Plain));
@@ -70,7 +70,7 @@ impl Tested {
     #[inline]
     fn fold(&mut self, e: u32, kept: ElementFlags, index: u32)
         requires have { TestedHave self.old e }
-        requires index { index < 4294967295 }
+        requires index { index < NO_WRITER }
         ensures { TestedFolds self.old self.new e (flags_in kept) index }
     {
         match self {
@@ -98,7 +98,7 @@ impl FlowPlanes {
     #[inline]
     fn fold(&mut self, e: u32, kept: ElementFlags, index: u32)
         requires have { FlowHave self.old e }
-        requires index { index < 4294967295 }
+        requires index { index < NO_WRITER }
         ensures { FlowFolds self.old self.new e (flags_in kept) index }
     {
         if kept.has(Flag::Wrote) {

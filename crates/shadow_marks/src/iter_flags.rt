@@ -42,7 +42,7 @@ impl IterFlags {
     #[inline]
     pub fn mark(&mut self, e: u32, access: Access)
         requires in_range { e < elements_of self.old }
-        requires room { touched_count self.old < 4096 }
+        requires room { touched_count self.old < MAX_MARKS }
         ensures here { flags_at self.new e ≡ flagged (flags_at self.old e) access }
         ensures others { (other : ℕ) → other ≢ e → flags_at self.new other ≡ flags_at self.old other }
         ensures elements { elements_of self.new ≡ elements_of self.old }
@@ -67,7 +67,7 @@ impl IterFlags {
     #[inline]
     fn touch(&mut self, e: u32)
         requires in_range { e < elements_of self.old }
-        requires room { touched_count self.old < 4096 }
+        requires room { touched_count self.old < MAX_MARKS }
         ensures listed { has_element self.new.touched.items e ≡ true }
         ensures cells { self.new.cells ≡ self.old.cells }
         ensures count { touched_count self.new ≤ touched_count self.old + 1 }
