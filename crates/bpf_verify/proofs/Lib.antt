@@ -2,3 +2,4 @@ pub mod FlagLaws
 pub mod PassLaws
 pub mod StartLaws
 pub mod CountLaws
+pub mod OpLaws

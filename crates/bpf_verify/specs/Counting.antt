@@ -6,6 +6,8 @@ use Rattle.bpf_insn_form.specs.Values.{AreInsns}
 use Rattle.bpf_insn_form.specs.Program.{Program, slot_count, callback_starts}
 use Rattle.bpf_verify_model.specs.Accepted.{first_fault}
 use Rattle.bpf_verify_model.specs.Count.{longest}
+use Rattle.bpf_ops.specs.declared.plain_op.PlainOp.{PlainOp}
+use Rattle.bpf_ops.specs.Translation.{AreOps}
 
 -- the number at an index of a list, and 0 past its end
 abbrev pub most_at : List ℕ → ℕ → ℕ
@@ -15,12 +17,13 @@ most_at xs k = slice_index_or xs k 0
 pub record AreLongest (insns : List Insn) (counts : List ℕ) : Type 0 where
   pub at : (slot : ℕ) → slice_index_or counts slot 0 ≡ longest insns (slot_count insns) slot
 
--- what an accepted unit is kept with: its numbers fit, and it has where its callbacks start, and the most instructions
--- of each function
-pub record IsKept (program : Program) (starts counts : List ℕ) : Type 0 where
+-- what an accepted unit is kept with: its numbers fit, and it has where its callbacks start, the most instructions of
+-- each function, and an operation for each slot
+pub record IsKept (program : Program) (starts counts : List ℕ) (ops : List PlainOp) : Type 0 where
   pub accepted : first_fault program ≡ None
   pub insns_fit : AreInsns program.insns
   pub sizes_fit : AreSizes program.sizes
   pub starts_are : starts ≡ callback_starts program.insns
   pub counts_are : counts ≡ map (longest program.insns (slot_count program.insns)) (0 ∷ starts)
   pub few : length starts < 4097
+  pub ops_are : AreOps program ops

@@ -1,5 +1,5 @@
 -- How far a pass over a program's slots has come.
-use Rattle.std.specs.Prelude.{◌≡◌, ℕ, ◌<◌, true, List, length, slice_index_or, Option, Some, None, is_some}
+use Rattle.std.specs.Prelude.{◌≡◌, ℕ, ◌<◌, ◌≤◌, true, List, length, slice_index_or, Option, Some, None, is_some}
 use Rattle.bpf_insn_form.specs.declared.insn.Insn.{Insn}
 use Rattle.bpf_insn_form.specs.Program.{Program, insn_at}
 use Rattle.bpf_verify_model.specs.declared.state.State.{State}
@@ -8,6 +8,9 @@ use Rattle.bpf_verify_model.specs.declared.outflow.Outflow.{Outflow}
 use Rattle.bpf_verify_model.specs.Flow.{flow}
 use Rattle.bpf_verify_model.specs.Inflow.{incoming, no_way, entry}
 use Rattle.bpf_verify_model.specs.Accepted.{BrokenRule, fault_within}
+use Rattle.bpf_ops.specs.declared.plain_op.PlainOp.{PlainOp}
+use Rattle.bpf_ops.specs.declared.plain_op.PlainOp.TheVariants.{Stop}
+use Rattle.bpf_ops.specs.Translation.{op_at}
 use Rattle.bpf_verify.specs.declared.error.VerifyError.{VerifyError}
 use Rattle.bpf_verify.specs.declared.error.VerifyError.TheVariants.{Refused, Memory}
 use Rattle.bpf_verify.specs.declared.layout.Layout.{Layout}
@@ -34,6 +37,11 @@ pub record Passed (program : Program) (count : ℕ) (targets : List ℕ) (table 
   pub fine : fault_within program count ≡ None
   pub listed : targets ≡ targets_in program.insns count
   pub known : (slot : ℕ) → slot < length table → slice_index_or table slot None ≡ incoming program count slot
+
+-- the first so many slots have their operations, and the others none
+pub record Translated (program : Program) (count : ℕ) (ops : List PlainOp) : Type 0 where
+  pub done : (slot : ℕ) → slot < count → slice_index_or ops slot Stop ≡ op_at program slot
+  pub rest : (slot : ℕ) → count ≤ slot → slice_index_or ops slot Stop ≡ Stop
 
 -- what is known before each slot where nothing flowed yet
 pub record IsFirst (count : ℕ) (table : List (Option State)) : Type 0 where

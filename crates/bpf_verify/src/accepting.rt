@@ -55,15 +55,16 @@ pub fn verify(alloc: Global, unit: Unit) -> Result<Verified, VerifyError>
         insns: unit.insns.as_slice(),
         layout: &layout,
     };
-    match pass(alloc, &code, count) {
+    let ops = match pass(alloc, &code, count) {
         Err(error) => return Err(error),
-        Ok(()) => {}
-    }
+        Ok(ops) => ops,
+    };
     let counts = counts_of(alloc, &unit.insns, count, &layout.starts)?;
     insns_fit(&unit.insns);
     Ok(Verified {
         unit,
         starts: layout.starts,
         counts,
+        ops,
     })
 }

@@ -1,5 +1,5 @@
-//! The verifier: which programs are safe to run, and how many instructions each of their functions
-//! takes at most.
+//! The verifier: which programs are safe to run, how many instructions each of their functions takes at
+//! most, and the operations that instructions are translated to.
 #![tactic(auto)]
 
 mod accepting;
@@ -7,6 +7,7 @@ mod counting;
 mod error;
 mod fields;
 mod layout;
+mod operations;
 mod passing;
 mod table;
 mod verified;

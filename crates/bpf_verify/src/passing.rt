@@ -1,17 +1,21 @@
-//! The pass over a program's instructions: what is known before each, and the first fault.
+//! The pass over a program's instructions: what is known before each, its operation, and the first fault.
 
-ghost use Rattle.std.specs.Prelude.{◌≡◌, ℕ, ◌+◌, ◌<◌, ◌≤◌, ◌++◌, ◌∷◌, [], length, nat_eq, IfOk, IfErr, OnOk};
+ghost use Rattle.std.specs.Prelude.{◌≡◌, ℕ, ◌+◌, ◌<◌, ◌≤◌, ◌++◌, ◌∷◌, [], length, nat_eq, slice_set, IfOk, IfErr, OnOk};
 ghost use Rattle.std.specs.List.{list_any};
+ghost use Rattle.bpf_insn_form.specs.Limits.{AreSizes};
 ghost use Rattle.bpf_insn_form.specs.Program.{slot_count, insn_at, function_of, leads_to};
 ghost use Rattle.bpf_verify_model.specs.Rules.{leads_later, jumps_astray, falls_off, starts, names_none, targets_in, with_target, slot_fault, or_else, reached, state_fault, exit_fault, fault_of};
 ghost use Rattle.bpf_verify_model.specs.Accepted.{fault_within};
+ghost use Rattle.bpf_ops.specs.Translation.{op_at, AreOps};
 ghost use Rattle.bpf_verify.specs.Layout.{IsLayout, place_of};
 ghost use Rattle.bpf_verify.specs.Passing.{program_of, Stands, Passed, IsFault};
 
 use crate::error::VerifyError;
 use crate::layout::Layout;
+use crate::operations::{no_ops, put_op};
 use crate::table::{first_table, hand_on_reached, known};
 use bpf_insn_form::{Insn, slots};
+use bpf_ops::PlainOp;
 use bpf_verify_model::{Rule, State};
 use bpf_verify_rules::{
     callback_fault, exit_fault, goes_on, insn_fault, is_code_load, jump_distance, state_fault,
@@ -216,13 +220,17 @@ fn visit(
     insn: &Insn,
     targets: &mut Vec<u32>,
     table: &mut Vec<Option<State>>,
+    ops: &mut Vec<PlainOp>,
 ) -> Result<(), VerifyError>
+    requires sizes { AreSizes code.now.sizes.now }
     requires stands { Stands code.now.insns.now code.now.layout.now slot }
     requires here { insn_at code.now.insns.now slot ≡ Some insn.now }
     requires within { slot < length table.old.items }
+    requires room { slot < length ops.old.items }
     requires passed { Passed (program_of code.now) slot targets.old.items table.old.items }
     ensures size { OnOk result (length table.new.items ≡ length table.old.items) }
     ensures ok { OnOk result (Passed (program_of code.now) (slot + 1) targets.new.items table.new.items) }
+    ensures ops { OnOk result (ops.new.items ≡ slice_set ops.old.items slot (op_at (program_of code.now) slot)) }
     ensures err { IfErr result (IsFault (fault_within (program_of code.now) (slot + 1))) }
 {
     add_target(targets, named_by(slot, *insn))?;
@@ -230,29 +238,33 @@ fn visit(
     if let Some(rule) = fault_of(code, slot, insn, targets.len(), &before) {
         return Err(VerifyError::Refused { rule, slot });
     }
+    put_op(ops, code.sizes, slot, &before, insn);
     hand_on_reached(table, code.sizes, slot, &mut before, *insn);
     Ok(())
 }
 
-/// Passes over all instructions, up to the first fault.
-pub fn pass(alloc: Global, code: &Code, count: u32) -> Result<(), VerifyError>
+/// Passes over all instructions, up to the first fault, and gives the operations of all.
+pub fn pass(alloc: Global, code: &Code, count: u32) -> Result<Vec<PlainOp>, VerifyError>
+    requires sizes { AreSizes code.now.sizes.now }
     requires layout { IsLayout code.now.insns.now code.now.layout.now }
     requires slots { slot_count code.now.insns.now ≡ count }
     requires some { 0 < count }
     requires few { count ≤ 4096 }
     ensures ok { IfOk result (λ _. fault_within (program_of code.now) count ≡ None) }
+    ensures ops { IfOk result (λ ops. AreOps (program_of code.now) ops.items) }
     ensures err { IfErr result (IsFault (fault_within (program_of code.now) count)) }
 {
     let mut table = first_table(alloc, count)?;
+    let mut ops = no_ops(alloc, count)?;
     let mut targets = Vec::new(alloc);
     let mut slot = 0;
     let insns = code.insns;
     for insn in insns {
-        match visit(code, slot, insn, &mut targets, &mut table) {
+        match visit(code, slot, insn, &mut targets, &mut table, &mut ops) {
             Err(error) => return Err(error),
             Ok(()) => {}
         }
         slot += slots(insn);
     }
-    Ok(())
+    Ok(ops)
 }

@@ -1,9 +1,11 @@
 use Rattle.std.proofs.Common.{◌≡◌, ℕ, ◌∷◌, List, Option, map, length, refl, ap, sym, ◌∙◌, subst, arith}
 use Rattle.bpf_insn_form.specs.declared.insn.Insn.{Insn}
 use Rattle.bpf_insn_form.specs.Values.{AreInsns}
+use Rattle.bpf_insn_form.specs.Limits.{AreSizes}
 use Rattle.bpf_insn_form.specs.Program.{Program, slot_count, callback_starts}
 use Rattle.bpf_verify_model.specs.Accepted.{BrokenRule, fault_within}
 use Rattle.bpf_verify_model.specs.Count.{longest}
+use Rattle.bpf_ops.specs.Translation.{AreOps}
 use Rattle.bpf_verify.specs.Passing.{IsFault}
 use Rattle.bpf_verify_model.specs.Count.{JumpsForward}
 use Rattle.bpf_verify.proofs.StartLaws.{starts-few}
@@ -36,6 +38,9 @@ invariant_of-result c =
       starts_are = starts;
       counts_are = c.in_ok-counts.ensures.ok ∙ ap (λ (l : List Insn). map (longest l (slot_count l)) (0 ∷ c.deref-3.result.now)) (c.deref-2.ensures.value ∙ ap (λ (p : Program). p.insns) c.unit.view_is)
           ∙ ap (λ (l : List ℕ). map (longest c.args.unit.insns (slot_count c.args.unit.insns)) (0 ∷ l)) c.deref-3.ensures.value;
+      ops_are = subst (λ (program : Program). AreOps program c.in-Ok.ops.items)
+          (program-is c.args.unit c.as_slice.result.now c.as_slice-2.result.now (c.as_slice.ensures.value ∙ ap (λ (p : Program). p.sizes) c.unit.view_is) (c.as_slice-2.ensures.value ∙ ap (λ (p : Program). p.insns) c.unit.view_is))
+          c.in-Ok.ensures.ops;
       few = omega (arith, ap length starts, starts-few c.args.unit.insns (slot_count c.args.unit.insns), c.in_ok-count.ensures.ok.counted, c.in_ok-count.ensures.ok.few);
     }
 
@@ -46,3 +51,8 @@ returns-clause-ok c = (
       ∙ ap (λ (program : Program). fault_within program c.in_ok-count.count)
       (sym (program-is c.args.unit c.as_slice.result.now c.as_slice-2.result.now (c.as_slice.ensures.value ∙ ap (λ (p : Program). p.sizes) c.unit.view_is) (c.as_slice-2.ensures.value ∙ ap (λ (p : Program). p.insns) c.unit.view_is))) ∙ c.in-Ok.ensures.ok,
 )
+
+pub pass-requires-clause-sizes : goal.pass-requires-clause-sizes
+pass-requires-clause-sizes c =
+    subst AreSizes (sym (c.as_slice.ensures.value ∙ ap (λ (p : Program). p.sizes) c.unit.view_is))
+    (sizes-fit c.args.unit.sizes (slot_count c.args.unit.insns) c.in_ok-count.ensures.ok.small)

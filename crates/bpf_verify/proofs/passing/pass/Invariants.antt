@@ -1,6 +1,6 @@
 use Rattle.std.proofs.Common.{◌≡◌, take, length}
 use Rattle.bpf_insn_form.specs.Program.{slot_count}
-use Rattle.bpf_verify.specs.Passing.{program_of, Passed}
+use Rattle.bpf_verify.specs.Passing.{program_of, Passed, Translated}
 use Rattle.bpf_verify.proofs.passing.pass.Given as goal
 
 abbrev pub invariant-loop-insn : goal.invariant-loop-insn
@@ -8,4 +8,6 @@ invariant-loop-insn l = record {
   low : l.slot ≡ slot_count (take l.insn-index l.code.insns.now);
   size : length l.table.items ≡ l.count;
   passed : Passed (program_of l.code) l.slot l.targets.items l.table.items;
+  room : length l.ops.items ≡ l.count;
+  translated : Translated (program_of l.code) l.slot l.ops.items;
 }
