@@ -1,0 +1,15 @@
+pub mod FrameBytes
+pub mod AreaWords
+pub mod MachineLaws
+pub mod ValueForms
+pub mod WideForms
+pub mod JumpForms
+pub mod LookupForms
+pub mod LoopForms
+pub mod MemoryForms
+pub mod Forms
+pub mod EntryForms
+pub mod StepForms
+pub mod CallSlots
+pub mod RunForms
+pub mod IterationForms
