@@ -8,6 +8,8 @@ use Rattle.bpf_verify_model.specs.Accepted.{first_fault}
 use Rattle.bpf_verify_model.specs.Count.{longest}
 use Rattle.bpf_ops.specs.declared.plain_op.PlainOp.{PlainOp}
 use Rattle.bpf_ops.specs.Translation.{AreOps}
+use Rattle.bpf_fast_ops.specs.declared.fast_op.FastOp.{FastOp}
+use Rattle.bpf_fast_ops.specs.Parts.{AreFast}
 
 -- the number at an index of a list, and 0 past its end
 abbrev pub most_at : List ℕ → ℕ → ℕ
@@ -18,8 +20,8 @@ pub record AreLongest (insns : List Insn) (counts : List ℕ) : Type 0 where
   pub at : (slot : ℕ) → slice_index_or counts slot 0 ≡ longest insns (slot_count insns) slot
 
 -- what an accepted unit is kept with: its numbers fit, and it has where its callbacks start, the most instructions of
--- each function, and an operation for each slot
-pub record IsKept (program : Program) (starts counts : List ℕ) (ops : List PlainOp) : Type 0 where
+-- each function, an operation for each slot, and those that run
+pub record IsKept (program : Program) (starts counts : List ℕ) (ops : List PlainOp) (fast : List FastOp) : Type 0 where
   pub accepted : first_fault program ≡ None
   pub insns_fit : AreInsns program.insns
   pub sizes_fit : AreSizes program.sizes
@@ -27,3 +29,4 @@ pub record IsKept (program : Program) (starts counts : List ℕ) (ops : List Pla
   pub counts_are : counts ≡ map (longest program.insns (slot_count program.insns)) (0 ∷ starts)
   pub few : length starts < 4097
   pub ops_are : AreOps program ops
+  pub fast_are : AreFast ops fast

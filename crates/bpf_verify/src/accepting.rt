@@ -8,6 +8,7 @@ use crate::counting::counts_of;
 use crate::error::VerifyError;
 use crate::fields::insns_fit;
 use crate::layout::layout_of;
+use crate::operations::fused;
 use crate::passing::{Code, pass};
 use crate::verified::Verified;
 use bpf_insn_form::{Unit, elements_of, slot_count};
@@ -59,6 +60,7 @@ pub fn verify(alloc: Global, unit: Unit) -> Result<Verified, VerifyError>
         Err(error) => return Err(error),
         Ok(ops) => ops,
     };
+    let fast = fused(alloc, &ops)?;
     let counts = counts_of(alloc, &unit.insns, count, &layout.starts)?;
     insns_fit(&unit.insns);
     Ok(Verified {
@@ -66,5 +68,6 @@ pub fn verify(alloc: Global, unit: Unit) -> Result<Verified, VerifyError>
         starts: layout.starts,
         counts,
         ops,
+        fast,
     })
 }

@@ -41,6 +41,7 @@ invariant_of-result c =
       ops_are = subst (λ (program : Program). AreOps program c.in-Ok.ops.items)
           (program-is c.args.unit c.as_slice.result.now c.as_slice-2.result.now (c.as_slice.ensures.value ∙ ap (λ (p : Program). p.sizes) c.unit.view_is) (c.as_slice-2.ensures.value ∙ ap (λ (p : Program). p.insns) c.unit.view_is))
           c.in-Ok.ensures.ops;
+      fast_are = c.in_ok-fast.ensures.ok;
       few = omega (arith, ap length starts, starts-few c.args.unit.insns (slot_count c.args.unit.insns), c.in_ok-count.ensures.ok.counted, c.in_ok-count.ensures.ok.few);
     }
 
@@ -56,3 +57,13 @@ pub pass-requires-clause-sizes : goal.pass-requires-clause-sizes
 pass-requires-clause-sizes c =
     subst AreSizes (sym (c.as_slice.ensures.value ∙ ap (λ (p : Program). p.sizes) c.unit.view_is))
     (sizes-fit c.args.unit.sizes (slot_count c.args.unit.insns) c.in_ok-count.ensures.ok.small)
+
+pub fused-requires : goal.fused-requires
+fused-requires c = omega (
+  arith,
+  c.in-Ok.ensures.ops.count,
+  ap (λ (p : Program). slot_count p.insns)
+      (program-is c.args.unit c.as_slice.result.now c.as_slice-2.result.now (c.as_slice.ensures.value ∙ ap (λ (p : Program). p.sizes) c.unit.view_is) (c.as_slice-2.ensures.value ∙ ap (λ (p : Program). p.insns) c.unit.view_is)),
+  c.in_ok-count.ensures.ok.counted,
+  c.in_ok-count.ensures.ok.few,
+)
