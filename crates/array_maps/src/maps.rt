@@ -115,6 +115,15 @@ impl Maps {
         self.sizes.as_slice()
     }
 
+    /// The words of all elements: at most 65,536.
+    pub fn words(&self) -> &[u64]
+        ensures words { result.now ≡ self.now.words }
+        ensures fit { AreWords result.now }
+        ensures limits { length result.now ≤ 65536 }
+    {
+        self.words.as_slice()
+    }
+
     /// Tells that the words are below 2^64.
     pub(crate) fn words_fit(&self)
         ensures { AreWords self.now.words }

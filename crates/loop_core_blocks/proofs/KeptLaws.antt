@@ -27,7 +27,7 @@ partial_applied op (Reduce other operand ∷ actions) word h =
     ≡ fold (combined op) (combined op word operand) (operands actions)) same
     (rw all (fold_at_once op word operand (operands actions)))
 
-joined-append : (xs ys : List (List Action)) → joined (xs ++ ys) ≡ joined xs ++ joined ys
+pub joined-append : {A : Type 0} (xs ys : List (List A)) → joined (xs ++ ys) ≡ joined xs ++ joined ys
 joined-append [] ys = refl
 joined-append (x ∷ xs) ys = ap (λ rest. x ++ rest) (joined-append xs ys) ∙ sym (append_assoc x (joined xs) (joined ys))
 
@@ -45,7 +45,7 @@ all_applied op (block ∷ blocks) start word h =
     ∙ all_applied op blocks start (applied word (partial block)) (all_right (reduces_by op) (joined block) (joined (joined blocks)) all)
 
 -- last writers
-last_that-append : (test : List Action → Bool) (xs ys : List (List Action)) → last_that test (xs ++ ys) ≡ option_or (last_that test ys) (last_that test xs)
+pub last_that-append : (test : List Action → Bool) (xs ys : List (List Action)) → last_that test (xs ++ ys) ≡ option_or (last_that test ys) (last_that test xs)
 last_that-append test [] ys = or_none (last_that test ys)
   where
     or_none : (o : Option (List Action)) → o ≡ option_or o None

@@ -20,7 +20,7 @@ abbrev pub InTurn : List (List Access) → List ℕ → Type 0
 InTurn [] words = Unit {0}
 InTurn (accesses ∷ runs) words = Saws accesses words × InTurn runs (words_after_all accesses words)
 
-actions_at-append : (e : ℕ) (xs ys : List Access) → actions_at e (xs ++ ys) ≡ actions_at e xs ++ actions_at e ys
+pub actions_at-append : (e : ℕ) (xs ys : List Access) → actions_at e (xs ++ ys) ≡ actions_at e xs ++ actions_at e ys
 actions_at-append e [] ys = refl
 actions_at-append e (x ∷ xs) ys = go (x.element == e) (actions_at-append e xs ys)
   where

@@ -1,0 +1,53 @@
+-- What reduces combine, action by action.
+use Rattle.std.proofs.Common.{◌≡◌, ℕ, Bool, true, false, ◌&&◌, List, [], ◌∷◌, ◌++◌, Some, None, refl, sym, ◌∙◌, ap}
+use Rattle.std.specs.Prelude.{if◌then◌else◌}
+use Rattle.std.specs.List.{list_all}
+use Rattle.array_maps.specs.declared.access.Op.{Op}
+use Rattle.array_maps.specs.Accesses.{Action, Read, Write, ReadWrite, Reduce, combined}
+use Rattle.loop_core_law.specs.Actions.{is_same, reduces_by, joined, only_operator, operands}
+use Rattle.loop_core_blocks.specs.Kept.{partial_by}
+use Rattle.private_copy.specs.declared.reduction.Reduction.{Reduction}
+use Rattle.private_copy.specs.declared.reduction.Reduction.TheVariants.{Untouched, By, Mixed}
+use Rattle.private_copy.specs.Reductions.{reduction_after, reduction_from, combination, PartialIsCombination}
+
+-- what is mixed stays so
+mixed_stays : (actions : List Action) → reduction_from Mixed actions ≡ Mixed
+mixed_stays [] = refl
+mixed_stays (Read saw ∷ actions) = mixed_stays actions
+mixed_stays (Write left ∷ actions) = mixed_stays actions
+mixed_stays (ReadWrite saw left ∷ actions) = mixed_stays actions
+mixed_stays (Reduce op operand ∷ actions) = mixed_stays actions
+
+-- behind a first operand
+from_first : (op : Op) (first : ℕ) (actions : List Action) →
+    partial_by (if list_all (reduces_by op) actions then Some op else None) (first ∷ operands actions) ≡ combination (reduction_from (By op first) actions)
+from_first op first [] = refl
+from_first op first (Read saw ∷ actions) = ap combination (sym (mixed_stays actions))
+from_first op first (Write left ∷ actions) = ap combination (sym (mixed_stays actions))
+from_first op first (ReadWrite saw left ∷ actions) = ap combination (sym (mixed_stays actions))
+from_first op first (Reduce other operand ∷ actions) = go (is_same op other) (from_first op (combined op first operand) actions)
+  where
+    all : (b : Bool) → partial_by (if b then Some op else None) (first ∷ operand ∷ operands actions) ≡ partial_by (if b then Some op else None) (combined op first operand ∷ operands actions)
+    all true = refl
+    all false = refl
+
+    go : (same : Bool) → partial_by (if list_all (reduces_by op) actions then Some op else None) (combined op first operand ∷ operands actions)
+        ≡ combination (reduction_from (By op (combined op first operand)) actions) →
+        partial_by (if same && list_all (reduces_by op) actions then Some op else None) (first ∷ operand ∷ operands actions)
+        ≡ combination (reduction_from (if same then By op (combined op first operand) else Mixed) actions)
+    go true rest = all (list_all (reduces_by op) actions) ∙ rest
+    go false rest = ap combination (sym (mixed_stays actions))
+
+in_turn : (actions : List Action) → partial_by (only_operator actions) (operands actions) ≡ combination (reduction_from Untouched actions)
+in_turn [] = refl
+in_turn (Read saw ∷ actions) = ap combination (sym (mixed_stays actions))
+in_turn (Write left ∷ actions) = ap combination (sym (mixed_stays actions))
+in_turn (ReadWrite saw left ∷ actions) = ap combination (sym (mixed_stays actions))
+in_turn (Reduce op operand ∷ actions) = from_first op operand actions
+
+pub partial_is_combination : PartialIsCombination
+partial_is_combination iterations = in_turn (joined iterations)
+
+pub reduction_from-append : (before : Reduction) (xs ys : List Action) → reduction_from before (xs ++ ys) ≡ reduction_from (reduction_from before xs) ys
+reduction_from-append before [] ys = refl
+reduction_from-append before (x ∷ xs) ys = reduction_from-append (reduction_after before x) xs ys

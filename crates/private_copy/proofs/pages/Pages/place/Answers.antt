@@ -1,0 +1,75 @@
+use Rattle.std.proofs.Common.{◌≡◌, ◌<◌, ◌+◌, ◌-◌, sym, ◌∙◌, ap, subst, arith, length, length-set, take, get_or, None, false, [], ◌∷◌, ◌++◌}
+use Rattle.std.proofs.lemmas.List.{length-take, get_or-take}
+use Rattle.std.proofs.lemmas.List.Edits.{length-swap}
+use Rattle.std.proofs.lemmas.List.{length-map}
+use Rattle.private_copy.specs.Cells.{PlacedPages, total_of, cells_of, IsBlank}
+use Rattle.private_copy.specs.Touched.{has_page}
+use Rattle.private_copy.proofs.PageLaws.{where_stands, take_swap, cells_stay, agree_more, spare_blank, blank_is_some}
+use Rattle.private_copy.proofs.pages.Pages.place.Goals as goal
+use Rattle.private_copy.proofs.pages.Pages.place.Goals.{in-Some-1, in-None-1}
+
+pub invariant_of-self-in-Some-pop-2 : goal.invariant_of-self-in-Some-pop-2
+invariant_of-self-in-Some-pop-2 c =
+    let keys = c.self.inside.order.keys in
+    let table = c.self.inside.table.items in
+    let spares = c.self.inside.spare.items in
+    let long = ap total_of c.self.view_is in
+    let all = length-map table cells_of in
+    let within : c.args.number < length table = omega (arith, c.requires.within, long, all) in
+    let absent : has_page (take c.self.inside.placed keys) c.args.number ≡ false = ap (λ (v : PlacedPages). has_page v.order c.args.number) c.self.view_is ∙ c.requires.absent in
+    let stands = where_stands keys c.self.inside.placed c.args.number c.in-Some.at (sym c.get_index_of.ensures.index ∙ c.in-Some.is) absent in
+    let blank = spare_blank spares c.in-Some-pop.page c.self.invariant.blank (sym c.in-Some-pop.is ∙ c.pop.ensures.value) in
+    let placed = c.self.inside.placed in
+    let page = c.in-Some-pop.page in
+    let after = length-set table c.args.number page in
+    let swapped = ap length c.swap_indices.ensures.keys ∙ length-swap keys c.in-Some.at placed in
+    let rest = ap length c.pop.ensures.rest in
+    let few = length-take (length spares - 1) spares in
+    record {
+      most = omega (arith, c.self.invariant.most, after);
+      numbers = swapped ∙ c.self.invariant.numbers ∙ sym after;
+      all = λ other inside. c.swap_indices.ensures.reordered.2 other ∙ c.self.invariant.all other (omega (arith, inside, after));
+      within = omega (arith, stands.behind, stands.within, swapped);
+      placed = λ other inside.
+          agree_more keys placed c.args.number c.in-Some.at table page stands within (blank_is_some page blank) c.self.invariant.placed other inside
+          ∙ ap (λ l. has_page (take (placed + 1) l) other) (sym c.swap_indices.ensures.keys);
+      room = omega (arith, c.self.invariant.room, rest, few);
+      blank = λ k inside.
+          subst IsBlank (sym (ap (λ l. get_or l k None) c.pop.ensures.rest ∙ get_or-take (length spares - 1) spares k None (omega (arith, inside, rest, few))))
+          (c.self.invariant.blank k (omega (arith, inside, rest, few)));
+    }
+
+pub returns-in-Some-pop-clause-pages : goal.returns-in-Some-pop-clause-pages
+returns-in-Some-pop-clause-pages c =
+    let keys = c.self.inside.order.keys in
+    let table = c.self.inside.table.items in
+    let spares = c.self.inside.spare.items in
+    let long = ap total_of c.self.view_is in
+    let all = length-map table cells_of in
+    let within : c.args.number < length table = omega (arith, c.requires.within, long, all) in
+    let absent : has_page (take c.self.inside.placed keys) c.args.number ≡ false = ap (λ (v : PlacedPages). has_page v.order c.args.number) c.self.view_is ∙ c.requires.absent in
+    let blank = spare_blank spares c.in-Some-pop.page c.self.invariant.blank (sym c.in-Some-pop.is ∙ c.pop.ensures.value) in
+    let stay = cells_stay table c.args.number c.in-Some-pop.page blank (c.self.invariant.placed c.args.number within ∙ absent)
+    ∙ ap (λ (v : PlacedPages). v.pages) c.self.view_is in
+    elim c.match-index_mut-page.branch [
+      | in-Some-1 w ↦ ap (λ (v : PlacedPages). v.pages) w.self-is ∙ stay
+      | in-None-1 w ↦ ap (λ (v : PlacedPages). v.pages) w.self-is ∙ stay
+    ]
+
+pub returns-in-Some-pop-clause-order : goal.returns-in-Some-pop-clause-order
+returns-in-Some-pop-clause-order c =
+    let keys = c.self.inside.order.keys in
+    let table = c.self.inside.table.items in
+    let spares = c.self.inside.spare.items in
+    let long = ap total_of c.self.view_is in
+    let all = length-map table cells_of in
+    let within : c.args.number < length table = omega (arith, c.requires.within, long, all) in
+    let absent : has_page (take c.self.inside.placed keys) c.args.number ≡ false = ap (λ (v : PlacedPages). has_page v.order c.args.number) c.self.view_is ∙ c.requires.absent in
+    let stands = where_stands keys c.self.inside.placed c.args.number c.in-Some.at (sym c.get_index_of.ensures.index ∙ c.in-Some.is) absent in
+    let placed = c.self.inside.placed in
+    let last = ap (λ l. take (placed + 1) l) c.swap_indices.ensures.keys ∙ take_swap keys placed c.args.number c.in-Some.at stands
+    ∙ ap (λ (v : PlacedPages). v.order ++ c.args.number ∷ []) c.self.view_is in
+    elim c.match-index_mut-page.branch [
+      | in-Some-1 w ↦ ap (λ (v : PlacedPages). v.order) w.self-is ∙ last
+      | in-None-1 w ↦ ap (λ (v : PlacedPages). v.order) w.self-is ∙ last
+    ]

@@ -1,0 +1,43 @@
+use Rattle.std.proofs.Common.{◌≡◌, ℕ, ap, refl, arith}
+use Rattle.private_copy.specs.declared.page.Cell.{Cell}
+use Rattle.private_copy.specs.Cells.{cell_at}
+use Rattle.private_copy.specs.Shown.{copy_of, last_in}
+use Rattle.private_copy.proofs.AccessLaws.{same_cell}
+use Rattle.private_copy.proofs.BeginLaws.{shows_start, none_flagged, begins}
+use Rattle.private_copy.proofs.private.Private.begin.Goals as goal
+
+pub returns-clause-ok : goal.returns-clause-ok
+returns-clause-ok c =
+    let old = c.args.self.now in
+    let cells : (e : ℕ) → cell_at c.prepare.new.self e ≡ cell_at old.pages e = λ e. same_cell c.prepare.new.self old.pages e c.prepare.ensures.pages in
+    record {
+      start = refl;
+      words = shows_start c.prepare.new.self old.begun old.start.now (λ e.
+          let same = ap (λ (cell : Cell). cell.writer) (cells e) in let early = old.writers e in omega (arith, same, early));
+      flags = none_flagged old.flags (let none = old.settled c.requires.ended in omega (arith, none));
+      elements = old.flagged;
+      last = λ e. ap last_in (cells e);
+      reduction = λ e. ap (λ (cell : Cell). cell.reduction) (cells e);
+      pages = c.prepare.ensures.order;
+      serves = refl;
+      under_way = refl;
+      begun = refl;
+    }
+
+pub returns-clause-stands : goal.returns-clause-stands
+returns-clause-stands c runs stands =
+    let old = c.args.self.now in
+    let cells : (e : ℕ) → cell_at c.prepare.new.self e ≡ cell_at old.pages e = λ e. same_cell c.prepare.new.self old.pages e c.prepare.ensures.pages in
+    begins (copy_of c.args.self.now) _ c.args.need (record {
+      start = refl;
+      words = shows_start c.prepare.new.self old.begun old.start.now (λ e.
+          let same = ap (λ (cell : Cell). cell.writer) (cells e) in let early = old.writers e in omega (arith, same, early));
+      flags = none_flagged old.flags (let none = old.settled c.requires.ended in omega (arith, none));
+      elements = old.flagged;
+      last = λ e. ap last_in (cells e);
+      reduction = λ e. ap (λ (cell : Cell). cell.reduction) (cells e);
+      pages = c.prepare.ensures.order;
+      serves = refl;
+      under_way = refl;
+      begun = refl;
+    }) runs stands

@@ -1,0 +1,10 @@
+use Rattle.private_copy.proofs.AccessLaws.{in_range, reads}
+use Rattle.private_copy.proofs.store.PrivateStore.load.Goals as goal
+
+pub admit-word-requires-clause-within : goal.admit-word-requires-clause-within
+admit-word-requires-clause-within c = in_range c.args.self.now c.args.e c.requires.within
+
+pub returns-clause-done : goal.returns-clause-done
+returns-clause-done c =
+    reads c.args.self.now c.admit-word.new.self c.keep.new.self c.args.e c.admit-word.result.1 c.admit-word.result.0 c.admit-word.ensures.admitted c.admit-word.ensures.cell c.keep.ensures
+    c.requires.within

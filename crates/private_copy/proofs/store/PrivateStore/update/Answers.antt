@@ -1,0 +1,18 @@
+use Rattle.std.proofs.Common.{◌∙◌, ap, refl}
+use Rattle.array_maps.specs.Accesses.{Reduce, combined}
+use Rattle.loop_core_marks.specs.declared.access.Access.TheVariants.{Reduce as Reduces}
+use Rattle.private_copy.specs.declared.page.Cell.{Cell}
+use Rattle.private_copy.specs.Reductions.{reduced}
+use Rattle.private_copy.proofs.AccessLaws.{in_range, leaves}
+use Rattle.private_copy.proofs.store.PrivateStore.update.Goals as goal
+
+pub admit-word-requires-clause-within : goal.admit-word-requires-clause-within
+admit-word-requires-clause-within c = in_range c.args.self.now c.args.e c.requires.within
+
+pub returns : goal.returns
+returns c = record {
+  done = leaves c.args.self.now c.admit-word.new.self c.keep.new.self c.args.e (Reduces c.args.op) (Reduce c.args.op c.args.operand) c.combine.result c.with.result
+      c.admit-word.ensures.admitted c.keep.ensures c.requires.within refl refl
+      (c.combine.ensures ∙ ap (λ w. combined c.args.op w c.args.operand) c.admit-word.ensures.word)
+      (c.with.ensures ∙ ap (λ (cell : Cell). reduced cell.reduction c.args.op c.args.operand) c.admit-word.ensures.cell);
+}

@@ -1,0 +1,39 @@
+-- The cells of elements, as pages keep them.
+use Rattle.std.specs.Prelude.{◌≡◌, ℕ, ◌/◌, ◌%◌, Box, List, length, replicate, slice_index_or, Option, Some, None}
+use Rattle.std.specs.declared.alloc.Global.{Global}
+use Rattle.private_copy.specs.declared.reduction.Reduction.TheVariants.{Untouched}
+use Rattle.private_copy.specs.declared.page.Cell.{Cell}
+use Rattle.private_copy.specs.declared.page.Page.{Page}
+
+-- the cell of an element that wasn't accessed
+abbrev pub blank : Cell
+blank = record { value = 0; writer = 0; reduction = Untouched }
+
+-- a page of such cells
+abbrev pub blank_cells : List Cell
+blank_cells = replicate 64 blank
+
+-- the cells of a page, which is there or not
+abbrev pub cells_of : Option (Box Page Global) → List Cell
+cells_of None = blank_cells
+cells_of (Some page) = page.value.cells
+
+-- a page that is there has blank cells
+abbrev pub IsBlank : Option (Box Page Global) → Type 0
+IsBlank None = ⊥
+IsBlank (Some page) = page.value.cells ≡ blank_cells
+
+-- Pages, as contracts see them: the cells of all, whether they are placed or not; the numbers of those that were placed,
+-- in order; and how many more can be placed
+pub record PlacedPages : Type 0 where
+  pub pages : List (List Cell)
+  pub order : List ℕ
+  pub spare : ℕ
+
+-- how many pages there are
+abbrev pub total_of : PlacedPages → ℕ
+total_of placed = length placed.pages
+
+-- the cell of an element
+abbrev pub cell_at : PlacedPages → ℕ → Cell
+cell_at placed e = slice_index_or (slice_index_or placed.pages (e / 64) blank_cells) (e % 64) blank

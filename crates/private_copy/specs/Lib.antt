@@ -1,0 +1,9 @@
+pub mod Reductions
+pub mod Touched
+pub mod Copies
+pub mod Visits
+pub mod Cells
+pub mod Inside
+pub mod Shown
+pub mod Steps
+pub mod CopyLaw

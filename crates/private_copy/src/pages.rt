@@ -1,0 +1,157 @@
+//! Pages that are placed at the first access of one of their elements.
+
+ghost use Rattle.std.specs.Prelude.{◌≡◌, ◌≢◌, ℕ, ◌+◌, ◌-◌, ◌/◌, ◌%◌, ◌<◌, ◌≤◌, [], ◌∷◌, ◌++◌, false, true, min, length, slice_get, IfOk, OnOk};
+ghost use Rattle.private_copy.specs.Cells.{total_of, cell_at, blank};
+ghost use Rattle.private_copy.specs.Touched.{has_page, with_page};
+
+use crate::page::{BLANK, Cell, Page};
+use arrayvec::ArrayVec;
+use indexmap::IndexSet;
+use std::alloc::{AllocError, Global};
+use std::marker::Model;
+
+/// The most pages that there may be.
+const MOST_PAGES: usize = 1024;
+
+/// Elements in a page.
+const PAGE: u32 = 64;
+
+/// Pages of 64 elements. The numbers of those that were placed come first, in order of first access.
+#[derive(Drop)]
+pub(crate) struct Pages {
+    order: IndexSet<u32>,
+    placed: u32,
+    table: Vec<Option<Box<Page>>>,
+    spare: ArrayVec<Option<Box<Page>>, 1024>,
+}
+
+impl Model for Pages {
+    ghost use Rattle.private_copy.specs.Cells.{PlacedPages};
+
+    ghost Value = { PlacedPages };
+
+    ghost use Rattle.private_copy.specs.Inside.{pages_in, ArePages};
+
+    ghost view = { pages_in };
+
+    ghost invariant = { ArePages };
+}
+
+impl Pages {
+    /// Pages for at most 65,536 elements, none of them placed.
+    pub(crate) fn try_new(alloc: Global, elements: u32) -> Result<Pages, AllocError>
+        requires { elements ≤ 65536 }
+        ensures total { IfOk result (λ pages. total_of pages ≡ (elements + 63) / 64) }
+        ensures order { IfOk result (λ pages. pages.order ≡ []) }
+        ensures cells { IfOk result (λ pages. (e : ℕ) → cell_at pages e ≡ blank) }
+    {
+        let total = (elements + 63) / PAGE;
+        let mut order = IndexSet::with_capacity(alloc, total as usize)?;
+        let mut table = Vec::with_capacity(alloc, total as usize)?;
+        for number in 0..total {
+            order.insert(number)?;
+            table.push(None)?;
+        }
+        Ok(Pages {
+            order,
+            placed: 0,
+            table,
+            spare: ArrayVec::new(),
+        })
+    }
+
+    /// Makes spare pages, so that as many can be placed as are needed, or all that aren't placed yet.
+    pub(crate) fn prepare(&mut self, alloc: Global, need: u32) -> Result<(), AllocError>
+        ensures pages { self.new.pages ≡ self.old.pages }
+        ensures order { self.new.order ≡ self.old.order }
+        ensures spare { OnOk result (min need (total_of self.new - length self.new.order) ≤ self.new.spare) }
+    {
+        let unplaced = self.table.len() - self.placed as usize;
+        let wanted = unplaced.min(need as usize);
+        while self.spare.len() < wanted {
+            let page = Box::new(alloc, Page { cells: [BLANK; 64] })?;
+            self.spare.push(Some(page));
+        }
+        Ok(())
+    }
+
+    /// The number of placed pages.
+    pub(crate) fn count(&self) -> u32
+        ensures { result ≡ length self.now.order }
+    {
+        self.placed
+    }
+
+    /// A placed page's number, by its place in the order of first access.
+    pub(crate) fn number(&self, k: u32) -> Option<u32>
+        ensures { result ≡ slice_get self.now.order k }
+    {
+        if k < self.placed {
+            self.order.get_index(k as usize).copied()
+        } else {
+            None
+        }
+    }
+
+    /// Sees that the page of an element is placed. Where it isn't, there is a spare one.
+    #[inline]
+    pub(crate) fn touch(&mut self, e: u32)
+        requires within { e / 64 < total_of self.old }
+        requires spare { min 1 (total_of self.old - length self.old.order) ≤ self.old.spare }
+        ensures pages { self.new.pages ≡ self.old.pages }
+        ensures order { self.new.order ≡ with_page self.old.order (e / 64) }
+        ensures placed { has_page self.new.order (e / 64) ≡ true }
+        ensures spare { self.new.spare + length self.new.order ≡ self.old.spare + length self.old.order }
+    {
+        let number = e / PAGE;
+        if self.table[number as usize].is_none() {
+            self.place(number);
+        }
+    }
+
+    /// Places a page that isn't placed.
+    fn place(&mut self, number: u32)
+        requires within { number < total_of self.old }
+        requires absent { has_page self.old.order number ≡ false }
+        requires spare { 0 < self.old.spare }
+        ensures pages { self.new.pages ≡ self.old.pages }
+        ensures order { self.new.order ≡ self.old.order ++ number ∷ [] }
+        ensures spare { self.new.spare + 1 ≡ self.old.spare }
+    {
+        if let Some(at) = self.order.get_index_of(&number) {
+            self.order.swap_indices(at, self.placed as usize);
+            self.placed += 1;
+            if let Some(page) = self.spare.pop() {
+                self.table[number as usize] = page;
+            }
+        }
+    }
+
+    /// The cell of an element.
+    #[inline]
+    pub(crate) fn get(&self, e: u32) -> Cell
+        requires { e / 64 < total_of self.now }
+        ensures { result ≡ cell_at self.now e }
+    {
+        match &self.table[e as usize / 64] {
+            Some(page) => page.cells[e as usize % 64],
+            None => BLANK,
+        }
+    }
+
+    /// Sets the cell of an element, whose page is placed.
+    #[inline]
+    pub(crate) fn set(&mut self, e: u32, cell: Cell)
+        requires within { e / 64 < total_of self.old }
+        requires placed { has_page self.old.order (e / 64) ≡ true }
+        ensures total { total_of self.new ≡ total_of self.old }
+        ensures order { self.new.order ≡ self.old.order }
+        ensures spare { self.new.spare ≡ self.old.spare }
+        ensures here { cell_at self.new e ≡ cell }
+        ensures others { (other : ℕ) → other ≢ e → cell_at self.new other ≡ cell_at self.old other }
+    {
+        if let Some(page) = &mut self.table[e as usize / 64] {
+            page.cells[e as usize % 64] = cell;
+        }
+    }
+}

@@ -1,0 +1,130 @@
+//! A private copy as a store: its words are what the iteration under way sees.
+
+ghost use Rattle.std.specs.Prelude.{◌≡◌, ◌/◌, ◌^◌, ◌<◌, ◌≤◌, true, length, slice_index};
+
+use crate::page::Cell;
+use crate::private::Private;
+use crate::reduction::Reduction;
+use array_maps::{Half, Op, Part, Rmw, Store, combine, exchange, part_of, with_half};
+use loop_core_marks::Access;
+
+impl<'a> Store for Private<'a> {
+    ghost use Rattle.std.proofs.Common.{arith};
+    ghost use Rattle.private_copy.specs.Shown.{copy_of};
+    ghost use Rattle.private_copy.specs.CopyLaw.{Follows};
+
+    ghost words = { λ copy. (copy_of copy).words };
+
+    ghost serves = { λ copy. (copy_of copy).serves };
+
+    ghost effect = { Follows };
+
+    fn words_fit(&self) {
+        let _begun = self.begun;
+    }
+
+    fn load(&mut self, e: u32) -> u64 {
+        let (cell, word) = self.admit(e, Access::Read);
+        self.keep(
+            e,
+            Cell {
+                value: cell.value,
+                writer: cell.writer,
+                reduction: Reduction::Mixed,
+            },
+        );
+        word
+    }
+
+    fn store(&mut self, e: u32, value: u64) {
+        self.admit(e, Access::Write);
+        self.leave(e, value);
+    }
+
+    fn update(&mut self, e: u32, op: Op, operand: u64) {
+        let (cell, word) = self.admit(e, Access::Reduce(op));
+        let writer = self.begun;
+        self.keep(
+            e,
+            Cell {
+                value: combine(op, word, operand),
+                writer,
+                reduction: cell.reduction.with(op, operand),
+            },
+        );
+    }
+
+    fn store_half(&mut self, e: u32, half: Half, value: u32) {
+        let (_, word) = self.admit(e, Access::Both);
+        self.leave(e, with_half(half, word, value as u64));
+    }
+
+    fn fetch(&mut self, e: u32, part: Part, rmw: Rmw, value: u64, compare: u64) -> u64 {
+        let (_, old) = self.admit(e, Access::Both);
+        self.leave(e, exchange(part, rmw, old, value, compare));
+        part_of(part, old)
+    }
+
+    ghost shows = { λ old new access done. done.words };
+
+    ghost uses_one = { λ old new access done. let e = done.serves in Prim.omega (arith, e) };
+}
+
+impl<'a> Private<'a> {
+    ghost use Rattle.shadow_marks.specs.Iteration.{elements_of};
+    ghost use Rattle.private_copy.specs.declared.reduction.Reduction.TheVariants.{Mixed};
+    ghost use Rattle.private_copy.specs.Cells.{cell_at};
+    ghost use Rattle.private_copy.specs.Touched.{has_page, page_of};
+    ghost use Rattle.private_copy.specs.Shown.{copy_of};
+    ghost use Rattle.private_copy.specs.Steps.{IsAdmitted, IsKept};
+
+    /// Counts and marks an access, and tells the element's cell and the word that the iteration sees.
+    #[inline]
+    fn admit(&mut self, e: u32, kind: Access) -> (Cell, u64)
+        requires within { e < length self.old.start.now }
+        requires served { 0 < self.old.serves }
+        ensures admitted { IsAdmitted self.old e kind self.new }
+        ensures cell { result.0 ≡ cell_at self.old.pages e }
+        ensures word { result.1 ≡ slice_index (copy_of self.old).words e }
+    {
+        self.serves -= 1;
+        self.pages.touch(e);
+        self.flags.mark(e, kind);
+        let cell = self.pages.get(e);
+        let word = if cell.writer == self.begun {
+            cell.value
+        } else {
+            self.start[e as usize]
+        };
+        (cell, word)
+    }
+
+    /// Keeps a word that the iteration leaves at an element by a plain access.
+    #[inline]
+    fn leave(&mut self, e: u32, value: u64)
+        requires within { e < length self.old.start.now }
+        requires placed { has_page self.old.pages.order (page_of e) ≡ true }
+        ensures { IsKept self.old e (record { value = value; writer = self.old.begun; reduction = Mixed }) self.new }
+    {
+        let writer = self.begun;
+        self.keep(
+            e,
+            Cell {
+                value,
+                writer,
+                reduction: Reduction::Mixed,
+            },
+        );
+    }
+
+    /// Keeps the cell of an element.
+    #[inline]
+    fn keep(&mut self, e: u32, cell: Cell)
+        requires within { e < length self.old.start.now }
+        requires placed { has_page self.old.pages.order (page_of e) ≡ true }
+        requires writer { cell.writer ≤ self.old.begun }
+        ensures { IsKept self.old e cell self.new }
+    {
+        self.pages.set(e, cell);
+    }
+}
