@@ -1,0 +1,3 @@
+pub mod MapEffects
+pub mod InOrder
+pub mod SameLoops

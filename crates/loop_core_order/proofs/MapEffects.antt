@@ -1,0 +1,14 @@
+-- What accesses do to maps.
+use Rattle.std.proofs.Common.{◌≡◌, List, [], ◌∷◌, ap, ◌∙◌}
+use Rattle.array_maps.specs.Accesses.{Access, words_after}
+use Rattle.array_maps.specs.MapList.{MapList}
+use Rattle.array_maps.specs.Store.{Effects}
+
+-- an access changes the words alone
+abbrev pub map_effect : MapList → Access → MapList → Type 0
+map_effect old access new = new ≡ record { sizes = old.sizes; words = words_after access old.words }
+
+-- so no access changes the sizes
+pub sizes_kept : (old new : MapList) (accesses : List Access) → Effects map_effect old accesses new → new.sizes ≡ old.sizes
+sizes_kept old new [] effects = ap (λ (maps : MapList). maps.sizes) effects
+sizes_kept old new (access ∷ accesses) effects = sizes_kept effects.0 new accesses effects.2 ∙ ap (λ (maps : MapList). maps.sizes) effects.1
