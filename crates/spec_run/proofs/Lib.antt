@@ -1,2 +1,2 @@
-pub mod ThinLists
-pub mod ThinRuns
+pub mod Lines
+pub mod Turns

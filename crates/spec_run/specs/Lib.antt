@@ -1,2 +1,1 @@
-pub mod Thin
 pub mod InOrder
