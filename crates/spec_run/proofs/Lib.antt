@@ -1,3 +1,2 @@
-pub mod Loops
-pub mod TurnLaws
-pub mod Reports
+pub mod Lines
+pub mod Turns

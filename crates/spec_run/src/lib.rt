@@ -8,9 +8,6 @@
 //! ```
 #![tactic(auto)]
 
-mod looping;
 mod running;
-mod turning;
 
-pub use looping::in_order;
 pub use running::{Report, RunError, run_in_order};

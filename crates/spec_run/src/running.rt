@@ -1,14 +1,15 @@
 //! Running a program with its loops in order.
 
-ghost use Rattle.std.specs.Prelude.{◌≡◌, ◌≢◌, IfOk, OnErr, IsErrOf, Err};
+ghost use Rattle.std.specs.Prelude.{◌≡◌, ◌≢◌, IfOk, OnErr, Err};
 ghost use Rattle.spec_run.specs.InOrder.{RanInOrder};
 
-use crate::turning::{Step, take_turn};
-use array_maps::Maps;
-use bpf_step::Main;
+use array_maps::{Maps, Store};
+use bpf_step::{Main, Turned};
+use bpf_step_sound::{law_of_accepted_programs, law_of_accepted_runs};
 use bpf_verify::Verified;
-use loop_core_law::LoopReport;
-use std::alloc::{AllocError, AllocFailed, Global};
+use loop_core_law::{LoopReport, Verdict};
+use loop_core_order::in_order;
+use std::alloc::{AllocError, Global};
 use thiserror::Error;
 
 /// What a program did.
@@ -41,40 +42,48 @@ impl From<AllocError> for RunError {
     }
 }
 
-impl<T: Drop> From<AllocFailed<T>> for RunError {
-    ghost use Rattle.spec_run.specs.declared.running.RunError.TheVariants.{Memory};
-
-    ghost from_gives = { λ _ e. e ≡ Memory };
-
-    fn from(_e: AllocFailed<T>) -> RunError {
-        RunError::Memory
-    }
-}
-
-/// Runs the program on these maps, which are of its sizes. Where memory runs out they are left as they
-/// are then.
+/// Runs the program on these maps, which are of its sizes, and changes them as it goes. Where memory runs
+/// out they stay as they are then.
 fn run_on(
     alloc: Global,
     program: &Verified,
     maps: &mut Maps,
     argument: u64,
-) -> Result<Report, RunError>
+) -> Result<Report, AllocError>
     requires { maps.old.sizes ≡ program.now.sizes }
-    ensures ran { IfOk result (λ report. RanInOrder program.now argument maps.old maps.new report) }
-    ensures memory { OnErr result (result ≡ Err RunError.Memory) }
+    ensures { IfOk result (λ report. RanInOrder program.now argument maps.old maps.new report) }
 {
+    law_of_accepted_runs();
+    law_of_accepted_programs();
+    // These tell the proof that the program is accepted, and what words the maps have.
     let _unit = program.unit();
-    let mut main = Main::new(program, argument);
+    let _sizes = maps.sizes();
+    Store::words_fit(maps);
     let mut loops = Vec::new(alloc);
+    let mut main = Main::new(program, argument);
     loop {
-        match take_turn(program, &mut main, maps) {
-            Step::Returned(ret) => return Ok(Report { ret, loops }),
-            Step::Called(report) => loops.push(report)?,
+        match main.next(maps) {
+            Turned::Loop(call) => {
+                let answer = in_order(program, &call, maps);
+                main.resume(answer);
+                loops.push(LoopReport {
+                    slot: call.slot(),
+                    answer: i64::from(answer),
+                    verdict: Verdict::InOrder,
+                })?;
+            }
+            Turned::Refused { slot, answer } => loops.push(LoopReport {
+                slot,
+                answer,
+                verdict: Verdict::Refused,
+            })?,
+            Turned::Exit(ret) => return Ok(Report { ret, loops }),
         }
     }
 }
 
-/// Runs the program on the maps, its argument in R1, with each loop in order.
+/// Runs the program on the maps, its argument in R1, with each loop in order. It runs on a copy, which
+/// takes the maps' place at the end.
 ///
 /// It fails with `Sizes` where the maps' sizes differ from the program's, and with `Memory`. The maps
 /// are as before then.
@@ -92,8 +101,8 @@ pub fn run_in_order(
     if maps.sizes() != program.sizes() {
         return Err(RunError::Sizes);
     }
-    let mut copy = maps.try_copy(alloc)?;
-    let report = run_on(alloc, program, &mut copy, argument)?;
-    *maps = copy;
+    let mut left = maps.try_copy(alloc)?;
+    let report = run_on(alloc, program, &mut left, argument)?;
+    *maps = left;
     Ok(report)
 }
