@@ -1,0 +1,4 @@
+pub mod Limits
+pub mod Callbacks
+pub mod Filled
+pub mod MainRuns

@@ -1,0 +1,3 @@
+pub mod Iterations
+pub mod Mains
+pub mod Turns
