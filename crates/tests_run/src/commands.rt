@@ -1,83 +1,52 @@
 //! What the commands answer to inputs. In a row ` | ` ends a line, and the answer behind `=>` is the
 //! exit status and the output.
 
-use crate::program::{are_answered, run_line, run_on, words_of};
-use std::alloc::Global;
-use std::process::Abort;
+use crate::program::{are_answered, is_answered, run_line, run_on, told, words_of};
+use std::alloc::{AllocError, Global};
 use std::test::Fail;
 
-/// The loop of eight iterations that adds its index, in hex form.
-const LOOP: &str =
-    "maps 1 | b701000008000000 | 1842000005000000 | 0000000000000000 | b703000000000000 | \
-    b704000000000000 | 85000000b5000000 | 9500000000000000 | 1862000000000000 | \
-    0000000000000000 | db12000000000000 | b700000000000000 | 9500000000000000";
-
-/// Asserts what the program answers where `<loop>` stands for that loop.
-fn are_answered_with_loop(
-    rt: &impl Abort,
-    alloc: Global,
-    line: &str,
-    table: &str,
-) -> Result<(), Fail> {
-    are_answered(rt, alloc, line, &table.replace(alloc, "<loop>", LOOP)?)
-}
-
+/// A loop of eight iterations that adds its index, in hex form, and what comes of its values and none.
 const HEX_UNITS: &str = "
-    <loop> | %% | map 0: 18446744073709551615 => 0 return 8 | loop 0 at 5: answer 8, in order | map 0: 27
-    <loop>                                    => 0 return 8 | loop 0 at 5: answer 8, in order | map 0: 28
-    <loop> | %%                               => 0 return 8 | loop 0 at 5: answer 8, in order | map 0: 28
-    <loop> | %% | map 0: 5 | %% | no events | %% => 0 return 8 | loop 0 at 5: answer 8, in order | map 0: 33
-    <loop> | %% | map 1: 0                    => 2 refused A7 at maps line 1
-    <loop> | %% | map 0: 18446744073709551616 => 2 refused A2 at maps line 1
-    <loop> | %% | ; no values                 => 2 refused A7 at maps line 0
-    <loop> | %% | map 0: 1 2                  => 1 refused P1
-    <loop> | %% ; no mark                     => 2 refused A1 at unit line 14
-                                              => 2 refused A1 at unit line 0
-    maps 1 | 9                                => 2 refused A1 at unit line 2
-    maps 4294967296                           => 2 refused A2 at unit line 1
-    maps 0                                    => 2 refused A7 at unit line 1
-    maps 1 | 95                               => 1 refused I1 at slot 0
-    maps 1 | 95 | %% | no maps                => 1 refused I1 at slot 0
-    maps 1 | b700000007000000 | 9500000000000000 => 0 return 7 | map 0: 0
-    maps 1 | b700000007000000 | 9500000000000000 | %% | no maps => 2 refused A1 at maps line 1
+    maps 1 | b701000008000000 | 1842000005000000 | 0000000000000000 | b703000000000000 | b704000000000000 | \
+        85000000b5000000 | 9500000000000000 | 1862000000000000 | 0000000000000000 | db12000000000000 | \
+        b700000000000000 | 9500000000000000 | %% | map 0: 18446744073709551615 \
+        => 0 return 8 | loop 0 at 5: answer 8, in order | map 0: 27
+    maps 1                                => 1 refused V1 at slot 0
+    maps 1 | 9500000000000000             => 1 refused V12 at slot 0
+    maps 1 | 95                           => 1 refused I1 at slot 0
+    maps 0                                => 2 refused A7 at unit line 1
+    maps 1 | b700000007000000 | 9500000000000000 | %% | map 0: 1 2 => 1 refused P1
+    maps 1 | b700000007000000 | 9500000000000000 | %% | map 1: 0 => 2 refused A7 at maps line 1
+    maps 1 | bf10000000000000 | 9500000000000000 => 0 return 5 | map 0: 0
 ";
 
 #[test]
 fn order_runs_hex_units(rt: HostRuntime) -> Result<(), Fail> {
-    are_answered_with_loop(&rt, rt.alloc(), "order --hex", HEX_UNITS)
+    are_answered(&rt, rt.alloc(), "order --hex --arg 5", HEX_UNITS)
 }
 
-/// What stands behind the first line of a loop that adds its index.
-const BEHIND: &str =
-    "ldcode r2, cb | mov64 r3, 0 | mov64 r4, 0 | call 181 | exit | cb: | ldmapval r2, 0, 0 | \
-    atomic64 add [r2+0], r1 | mov64 r0, 0 | exit";
-
 const ASSEMBLER_UNITS: &str = "
-    maps 1 | mov64 r1, 0 | <behind> | %% | map 0: 5 => 0 return 0 | loop 0 at 5: answer 0, in order | map 0: 5
-    maps 1 | mov64 r1, 8388608 | <behind> => 0 return 8388608 | loop 0 at 5: answer 8388608, in order | map 0: 35184367894528
-    maps 1 | mov64 r1, 8388609 | <behind> => 0 return 18446744073709551609 | loop 0 at 5: answer -7, refused | map 0: 0
-    maps 1 | mov64 r1, -1 | <behind>      => 0 return 18446744073709551609 | loop 0 at 5: answer -7, refused | map 0: 0
-    maps 2 | mov64 r1, 8 | <behind>       => 0 return 8 | loop 0 at 5: answer 8, in order | map 0: 28 0
-    maps 1 1 | mov64 r1, 8 | <behind>     => 0 return 8 | loop 0 at 5: answer 8, in order | map 0: 28 | map 1: 0
-    maps 1 | mov64 r1, 8 | <behind> | exit => 0 return 8 | loop 0 at 5: answer 8, in order | map 0: 28
-    maps 1                                => 1 refused V1 at slot 0
+    maps 1 | mov64 r0, r1 | exit | %% | map 0: 5 => 0 return 0 | map 0: 5
+    maps 1 | mov64 r0, r2 | exit                 => 1 refused V12 at slot 0
 ";
 
 #[test]
 fn order_runs_assembler_text(rt: HostRuntime) -> Result<(), Fail> {
-    let table = ASSEMBLER_UNITS.replace(rt.alloc(), "<behind>", BEHIND)?;
-    are_answered(&rt, rt.alloc(), "order --arg 5", &table)
+    are_answered(&rt, rt.alloc(), "order", ASSEMBLER_UNITS)
 }
+
+const VERIFIED: &str = "
+    maps 1 | b701000008000000 | 1842000005000000 | 0000000000000000 | b703000000000000 | b704000000000000 | \
+        85000000b5000000 | 9500000000000000 | b700000000000000 | 9500000000000000 \
+        => 0 accepted | function 0 at 0 count 6 | function 1 at 7 count 2
+    maps 1      => 1 refused V1 at slot 0
+    maps 1 | 95 => 1 refused I1 at slot 0
+    maps 0      => 2 refused A7 at unit line 1
+";
 
 #[test]
 fn verify_tells_the_functions(rt: HostRuntime) -> Result<(), Fail> {
-    let table = "
-        <loop>      => 0 accepted | function 0 at 0 count 6 | function 1 at 7 count 4
-        maps 1      => 1 refused V1 at slot 0
-        maps 1 | 95 => 1 refused I1 at slot 0
-        maps 0      => 2 refused A7 at unit line 1
-    ";
-    are_answered_with_loop(&rt, rt.alloc(), "verify --hex", table)
+    are_answered(&rt, rt.alloc(), "verify --hex", VERIFIED)
 }
 
 const BOTH_WAYS: &str = "
@@ -94,17 +63,22 @@ const BOTH_WAYS: &str = "
     ldmapfd r1, 3                    => 1811000003000000 | 0000000000000000
 ";
 
+/// A text behind another.
+fn behind(alloc: Global, head: &str, tail: &str) -> Result<String, AllocError> {
+    let mut text = String::from_str(alloc, head)?;
+    text.push_str(tail.trim())?;
+    Ok(text)
+}
+
 #[test]
 fn lines_and_slots_are_written_both_ways(rt: HostRuntime) -> Result<(), Fail> {
     let alloc = rt.alloc();
     for row in BOTH_WAYS.trim().lines() {
         let (line, slots) = row.split_once("=>").ok_or("a row has slots")?;
-        let line = line.trim();
-        let slots = slots.trim();
-        let asm = format!(in alloc; "maps 1 | {line} => 0 maps 1 | {slots}")?;
-        are_answered(&rt, alloc, "asm", &asm)?;
-        let disasm = format!(in alloc; "maps 1 | {slots} => 0 maps 1 | {line}")?;
-        are_answered(&rt, alloc, "disasm", &disasm)?;
+        let text = behind(alloc, "0 maps 1 | ", line)?;
+        let hex = behind(alloc, "0 maps 1 | ", slots)?;
+        is_answered(&rt, alloc, "asm", &text[2..], &hex)?;
+        is_answered(&rt, alloc, "disasm", &hex[2..], &text)?;
     }
     Ok(())
 }
@@ -144,26 +118,35 @@ fn disasm_writes_assembler_text(rt: HostRuntime) -> Result<(), Fail> {
 }
 
 #[test]
-fn an_input_is_utf8_and_has_a_limit(rt: HostRuntime) -> Result<(), Fail> {
-    let alloc = rt.alloc();
-    let ran = run_line(alloc, "asm", b"maps 1 ; \xff")?;
+fn an_input_is_utf8(rt: HostRuntime) -> Result<(), Fail> {
+    let ran = run_line(rt.alloc(), "asm", b"maps 1 ; \xff")?;
     assert_eq!(rt;
-        ran.output.as_slice(),
-        b"refused A1 at unit line 0\n".as_slice()
+        told(rt.alloc(), &ran)?.as_str(),
+        "2 refused A1 at unit line 0\n"
     );
-    assert_eq!(rt; ran.status, 2);
+    Ok(())
+}
+
+/// An input that is as long as it may be.
+fn longest(alloc: Global) -> Result<String, AllocError> {
     let mut input = String::from_str(alloc, "maps 1\n%%\n%%\n")?;
     for _ in input.len()..3_145_728 {
         input.push_str(" ")?;
     }
-    assert_eq!(rt; run_line(alloc, "asm", input.as_bytes())?.status, 0);
+    Ok(input)
+}
+
+#[test]
+fn an_input_has_a_limit(rt: HostRuntime) -> Result<(), Fail> {
+    let mut input = longest(rt.alloc())?;
+    let ran = run_line(rt.alloc(), "asm", input.as_bytes())?;
+    assert_eq!(rt; told(rt.alloc(), &ran)?.as_str(), "0 maps 1\n");
     input.push_str("\u{e9}")?;
-    let ran = run_line(alloc, "asm", input.as_bytes())?;
+    let ran = run_line(rt.alloc(), "asm", input.as_bytes())?;
     assert_eq!(rt;
-        ran.output.as_slice(),
-        b"refused A6 at unit line 0\n".as_slice()
+        told(rt.alloc(), &ran)?.as_str(),
+        "2 refused A6 at unit line 0\n"
     );
-    assert_eq!(rt; ran.status, 2);
     Ok(())
 }
 
@@ -186,10 +169,9 @@ fn a_failed_read_ends_with_5(rt: HostRuntime) -> Result<(), Fail> {
 
 #[test]
 fn a_failed_write_leaves_a_beginning(rt: HostRuntime) -> Result<(), Fail> {
-    let alloc = rt.alloc();
-    let ran = run_on(alloc, &words_of(alloc, "verify")?, SEVEN, None, Some(1));
-    assert_eq!(rt; ran.status, 5);
-    assert_eq!(rt; ran.output.as_slice(), b"acc".as_slice());
+    let words = words_of(rt.alloc(), "verify")?;
+    let ran = run_on(rt.alloc(), &words, SEVEN, None, Some(1));
+    assert_eq!(rt; told(rt.alloc(), &ran)?.as_str(), "5 acc");
     Ok(())
 }
 
@@ -201,15 +183,14 @@ fn a_refused_growth_is_told(rt: HostRuntime) -> Result<(), Fail> {
     let words = words_of(alloc, "verify")?;
     let mut ran = run_on(alloc, &words, SEVEN, None, None);
     if ran.status == 4 {
-        assert_eq!(rt; ran.output.as_slice(), b"refused memory\n".as_slice());
+        assert_eq!(rt; told(alloc, &ran)?.as_str(), "4 refused memory\n");
     }
     if ran.status != 0 {
         ran = run_on(alloc, &words, SEVEN, None, None);
     }
-    assert_eq!(rt; ran.status, 0);
     assert_eq!(rt;
-        ran.output.as_slice(),
-        b"accepted\nfunction 0 at 0 count 2\n".as_slice()
+        told(alloc, &ran)?.as_str(),
+        "0 accepted\nfunction 0 at 0 count 2\n"
     );
     Ok(())
 }

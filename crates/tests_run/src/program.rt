@@ -79,21 +79,42 @@ pub fn run_line(alloc: Global, line: &str, input: &[u8]) -> Result<Ran, AllocErr
     Ok(run_on(alloc, &words_of(alloc, line)?, input, None, None))
 }
 
-/// Asserts the exit status and the output of the program, row by row. A row has the lines of an input
-/// and, behind `=>`, the status and the lines of the output.
+/// The exit status and the output, and behind `!` what was told on standard error.
+pub fn told(alloc: Global, ran: &Ran) -> Result<String, Fail> {
+    let output = str::from_utf8(&ran.output)?;
+    let messages = str::from_utf8(&ran.messages)?;
+    let mark = if messages.is_empty() { "" } else { "!" };
+    Ok(format!(in alloc; "{} {output}{mark}{messages}", ran.status)?)
+}
+
+/// The lines of a row.
+fn lines_of(alloc: Global, row: &str) -> Result<String, AllocError> {
+    row.trim().replace(alloc, " | ", "\n")
+}
+
+/// Asserts what the program answers to an input.
+pub fn is_answered(
+    rt: &impl Abort,
+    alloc: Global,
+    line: &str,
+    input: &str,
+    wanted: &str,
+) -> Result<(), Fail> {
+    let ran = run_line(alloc, line, lines_of(alloc, input)?.as_bytes())?;
+    assert_eq!(rt;
+        told(alloc, &ran)?.trim_end(),
+        lines_of(alloc, wanted)?.as_str(),
+        "of {line} with {input}"
+    );
+    Ok(())
+}
+
+/// Asserts what the program answers, row by row. A row has the lines of an input and, behind `=>`, the
+/// status and the lines of the output.
 pub fn are_answered(rt: &impl Abort, alloc: Global, line: &str, table: &str) -> Result<(), Fail> {
     for row in table.trim().lines() {
         let (input, answer) = row.split_once("=>").ok_or("a row has an answer")?;
-        let input = input.trim().replace(alloc, " | ", "\n")?;
-        let ran = run_line(alloc, line, input.as_bytes())?;
-        let told = format!(in alloc;
-            "{} {}",
-            ran.status,
-            str::from_utf8(&ran.output)?.trim_end()
-        )?;
-        let expected = answer.trim().replace(alloc, " | ", "\n")?;
-        assert_eq!(rt; told.as_str(), expected.as_str(), "of {row}");
-        assert!(rt; ran.messages.is_empty(), "of {row}");
+        is_answered(rt, alloc, line, input, answer)?;
     }
     Ok(())
 }

@@ -1,8 +1,8 @@
 use Rattle.std.proofs.Common.{◌≡◌, ◌+◌, ◌≤◌, take, map}
 use Rattle.array_maps.specs.Accesses.{words_after_all}
 use Rattle.array_maps.specs.Store.{Effects}
-use Rattle.tests_run.specs.Added.{added}
-use Rattle.tests_run.proofs.maps.add_to_each.Given as goal
+use Rattle.tests_maps.specs.Added.{added}
+use Rattle.tests_maps.proofs.maps.add_to_each.Given as goal
 
 abbrev pub invariant-loop-e : goal.invariant-loop-e
 invariant-loop-e g l = record {

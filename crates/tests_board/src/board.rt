@@ -1,6 +1,7 @@
 //! Whole boards in one thread and in several, the limits, and refused growths.
 
-ghost use Rattle.std.specs.Prelude.{◌≡◌, ◌≤◌};
+ghost use Rattle.std.specs.Prelude.{◌≡◌, ◌≤◌, replicate, IfOk};
+ghost use Rattle.loop_board.specs.Seats.{new_seat};
 
 use loop_board::{Board, BoardError, BoardSeat, Tally};
 use std::alloc::Global;
@@ -22,9 +23,10 @@ const NO_POST: u32 = 4_294_967_295;
 fn a_look_sees_what_another_seat_posted(rt: HostRuntime) -> Result<(), Fail> {
     let (board, mut seats) = Board::new(rt.alloc(), 4, 2)?;
     assert_eq!(rt; seats.len(), 2);
-    assert_eq!(rt; board.look(&mut seats[0]), NO_POST);
+    let before = board.look(&mut seats[0]);
     board.post(&mut seats[1], 3);
-    assert_eq!(rt; board.look(&mut seats[0]), 3);
+    let after = board.look(&mut seats[0]);
+    assert_eq!(rt; [before, after], [NO_POST, 3]);
     assert_eq!(rt;
         board.gather(seats)?,
         Tally {
@@ -37,18 +39,20 @@ fn a_look_sees_what_another_seat_posted(rt: HostRuntime) -> Result<(), Fail> {
 
 #[test]
 fn claims_are_the_blocks_in_turn(rt: HostRuntime) -> Result<(), Fail> {
-    let (board, mut seats) = Board::new(rt.alloc(), 3, 2)?;
+    let (board, mut seats) = Board::new(rt.alloc(), 2, 2)?;
     assert_eq!(rt; seats.len(), 2);
-    assert_eq!(rt; board.claim(&mut seats[0]), Some(0));
-    assert_eq!(rt; board.claim(&mut seats[1]), Some(1));
-    assert_eq!(rt; board.claim(&mut seats[0]), Some(2));
-    assert_eq!(rt; board.claim(&mut seats[0]), None);
-    assert_eq!(rt; board.claim(&mut seats[0]), None);
-    assert_eq!(rt; board.claim(&mut seats[1]), None);
+    let claims = [
+        board.claim(&mut seats[0]),
+        board.claim(&mut seats[1]),
+        board.claim(&mut seats[0]),
+        board.claim(&mut seats[0]),
+        board.claim(&mut seats[1]),
+    ];
+    assert_eq!(rt; claims, [Some(0), Some(1), None, None, None]);
     assert_eq!(rt;
         board.gather(seats)?,
         Tally {
-            claimed: 3,
+            claimed: 2,
             least: NO_POST
         }
     );
@@ -84,16 +88,23 @@ fn a_missing_seat_is_refused(rt: HostRuntime) -> Result<(), Fail> {
     Ok(())
 }
 
-/// Where a growth was refused, a second try has the memory. Gather takes none.
+/// A board of two blocks and two workers, by a second try where a growth was refused. Gather takes no memory.
+fn board_of_two(alloc: Global) -> Result<(Board, Vec<BoardSeat>), BoardError>
+    ensures { IfOk result (λ made. made.1.items ≡ replicate 2 (new_seat made.0)) }
+{
+    match Board::new(alloc, 2, 2) {
+        Err(BoardError::Memory) => Board::new(alloc, 2, 2),
+        made => made,
+    }
+}
+
 #[test]
 fn a_refused_growth_leaves_nothing_behind(rt: HostRuntime) -> Result<(), Fail> {
-    let (board, mut seats) = match Board::new(rt.alloc(), 2, 2) {
-        Err(BoardError::Memory) => Board::new(rt.alloc(), 2, 2)?,
-        made => made?,
-    };
+    let (board, mut seats) = board_of_two(rt.alloc())?;
     assert_eq!(rt; seats.len(), 2);
-    assert_eq!(rt; board.claim(&mut seats[1]), Some(0));
+    let claim = board.claim(&mut seats[1]);
     board.post(&mut seats[1], 8_388_607);
+    assert_eq!(rt; claim, Some(0));
     assert_eq!(rt;
         board.gather(seats)?,
         Tally {

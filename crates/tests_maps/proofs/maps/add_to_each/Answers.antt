@@ -2,10 +2,10 @@ use Rattle.std.proofs.Common.{◌≡◌, ℕ, ◌+◌, ◌<◌, List, [], ◌∷
 use Rattle.std.proofs.lemmas.List.{take_more, map-append}
 use Rattle.array_maps.specs.Accesses.{Access, words_after, words_after_all}
 use Rattle.array_maps.specs.Store.{Effects}
-use Rattle.tests_run.specs.Added.{added}
+use Rattle.tests_maps.specs.Added.{added}
 use Rattle.array_maps.proofs.ElementLaws.{length-words_after_all}
 use Rattle.array_maps.proofs.StoreLaws.{effects-more, words_after_all-more}
-use Rattle.tests_run.proofs.maps.add_to_each.Goals as goal
+use Rattle.tests_maps.proofs.maps.add_to_each.Goals as goal
 
 pub update-requires-clause-within : goal.update-requires-clause-within
 update-requires-clause-within g c =
