@@ -1,0 +1,17 @@
+-- Words of bits, of which bit k of word i says something of element 64 i + k.
+use Rattle.std.specs.Prelude.{ℕ, List, [], ◌∷◌, bit_and, bit_or}
+use Rattle.std.specs.Int.{bit_not, w64}
+
+-- the bits that are set in some of these words
+abbrev pub in_some : List ℕ → ℕ
+in_some [] = 0
+in_some (word ∷ rest) = bit_or (in_some rest) word
+
+-- the bits that are set in two of these words or more
+abbrev pub in_two : List ℕ → ℕ
+in_two [] = 0
+in_two (word ∷ rest) = bit_or (in_two rest) (bit_and (in_some rest) word)
+
+-- a word without the bits of reduction-only elements: those that no plain access has and just one operator
+abbrev pub without_reductions : (word plain : ℕ) → (by : List ℕ) → ℕ
+without_reductions word plain by = bit_and word (bit_or (bit_or plain (in_two by)) (bit_not w64 (in_some by)))

@@ -1,0 +1,7 @@
+//! Kernels over the planes of marks, in vectors of any number of lanes.
+#![tactic(auto)]
+
+mod bits;
+mod conflict;
+mod indices;
+mod loading;
