@@ -1,0 +1,32 @@
+//! One bit of a plane.
+
+ghost use Rattle.std.specs.Prelude.{◌≡◌, ◌/◌, ◌%◌, ◌^◌, ◌<◌, ℕ, ◌&&◌, ◌||◌, ◌==◌, length};
+ghost use Rattle.loop_core_marks.specs.Planes.{bit_of};
+
+/// Whether an element's bit is set.
+#[inline]
+pub(crate) fn is_set(words: &[u64], e: u32) -> bool
+    requires { e / 64 < length words.now }
+    ensures { result ≡ bit_of words.now e }
+{
+    words[e as usize / 64] & mask(e) != 0
+}
+
+/// Ors a bit into an element's. A bit that is set already isn't written again.
+#[inline]
+pub(crate) fn or_bit(words: &mut [u64], e: u32, bit: bool)
+    requires { e / 64 < length words.old }
+    ensures { (k : ℕ) → bit_of words.new k ≡ (bit_of words.old k || (bit && (k == e))) }
+{
+    if bit && !is_set(words, e) {
+        words[e as usize / 64] |= mask(e);
+    }
+}
+
+/// An element's bit in its word.
+#[inline]
+fn mask(e: u32) -> u64
+    ensures { result ≡ 2 ^ (e % 64) }
+{
+    1 << (e % 64)
+}

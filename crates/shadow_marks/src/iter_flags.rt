@@ -1,0 +1,68 @@
+//! The flags of the iteration under way.
+
+ghost use Rattle.std.specs.Prelude.{◌≡◌, ◌≤◌, ◌<◌, ℕ, true, false, length, slice_index_or, vec_capacity};
+ghost use Rattle.shadow_marks.specs.Kept.{nothing_kept, is_nothing, has_element};
+
+use crate::element_flags::ElementFlags;
+use loop_core_marks::Access;
+use std::alloc::{AllocError, Global};
+
+/// The greatest number of marks of one iteration.
+pub const MAX_MARKS: usize = 4096;
+
+/// What the iteration under way did at each element so far, and which elements it touched.
+#[derive(Drop)]
+pub struct IterFlags {
+    cells: Vec<ElementFlags>,
+    touched: Vec<u32>,
+    ghost room: { 4096 ≤ vec_capacity touched },
+    ghost within: { (e : ℕ) → has_element touched.items e ≡ true → e < length cells.items },
+    ghost covered: { (e : ℕ) → has_element touched.items e ≡ false → is_nothing (slice_index_or cells.items e nothing_kept) ≡ true },
+}
+
+impl IterFlags {
+    ghost use Rattle.std.specs.Prelude.{◌≢◌, ◌+◌, IfOk, MatchOption};
+    ghost use Rattle.loop_core_marks.specs.Flags.{flagged};
+    ghost use Rattle.shadow_marks.specs.Iteration.{elements_of, touched_count, flags_at, IsEmptied, TakesFlags};
+
+    /// Flags for so many elements, none of them touched. All room that an iteration needs is made here.
+    pub fn try_new(alloc: Global, elements: u32) -> Result<IterFlags, AllocError>
+        ensures elements { IfOk result (λ flags. elements_of flags ≡ elements) }
+        ensures emptied { IfOk result IsEmptied }
+    {
+        Ok(IterFlags {
+            cells: vec![in alloc; ElementFlags::none(); elements as usize]?,
+            touched: Vec::with_capacity(alloc, MAX_MARKS)?,
+        })
+    }
+
+    /// Marks an access of an element. The element is in range, and fewer than 4,096 elements were
+    /// touched since the flags were emptied: so it is where fewer than 4,096 marks were made.
+    #[inline]
+    pub fn mark(&mut self, e: u32, access: Access)
+        requires in_range { e < elements_of self.old }
+        requires room { touched_count self.old < 4096 }
+        ensures here { flags_at self.new e ≡ flagged (flags_at self.old e) access }
+        ensures others { (other : ℕ) → other ≢ e → flags_at self.new other ≡ flags_at self.old other }
+        ensures elements { elements_of self.new ≡ elements_of self.old }
+        ensures count { touched_count self.new ≤ touched_count self.old + 1 }
+    {
+        let before = self.cells[e as usize];
+        if !before.is_touched() {
+            self.touched.push_reserved(e);
+        }
+        self.cells[e as usize] = before.after(access);
+    }
+
+    /// Takes the flags of an element that was touched, and empties them there; none is left where
+    /// there is no such element.
+    #[inline]
+    pub(crate) fn take(&mut self) -> Option<(u32, ElementFlags)>
+        ensures taken { MatchOption result (IsEmptied self.new × (self.new ≡ self.old)) (λ taken. TakesFlags self.old self.new taken.0 taken.1) }
+    {
+        let e = self.touched.pop()?;
+        let flags = self.cells[e as usize];
+        self.cells[e as usize] = ElementFlags::none();
+        Some((e, flags))
+    }
+}

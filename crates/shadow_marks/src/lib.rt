@@ -1,0 +1,13 @@
+//! What the iterations of a speculative loop did, element by element: flags of the iteration under
+//! way, and planes of marks of those that ended.
+#![tactic(auto)]
+
+mod bits;
+pub mod element_flags;
+pub mod iter_flags;
+pub mod planes;
+
+
+pub use element_flags::{ElementFlags, Operators};
+pub use iter_flags::{IterFlags, MAX_MARKS};
+pub use planes::{FlowPlanes, LrpdPlanes, OperatorPlanes, Planes, Tested};
