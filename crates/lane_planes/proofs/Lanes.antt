@@ -1,9 +1,10 @@
 -- What the lanes of a vector are, each by its number.
-use Rattle.std.proofs.Common.{◌≡◌, ℕ, ◌+◌, ◌-◌, ◌^◌, ◌<◌, ◌≤◌, min, max, Bool, true, false, cond, ltb, List, map, length, get_or, refl, sym, ◌∙◌, ap, subst, w32, arith}
+use Rattle.std.proofs.Common.{◌≡◌, ℕ, ◌+◌, ◌-◌, ◌%◌, ◌^◌, ◌<◌, ◌≤◌, min, max, Bool, true, false, cond, ltb, List, map, length, get_or, replicate, refl, sym, ◌∙◌, ap, subst, w32, arith}
 use Rattle.std.specs.Simd.Lanes.{zip2, chunk, sel_l, top}
+use Rattle.std.proofs.Math.Nat.{add-mod_right, mod-eq_of_lt}
 use Rattle.lane_planes.specs.Writes.{HasLanes}
 use Rattle.std.proofs.lemmas.List.{length-map, get_or-map}
-use Rattle.std.proofs.lemmas.Simd.{length-zip2, length-chunk, get_or-chunk, get_or-zip2, tops_compared, length-sel_l, get_or-sel_l}
+use Rattle.std.proofs.lemmas.Simd.{length-zip2, length-chunk, get_or-chunk, get_or-zip2, tops_compared, length-sel_l, get_or-sel_l, length-replicate, get_or-replicate}
 
 pub loaded : (at n : ℕ) (xs : List ℕ) → at + n ≤ length xs → HasLanes n (λ k. get_or xs (at + k) 0) (chunk at n xs)
 loaded at n xs room = record { count = length-chunk at n xs room; each = λ k small. get_or-chunk at n xs k 0 small }
@@ -72,3 +73,20 @@ pub greater : (n : ℕ) (p q : ℕ → ℕ) (xs ys : List ℕ) → HasLanes n p 
 greater n p q xs ys in_xs in_ys =
     subst (λ bs. HasLanes n (λ k. max (p k) (q k)) (sel_l bs ys xs)) (sym (tops_compared w32 ltb xs ys))
       (same_lanes n _ _ _ (λ k. greater_is (p k) (q k)) (selected ltb n p q q p xs ys ys xs in_xs in_ys in_ys in_xs))
+
+-- one in each lane
+pub ones : (n : ℕ) → HasLanes n (λ k. 1) (replicate n 1)
+ones n = record { count = length-replicate n 1; each = λ k small. get_or-replicate n k 1 0 small }
+
+one_less : (a : ℕ) → a < 2 ^ 32 → (max a 1 + (2 ^ 32 - 1)) % 2 ^ 32 ≡ a - 1
+one_less a fits =
+    let turn : max a 1 + (2 ^ 32 - 1) ≡ (a - 1) + 2 ^ 32 = omega arith in
+    let within : a - 1 < 2 ^ 32 = omega arith in
+    ap (λ m. m % 2 ^ 32) turn ∙ add-mod_right (a - 1) (2 ^ 32) ∙ mod-eq_of_lt within
+
+-- a subtraction of one that stops at zero
+pub less_one : (n : ℕ) (p : ℕ → ℕ) (ys : List ℕ) → ((k : ℕ) → p k < 2 ^ 32) → HasLanes n p ys →
+    HasLanes n (λ k. p k - 1) (zip2 (λ a b. (a + (2 ^ 32 - b)) % 2 ^ 32) (sel_l (map (top 31) (zip2 (λ a b. cond (ltb a b) (2 ^ 32 - 1) 0) ys (replicate n 1))) (replicate n 1) ys) (replicate n 1))
+less_one n p ys fits in_ys =
+    same_lanes n _ _ _ (λ k. one_less (p k) (fits k))
+      (combined (λ a b. (a + (2 ^ 32 - b)) % 2 ^ 32) n _ _ _ _ (greater n p (λ k. 1) ys (replicate n 1) in_ys (ones n)) (ones n))

@@ -1,2 +1,3 @@
 pub mod Lanes
+pub mod BitLaws
 pub mod Writing

@@ -3,5 +3,6 @@
 
 mod bits;
 mod conflict;
+mod flow;
 mod indices;
 mod loading;
