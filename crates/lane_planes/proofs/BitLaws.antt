@@ -65,6 +65,5 @@ bits_joined test at n word more room low high =
           (cases_lt k at);
     })
 
--- no bit
-pub no_bits : (test : ℕ → Bool) → HasBits 0 test 0
-no_bits test = record { below = omega arith; each = λ k small. omega arith }
+pub bits_same : (n : ℕ) (p q : ℕ → Bool) (word : ℕ) → ((k : ℕ) → p k ≡ q k) → HasBits n p word → HasBits n q word
+bits_same n p q word same bits = record { below = bits.below; each = λ k small. bits.each k small ∙ same k }

@@ -1,3 +1,4 @@
 pub mod Lanes
 pub mod BitLaws
 pub mod Writing
+pub mod Counts

@@ -1,5 +1,5 @@
 -- Words of bits, of which bit k of word i says something of element 64 i + k.
-use Rattle.std.specs.Prelude.{◌≡◌, ℕ, ◌-◌, ◌^◌, ◌<◌, Bool, ◌==◌, nat_lt, List, [], ◌∷◌, slice_index, bit_and, bit_or}
+use Rattle.std.specs.Prelude.{◌≡◌, ℕ, ◌+◌, ◌-◌, ◌*◌, ◌^◌, min, length, ◌<◌, Bool, ◌==◌, nat_lt, List, [], ◌∷◌, slice_index, bit_and, bit_or}
 use Rattle.std.specs.Int.{bit_at, bit_not, w64}
 
 -- the bits that are set in some of these words
@@ -24,3 +24,8 @@ pub record HasBits (many : ℕ) (test : ℕ → Bool) (word : ℕ) : Type 0 wher
 -- an element's first writer stands before its last reader, which is one more than an index, or 0 where there is none
 abbrev pub stands_at : (first last : List ℕ) → ℕ → Bool
 stands_at first last e = nat_lt (slice_index first e) (slice_index last e - 1)
+
+-- the words of a plane that says of each element whether it stands so, and is zero past the end
+pub record FlowWords (many : ℕ) (first last words : List ℕ) : Type 0 where
+  pub count : length words ≡ many
+  pub each : (i : ℕ) → i < many → HasBits (min (length first - 64 * i) 64) (λ k. stands_at first last (64 * i + k)) (slice_index words i)

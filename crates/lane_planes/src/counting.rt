@@ -1,9 +1,8 @@
 //! How many bits of a plane are set, and which is the least.
 
-ghost use Rattle.std.specs.Prelude.{◌≡◌, ◌<◌, ◌≤◌, length};
-ghost use Rattle.std.specs.Prelude.{sum_by};
-ghost use Rattle.std.specs.Int.{count_ones};
-ghost use Rattle.loop_core_marks.specs.Planes.{elements_of, least_in};
+ghost use Rattle.std.specs.Prelude.{◌≡◌, ℕ, ◌+◌, ◌<◌, ◌≤◌, true, length, slice_index};
+ghost use Rattle.std.specs.Simd.Lanes.{chunk};
+ghost use Rattle.loop_core_marks.specs.Planes.{set_bits, least_bit};
 
 use std::simd::prelude::*;
 
@@ -13,30 +12,41 @@ use crate::loading::words_at;
 pub fn count_bits<const N: usize>(words: &[u64]) -> u32
     requires lanes { (0 < N) × (N ≤ 64) }
     requires few { length words.now ≤ 1024 }
-    ensures { result ≡ length (elements_of words.now) }
+    ensures { result ≡ set_bits words.now }
 {
-    let mut counts = Simd::<u64, N>::splat(0);
+    let mut count = 0;
     let mut at = 0;
     while at + N <= words.len() {
-        counts += words_at::<N>(words, at).count_ones();
+        count += ones_at::<N>(words, at);
         at += N;
     }
-    let mut count = counts.reduce_sum() as u32;
     while at < words.len() {
-        count += words[at].count_ones();
+        count += ones_at::<1>(words, at);
         at += 1;
     }
     count
+}
+
+/// How many bits are set in the words from an index on.
+#[inline(always)]
+fn ones_at<const N: usize>(words: &[u64], at: usize) -> u32
+    requires lanes { N ≤ 64 }
+    requires room { at + N ≤ length words.now }
+    ensures { result ≡ set_bits (chunk at N words.now) }
+{
+    Simd::<u64, N>::from_slice(&words[at..])
+        .count_ones()
+        .reduce_sum() as u32
 }
 
 /// The least element whose bit is set in a plane of at most 1,024 words.
 pub fn first_bit<const N: usize>(words: &[u64]) -> Option<u32>
     requires lanes { (0 < N) × (N ≤ 64) }
     requires few { length words.now ≤ 1024 }
-    ensures { result ≡ least_in (elements_of words.now) }
+    ensures { result ≡ least_bit 0 words.now }
 {
     let mut at = 0;
-    while at + N <= words.len() && words_at::<N>(words, at).reduce_or() == 0 {
+    while at + N <= words.len() && is_clear_at::<N>(words, at) {
         at += N;
     }
     while at < words.len() {
@@ -46,4 +56,13 @@ pub fn first_bit<const N: usize>(words: &[u64]) -> Option<u32>
         at += 1;
     }
     None
+}
+
+/// Whether no bit is set in the words from an index on.
+#[inline(always)]
+fn is_clear_at<const N: usize>(words: &[u64], at: usize) -> bool
+    requires { at + N ≤ length words.now }
+    ensures { result ≡ true → (k : ℕ) → k < N → slice_index words.now (at + k) ≡ 0 }
+{
+    words_at::<N>(words, at).reduce_or() == 0
 }

@@ -1,8 +1,7 @@
 //! Where the flow test fails: a first writer before a last reader.
 
-ghost use Rattle.std.specs.Prelude.{◌≡◌, ℕ, ◌+◌, ◌/◌, ◌<◌, ◌≤◌, false, length};
-ghost use Rattle.loop_core_marks.specs.Planes.{bit_of};
-ghost use Rattle.lane_planes.specs.Words.{HasBits, stands_at};
+ghost use Rattle.std.specs.Prelude.{◌≡◌, ℕ, ◌+◌, ◌/◌, ◌<◌, ◌≤◌, length};
+ghost use Rattle.lane_planes.specs.Words.{FlowWords, HasBits, stands_at};
 
 use std::simd::prelude::*;
 
@@ -13,36 +12,32 @@ pub(crate) fn flow_into<const N: usize>(into: &mut [u64], first: &[u32], last: &
     requires lanes { (0 < N) × (N ≤ 64) }
     requires same { length first.now ≡ length last.now }
     requires words { length into.old ≡ (length first.now + 63) / 64 }
-    ensures length { length into.new ≡ length into.old }
-    ensures stood { (e : ℕ) → e < length first.now → bit_of into.new e ≡ stands_at first.now last.now e }
-    ensures past { (e : ℕ) → length first.now ≤ e → bit_of into.new e ≡ false }
+    ensures { FlowWords (length into.old) first.now last.now into.new }
 {
-    let (firsts, first_rest) = first.as_chunks::<64>();
-    let (lasts, last_rest) = last.as_chunks::<64>();
-    for at in 0..firsts.len() {
-        into[at] = flow_word::<N>(&firsts[at], &lasts[at]);
-    }
-    if !first_rest.is_empty() {
-        into[firsts.len()] = flow_word::<N>(first_rest, last_rest);
+    for word in 0..into.len() {
+        let from = 64 * word;
+        let many = (first.len() - from).min(64);
+        into[word] = flow_word::<N>(first, last, from, many);
     }
 }
 
-/// The word of up to 64 elements.
+/// The word of up to 64 elements, from an element on.
 #[inline(always)]
-fn flow_word<const N: usize>(first: &[u32], last: &[u32]) -> u64
+fn flow_word<const N: usize>(first: &[u32], last: &[u32], from: usize, many: usize) -> u64
     requires lanes { (0 < N) × (N ≤ 64) }
     requires same { length first.now ≡ length last.now }
-    requires few { length first.now ≤ 64 }
-    ensures { HasBits (length first.now) (stands_at first.now last.now) result }
+    requires few { many ≤ 64 }
+    requires room { from + many ≤ length first.now }
+    ensures { HasBits many (λ k. stands_at first.now last.now (from + k)) result }
 {
     let mut word = 0;
     let mut at = 0;
-    while at + N <= first.len() {
-        word |= flow_bits::<N>(first, last, at) << at;
+    while at + N <= many {
+        word |= flow_bits::<N>(first, last, from + at) << at;
         at += N;
     }
-    while at < first.len() {
-        word |= flow_bits::<1>(first, last, at) << at;
+    while at < many {
+        word |= flow_bits::<1>(first, last, from + at) << at;
         at += 1;
     }
     word

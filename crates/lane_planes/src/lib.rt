@@ -3,6 +3,9 @@
 
 mod bits;
 mod conflict;
+mod counting;
 mod flow;
 mod indices;
 mod loading;
+
+pub use counting::{count_bits, first_bit};
