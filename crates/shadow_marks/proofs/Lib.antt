@@ -1,0 +1,4 @@
+pub mod BitLaws
+pub mod TouchLaws
+pub mod FoldLaws
+pub mod EndLaws

@@ -25,7 +25,7 @@ AreFlagsOf actions flags = (e : ℕ) → e < elements_of flags → flags_at flag
 -- no element was touched
 pub record IsEmptied (flags : IterFlags) : Type 0 where
   pub count : touched_count flags ≡ 0
-  pub flags : (e : ℕ) → flags_at flags e ≡ no_flags
+  pub each : (e : ℕ) → flags_at flags e ≡ no_flags
 
 -- one element's flags are taken out and emptied
 pub record TakesFlags (old new : IterFlags) (e : ℕ) (kept : ElementFlags) : Type 0 where
@@ -35,3 +35,9 @@ pub record TakesFlags (old new : IterFlags) (e : ℕ) (kept : ElementFlags) : Ty
   pub taken : flags_in kept ≡ flags_at old e
   pub emptied : flags_at new e ≡ no_flags
   pub others : (other : ℕ) → other ≢ e → flags_at new other ≡ flags_at old other
+
+-- there was none to take
+pub record TakesNone (old new : IterFlags) : Type 0 where
+  pub was : IsEmptied old
+  pub still : IsEmptied new
+  pub elements : elements_of new ≡ elements_of old

@@ -1,3 +1,5 @@
+pub mod Bits
 pub mod Kept
 pub mod Iteration
 pub mod Standing
+pub mod Ending

@@ -1,7 +1,8 @@
 //! One bit of a plane.
 
-ghost use Rattle.std.specs.Prelude.{◌≡◌, ◌/◌, ◌%◌, ◌^◌, ◌<◌, ℕ, ◌&&◌, ◌||◌, ◌==◌, length};
+ghost use Rattle.std.specs.Prelude.{◌≡◌, ◌/◌, ◌%◌, ◌^◌, ◌<◌, ◌&&◌, length};
 ghost use Rattle.loop_core_marks.specs.Planes.{bit_of};
+ghost use Rattle.shadow_marks.specs.Bits.{OrsBit};
 
 /// Whether an element's bit is set.
 #[inline]
@@ -12,11 +13,20 @@ pub(crate) fn is_set(words: &[u64], e: u32) -> bool
     words[e as usize / 64] & mask(e) != 0
 }
 
+/// Whether a condition holds and an element's bit is set. Else the plane isn't looked at.
+#[inline]
+pub(crate) fn is_also_set(condition: bool, words: &[u64], e: u32) -> bool
+    requires { e / 64 < length words.now }
+    ensures { result ≡ (condition && bit_of words.now e) }
+{
+    condition && is_set(words, e)
+}
+
 /// Ors a bit into an element's. A bit that is set already isn't written again.
 #[inline]
 pub(crate) fn or_bit(words: &mut [u64], e: u32, bit: bool)
     requires { e / 64 < length words.old }
-    ensures { (k : ℕ) → bit_of words.new k ≡ (bit_of words.old k || (bit && (k == e))) }
+    ensures { OrsBit words.old words.new e bit }
 {
     if bit && !is_set(words, e) {
         words[e as usize / 64] |= mask(e);

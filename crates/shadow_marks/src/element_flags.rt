@@ -1,6 +1,6 @@
 //! What the iteration under way did at one element.
 
-ghost use Rattle.std.specs.Prelude.{◌≡◌, true, false, not, ◌||◌, ◌^◌};
+ghost use Rattle.std.specs.Prelude.{◌≡◌, true, false, not, ◌&&◌, ◌||◌, ◌^◌};
 ghost use Rattle.array_maps.specs.declared.access.Op.{Op as Operator};
 ghost use Rattle.loop_core_law.specs.Actions.{is_same};
 ghost use Rattle.loop_core_marks.specs.Flags.{flagged};
@@ -77,6 +77,22 @@ impl ElementFlags {
         ensures { result ≡ (self.plain || self.wrote) }
     {
         self.plain || self.wrote
+    }
+
+    /// Whether the iteration has an exposed read of the element and doesn't write it.
+    #[inline]
+    pub fn reads_only(self) -> bool
+        ensures { result ≡ (self.looked && not self.wrote) }
+    {
+        self.looked && !self.wrote
+    }
+
+    /// Whether it has an exposed read of the element and writes it.
+    #[inline]
+    pub fn reads_and_writes(self) -> bool
+        ensures { result ≡ (self.looked && self.wrote) }
+    {
+        self.looked && self.wrote
     }
 
     /// The flags after one access more.

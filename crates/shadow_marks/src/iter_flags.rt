@@ -23,7 +23,7 @@ pub struct IterFlags {
 impl IterFlags {
     ghost use Rattle.std.specs.Prelude.{◌≢◌, ◌+◌, IfOk, MatchOption};
     ghost use Rattle.loop_core_marks.specs.Flags.{flagged};
-    ghost use Rattle.shadow_marks.specs.Iteration.{elements_of, touched_count, flags_at, IsEmptied, TakesFlags};
+    ghost use Rattle.shadow_marks.specs.Iteration.{elements_of, touched_count, flags_at, IsEmptied, TakesFlags, TakesNone};
 
     /// Flags for so many elements, none of them touched. All room that an iteration needs is made here.
     pub fn try_new(alloc: Global, elements: u32) -> Result<IterFlags, AllocError>
@@ -48,19 +48,33 @@ impl IterFlags {
         ensures count { touched_count self.new ≤ touched_count self.old + 1 }
     {
         let before = self.cells[e as usize];
-        if !before.is_touched() {
+        self.touch(e);
+        self.cells[e as usize] = before.after(access);
+    }
+
+    /// Lists an element as touched, where its flags don't tell that it is.
+    #[inline]
+    fn touch(&mut self, e: u32)
+        requires in_range { e < elements_of self.old }
+        requires room { touched_count self.old < 4096 }
+        ensures listed { has_element self.new.touched.items e ≡ true }
+        ensures cells { self.new.cells ≡ self.old.cells }
+        ensures count { touched_count self.new ≤ touched_count self.old + 1 }
+    {
+        if !self.cells[e as usize].is_touched() {
             self.touched.push_reserved(e);
         }
-        self.cells[e as usize] = before.after(access);
     }
 
     /// Takes the flags of an element that was touched, and empties them there; none is left where
     /// there is no such element.
     #[inline]
     pub(crate) fn take(&mut self) -> Option<(u32, ElementFlags)>
-        ensures taken { MatchOption result (IsEmptied self.new × (self.new ≡ self.old)) (λ taken. TakesFlags self.old self.new taken.0 taken.1) }
+        ensures { MatchOption result (TakesNone self.old self.new) (λ taken. TakesFlags self.old self.new taken.0 taken.1) }
     {
-        let e = self.touched.pop()?;
+        let Some(e) = self.touched.pop() else {
+            return None;
+        };
         let flags = self.cells[e as usize];
         self.cells[e as usize] = ElementFlags::none();
         Some((e, flags))

@@ -4,9 +4,9 @@
 
 mod bits;
 pub mod element_flags;
+mod ending;
 pub mod iter_flags;
 pub mod planes;
-
 
 pub use element_flags::{ElementFlags, Operators};
 pub use iter_flags::{IterFlags, MAX_MARKS};

@@ -1,0 +1,254 @@
+-- Flags that come into planes are marks that are merged.
+use Rattle.std.proofs.Common.{◌≡◌, ◌≢◌, ℕ, ◌+◌, ◌/◌, ◌%◌, ◌<◌, Bool, true, false, ◌&&◌, ◌||◌, eqb, min, max, List, length, refl, replicate, sym, ◌∙◌, ap, inl, inr, arith, eq-eqb, ne_eqb, Option, Some, None}
+use Rattle.std.specs.Prelude.{if◌then◌else◌}
+use Rattle.std.proofs.Math.Bool.{or-false}
+use Rattle.std.proofs.lemmas.Bool.{cases_lt}
+use Rattle.std.proofs.lemmas.List.{length-replicate, get_or-replicate, get_or_past}
+use Rattle.std.proofs.lemmas.Nat.Bits.{bit_at-zero}
+use Rattle.std.specs.Int.{bit_at}
+use Rattle.array_maps.specs.declared.access.Op.{Op}
+use Rattle.array_maps.specs.declared.access.Op.TheVariants.{Add, Or, And, Xor, AddH}
+use Rattle.loop_core_law.specs.LeastBreak.{lesser}
+use Rattle.loop_core_marks.specs.Marks.{Marks, first_number, no_marks, marks_of_one, merged}
+use Rattle.loop_core_marks.specs.Planes.{bit_of}
+use Rattle.shadow_marks.specs.declared.element_flags.Operators.{Operators}
+use Rattle.shadow_marks.specs.declared.element_flags.ElementFlags.{ElementFlags}
+use Rattle.shadow_marks.specs.declared.planes.LrpdPlanes.{LrpdPlanes}
+use Rattle.shadow_marks.specs.declared.planes.FlowPlanes.{FlowPlanes}
+use Rattle.shadow_marks.specs.declared.planes.Tested.{Tested}
+use Rattle.shadow_marks.specs.declared.planes.Tested.TheVariants.{Lrpd as ByLrpd, Flow as ByFlow}
+use Rattle.shadow_marks.specs.declared.planes.OperatorPlanes.{OperatorPlanes}
+use Rattle.shadow_marks.specs.declared.planes.Planes.{Planes}
+use Rattle.shadow_marks.specs.Kept.{holds, flags_in}
+use Rattle.shadow_marks.specs.Bits.{OrsBit}
+use Rattle.shadow_marks.specs.Standing.{words_for, IsBitPlane, plane_by, AreLrpdPlanes, AreFlowPlanes, AreTested, ArePlanes, test_of, LrpdStandAt, FlowStandAt, TestedStandAt, no_visits, StandFor}
+use Rattle.shadow_marks.specs.Ending.{TestedHave, OperatorsHave, LrpdFolds, FlowFolds, TestedFolds, OperatorsFold, Folds}
+
+-- one plane
+and_true : (b : Bool) → (b && true) ≡ b
+and_true true = refl
+and_true false = refl
+
+and_false : (b : Bool) → (b && false) ≡ false
+and_false true = refl
+and_false false = refl
+
+ored_here : (old new : List ℕ) (e : ℕ) (bit : Bool) → OrsBit old new e bit → bit_of new e ≡ (bit_of old e || bit)
+ored_here old new e bit ors =
+    ors.bits e ∙ ap (λ b. bit_of old e || (bit && b)) (eq-eqb e e refl) ∙ ap (λ b. bit_of old e || b) (and_true bit)
+
+ored_there : (old new : List ℕ) (e : ℕ) (bit : Bool) → OrsBit old new e bit → (k : ℕ) → k ≢ e → bit_of new k ≡ bit_of old k
+ored_there old new e bit ors k other =
+    ors.bits k ∙ ap (λ b. bit_of old k || (bit && b)) (ne_eqb k e other) ∙ ap (λ b. bit_of old k || b) (and_false bit) ∙ or-false (bit_of old k)
+
+ored_plane : (elements : ℕ) (old new : List ℕ) (e : ℕ) (bit : Bool) → OrsBit old new e bit → e < elements → IsBitPlane elements old → IsBitPlane elements new
+ored_plane elements old new e bit ors within plane = record {
+  count = ors.count ∙ plane.count;
+  past = λ k past. ored_there old new e bit ors k (λ same. absurd (omega arith)) ∙ plane.past k past;
+}
+
+pub has_word : (elements : ℕ) (words : List ℕ) (e : ℕ) → e < elements → IsBitPlane elements words → e / 64 < length words
+has_word elements words e within plane = rw plane.count (omega arith)
+
+-- a mark that was there, with what comes
+joined_here : (old new : List ℕ) (e : ℕ) (bit mark : Bool) → OrsBit old new e bit → bit_of old e ≡ mark → bit_of new e ≡ (mark || bit)
+joined_here old new e bit mark ors was = ored_here old new e bit ors ∙ ap (λ b. b || bit) was
+
+joined_there : (old new : List ℕ) (e : ℕ) (bit mark : Bool) (k : ℕ) → k ≢ e → OrsBit old new e bit → bit_of old k ≡ mark → bit_of new k ≡ mark
+joined_there old new e bit mark k other ors was = ored_there old new e bit ors k other ∙ was
+
+pub nothing_ored : (words : List ℕ) (e : ℕ) (bit : Bool) → bit ≡ false → OrsBit words words e bit
+nothing_ored words e bit none = record {
+  count = refl;
+  bits = λ k. sym (ap (λ b. bit_of words k || (b && eqb k e)) none ∙ or-false (bit_of words k));
+}
+
+-- the planes of the LRPD test
+by_two : (two writes was seen : Bool) → seen ≡ was → (two || (writes && seen)) ≡ ((two || false) || (was && writes))
+by_two two writes true true same = ap (λ b. two || b) (and_true writes) ∙ ap (λ b. b || writes) (sym (or-false two))
+by_two two writes false false same = ap (λ b. two || b) (and_false writes) ∙ sym (or-false (two || false))
+by_two two writes true false same = absurd (cc)
+by_two two writes false true same = absurd (cc)
+
+lrpd_here : (old new : LrpdPlanes) (e index : ℕ) (kept : ElementFlags) (marks : Marks) → LrpdFolds old new e kept → LrpdStandAt old e marks →
+    LrpdStandAt new e (merged marks (marks_of_one index (flags_in kept)))
+lrpd_here old new e index kept marks folds stand = record {
+  written = joined_here _ _ e kept.wrote marks.written folds.written stand.written;
+  written_by_two =
+      joined_here _ _ e (kept.wrote && bit_of old.written.items e) marks.written_by_two folds.written_by_two stand.written_by_two
+      ∙ by_two marks.written_by_two kept.wrote marks.written (bit_of old.written.items e) stand.written;
+  read_only = joined_here _ _ e _ marks.read_only folds.read_only stand.read_only;
+  read_and_written = joined_here _ _ e _ marks.read_and_written folds.read_and_written stand.read_and_written;
+}
+
+lrpd_there : (old new : LrpdPlanes) (e k : ℕ) (kept : ElementFlags) (marks : Marks) → k ≢ e → LrpdFolds old new e kept → LrpdStandAt old k marks →
+    LrpdStandAt new k marks
+lrpd_there old new e k kept marks other folds stand = record {
+  written = joined_there _ _ e _ marks.written k other folds.written stand.written;
+  written_by_two = joined_there _ _ e _ marks.written_by_two k other folds.written_by_two stand.written_by_two;
+  read_only = joined_there _ _ e _ marks.read_only k other folds.read_only stand.read_only;
+  read_and_written = joined_there _ _ e _ marks.read_and_written k other folds.read_and_written stand.read_and_written;
+}
+
+lrpd_whole : (elements : ℕ) (old new : LrpdPlanes) (e : ℕ) (kept : ElementFlags) → LrpdFolds old new e kept → e < elements →
+    AreLrpdPlanes elements old → AreLrpdPlanes elements new
+lrpd_whole elements old new e kept folds within are = record {
+  written = ored_plane elements _ _ e _ folds.written within are.written;
+  written_by_two = ored_plane elements _ _ e _ folds.written_by_two within are.written_by_two;
+  read_only = ored_plane elements _ _ e _ folds.read_only within are.read_only;
+  read_and_written = ored_plane elements _ _ e _ folds.read_and_written within are.read_and_written;
+}
+
+-- the numbers of the flow test
+lesser_none : (o : Option ℕ) → lesser o None ≡ o
+lesser_none None = refl
+lesser_none (Some n) = refl
+
+first_here : (writes : Bool) (first : Option ℕ) (old new index : ℕ) → old ≡ first_number first → index < 4294967295 →
+    new ≡ (if writes then min old index else old) → new ≡ first_number (lesser first (if writes then Some index else None))
+first_here true None old new index was small is = let e : min old index ≡ index = omega arith in is ∙ e
+first_here true (Some first) old new index was small is = is ∙ ap (λ n. min n index) was
+first_here false first old new index was small is = is ∙ was ∙ ap first_number (sym (lesser_none first))
+
+last_here : (reads : Bool) (last old new index : ℕ) → old ≡ last →
+    new ≡ (if reads then max old (index + 1) else old) → new ≡ max last (if reads then index + 1 else 0)
+last_here true last old new index was is = is ∙ ap (λ n. max n (index + 1)) was
+last_here false last old new index was is = is ∙ was ∙ (let e : last ≡ max last 0 = omega arith in e)
+
+flow_here : (old new : FlowPlanes) (e index : ℕ) (kept : ElementFlags) (marks : Marks) → index < 4294967295 → FlowFolds old new e kept index →
+    FlowStandAt old e marks → FlowStandAt new e (merged marks (marks_of_one index (flags_in kept)))
+flow_here old new e index kept marks small folds stand = record {
+  first = first_here kept.wrote marks.first _ _ index stand.first small folds.first.here;
+  last = last_here kept.looked marks.last _ _ index stand.last folds.last.here;
+}
+
+flow_there : (old new : FlowPlanes) (e k index : ℕ) (kept : ElementFlags) (marks : Marks) → k ≢ e → FlowFolds old new e kept index →
+    FlowStandAt old k marks → FlowStandAt new k marks
+flow_there old new e k index kept marks other folds stand = record {
+  first = folds.first.others k other ∙ stand.first;
+  last = folds.last.others k other ∙ stand.last;
+}
+
+flow_whole : (elements : ℕ) (old new : FlowPlanes) (e index : ℕ) (kept : ElementFlags) → FlowFolds old new e kept index →
+    AreFlowPlanes elements old → AreFlowPlanes elements new
+flow_whole elements old new e index kept folds are = record {
+  first = folds.first.count ∙ are.first;
+  last = folds.last.count ∙ are.last;
+}
+
+-- those of either test
+tested_here : (old new : Tested) (e index : ℕ) (kept : ElementFlags) (marks : Marks) → index < 4294967295 → TestedFolds old new e kept index →
+    TestedStandAt old e marks → TestedStandAt new e (merged marks (marks_of_one index (flags_in kept)))
+tested_here (ByLrpd old) (ByLrpd new) e index kept marks small folds stand = lrpd_here old new e index kept marks folds stand
+tested_here (ByLrpd old) (ByFlow new) e index kept marks small folds stand = absurd folds
+tested_here (ByFlow old) (ByLrpd new) e index kept marks small folds stand = absurd folds
+tested_here (ByFlow old) (ByFlow new) e index kept marks small folds stand = flow_here old new e index kept marks small folds stand
+
+tested_there : (old new : Tested) (e k index : ℕ) (kept : ElementFlags) (marks : Marks) → k ≢ e → TestedFolds old new e kept index →
+    TestedStandAt old k marks → TestedStandAt new k marks
+tested_there (ByLrpd old) (ByLrpd new) e k index kept marks other folds stand = lrpd_there old new e k kept marks other folds stand
+tested_there (ByLrpd old) (ByFlow new) e k index kept marks other folds stand = absurd folds
+tested_there (ByFlow old) (ByLrpd new) e k index kept marks other folds stand = absurd folds
+tested_there (ByFlow old) (ByFlow new) e k index kept marks other folds stand = flow_there old new e k index kept marks other folds stand
+
+tested_whole : (elements : ℕ) (old new : Tested) (e index : ℕ) (kept : ElementFlags) → TestedFolds old new e kept index → e < elements →
+    AreTested elements old → AreTested elements new
+tested_whole elements (ByLrpd old) (ByLrpd new) e index kept folds within are = lrpd_whole elements old new e kept folds within are
+tested_whole elements (ByLrpd old) (ByFlow new) e index kept folds within are = absurd folds
+tested_whole elements (ByFlow old) (ByLrpd new) e index kept folds within are = absurd folds
+tested_whole elements (ByFlow old) (ByFlow new) e index kept folds within are = flow_whole elements old new e index kept folds are
+
+tested_test : (old new : Tested) (e index : ℕ) (kept : ElementFlags) → TestedFolds old new e kept index → test_of new ≡ test_of old
+tested_test (ByLrpd old) (ByLrpd new) e index kept folds = refl
+tested_test (ByLrpd old) (ByFlow new) e index kept folds = absurd folds
+tested_test (ByFlow old) (ByLrpd new) e index kept folds = absurd folds
+tested_test (ByFlow old) (ByFlow new) e index kept folds = refl
+
+pub tested_have : (elements : ℕ) (tested : Tested) (e : ℕ) → e < elements → AreTested elements tested → TestedHave tested e
+tested_have elements (ByLrpd planes) e within are = record {
+  written = has_word elements _ e within are.written;
+  written_by_two = has_word elements _ e within are.written_by_two;
+  read_only = has_word elements _ e within are.read_only;
+  read_and_written = has_word elements _ e within are.read_and_written;
+}
+tested_have elements (ByFlow planes) e within are = record { first = rw are.first within; last = rw are.last within }
+
+-- the planes of operators
+operator_ored : (old new : OperatorPlanes) (e : ℕ) (operators : Operators) → OperatorsFold old new e operators → (op : Op) →
+    OrsBit (plane_by old op) (plane_by new op) e (holds operators op)
+operator_ored old new e operators folds Add = folds.add
+operator_ored old new e operators folds Or = folds.or
+operator_ored old new e operators folds And = folds.and
+operator_ored old new e operators folds Xor = folds.xor
+operator_ored old new e operators folds AddH = folds.addh
+
+pub operators_have : (elements : ℕ) (planes : OperatorPlanes) (e : ℕ) → e < elements → ((op : Op) → IsBitPlane elements (plane_by planes op)) → OperatorsHave planes e
+operators_have elements planes e within are = record {
+  add = has_word elements _ e within (are Add);
+  or = has_word elements _ e within (are Or);
+  and = has_word elements _ e within (are And);
+  xor = has_word elements _ e within (are Xor);
+  addh = has_word elements _ e within (are AddH);
+}
+
+-- all planes, where each took its part of the flags
+pub record TakesPart (old new : Planes) (e index : ℕ) (kept : ElementFlags) : Type 0 where
+  pub elements : new.elements ≡ old.elements
+  pub plain : OrsBit old.plain.items new.plain.items e kept.plain
+  pub operators : OperatorsFold old.operators new.operators e kept.operators
+  pub tested : TestedFolds old.tested new.tested e kept index
+
+pub parts_fold : (old new : Planes) (e index : ℕ) (kept : ElementFlags) → ArePlanes old → e < old.elements → index < 4294967295 →
+    TakesPart old new e index kept → Folds old new e index (flags_in kept)
+parts_fold old new e index kept are within small part =
+    let ored : (op : Op) → OrsBit (plane_by old.operators op) (plane_by new.operators op) e (holds kept.operators op) =
+    operator_ored old.operators new.operators e kept.operators part.operators in
+    record {
+      shape = record {
+        whole = rw part.elements (record {
+          plain = ored_plane old.elements _ _ e _ part.plain within are.plain;
+          by = λ op. ored_plane old.elements _ _ e _ (ored op) within (are.by op);
+          tested = tested_whole old.elements _ _ e index kept part.tested within are.tested;
+        });
+        elements = part.elements;
+        test = tested_test _ _ e index kept part.tested;
+      };
+      here = λ marks stand. record {
+        plain = joined_here _ _ e _ marks.plain part.plain stand.plain;
+        by = λ op. joined_here _ _ e _ (marks.by op) (ored op) (stand.by op);
+        tested = tested_here _ _ e index kept marks small part.tested stand.tested;
+      };
+      others = λ k other marks stand. record {
+        plain = joined_there _ _ e _ marks.plain k other part.plain stand.plain;
+        by = λ op. joined_there _ _ e _ (marks.by op) k other (ored op) (stand.by op);
+        tested = tested_there _ _ e k index kept marks other part.tested stand.tested;
+      };
+    }
+
+-- planes of no iteration
+no_bits : (words e : ℕ) → bit_of (replicate words 0) e ≡ false
+no_bits words e =
+    elim (cases_lt (e / 64) words) [
+      | inl within ↦ ap (λ w. eqb (bit_at w (e % 64)) 1) (get_or-replicate words (e / 64) 0 0 within) ∙ ap (λ b. eqb b 1) (bit_at-zero (e % 64))
+      | inr past ↦
+          ap (λ w. eqb (bit_at w (e % 64)) 1) (get_or_past (replicate words 0) (e / 64) 0 (omega (arith, length-replicate {A = ℕ} words 0)))
+          ∙ ap (λ b. eqb b 1) (bit_at-zero (e % 64))
+    ]
+
+empty_plane : (elements : ℕ) (words : List ℕ) → words ≡ replicate (words_for elements) 0 → IsBitPlane elements words
+empty_plane elements words is = record {
+  count = ap length is ∙ length-replicate (words_for elements) 0;
+  past = λ e past. ap (λ (l : List ℕ). bit_of l e) is ∙ no_bits (words_for elements) e;
+}
+
+pub nothing_ended : (planes : Planes) → planes.plain.items ≡ replicate (words_for planes.elements) 0 →
+    ((op : Op) → plane_by planes.operators op ≡ replicate (words_for planes.elements) 0) → AreTested planes.elements planes.tested →
+    ((e : ℕ) → e < planes.elements → TestedStandAt planes.tested e no_marks) → StandFor planes no_visits
+nothing_ended planes plain by whole none = record {
+  whole = record { plain = empty_plane planes.elements _ plain; by = λ op. empty_plane planes.elements _ (by op); tested = whole };
+  marks = λ e h. record {
+    plain = ap (λ (l : List ℕ). bit_of l e) plain ∙ no_bits (words_for planes.elements) e;
+    by = λ op. ap (λ (l : List ℕ). bit_of l e) (by op) ∙ no_bits (words_for planes.elements) e;
+    tested = none e h;
+  };
+}

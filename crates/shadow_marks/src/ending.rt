@@ -1,0 +1,133 @@
+//! The end of an iteration: its flags come into the planes.
+
+ghost use Rattle.std.specs.Prelude.{◌≡◌, ◌+◌, ◌<◌, ℕ, List, length, slice_index, min, max};
+ghost use Rattle.array_maps.specs.Accesses.{Action};
+ghost use Rattle.loop_core_marks.specs.Marks.{Visit, Marks, marks_of_one, merged};
+ghost use Rattle.shadow_marks.specs.Iteration.{elements_of, flags_at, AreFlagsOf, IsEmptied};
+ghost use Rattle.shadow_marks.specs.Kept.{flags_in};
+ghost use Rattle.shadow_marks.specs.Standing.{ArePlanes, StandAt, StandFor, one_more};
+ghost use Rattle.shadow_marks.specs.Bits.{ChangesNumber};
+ghost use Rattle.shadow_marks.specs.Ending.{OperatorsHave, LrpdHave, FlowHave, TestedHave, LrpdFolds, FlowFolds, TestedFolds, OperatorsFold, KeepsShape, Folds};
+
+use crate::bits::{is_also_set, or_bit};
+use crate::element_flags::{ElementFlags, Operators};
+use crate::iter_flags::IterFlags;
+use crate::planes::{FlowPlanes, LrpdPlanes, OperatorPlanes, Planes, Tested};
+use array_maps::Op;
+
+impl Planes {
+    /// Ends the iteration of an index: what its flags tell comes into the planes, and the flags are
+    /// emptied. Planes and flags are for as many elements, and the index is below 4,294,967,295.
+    pub fn end_iteration(&mut self, flags: &mut IterFlags, index: u32)
+        requires whole { ArePlanes self.old }
+        requires elements { elements_of flags.old ≡ self.old.elements }
+        requires index { index < 4294967295 }
+        ensures shape { KeepsShape self.old self.new }
+        ensures marks { (e : ℕ) (marks : Marks) → StandAt self.old e marks → StandAt self.new e (merged marks (marks_of_one index (flags_at flags.old e))) }
+        ensures visits { (visits : ℕ → List Visit) (actions : ℕ → List Action) → AreFlagsOf actions flags.old → StandFor self.old visits → StandFor self.new (one_more visits index actions) }
+        ensures emptied { IsEmptied flags.new }
+        ensures same_elements { elements_of flags.new ≡ elements_of flags.old }
+    {
+        while let Some((e, kept)) = flags.take() {
+            self.fold(e, kept, index);
+        }
+    }
+
+    /// Merges the flags of one element into its marks.
+    #[inline]
+    fn fold(&mut self, e: u32, kept: ElementFlags, index: u32)
+        requires whole { ArePlanes self.old }
+        requires in_range { e < self.old.elements }
+        requires index { index < 4294967295 }
+        ensures { Folds self.old self.new e index (flags_in kept) }
+    {
+        or_bit(&mut self.plain, e, kept.plain);
+        self.operators.fold(e, kept.operators);
+        self.tested.fold(e, kept, index);
+    }
+}
+
+impl OperatorPlanes {
+    /// Sets an element's bits of some operators.
+    #[inline]
+    fn fold(&mut self, e: u32, operators: Operators)
+        requires { OperatorsHave self.old e }
+        ensures { OperatorsFold self.old self.new e operators }
+    {
+        if operators.is_empty() {
+            return;
+        }
+        or_bit(&mut self.add, e, operators.has(Op::Add));
+        or_bit(&mut self.or, e, operators.has(Op::Or));
+        or_bit(&mut self.and, e, operators.has(Op::And));
+        or_bit(&mut self.xor, e, operators.has(Op::Xor));
+        or_bit(&mut self.addh, e, operators.has(Op::AddH));
+    }
+}
+
+impl Tested {
+    /// Merges what a test needs of the flags of one element.
+    #[inline]
+    fn fold(&mut self, e: u32, kept: ElementFlags, index: u32)
+        requires have { TestedHave self.old e }
+        requires index { index < 4294967295 }
+        ensures { TestedFolds self.old self.new e kept index }
+    {
+        match self {
+            Tested::Lrpd(planes) => planes.fold(e, kept),
+            Tested::Flow(planes) => planes.fold(e, kept, index),
+        }
+    }
+}
+
+impl LrpdPlanes {
+    #[inline]
+    fn fold(&mut self, e: u32, kept: ElementFlags)
+        requires { LrpdHave self.old e }
+        ensures { LrpdFolds self.old self.new e kept }
+    {
+        let by_two = is_also_set(kept.wrote, &self.written, e);
+        or_bit(&mut self.written_by_two, e, by_two);
+        or_bit(&mut self.written, e, kept.wrote);
+        or_bit(&mut self.read_only, e, kept.reads_only());
+        or_bit(&mut self.read_and_written, e, kept.reads_and_writes());
+    }
+}
+
+impl FlowPlanes {
+    #[inline]
+    fn fold(&mut self, e: u32, kept: ElementFlags, index: u32)
+        requires have { FlowHave self.old e }
+        requires index { index < 4294967295 }
+        ensures { FlowFolds self.old self.new e kept index }
+    {
+        if kept.wrote {
+            lower(&mut self.first, e, index);
+        }
+        if kept.looked {
+            raise(&mut self.last, e, index + 1);
+        }
+    }
+}
+
+/// Keeps the lesser of an element's number and another.
+#[inline]
+fn lower(numbers: &mut [u32], e: u32, number: u32)
+    requires { e < length numbers.old }
+    ensures { ChangesNumber numbers.old numbers.new e (min (slice_index numbers.old e) number) }
+{
+    if number < numbers[e as usize] {
+        numbers[e as usize] = number;
+    }
+}
+
+/// Keeps the greater of an element's number and another.
+#[inline]
+fn raise(numbers: &mut [u32], e: u32, number: u32)
+    requires { e < length numbers.old }
+    ensures { ChangesNumber numbers.old numbers.new e (max (slice_index numbers.old e) number) }
+{
+    if number > numbers[e as usize] {
+        numbers[e as usize] = number;
+    }
+}
