@@ -31,17 +31,17 @@ compared n p q xs ys few in_xs in_ys =
     let many : length (zip2 ltb xs ys) ≡ n = length-zip2 ltb xs ys (many_x ∙ sym many_y) ∙ many_x in
     let fits : length (zip2 ltb xs ys) ≤ 64 = omega arith in
     let is : mask_l (map (top 31) (zip2 (λ a b. cond (ltb a b) (2 ^ 32 - 1) 0) xs ys)) % 2 ^ 64 ≡ mask_l (zip2 ltb xs ys) =
-      ap (λ bs. mask_l bs % 2 ^ 64) (tops_compared w32 ltb xs ys) ∙ mask_l-mod (zip2 ltb xs ys) 64 fits in
+    ap (λ bs. mask_l bs % 2 ^ 64) (tops_compared w32 ltb xs ys) ∙ mask_l-mod (zip2 ltb xs ys) 64 fits in
     subst (λ word. HasBits n (λ k. ltb (p k) (q k)) word) (sym is) (record {
       below = subst (λ m. mask_l (zip2 ltb xs ys) < 2 ^ m) many (mask_l-lt (zip2 ltb xs ys));
       each = λ k small.
-        let small_x : k < length xs = omega arith in
-        let small_y : k < length ys = omega arith in
-        ap (λ b. b == 1) (bit_mask_l (zip2 ltb xs ys) k)
-        ∙ one_of (get_or (zip2 ltb xs ys) k false)
-        ∙ get_or-zip2 ltb xs ys k 0 0 false small_x small_y
-        ∙ ap (λ x. ltb x (get_or ys k 0)) (in_xs.each k small)
-        ∙ ap (ltb (p k)) (in_ys.each k small);
+          let small_x : k < length xs = omega arith in
+          let small_y : k < length ys = omega arith in
+          ap (λ b. b == 1) (bit_mask_l (zip2 ltb xs ys) k)
+          ∙ one_of (get_or (zip2 ltb xs ys) k false)
+          ∙ get_or-zip2 ltb xs ys k 0 0 false small_x small_y
+          ∙ ap (λ x. ltb x (get_or ys k 0)) (in_xs.each k small)
+          ∙ ap (ltb (p k)) (in_ys.each k small);
     })
 
 -- more bits above those of a word
@@ -56,12 +56,12 @@ bits_joined test at n word more room low high =
     subst (λ m. HasBits (at + n) test (bit_or word m)) (sym whole) (record {
       below = or_lt (at + n) word (more * 2 ^ at) low_below high_below;
       each = λ k small.
-        ⊎_elim
+          ⊎_elim
           (λ (earlier : k < at). ap (λ m. bit_at m k == 1) sum ∙ ap (λ b. b == 1) (bit_at_cat_low more at word k earlier) ∙ low.each k earlier)
           (λ (later : at ≤ k).
-            let within : k - at < n = omega arith in
-            let there : at + (k - at) ≡ k = omega arith in
-            ap (λ m. bit_at m k == 1) sum ∙ ap (λ b. b == 1) (bit_at_cat_high more at word k low.below later) ∙ high.each (k - at) within ∙ ap test there)
+          let within : k - at < n = omega arith in
+          let there : at + (k - at) ≡ k = omega arith in
+          ap (λ m. bit_at m k == 1) sum ∙ ap (λ b. b == 1) (bit_at_cat_high more at word k low.below later) ∙ high.each (k - at) within ∙ ap test there)
           (cases_lt k at);
     })
 

@@ -13,13 +13,13 @@ pub combined : (f : ℕ → ℕ → ℕ) (n : ℕ) (p q : ℕ → ℕ) (xs ys : 
 combined f n p q xs ys in_xs in_ys = record {
   count = length-zip2 f xs ys (in_xs.count ∙ sym in_ys.count) ∙ in_xs.count;
   each = λ k small.
-    let many_x : length xs ≡ n = in_xs.count in
-    let many_y : length ys ≡ n = in_ys.count in
-    let small_x : k < length xs = omega arith in
-    let small_y : k < length ys = omega arith in
-    get_or-zip2 f xs ys k 0 0 0 small_x small_y
-    ∙ ap (λ x. f x (get_or ys k 0)) (in_xs.each k small)
-    ∙ ap (λ y. f (p k) y) (in_ys.each k small);
+      let many_x : length xs ≡ n = in_xs.count in
+      let many_y : length ys ≡ n = in_ys.count in
+      let small_x : k < length xs = omega arith in
+      let small_y : k < length ys = omega arith in
+      get_or-zip2 f xs ys k 0 0 0 small_x small_y
+      ∙ ap (λ x. f x (get_or ys k 0)) (in_xs.each k small)
+      ∙ ap (λ y. f (p k) y) (in_ys.each k small);
 }
 
 pub turned : (f : ℕ → ℕ) (n : ℕ) (p : ℕ → ℕ) (xs : List ℕ) → HasLanes n p xs → HasLanes n (λ k. f (p k)) (map f xs)
@@ -40,17 +40,17 @@ selected t n p q u v xs ys us vs in_xs in_ys in_us in_vs =
     record {
       count = length-sel_l (zip2 t xs ys) us vs (many_t ∙ sym many_u) (many_t ∙ sym many_v) ∙ many_t;
       each = λ k small.
-        let small_x : k < length xs = omega arith in
-        let small_y : k < length ys = omega arith in
-        let small_u : k < length us = omega arith in
-        let small_v : k < length vs = omega arith in
-        let small_t : k < length (zip2 t xs ys) = omega arith in
-        let tested : get_or (zip2 t xs ys) k false ≡ t (p k) (q k) =
+          let small_x : k < length xs = omega arith in
+          let small_y : k < length ys = omega arith in
+          let small_u : k < length us = omega arith in
+          let small_v : k < length vs = omega arith in
+          let small_t : k < length (zip2 t xs ys) = omega arith in
+          let tested : get_or (zip2 t xs ys) k false ≡ t (p k) (q k) =
           get_or-zip2 t xs ys k 0 0 false small_x small_y ∙ ap (λ x. t x (get_or ys k 0)) (in_xs.each k small) ∙ ap (t (p k)) (in_ys.each k small) in
-        get_or-sel_l (zip2 t xs ys) us vs k 0 small_t small_u small_v
-        ∙ ap (λ b. cond b (get_or us k 0) (get_or vs k 0)) tested
-        ∙ ap (λ x. cond (t (p k) (q k)) x (get_or vs k 0)) (in_us.each k small)
-        ∙ ap (λ x. cond (t (p k) (q k)) (u k) x) (in_vs.each k small);
+          get_or-sel_l (zip2 t xs ys) us vs k 0 small_t small_u small_v
+          ∙ ap (λ b. cond b (get_or us k 0) (get_or vs k 0)) tested
+          ∙ ap (λ x. cond (t (p k) (q k)) x (get_or vs k 0)) (in_us.each k small)
+          ∙ ap (λ x. cond (t (p k) (q k)) (u k) x) (in_vs.each k small);
     }
 
 same_lanes : (n : ℕ) (p q : ℕ → ℕ) (xs : List ℕ) → ((k : ℕ) → p k ≡ q k) → HasLanes n p xs → HasLanes n q xs
@@ -66,13 +66,13 @@ pub lesser : (n : ℕ) (p q : ℕ → ℕ) (xs ys : List ℕ) → HasLanes n p x
     HasLanes n (λ k. min (p k) (q k)) (sel_l (map (top (31)) (zip2 (λ a b. cond (ltb a b) (2 ^ 32 - 1) 0) xs ys)) xs ys)
 lesser n p q xs ys in_xs in_ys =
     subst (λ bs. HasLanes n (λ k. min (p k) (q k)) (sel_l bs xs ys)) (sym (tops_compared w32 ltb xs ys))
-      (same_lanes n _ _ _ (λ k. lesser_is (p k) (q k)) (selected ltb n p q p q xs ys xs ys in_xs in_ys in_xs in_ys))
+    (same_lanes n _ _ _ (λ k. lesser_is (p k) (q k)) (selected ltb n p q p q xs ys xs ys in_xs in_ys in_xs in_ys))
 
 pub greater : (n : ℕ) (p q : ℕ → ℕ) (xs ys : List ℕ) → HasLanes n p xs → HasLanes n q ys →
     HasLanes n (λ k. max (p k) (q k)) (sel_l (map (top (31)) (zip2 (λ a b. cond (ltb a b) (2 ^ 32 - 1) 0) xs ys)) ys xs)
 greater n p q xs ys in_xs in_ys =
     subst (λ bs. HasLanes n (λ k. max (p k) (q k)) (sel_l bs ys xs)) (sym (tops_compared w32 ltb xs ys))
-      (same_lanes n _ _ _ (λ k. greater_is (p k) (q k)) (selected ltb n p q q p xs ys ys xs in_xs in_ys in_ys in_xs))
+    (same_lanes n _ _ _ (λ k. greater_is (p k) (q k)) (selected ltb n p q q p xs ys ys xs in_xs in_ys in_ys in_xs))
 
 -- one in each lane
 pub ones : (n : ℕ) → HasLanes n (λ k. 1) (replicate n 1)
@@ -89,4 +89,4 @@ pub less_one : (n : ℕ) (p : ℕ → ℕ) (ys : List ℕ) → ((k : ℕ) → p 
     HasLanes n (λ k. p k - 1) (zip2 (λ a b. (a + (2 ^ 32 - b)) % 2 ^ 32) (sel_l (map (top 31) (zip2 (λ a b. cond (ltb a b) (2 ^ 32 - 1) 0) ys (replicate n 1))) (replicate n 1) ys) (replicate n 1))
 less_one n p ys fits in_ys =
     same_lanes n _ _ _ (λ k. one_less (p k) (fits k))
-      (combined (λ a b. (a + (2 ^ 32 - b)) % 2 ^ 32) n _ _ _ _ (greater n p (λ k. 1) ys (replicate n 1) in_ys (ones n)) (ones n))
+    (combined (λ a b. (a + (2 ^ 32 - b)) % 2 ^ 32) n _ _ _ _ (greater n p (λ k. 1) ys (replicate n 1) in_ys (ones n)) (ones n))

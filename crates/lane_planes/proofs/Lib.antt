@@ -1,4 +1,7 @@
 pub mod Lanes
 pub mod BitLaws
+pub mod BitMeaning
 pub mod Writing
 pub mod Counts
+pub mod SamePlanes
+pub mod MergeLaws

@@ -14,12 +14,12 @@ pub writes_lanes : (rule : ℕ → ℕ) (at n : ℕ) (old lanes : List ℕ) → 
 writes_lanes rule at n old lanes room new = record {
   long = length-put_chunk at old lanes;
   written = λ i low high.
-    let many : length lanes ≡ n = new.count in
-    let there : at + (i - at) ≡ i = omega arith in
-    let within : i - at < length lanes = omega arith in
-    let room' : at + length lanes ≤ length old = omega arith in
-    let small : i - at < n = omega arith in
-    subst (λ j. get_or (put_chunk at old lanes) j 0 ≡ rule j) there (get_or-put_chunk_at at old lanes (i - at) 0 within room' ∙ new.each (i - at) small);
+      let many : length lanes ≡ n = new.count in
+      let there : at + (i - at) ≡ i = omega arith in
+      let within : i - at < length lanes = omega arith in
+      let room' : at + length lanes ≤ length old = omega arith in
+      let small : i - at < n = omega arith in
+      subst (λ j. get_or (put_chunk at old lanes) j 0 ≡ rule j) there (get_or-put_chunk_at at old lanes (i - at) 0 within room' ∙ new.each (i - at) small);
   below = λ i low. get_or-put_chunk_below at old lanes i 0 low;
   above = λ i high. let many : length lanes ≡ n = new.count in let past : at + length lanes ≤ i = omega arith in get_or-put_chunk_above at old lanes i 0 past;
 }
@@ -30,7 +30,7 @@ pub writes_more : (rule step : ℕ → ℕ) (from at upto : ℕ) (old mid now : 
 writes_more rule step from at upto old mid now rising going same before after = record {
   long = after.long ∙ before.long;
   written = λ i low high.
-    ⊎_elim
+      ⊎_elim
       (λ (earlier : i < at). after.below i earlier ∙ before.written i low earlier)
       (λ (here : at ≤ i). after.written i here high ∙ same i (before.above i here))
       (cases_lt i at);

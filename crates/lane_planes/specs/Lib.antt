@@ -1,2 +1,5 @@
-pub mod Words
 pub mod Writes
+pub mod Words
+pub mod Merged
+pub mod Conflicts
+pub mod Meaning

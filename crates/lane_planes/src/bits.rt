@@ -3,9 +3,8 @@
 ghost use Rattle.std.specs.Prelude.{◌≡◌, ℕ, ◌+◌, ◌<◌, ◌≤◌, length, slice_index, bit_or, bit_and};
 ghost use Rattle.lane_planes.specs.Writes.{Writes};
 
-use std::simd::prelude::*;
-
 use crate::loading::words_at;
+use std::simd::prelude::*;
 
 /// Ors words into others.
 pub(crate) fn or_into<const N: usize>(into: &mut [u64], from: &[u64])

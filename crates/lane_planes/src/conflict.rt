@@ -4,10 +4,8 @@ ghost use Rattle.std.specs.Prelude.{◌≡◌, ℕ, ◌+◌, ◌<◌, ◌≤◌,
 ghost use Rattle.lane_planes.specs.Words.{without_reductions};
 ghost use Rattle.lane_planes.specs.Writes.{Writes};
 
-
-use std::simd::prelude::*;
-
 use crate::loading::words_at;
+use std::simd::prelude::*;
 
 /// Tells where the LRPD test fails, whether or not elements are reduction-only.
 pub(crate) fn lrpd_into<const N: usize>(
@@ -26,11 +24,25 @@ pub(crate) fn lrpd_into<const N: usize>(
 {
     let mut at = 0;
     while at + N <= into.len() {
-        lrpd_at::<N>(into, read_only, written, read_and_written, written_by_two, at);
+        lrpd_at::<N>(
+            into,
+            read_only,
+            written,
+            read_and_written,
+            written_by_two,
+            at,
+        );
         at += N;
     }
     while at < into.len() {
-        lrpd_at::<1>(into, read_only, written, read_and_written, written_by_two, at);
+        lrpd_at::<1>(
+            into,
+            read_only,
+            written,
+            read_and_written,
+            written_by_two,
+            at,
+        );
         at += 1;
     }
 }

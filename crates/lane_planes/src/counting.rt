@@ -4,9 +4,8 @@ ghost use Rattle.std.specs.Prelude.{◌≡◌, ℕ, ◌+◌, ◌<◌, ◌≤◌,
 ghost use Rattle.std.specs.Simd.Lanes.{chunk};
 ghost use Rattle.loop_core_marks.specs.Planes.{set_bits, least_bit};
 
-use std::simd::prelude::*;
-
 use crate::loading::words_at;
+use std::simd::prelude::*;
 
 /// How many elements have their bit set in a plane of at most 1,024 words.
 pub fn count_bits<const N: usize>(words: &[u64]) -> u32

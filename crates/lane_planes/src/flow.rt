@@ -3,9 +3,8 @@
 ghost use Rattle.std.specs.Prelude.{◌≡◌, ℕ, ◌+◌, ◌/◌, ◌<◌, ◌≤◌, length};
 ghost use Rattle.lane_planes.specs.Words.{FlowWords, HasBits, stands_at};
 
-use std::simd::prelude::*;
-
 use crate::loading::numbers_at;
+use std::simd::prelude::*;
 
 /// Tells where the flow test fails, whether or not elements are reduction-only.
 pub(crate) fn flow_into<const N: usize>(into: &mut [u64], first: &[u32], last: &[u32])

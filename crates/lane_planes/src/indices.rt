@@ -3,9 +3,8 @@
 ghost use Rattle.std.specs.Prelude.{◌≡◌, ℕ, ◌+◌, ◌<◌, ◌≤◌, length, slice_index, min, max};
 ghost use Rattle.lane_planes.specs.Writes.{Writes};
 
-use std::simd::prelude::*;
-
 use crate::loading::numbers_at;
+use std::simd::prelude::*;
 
 /// Keeps the lesser of two numbers.
 pub(crate) fn lesser_into<const N: usize>(into: &mut [u32], from: &[u32])

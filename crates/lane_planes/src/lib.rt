@@ -1,11 +1,24 @@
-//! Kernels over the planes of marks, in vectors of any number of lanes.
+//! Kernels over the planes of marks, in vectors of any number of lanes that `std::simd` has, and one
+//! word at a time for what is left: planes merged, conflicts told, counted and the least found.
 #![tactic(auto)]
+
+ghost use Rattle.lane_planes.specs.Meaning.{MergeMeans};
 
 mod bits;
 mod conflict;
 mod counting;
 mod flow;
 mod indices;
+mod judging;
 mod loading;
+mod merging;
 
 pub use counting::{count_bits, first_bit};
+pub use judging::conflicts;
+pub use merging::merge;
+
+/// The law of merged words: planes that were merged have at each element the marks of the two, merged.
+/// Nothing runs here: the contract is the law.
+pub fn law_of_merge()
+    ensures { MergeMeans }
+{}

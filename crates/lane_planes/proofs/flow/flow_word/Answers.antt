@@ -9,7 +9,7 @@ loop-at-preserved g c =
     record {
       within = c.loop-at-test.true;
       bits = bits_joined (λ k. stands (c.args.from + k)) c.loop-at.at g.row.N _ _ (omega (arith, c.requires.few)) c.loop-at.invariant.bits
-        (bits_same g.row.N _ _ _ (λ k. ap stands (add_assoc c.args.from c.loop-at.at k)) c.flow_bits.ensures);
+          (bits_same g.row.N _ _ _ (λ k. ap stands (add_assoc c.args.from c.loop-at.at k)) c.flow_bits.ensures);
     }
 
 pub loop-at-2-preserved : goal.loop-at-2-preserved
@@ -18,5 +18,5 @@ loop-at-2-preserved g c =
     record {
       within = omega arith;
       bits = bits_joined (λ k. stands (c.args.from + k)) c.loop-at-2.at 1 _ _ (omega (arith, c.requires.few)) c.loop-at-2.invariant.bits
-        (bits_same 1 _ _ _ (λ k. ap stands (add_assoc c.args.from c.loop-at-2.at k)) c.flow_bits-in-loop-at-2.ensures);
+          (bits_same 1 _ _ _ (λ k. ap stands (add_assoc c.args.from c.loop-at-2.at k)) c.flow_bits-in-loop-at-2.ensures);
     }
