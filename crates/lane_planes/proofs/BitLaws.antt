@@ -1,14 +1,14 @@
 -- Bits of words.
-use Rattle.std.proofs.Common.{◌≡◌, ℕ, ◌+◌, ◌-◌, ◌*◌, ◌%◌, ◌^◌, ◌<◌, ◌≤◌, Bool, true, false, cond, ltb, eqb, max, List, map, length, get_or, replicate, refl, sym, ◌∙◌, ap, subst, w32, ⊎_elim, arith}
+use Rattle.std.proofs.Common.{◌≡◌, ℕ, ◌+◌, ◌-◌, ◌*◌, ◌%◌, ◌^◌, ◌<◌, ◌≤◌, Bool, true, false, cond, ltb, List, map, length, get_or, refl, sym, ◌∙◌, ap, subst, w32, ⊎_elim, arith}
 use Rattle.std.specs.Prelude.{◌==◌}
 use Rattle.std.specs.Int.{bit_at}
 use Rattle.std.specs.Int.RustNames.{bit_or}
-use Rattle.std.specs.Simd.Lanes.{zip2, sel_l, top, mask_l}
+use Rattle.std.specs.Simd.Lanes.{zip2, top, mask_l}
 use Rattle.std.proofs.lemmas.Bool.{cases_lt}
 use Rattle.std.proofs.Math.Pow.{pow_mono}
-use Rattle.std.proofs.lemmas.Nat.{or_shifted, or_comm, or_lt, pow_pos, shl_below, shl_whole}
+use Rattle.std.proofs.lemmas.Nat.{or_shifted, or_comm, or_lt, shl_below, shl_whole}
 use Rattle.std.proofs.lemmas.Nat.Bits.{bit_at_cat_low, bit_at_cat_high}
-use Rattle.std.proofs.lemmas.Simd.{length-zip2, get_or-zip2, tops_compared, mask_l-lt, mask_l-mod, bit_mask_l, length-replicate, get_or-replicate}
+use Rattle.std.proofs.lemmas.Simd.{length-zip2, get_or-zip2, tops_compared, mask_l-lt, mask_l-mod, bit_mask_l}
 use Rattle.lane_planes.specs.Words.{HasBits}
 use Rattle.lane_planes.specs.Writes.{HasLanes}
 

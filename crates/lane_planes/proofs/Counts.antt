@@ -1,10 +1,9 @@
 -- Bits counted and found in runs of words.
-use Rattle.std.proofs.Common.{◌≡◌, ℕ, zero, suc, ◌+◌, ◌-◌, ◌*◌, ◌%◌, ◌^◌, ◌≤◌, ◌<◌, cond, eqb, List, [], ◌∷◌, ◌++◌, map, length, drop, get_or, refl, sym, ◌∙◌, ap, subst, Fits, w64, ⊎_elim, arith}
+use Rattle.std.proofs.Common.{◌≡◌, ℕ, zero, suc, ◌+◌, ◌*◌, ◌%◌, ◌^◌, ◌≤◌, ◌<◌, List, [], ◌∷◌, ◌++◌, map, length, drop, get_or, ◌∙◌, ap, subst, Fits, w64, arith}
 use Rattle.std.specs.Prelude.{count_ones, bit_or}
 use Rattle.std.specs.Simd.Lanes.{Each1, fold_l, chunk}
 use Rattle.std.proofs.Math.Nat.{mod-eq_of_lt}
 use Rattle.std.proofs.Math.Seq.{drop-cons}
-use Rattle.std.proofs.lemmas.Bool.{cases_lt}
 use Rattle.std.proofs.lemmas.Nat.{ones-le, le_or_l, le_or_r}
 use Rattle.std.proofs.lemmas.Simd.{chunk-drop, Each1-from_get_or}
 use Rattle.loop_core_marks.specs.Planes.{set_bits, least_bit}

@@ -1,5 +1,5 @@
 -- What the lanes of a vector are, each by its number.
-use Rattle.std.proofs.Common.{◌≡◌, ℕ, ◌+◌, ◌-◌, ◌%◌, ◌^◌, ◌<◌, ◌≤◌, min, max, Bool, true, false, cond, ltb, List, map, length, get_or, replicate, refl, sym, ◌∙◌, ap, subst, w32, arith}
+use Rattle.std.proofs.Common.{◌≡◌, ℕ, ◌+◌, ◌-◌, ◌%◌, ◌^◌, ◌<◌, ◌≤◌, min, max, Bool, false, cond, ltb, List, map, length, get_or, replicate, sym, ◌∙◌, ap, subst, w32, arith}
 use Rattle.std.specs.Simd.Lanes.{zip2, chunk, sel_l, top}
 use Rattle.std.proofs.Math.Nat.{add-mod_right, mod-eq_of_lt}
 use Rattle.lane_planes.specs.Writes.{HasLanes}

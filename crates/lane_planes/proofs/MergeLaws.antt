@@ -1,9 +1,8 @@
 -- Merged planes have merged marks.
-use Rattle.std.proofs.Common.{◌≡◌, ℕ, ◌+◌, ◌*◌, ◌/◌, ◌%◌, ◌<◌, ◌≤◌, min, max, Bool, List, length, sym, ◌∙◌, ap, arith}
+use Rattle.std.proofs.Common.{◌≡◌, ℕ, ◌/◌, ◌%◌, ◌<◌, ◌≤◌, min, max, Bool, List, length, sym, ◌∙◌, ap, arith}
 use Rattle.std.specs.Prelude.{◌&&◌, ◌||◌, slice_index, bit_and, bit_or}
 use Rattle.array_maps.specs.declared.access.Op.{Op}
 use Rattle.array_maps.specs.declared.access.Op.TheVariants.{Add, Or, And, Xor, AddH}
-use Rattle.loop_core_law.specs.LeastBreak.{lesser}
 use Rattle.loop_core_marks.specs.Marks.{Marks, merged, first_number}
 use Rattle.loop_core_marks.specs.Planes.{bit_of}
 use Rattle.loop_core_marks.proofs.MarkLaws.{first_is_number}

@@ -6,7 +6,6 @@ use Rattle.shadow_marks.specs.declared.planes.Tested.{Tested}
 use Rattle.shadow_marks.specs.declared.planes.Tested.TheVariants.{Lrpd, Flow}
 use Rattle.shadow_marks.specs.declared.planes.Planes.{Planes}
 use Rattle.lane_planes.specs.Words.{without_reductions, FlowWords}
-use Rattle.lane_planes.specs.Writes.{Writes}
 
 -- by the LRPD test: a reader that doesn't write and a writer, or a reader that writes and another writer
 abbrev pub lrpd_word : LrpdPlanes → ℕ → ℕ

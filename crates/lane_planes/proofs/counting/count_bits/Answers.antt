@@ -1,6 +1,4 @@
-use Rattle.std.proofs.Common.{◌≡◌, ◌+◌, ◌*◌, ◌^◌, ◌<◌, ◌≤◌, length, drop, Fits, w32, w64, arith}
-use Rattle.std.specs.Simd.Lanes.{chunk, Each1}
-use Rattle.loop_core_marks.specs.Planes.{set_bits}
+use Rattle.std.proofs.Common.{arith}
 use Rattle.lane_planes.proofs.Counts.{run_counted, all_few}
 use Rattle.lane_planes.proofs.counting.count_bits.Goals as goal
 

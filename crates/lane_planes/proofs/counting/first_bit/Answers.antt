@@ -1,4 +1,4 @@
-use Rattle.std.proofs.Common.{sym, ◌∙◌, arith}
+use Rattle.std.proofs.Common.{sym, ◌∙◌}
 use Rattle.lane_planes.proofs.Counts.{run_passed}
 use Rattle.lane_planes.proofs.counting.first_bit.Goals as goal
 

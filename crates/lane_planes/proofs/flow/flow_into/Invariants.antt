@@ -1,4 +1,4 @@
-use Rattle.std.proofs.Common.{◌≡◌, ℕ, ◌+◌, ◌-◌, ◌*◌, ◌<◌, min, length, slice_index}
+use Rattle.std.proofs.Common.{ℕ, ◌+◌, ◌-◌, ◌*◌, ◌<◌, min, length, slice_index}
 use Rattle.lane_planes.specs.Words.{HasBits, stands_at}
 use Rattle.lane_planes.proofs.flow.flow_into.Given as goal
 

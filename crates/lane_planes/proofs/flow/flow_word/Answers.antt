@@ -1,4 +1,4 @@
-use Rattle.std.proofs.Common.{◌+◌, ap, sym, add_assoc, arith}
+use Rattle.std.proofs.Common.{◌+◌, ap, add_assoc, arith}
 use Rattle.lane_planes.specs.Words.{stands_at}
 use Rattle.lane_planes.proofs.BitLaws.{bits_joined, bits_same}
 use Rattle.lane_planes.proofs.flow.flow_word.Goals as goal

@@ -1,4 +1,4 @@
-use Rattle.std.proofs.Common.{length, ◌+◌, ◌-◌, ◌≤◌}
+use Rattle.std.proofs.Common.{◌+◌, ◌-◌, ◌≤◌}
 use Rattle.lane_planes.specs.Words.{HasBits, stands_at}
 use Rattle.lane_planes.proofs.flow.flow_word.Given as goal
 
