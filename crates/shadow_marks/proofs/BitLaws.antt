@@ -11,7 +11,7 @@ use Rattle.array_maps.specs.declared.access.Op.{Op}
 use Rattle.array_maps.specs.declared.access.Op.TheVariants.{Add, Or, And, Xor, AddH}
 use Rattle.loop_core_law.specs.Actions.{is_same}
 use Rattle.loop_core_marks.specs.Planes.{bit_of}
-use Rattle.shadow_marks.specs.Kept.{place_of}
+use Rattle.shadow_marks.specs.Kept.{place_by}
 
 product_tested : (bit power : ℕ) → bit < 2 → 0 < power → not (eqb (bit * power) 0) ≡ eqb bit 1
 product_tested bit power h k =
@@ -48,7 +48,7 @@ bit_ored word mask place k e =
     ∙ ap (λ b. eqb (bit_at word k) 1 || b) (power_tested place k)
 
 -- operators are the same where their places are
-pub same_place : (a b : Op) → eqb (place_of a) (place_of b) ≡ is_same a b
+pub same_place : (a b : Op) → eqb (place_by a) (place_by b) ≡ is_same a b
 same_place Add Add = refl
 same_place Or Or = refl
 same_place And And = refl

@@ -9,17 +9,15 @@ use Rattle.std.specs.Int.{bit_at}
 use Rattle.array_maps.specs.declared.access.Op.{Op}
 use Rattle.array_maps.specs.declared.access.Op.TheVariants.{Add, Or, And, Xor, AddH}
 use Rattle.loop_core_law.specs.LeastBreak.{lesser}
+use Rattle.loop_core_marks.specs.Flags.{Flags}
 use Rattle.loop_core_marks.specs.Marks.{Marks, first_number, no_marks, marks_of_one, merged}
 use Rattle.loop_core_marks.specs.Planes.{bit_of}
-use Rattle.shadow_marks.specs.declared.element_flags.Operators.{Operators}
-use Rattle.shadow_marks.specs.declared.element_flags.ElementFlags.{ElementFlags}
 use Rattle.shadow_marks.specs.declared.planes.LrpdPlanes.{LrpdPlanes}
 use Rattle.shadow_marks.specs.declared.planes.FlowPlanes.{FlowPlanes}
 use Rattle.shadow_marks.specs.declared.planes.Tested.{Tested}
 use Rattle.shadow_marks.specs.declared.planes.Tested.TheVariants.{Lrpd as ByLrpd, Flow as ByFlow}
 use Rattle.shadow_marks.specs.declared.planes.OperatorPlanes.{OperatorPlanes}
 use Rattle.shadow_marks.specs.declared.planes.Planes.{Planes}
-use Rattle.shadow_marks.specs.Kept.{holds, flags_in}
 use Rattle.shadow_marks.specs.Bits.{OrsBit}
 use Rattle.shadow_marks.specs.Standing.{words_for, IsBitPlane, plane_by, AreLrpdPlanes, AreFlowPlanes, AreTested, ArePlanes, test_of, LrpdStandAt, FlowStandAt, TestedStandAt, no_visits, StandFor}
 use Rattle.shadow_marks.specs.Ending.{TestedHave, OperatorsHave, LrpdFolds, FlowFolds, TestedFolds, OperatorsFold, Folds}
@@ -70,29 +68,29 @@ by_two two writes false false same = ap (λ b. two || b) (and_false writes) ∙ 
 by_two two writes true false same = absurd (cc)
 by_two two writes false true same = absurd (cc)
 
-lrpd_here : (old new : LrpdPlanes) (e index : ℕ) (kept : ElementFlags) (marks : Marks) → LrpdFolds old new e kept → LrpdStandAt old e marks →
-    LrpdStandAt new e (merged marks (marks_of_one index (flags_in kept)))
-lrpd_here old new e index kept marks folds stand = record {
-  written = joined_here _ _ e kept.wrote marks.written folds.written stand.written;
+lrpd_here : (old new : LrpdPlanes) (e index : ℕ) (flags : Flags) (marks : Marks) → LrpdFolds old new e flags → LrpdStandAt old e marks →
+    LrpdStandAt new e (merged marks (marks_of_one index flags))
+lrpd_here old new e index flags marks folds stand = record {
+  written = joined_here _ _ e flags.wrote marks.written folds.written stand.written;
   written_by_two =
-      joined_here _ _ e (kept.wrote && bit_of old.written.items e) marks.written_by_two folds.written_by_two stand.written_by_two
-      ∙ by_two marks.written_by_two kept.wrote marks.written (bit_of old.written.items e) stand.written;
+      joined_here _ _ e (flags.wrote && bit_of old.written.items e) marks.written_by_two folds.written_by_two stand.written_by_two
+      ∙ by_two marks.written_by_two flags.wrote marks.written (bit_of old.written.items e) stand.written;
   read_only = joined_here _ _ e _ marks.read_only folds.read_only stand.read_only;
   read_and_written = joined_here _ _ e _ marks.read_and_written folds.read_and_written stand.read_and_written;
 }
 
-lrpd_there : (old new : LrpdPlanes) (e k : ℕ) (kept : ElementFlags) (marks : Marks) → k ≢ e → LrpdFolds old new e kept → LrpdStandAt old k marks →
+lrpd_there : (old new : LrpdPlanes) (e k : ℕ) (flags : Flags) (marks : Marks) → k ≢ e → LrpdFolds old new e flags → LrpdStandAt old k marks →
     LrpdStandAt new k marks
-lrpd_there old new e k kept marks other folds stand = record {
+lrpd_there old new e k flags marks other folds stand = record {
   written = joined_there _ _ e _ marks.written k other folds.written stand.written;
   written_by_two = joined_there _ _ e _ marks.written_by_two k other folds.written_by_two stand.written_by_two;
   read_only = joined_there _ _ e _ marks.read_only k other folds.read_only stand.read_only;
   read_and_written = joined_there _ _ e _ marks.read_and_written k other folds.read_and_written stand.read_and_written;
 }
 
-lrpd_whole : (elements : ℕ) (old new : LrpdPlanes) (e : ℕ) (kept : ElementFlags) → LrpdFolds old new e kept → e < elements →
+lrpd_whole : (elements : ℕ) (old new : LrpdPlanes) (e : ℕ) (flags : Flags) → LrpdFolds old new e flags → e < elements →
     AreLrpdPlanes elements old → AreLrpdPlanes elements new
-lrpd_whole elements old new e kept folds within are = record {
+lrpd_whole elements old new e flags folds within are = record {
   written = ored_plane elements _ _ e _ folds.written within are.written;
   written_by_two = ored_plane elements _ _ e _ folds.written_by_two within are.written_by_two;
   read_only = ored_plane elements _ _ e _ folds.read_only within are.read_only;
@@ -115,54 +113,54 @@ last_here : (reads : Bool) (last old new index : ℕ) → old ≡ last →
 last_here true last old new index was is = is ∙ ap (λ n. max n (index + 1)) was
 last_here false last old new index was is = is ∙ was ∙ (let e : last ≡ max last 0 = omega arith in e)
 
-flow_here : (old new : FlowPlanes) (e index : ℕ) (kept : ElementFlags) (marks : Marks) → index < 4294967295 → FlowFolds old new e kept index →
-    FlowStandAt old e marks → FlowStandAt new e (merged marks (marks_of_one index (flags_in kept)))
-flow_here old new e index kept marks small folds stand = record {
-  first = first_here kept.wrote marks.first _ _ index stand.first small folds.first.here;
-  last = last_here kept.looked marks.last _ _ index stand.last folds.last.here;
+flow_here : (old new : FlowPlanes) (e index : ℕ) (flags : Flags) (marks : Marks) → index < 4294967295 → FlowFolds old new e flags index →
+    FlowStandAt old e marks → FlowStandAt new e (merged marks (marks_of_one index flags))
+flow_here old new e index flags marks small folds stand = record {
+  first = first_here flags.wrote marks.first _ _ index stand.first small folds.first.here;
+  last = last_here flags.looked marks.last _ _ index stand.last folds.last.here;
 }
 
-flow_there : (old new : FlowPlanes) (e k index : ℕ) (kept : ElementFlags) (marks : Marks) → k ≢ e → FlowFolds old new e kept index →
+flow_there : (old new : FlowPlanes) (e k index : ℕ) (flags : Flags) (marks : Marks) → k ≢ e → FlowFolds old new e flags index →
     FlowStandAt old k marks → FlowStandAt new k marks
-flow_there old new e k index kept marks other folds stand = record {
+flow_there old new e k index flags marks other folds stand = record {
   first = folds.first.others k other ∙ stand.first;
   last = folds.last.others k other ∙ stand.last;
 }
 
-flow_whole : (elements : ℕ) (old new : FlowPlanes) (e index : ℕ) (kept : ElementFlags) → FlowFolds old new e kept index →
+flow_whole : (elements : ℕ) (old new : FlowPlanes) (e index : ℕ) (flags : Flags) → FlowFolds old new e flags index →
     AreFlowPlanes elements old → AreFlowPlanes elements new
-flow_whole elements old new e index kept folds are = record {
+flow_whole elements old new e index flags folds are = record {
   first = folds.first.count ∙ are.first;
   last = folds.last.count ∙ are.last;
 }
 
 -- those of either test
-tested_here : (old new : Tested) (e index : ℕ) (kept : ElementFlags) (marks : Marks) → index < 4294967295 → TestedFolds old new e kept index →
-    TestedStandAt old e marks → TestedStandAt new e (merged marks (marks_of_one index (flags_in kept)))
-tested_here (ByLrpd old) (ByLrpd new) e index kept marks small folds stand = lrpd_here old new e index kept marks folds stand
-tested_here (ByLrpd old) (ByFlow new) e index kept marks small folds stand = absurd folds
-tested_here (ByFlow old) (ByLrpd new) e index kept marks small folds stand = absurd folds
-tested_here (ByFlow old) (ByFlow new) e index kept marks small folds stand = flow_here old new e index kept marks small folds stand
+tested_here : (old new : Tested) (e index : ℕ) (flags : Flags) (marks : Marks) → index < 4294967295 → TestedFolds old new e flags index →
+    TestedStandAt old e marks → TestedStandAt new e (merged marks (marks_of_one index flags))
+tested_here (ByLrpd old) (ByLrpd new) e index flags marks small folds stand = lrpd_here old new e index flags marks folds stand
+tested_here (ByLrpd old) (ByFlow new) e index flags marks small folds stand = absurd folds
+tested_here (ByFlow old) (ByLrpd new) e index flags marks small folds stand = absurd folds
+tested_here (ByFlow old) (ByFlow new) e index flags marks small folds stand = flow_here old new e index flags marks small folds stand
 
-tested_there : (old new : Tested) (e k index : ℕ) (kept : ElementFlags) (marks : Marks) → k ≢ e → TestedFolds old new e kept index →
+tested_there : (old new : Tested) (e k index : ℕ) (flags : Flags) (marks : Marks) → k ≢ e → TestedFolds old new e flags index →
     TestedStandAt old k marks → TestedStandAt new k marks
-tested_there (ByLrpd old) (ByLrpd new) e k index kept marks other folds stand = lrpd_there old new e k kept marks other folds stand
-tested_there (ByLrpd old) (ByFlow new) e k index kept marks other folds stand = absurd folds
-tested_there (ByFlow old) (ByLrpd new) e k index kept marks other folds stand = absurd folds
-tested_there (ByFlow old) (ByFlow new) e k index kept marks other folds stand = flow_there old new e k index kept marks other folds stand
+tested_there (ByLrpd old) (ByLrpd new) e k index flags marks other folds stand = lrpd_there old new e k flags marks other folds stand
+tested_there (ByLrpd old) (ByFlow new) e k index flags marks other folds stand = absurd folds
+tested_there (ByFlow old) (ByLrpd new) e k index flags marks other folds stand = absurd folds
+tested_there (ByFlow old) (ByFlow new) e k index flags marks other folds stand = flow_there old new e k index flags marks other folds stand
 
-tested_whole : (elements : ℕ) (old new : Tested) (e index : ℕ) (kept : ElementFlags) → TestedFolds old new e kept index → e < elements →
+tested_whole : (elements : ℕ) (old new : Tested) (e index : ℕ) (flags : Flags) → TestedFolds old new e flags index → e < elements →
     AreTested elements old → AreTested elements new
-tested_whole elements (ByLrpd old) (ByLrpd new) e index kept folds within are = lrpd_whole elements old new e kept folds within are
-tested_whole elements (ByLrpd old) (ByFlow new) e index kept folds within are = absurd folds
-tested_whole elements (ByFlow old) (ByLrpd new) e index kept folds within are = absurd folds
-tested_whole elements (ByFlow old) (ByFlow new) e index kept folds within are = flow_whole elements old new e index kept folds are
+tested_whole elements (ByLrpd old) (ByLrpd new) e index flags folds within are = lrpd_whole elements old new e flags folds within are
+tested_whole elements (ByLrpd old) (ByFlow new) e index flags folds within are = absurd folds
+tested_whole elements (ByFlow old) (ByLrpd new) e index flags folds within are = absurd folds
+tested_whole elements (ByFlow old) (ByFlow new) e index flags folds within are = flow_whole elements old new e index flags folds are
 
-tested_test : (old new : Tested) (e index : ℕ) (kept : ElementFlags) → TestedFolds old new e kept index → test_of new ≡ test_of old
-tested_test (ByLrpd old) (ByLrpd new) e index kept folds = refl
-tested_test (ByLrpd old) (ByFlow new) e index kept folds = absurd folds
-tested_test (ByFlow old) (ByLrpd new) e index kept folds = absurd folds
-tested_test (ByFlow old) (ByFlow new) e index kept folds = refl
+tested_test : (old new : Tested) (e index : ℕ) (flags : Flags) → TestedFolds old new e flags index → test_of new ≡ test_of old
+tested_test (ByLrpd old) (ByLrpd new) e index flags folds = refl
+tested_test (ByLrpd old) (ByFlow new) e index flags folds = absurd folds
+tested_test (ByFlow old) (ByLrpd new) e index flags folds = absurd folds
+tested_test (ByFlow old) (ByFlow new) e index flags folds = refl
 
 pub tested_have : (elements : ℕ) (tested : Tested) (e : ℕ) → e < elements → AreTested elements tested → TestedHave tested e
 tested_have elements (ByLrpd planes) e within are = record {
@@ -174,13 +172,13 @@ tested_have elements (ByLrpd planes) e within are = record {
 tested_have elements (ByFlow planes) e within are = record { first = rw are.first within; last = rw are.last within }
 
 -- the planes of operators
-operator_ored : (old new : OperatorPlanes) (e : ℕ) (operators : Operators) → OperatorsFold old new e operators → (op : Op) →
-    OrsBit (plane_by old op) (plane_by new op) e (holds operators op)
-operator_ored old new e operators folds Add = folds.add
-operator_ored old new e operators folds Or = folds.or
-operator_ored old new e operators folds And = folds.and
-operator_ored old new e operators folds Xor = folds.xor
-operator_ored old new e operators folds AddH = folds.addh
+operator_ored : (old new : OperatorPlanes) (e : ℕ) (flags : Flags) → OperatorsFold old new e flags → (op : Op) →
+    OrsBit (plane_by old op) (plane_by new op) e (flags.by op)
+operator_ored old new e flags folds Add = folds.add
+operator_ored old new e flags folds Or = folds.or
+operator_ored old new e flags folds And = folds.and
+operator_ored old new e flags folds Xor = folds.xor
+operator_ored old new e flags folds AddH = folds.addh
 
 pub operators_have : (elements : ℕ) (planes : OperatorPlanes) (e : ℕ) → e < elements → ((op : Op) → IsBitPlane elements (plane_by planes op)) → OperatorsHave planes e
 operators_have elements planes e within are = record {
@@ -192,36 +190,36 @@ operators_have elements planes e within are = record {
 }
 
 -- all planes, where each took its part of the flags
-pub record TakesPart (old new : Planes) (e index : ℕ) (kept : ElementFlags) : Type 0 where
+pub record TakesPart (old new : Planes) (e index : ℕ) (flags : Flags) : Type 0 where
   pub elements : new.elements ≡ old.elements
-  pub plain : OrsBit old.plain.items new.plain.items e kept.plain
-  pub operators : OperatorsFold old.operators new.operators e kept.operators
-  pub tested : TestedFolds old.tested new.tested e kept index
+  pub plain : OrsBit old.plain.items new.plain.items e flags.plain
+  pub operators : OperatorsFold old.operators new.operators e flags
+  pub tested : TestedFolds old.tested new.tested e flags index
 
-pub parts_fold : (old new : Planes) (e index : ℕ) (kept : ElementFlags) → ArePlanes old → e < old.elements → index < 4294967295 →
-    TakesPart old new e index kept → Folds old new e index (flags_in kept)
-parts_fold old new e index kept are within small part =
-    let ored : (op : Op) → OrsBit (plane_by old.operators op) (plane_by new.operators op) e (holds kept.operators op) =
-    operator_ored old.operators new.operators e kept.operators part.operators in
+pub parts_fold : (old new : Planes) (e index : ℕ) (flags : Flags) → ArePlanes old → e < old.elements → index < 4294967295 →
+    TakesPart old new e index flags → Folds old new e index flags
+parts_fold old new e index flags are within small part =
+    let ored : (op : Op) → OrsBit (plane_by old.operators op) (plane_by new.operators op) e (flags.by op) =
+    operator_ored old.operators new.operators e flags part.operators in
     record {
       shape = record {
         whole = rw part.elements (record {
           plain = ored_plane old.elements _ _ e _ part.plain within are.plain;
           by = λ op. ored_plane old.elements _ _ e _ (ored op) within (are.by op);
-          tested = tested_whole old.elements _ _ e index kept part.tested within are.tested;
+          tested = tested_whole old.elements _ _ e index flags part.tested within are.tested;
         });
         elements = part.elements;
-        test = tested_test _ _ e index kept part.tested;
+        test = tested_test _ _ e index flags part.tested;
       };
       here = λ marks stand. record {
         plain = joined_here _ _ e _ marks.plain part.plain stand.plain;
         by = λ op. joined_here _ _ e _ (marks.by op) (ored op) (stand.by op);
-        tested = tested_here _ _ e index kept marks small part.tested stand.tested;
+        tested = tested_here _ _ e index flags marks small part.tested stand.tested;
       };
       others = λ k other marks stand. record {
         plain = joined_there _ _ e _ marks.plain k other part.plain stand.plain;
         by = λ op. joined_there _ _ e _ (marks.by op) k other (ored op) (stand.by op);
-        tested = tested_there _ _ e k index kept marks other part.tested stand.tested;
+        tested = tested_there _ _ e k index flags marks other part.tested stand.tested;
       };
     }
 

@@ -1,4 +1,5 @@
 pub mod BitLaws
+pub mod KeptLaws
 pub mod TouchLaws
 pub mod FoldLaws
 pub mod EndLaws

@@ -1,48 +1,21 @@
 -- What the list of touched elements tells of the flags.
-use Rattle.std.proofs.Common.{◌≡◌, ℕ, ◌<◌, Bool, true, false, not, ◌&&◌, ◌||◌, eqb, List, [], ◌∷◌, ◌++◌, length, get_or, set, refl, sym, ◌∙◌, ap, inl, inr, arith, length-set, get_or-set_same, get_or-set_other, eq-eqb, ne_eqb}
+use Rattle.std.proofs.Common.{◌≡◌, ℕ, ◌<◌, Bool, true, false, ◌||◌, eqb, List, [], ◌∷◌, ◌++◌, length, get_or, set, refl, sym, ◌∙◌, ap, inl, inr, arith, length-set, get_or-set_same, get_or-set_other, eq-eqb, ne_eqb}
 use Rattle.std.proofs.Math.Bool.{or-false}
 use Rattle.std.proofs.lemmas.Bool.{cases_eq}
-use Rattle.std.proofs.lemmas.Bool.Decides.{nat_tests}
 use Rattle.std.proofs.lemmas.List.Folds.{list_any-append}
 use Rattle.std.proofs.lemmas.Nat.Bits.{bit_at-zero}
 use Rattle.std.specs.Int.{bit_at}
-use Rattle.array_maps.specs.declared.access.Op.{Op}
-use Rattle.loop_core_marks.specs.Flags.{Flags, no_flags}
+use Rattle.loop_core_marks.specs.Flags.{no_flags}
 use Rattle.shadow_marks.specs.declared.element_flags.ElementFlags.{ElementFlags}
-use Rattle.shadow_marks.specs.Kept.{place_of, flags_in, nothing_kept, is_nothing, has_element}
-
--- flags that agree are the same
-pub record FlagsAgree (a b : Flags) : Type 0 where
-  pub wrote : a.wrote ≡ b.wrote
-  pub looked : a.looked ≡ b.looked
-  pub plain : a.plain ≡ b.plain
-  pub by : (op : Op) → a.by op ≡ b.by op
-
-pub same_flags : (a b : Flags) → FlagsAgree a b → a ≡ b
-same_flags a b h = λ i. record { wrote = h.wrote i; looked = h.looked i; plain = h.plain i; by = λ op. h.by op i }
-
-first_false : (a b c d : Bool) → (not (a || b || c) && d) ≡ true → a ≡ false
-first_false a b c d h = grind (arith, nat_tests)
-
-second_false : (a b c d : Bool) → (not (a || b || c) && d) ≡ true → b ≡ false
-second_false a b c d h = grind (arith, nat_tests)
-
-third_false : (a b c d : Bool) → (not (a || b || c) && d) ≡ true → c ≡ false
-third_false a b c d h = grind (arith, nat_tests)
-
-zero_bits : (a b c : Bool) (bits : ℕ) → (not (a || b || c) && eqb bits 0) ≡ true → bits ≡ 0
-zero_bits a b c bits h = grind (arith, nat_tests)
+use Rattle.shadow_marks.specs.Kept.{place_by, flags_in, nothing_kept, has_element}
+use Rattle.shadow_marks.proofs.KeptLaws.{same_flags}
 
 -- where nothing is kept there are no flags
-pub nothing_flagged : (kept : ElementFlags) → is_nothing kept ≡ true → flags_in kept ≡ no_flags
-nothing_flagged kept h =
-    let none : kept.operators.bits ≡ 0 = zero_bits kept.wrote kept.looked kept.plain kept.operators.bits h in
-    same_flags _ _ (record {
-      wrote = first_false kept.wrote kept.looked kept.plain (eqb kept.operators.bits 0) h;
-      looked = second_false kept.wrote kept.looked kept.plain (eqb kept.operators.bits 0) h;
-      plain = third_false kept.wrote kept.looked kept.plain (eqb kept.operators.bits 0) h;
-      by = λ op. ap (λ bits. eqb (bit_at bits (place_of op)) 1) none ∙ ap (λ bit. eqb bit 1) (bit_at-zero (place_of op));
-    })
+pub nothing_flagged : (kept : ElementFlags) → kept.bits ≡ 0 → flags_in kept ≡ no_flags
+nothing_flagged kept none =
+    let unset : (place : ℕ) → eqb (bit_at kept.bits place) 1 ≡ false =
+    λ place. ap (λ bits. eqb (bit_at bits place) 1) none ∙ ap (λ bit. eqb bit 1) (bit_at-zero place) in
+    same_flags _ _ (record { wrote = unset 0; looked = unset 1; plain = unset 2; by = λ op. unset (place_by op) })
 
 -- one element more in a list
 pub has-last : (touched : List ℕ) (e x : ℕ) → has_element (touched ++ e ∷ []) x ≡ (has_element touched x || eqb e x)
@@ -52,7 +25,7 @@ has-last touched e x =
 -- what is known of touched elements and flags
 pub record Covers (touched : List ℕ) (cells : List ElementFlags) : Type 0 where
   pub within : (e : ℕ) → has_element touched e ≡ true → e < length cells
-  pub covered : (e : ℕ) → has_element touched e ≡ false → is_nothing (get_or cells e nothing_kept) ≡ true
+  pub covered : (e : ℕ) → has_element touched e ≡ false → (get_or cells e nothing_kept).bits ≡ 0
 
 or_true : (b : Bool) → (b || true) ≡ true
 or_true true = refl
@@ -78,10 +51,10 @@ covers_rest touched rest e cells is covers = record {
   covered = λ x has.
       elim (cases_eq x e) [
         | inl same ↦
-            ap (λ (y : ℕ). is_nothing (get_or (set cells e nothing_kept) y nothing_kept)) same
-            ∙ ap is_nothing (get_or-set_same cells e nothing_kept nothing_kept (last_within touched rest e cells is covers))
+            ap (λ (y : ℕ). (get_or (set cells e nothing_kept) y nothing_kept).bits) same
+            ∙ ap (λ (kept : ElementFlags). kept.bits) (get_or-set_same cells e nothing_kept nothing_kept (last_within touched rest e cells is covers))
         | inr other ↦
-            ap is_nothing (get_or-set_other cells e x nothing_kept nothing_kept other)
+            ap (λ (kept : ElementFlags). kept.bits) (get_or-set_other cells e x nothing_kept nothing_kept other)
             ∙ covers.covered x
             (ap (λ l. has_element l x) is ∙ has-last rest e x
             ∙ or_both (has_element rest x) (eqb e x) has (ne_eqb e x (λ same. other (sym same))))

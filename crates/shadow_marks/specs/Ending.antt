@@ -4,8 +4,6 @@ use Rattle.array_maps.specs.declared.access.Op.TheVariants.{Add, Or, And, Xor, A
 use Rattle.loop_core_marks.specs.Flags.{Flags}
 use Rattle.loop_core_marks.specs.Marks.{Marks, marks_of_one, merged}
 use Rattle.loop_core_marks.specs.Planes.{bit_of}
-use Rattle.shadow_marks.specs.declared.element_flags.Operators.{Operators}
-use Rattle.shadow_marks.specs.declared.element_flags.ElementFlags.{ElementFlags}
 use Rattle.shadow_marks.specs.declared.planes.LrpdPlanes.{LrpdPlanes}
 use Rattle.shadow_marks.specs.declared.planes.FlowPlanes.{FlowPlanes}
 use Rattle.shadow_marks.specs.declared.planes.Tested.{Tested}
@@ -13,7 +11,6 @@ use Rattle.shadow_marks.specs.declared.planes.Tested.TheVariants.{Lrpd as ByLrpd
 use Rattle.shadow_marks.specs.declared.planes.OperatorPlanes.{OperatorPlanes}
 use Rattle.shadow_marks.specs.declared.planes.Planes.{Planes}
 use Rattle.shadow_marks.specs.Bits.{OrsBit, ChangesNumber}
-use Rattle.shadow_marks.specs.Kept.{holds}
 use Rattle.shadow_marks.specs.Standing.{ArePlanes, test_of, StandAt}
 
 -- planes that have an element
@@ -28,29 +25,29 @@ pub record FlowHave (planes : FlowPlanes) (e : ℕ) : Type 0 where
   pub last : e < length planes.last.items
 
 -- the planes of a test after the flags of an element came into them
-pub record LrpdFolds (old new : LrpdPlanes) (e : ℕ) (kept : ElementFlags) : Type 0 where
-  pub written : OrsBit old.written.items new.written.items e kept.wrote
-  pub written_by_two : OrsBit old.written_by_two.items new.written_by_two.items e (kept.wrote && bit_of old.written.items e)
-  pub read_only : OrsBit old.read_only.items new.read_only.items e (kept.looked && not kept.wrote)
-  pub read_and_written : OrsBit old.read_and_written.items new.read_and_written.items e (kept.looked && kept.wrote)
+pub record LrpdFolds (old new : LrpdPlanes) (e : ℕ) (flags : Flags) : Type 0 where
+  pub written : OrsBit old.written.items new.written.items e flags.wrote
+  pub written_by_two : OrsBit old.written_by_two.items new.written_by_two.items e (flags.wrote && bit_of old.written.items e)
+  pub read_only : OrsBit old.read_only.items new.read_only.items e (flags.looked && not flags.wrote)
+  pub read_and_written : OrsBit old.read_and_written.items new.read_and_written.items e (flags.looked && flags.wrote)
 
-pub record FlowFolds (old new : FlowPlanes) (e : ℕ) (kept : ElementFlags) (index : ℕ) : Type 0 where
+pub record FlowFolds (old new : FlowPlanes) (e : ℕ) (flags : Flags) (index : ℕ) : Type 0 where
   pub first : ChangesNumber old.first.items new.first.items e
-      (if kept.wrote then min (slice_index old.first.items e) index else slice_index old.first.items e)
+      (if flags.wrote then min (slice_index old.first.items e) index else slice_index old.first.items e)
   pub last : ChangesNumber old.last.items new.last.items e
-      (if kept.looked then max (slice_index old.last.items e) (index + 1) else slice_index old.last.items e)
+      (if flags.looked then max (slice_index old.last.items e) (index + 1) else slice_index old.last.items e)
 
 abbrev pub TestedHave : Tested → ℕ → Type 0
 TestedHave (ByLrpd planes) e = LrpdHave planes e
 TestedHave (ByFlow planes) e = FlowHave planes e
 
-abbrev pub TestedFolds : (old new : Tested) (e : ℕ) (kept : ElementFlags) (index : ℕ) → Type 0
-TestedFolds (ByLrpd old) (ByLrpd new) e kept index = LrpdFolds old new e kept
-TestedFolds (ByLrpd old) (ByFlow new) e kept index = ⊥
-TestedFolds (ByFlow old) (ByLrpd new) e kept index = ⊥
-TestedFolds (ByFlow old) (ByFlow new) e kept index = FlowFolds old new e kept index
+abbrev pub TestedFolds : (old new : Tested) (e : ℕ) (flags : Flags) (index : ℕ) → Type 0
+TestedFolds (ByLrpd old) (ByLrpd new) e flags index = LrpdFolds old new e flags
+TestedFolds (ByLrpd old) (ByFlow new) e flags index = ⊥
+TestedFolds (ByFlow old) (ByLrpd new) e flags index = ⊥
+TestedFolds (ByFlow old) (ByFlow new) e flags index = FlowFolds old new e flags index
 
--- the planes of operators, and those after a set of operators came into an element
+-- the planes of operators, and those after the flags of an element came into them
 pub record OperatorsHave (planes : OperatorPlanes) (e : ℕ) : Type 0 where
   pub add : e / 64 < length planes.add.items
   pub or : e / 64 < length planes.or.items
@@ -58,12 +55,12 @@ pub record OperatorsHave (planes : OperatorPlanes) (e : ℕ) : Type 0 where
   pub xor : e / 64 < length planes.xor.items
   pub addh : e / 64 < length planes.addh.items
 
-pub record OperatorsFold (old new : OperatorPlanes) (e : ℕ) (operators : Operators) : Type 0 where
-  pub add : OrsBit old.add.items new.add.items e (holds operators Add)
-  pub or : OrsBit old.or.items new.or.items e (holds operators Or)
-  pub and : OrsBit old.and.items new.and.items e (holds operators And)
-  pub xor : OrsBit old.xor.items new.xor.items e (holds operators Xor)
-  pub addh : OrsBit old.addh.items new.addh.items e (holds operators AddH)
+pub record OperatorsFold (old new : OperatorPlanes) (e : ℕ) (flags : Flags) : Type 0 where
+  pub add : OrsBit old.add.items new.add.items e (flags.by Add)
+  pub or : OrsBit old.or.items new.or.items e (flags.by Or)
+  pub and : OrsBit old.and.items new.and.items e (flags.by And)
+  pub xor : OrsBit old.xor.items new.xor.items e (flags.by Xor)
+  pub addh : OrsBit old.addh.items new.addh.items e (flags.by AddH)
 
 -- planes are still whole, for as many elements and the same test
 pub record KeepsShape (old new : Planes) : Type 0 where

@@ -1,36 +1,57 @@
 -- What is kept of one element while an iteration runs.
-use Rattle.std.specs.Prelude.{ℕ, Bool, false, not, ◌&&◌, ◌||◌, ◌==◌, List}
-use Rattle.std.specs.List.{list_any}
+use Rattle.std.specs.Prelude.{ℕ, Bool, true, not, ◌||◌, ◌==◌, List}
 use Rattle.std.specs.Int.{bit_at}
+use Rattle.std.specs.List.{list_any}
 use Rattle.array_maps.specs.declared.access.Op.{Op}
 use Rattle.array_maps.specs.declared.access.Op.TheVariants.{Add, Or, And, Xor, AddH}
+use Rattle.loop_core_law.specs.Actions.{is_same}
 use Rattle.loop_core_marks.specs.Flags.{Flags}
-use Rattle.shadow_marks.specs.declared.element_flags.Operators.{Operators}
+use Rattle.shadow_marks.specs.declared.element_flags.Flag.{Flag}
+use Rattle.shadow_marks.specs.declared.element_flags.Flag.TheVariants.{Wrote, Looked, Plain, By}
 use Rattle.shadow_marks.specs.declared.element_flags.ElementFlags.{ElementFlags}
 
 -- the bit of an operator
-abbrev pub place_of : Op → ℕ
-place_of Add = 0
-place_of Or = 1
-place_of And = 2
-place_of Xor = 3
-place_of AddH = 4
+abbrev pub place_by : Op → ℕ
+place_by Add = 3
+place_by Or = 4
+place_by And = 5
+place_by Xor = 6
+place_by AddH = 7
 
--- whether an operator is in a set
-abbrev pub holds : Operators → Op → Bool
-holds operators op = bit_at operators.bits (place_of op) == 1
+-- the bit of a flag
+abbrev pub place_of : Flag → ℕ
+place_of Wrote = 0
+place_of Looked = 1
+place_of Plain = 2
+place_of (By op) = place_by op
+
+-- whether a flag is kept
+abbrev pub holds : ElementFlags → Flag → Bool
+holds kept flag = bit_at kept.bits (place_of flag) == 1
 
 -- the flags that are kept
 abbrev pub flags_in : ElementFlags → Flags
-flags_in kept = record { wrote = kept.wrote; looked = kept.looked; plain = kept.plain; by = λ op. holds kept.operators op }
+flags_in kept = record { wrote = holds kept Wrote; looked = holds kept Looked; plain = holds kept Plain; by = λ op. holds kept (By op) }
 
 -- nothing is kept of an element that wasn't touched
 abbrev pub nothing_kept : ElementFlags
-nothing_kept = record { wrote = false; looked = false; plain = false; operators = record { bits = 0 } }
+nothing_kept = record { bits = 0 }
 
--- whether nothing is kept
-abbrev pub is_nothing : ElementFlags → Bool
-is_nothing kept = not (kept.wrote || kept.looked || kept.plain) && (kept.operators.bits == 0)
+-- flags with one more
+abbrev pub with_flag : Flag → Flags → Flags
+with_flag Wrote flags = record { wrote = true; looked = flags.looked; plain = flags.plain; by = flags.by }
+with_flag Looked flags = record { wrote = flags.wrote; looked = true; plain = flags.plain; by = flags.by }
+with_flag Plain flags = record { wrote = flags.wrote; looked = flags.looked; plain = true; by = flags.by }
+with_flag (By op) flags = record {
+  wrote = flags.wrote;
+  looked = flags.looked;
+  plain = flags.plain;
+  by = λ other. flags.by other || is_same other op;
+}
+
+-- flags after a look, which is exposed where the iteration hasn't written
+abbrev pub with_look : Flags → Flags
+with_look flags = record { wrote = flags.wrote; looked = flags.looked || not flags.wrote; plain = flags.plain; by = flags.by }
 
 -- whether an element is in a list
 abbrev pub has_element : List ℕ → ℕ → Bool

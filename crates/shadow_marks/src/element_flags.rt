@@ -1,143 +1,133 @@
 //! What the iteration under way did at one element.
 
-ghost use Rattle.std.specs.Prelude.{◌≡◌, true, false, not, ◌&&◌, ◌||◌, ◌^◌};
+ghost use Rattle.std.specs.Prelude.{◌≡◌, false, not, ◌&&◌, ◌==◌, ◌^◌};
 ghost use Rattle.array_maps.specs.declared.access.Op.{Op as Operator};
-ghost use Rattle.loop_core_law.specs.Actions.{is_same};
 ghost use Rattle.loop_core_marks.specs.Flags.{flagged};
-ghost use Rattle.shadow_marks.specs.Kept.{place_of, holds, flags_in, nothing_kept};
+ghost use Rattle.shadow_marks.specs.Kept.{place_of, holds, flags_in, nothing_kept, with_flag, with_look};
 
 use array_maps::Op;
 use loop_core_marks::Access;
 
-/// A set of operators: a bit for each.
-#[derive(Clone, Copy, Debug, PartialEq, Eq)]
-pub struct Operators {
+/// What an iteration may have done at an element.
+#[derive(Clone, Copy)]
+pub(crate) enum Flag {
+    /// It writes or reduces the element.
+    Wrote,
+    /// It read or reduced it before it wrote or reduced it itself: an exposed read.
+    Looked,
+    /// It made an access that is no reduce.
+    Plain,
+    /// It reduced by this operator.
+    By(Op),
+}
+
+/// The flags of an iteration at an element, a bit for each: what it did there so far. Each access sets
+/// one at least.
+#[derive(Clone, Copy)]
+pub(crate) struct ElementFlags {
     bits: u8,
 }
 
-/// The flags of an iteration at an element: what it did there so far. All are unset where it made no
-/// access.
-#[derive(Clone, Copy, Debug, PartialEq, Eq)]
-pub struct ElementFlags {
-    /// It writes or reduces the element.
-    pub wrote: bool,
-    /// It read or reduced it before it wrote or reduced it itself: an exposed read.
-    pub looked: bool,
-    /// It made an access that is no reduce.
-    pub plain: bool,
-    /// The operators that it reduced by.
-    pub operators: Operators,
-}
+/// The bits of all operators.
+const OPERATORS: u8 = 0b1111_1000;
 
-impl Operators {
-    /// Whether there is no operator.
+impl ElementFlags {
+    /// No flag.
     #[inline]
-    pub fn is_empty(self) -> bool
-        ensures { result ≡ true → (op : Operator) → holds self op ≡ false }
+    pub(crate) fn none() -> ElementFlags
+        ensures { result ≡ nothing_kept }
+    {
+        ElementFlags { bits: 0 }
+    }
+
+    /// Whether there is no flag: the element wasn't touched.
+    #[inline]
+    pub(crate) fn is_none(self) -> bool
+        ensures { result ≡ (self.bits == 0) }
     {
         self.bits == 0
     }
 
-    /// Whether an operator is there.
+    /// Whether a flag is set.
     #[inline]
-    pub fn has(self, op: Op) -> bool
-        ensures { result ≡ holds self op }
+    pub(crate) fn has(self, flag: Flag) -> bool
+        ensures { result ≡ holds self flag }
     {
-        self.bits & bit(op) != 0
+        self.bits & bit(flag) != 0
     }
 
-    /// The same with an operator more.
+    /// Whether it reduced by any operator.
     #[inline]
-    pub fn with(self, op: Op) -> Operators
-        ensures { (other : Operator) → holds result other ≡ (holds self other || is_same other op) }
+    pub(crate) fn reduces(self) -> bool
+        ensures { result ≡ false → (op : Operator) → (flags_in self).by op ≡ false }
     {
-        Operators {
-            bits: self.bits | bit(op),
-        }
-    }
-}
-
-impl ElementFlags {
-    /// The flags where no access was made.
-    #[inline]
-    pub fn none() -> ElementFlags
-        ensures { result ≡ nothing_kept }
-    {
-        ElementFlags {
-            wrote: false,
-            looked: false,
-            plain: false,
-            operators: Operators { bits: 0 },
-        }
-    }
-
-    /// Whether an access was made: each is plain or a write.
-    #[inline]
-    pub fn is_touched(self) -> bool
-        ensures { result ≡ (self.plain || self.wrote) }
-    {
-        self.plain || self.wrote
+        self.bits & OPERATORS != 0
     }
 
     /// Whether the iteration has an exposed read of the element and doesn't write it.
     #[inline]
-    pub fn reads_only(self) -> bool
-        ensures { result ≡ (self.looked && not self.wrote) }
+    pub(crate) fn reads_only(self) -> bool
+        ensures { result ≡ ((flags_in self).looked && not (flags_in self).wrote) }
     {
-        self.looked && !self.wrote
+        self.has(Flag::Looked) && !self.has(Flag::Wrote)
     }
 
     /// Whether it has an exposed read of the element and writes it.
     #[inline]
-    pub fn reads_and_writes(self) -> bool
-        ensures { result ≡ (self.looked && self.wrote) }
+    pub(crate) fn reads_and_writes(self) -> bool
+        ensures { result ≡ ((flags_in self).looked && (flags_in self).wrote) }
     {
-        self.looked && self.wrote
+        self.has(Flag::Looked) && self.has(Flag::Wrote)
     }
 
     /// The flags after one access more.
     #[inline]
-    pub fn after(self, access: Access) -> ElementFlags
+    pub(crate) fn after(self, access: Access) -> ElementFlags
         ensures { flags_in result ≡ flagged (flags_in self) access }
     {
-        let looked = self.looked || !self.wrote;
         match access {
-            Access::Read => ElementFlags {
-                looked,
-                plain: true,
-                ..self
-            },
-            Access::Write => ElementFlags {
-                wrote: true,
-                plain: true,
-                ..self
-            },
-            Access::Both => ElementFlags {
-                wrote: true,
-                looked,
-                plain: true,
-                ..self
-            },
-            Access::Reduce(op) => ElementFlags {
-                wrote: true,
-                looked,
-                operators: self.operators.with(op),
-                ..self
-            },
+            Access::Read => self.look().with(Flag::Plain),
+            Access::Write => self.with(Flag::Wrote).with(Flag::Plain),
+            Access::Both => self.look().with(Flag::Wrote).with(Flag::Plain),
+            Access::Reduce(op) => self.look().with(Flag::Wrote).with(Flag::By(op)),
+        }
+    }
+
+    /// The flags after a look at the element, which is exposed where the iteration hasn't written it.
+    #[inline]
+    fn look(self) -> ElementFlags
+        ensures { flags_in result ≡ with_look (flags_in self) }
+    {
+        if self.has(Flag::Wrote) {
+            return self;
+        }
+        self.with(Flag::Looked)
+    }
+
+    /// The same with a flag more.
+    #[inline]
+    fn with(self, flag: Flag) -> ElementFlags
+        ensures { flags_in result ≡ with_flag flag (flags_in self) }
+    {
+        ElementFlags {
+            bits: self.bits | bit(flag),
         }
     }
 }
 
-/// An operator's bit in a set.
+/// A flag's bit.
 #[inline]
-fn bit(op: Op) -> u8
-    ensures { result ≡ 2 ^ place_of op }
+fn bit(flag: Flag) -> u8
+    ensures { result ≡ 2 ^ place_of flag }
 {
-    match op {
-        Op::Add => 1,
-        Op::Or => 2,
-        Op::And => 4,
-        Op::Xor => 8,
-        Op::AddH => 16,
+    match flag {
+        Flag::Wrote => 1,
+        Flag::Looked => 2,
+        Flag::Plain => 4,
+        Flag::By(Op::Add) => 8,
+        Flag::By(Op::Or) => 16,
+        Flag::By(Op::And) => 32,
+        Flag::By(Op::Xor) => 64,
+        Flag::By(Op::AddH) => 128,
     }
 }

@@ -10,9 +10,9 @@ ghost use Rattle.shadow_marks.specs.Bits.{ChangesNumber};
 ghost use Rattle.shadow_marks.specs.Ending.{OperatorsHave, LrpdHave, FlowHave, TestedHave, LrpdFolds, FlowFolds, TestedFolds, OperatorsFold, KeepsShape, Folds};
 
 use crate::bits::{is_also_set, or_bit};
-use crate::element_flags::{ElementFlags, Operators};
+use crate::element_flags::{ElementFlags, Flag};
 use crate::iter_flags::IterFlags;
-use crate::planes::{FlowPlanes, LrpdPlanes, OperatorPlanes, Planes, Tested};
+use crate::planes::{FlowPlanes, LrpdPlanes, NO_WRITER, OperatorPlanes, Planes, Tested};
 use array_maps::Op;
 
 impl Planes {
@@ -21,7 +21,7 @@ impl Planes {
     pub fn end_iteration(&mut self, flags: &mut IterFlags, index: u32)
         requires whole { ArePlanes self.old }
         requires elements { elements_of flags.old ≡ self.old.elements }
-        requires index { index < 4294967295 }
+        requires index { index < NO_WRITER }
         ensures shape { KeepsShape self.old self.new }
         ensures marks { (e : ℕ) (marks : Marks) → StandAt self.old e marks → StandAt self.new e (merged marks (marks_of_one index (flags_at flags.old e))) }
         ensures visits { (visits : ℕ → List Visit) (actions : ℕ → List Action) → AreFlagsOf actions flags.old → StandFor self.old visits → StandFor self.new (one_more visits index actions) }
@@ -38,30 +38,30 @@ impl Planes {
     fn fold(&mut self, e: u32, kept: ElementFlags, index: u32)
         requires whole { ArePlanes self.old }
         requires in_range { e < self.old.elements }
-        requires index { index < 4294967295 }
+        requires index { index < NO_WRITER }
         ensures { Folds self.old self.new e index (flags_in kept) }
     {
-        or_bit(&mut self.plain, e, kept.plain);
-        self.operators.fold(e, kept.operators);
+        or_bit(&mut self.plain, e, kept.has(Flag::Plain));
+        self.operators.fold(e, kept);
         self.tested.fold(e, kept, index);
     }
 }
 
 impl OperatorPlanes {
-    /// Sets an element's bits of some operators.
+    /// Sets an element's bits of the operators that it was reduced by.
     #[inline]
-    fn fold(&mut self, e: u32, operators: Operators)
+    fn fold(&mut self, e: u32, kept: ElementFlags)
         requires { OperatorsHave self.old e }
-        ensures { OperatorsFold self.old self.new e operators }
+        ensures { OperatorsFold self.old self.new e (flags_in kept) }
     {
-        if operators.is_empty() {
+        if !kept.reduces() {
             return;
         }
-        or_bit(&mut self.add, e, operators.has(Op::Add));
-        or_bit(&mut self.or, e, operators.has(Op::Or));
-        or_bit(&mut self.and, e, operators.has(Op::And));
-        or_bit(&mut self.xor, e, operators.has(Op::Xor));
-        or_bit(&mut self.addh, e, operators.has(Op::AddH));
+        or_bit(&mut self.add, e, kept.has(Flag::By(Op::Add)));
+        or_bit(&mut self.or, e, kept.has(Flag::By(Op::Or)));
+        or_bit(&mut self.and, e, kept.has(Flag::By(Op::And)));
+        or_bit(&mut self.xor, e, kept.has(Flag::By(Op::Xor)));
+        or_bit(&mut self.addh, e, kept.has(Flag::By(Op::AddH)));
     }
 }
 
@@ -70,8 +70,8 @@ impl Tested {
     #[inline]
     fn fold(&mut self, e: u32, kept: ElementFlags, index: u32)
         requires have { TestedHave self.old e }
-        requires index { index < 4294967295 }
-        ensures { TestedFolds self.old self.new e kept index }
+        requires index { index < NO_WRITER }
+        ensures { TestedFolds self.old self.new e (flags_in kept) index }
     {
         match self {
             Tested::Lrpd(planes) => planes.fold(e, kept),
@@ -84,11 +84,11 @@ impl LrpdPlanes {
     #[inline]
     fn fold(&mut self, e: u32, kept: ElementFlags)
         requires { LrpdHave self.old e }
-        ensures { LrpdFolds self.old self.new e kept }
+        ensures { LrpdFolds self.old self.new e (flags_in kept) }
     {
-        let by_two = is_also_set(kept.wrote, &self.written, e);
+        let by_two = is_also_set(kept.has(Flag::Wrote), &self.written, e);
         or_bit(&mut self.written_by_two, e, by_two);
-        or_bit(&mut self.written, e, kept.wrote);
+        or_bit(&mut self.written, e, kept.has(Flag::Wrote));
         or_bit(&mut self.read_only, e, kept.reads_only());
         or_bit(&mut self.read_and_written, e, kept.reads_and_writes());
     }
@@ -98,13 +98,13 @@ impl FlowPlanes {
     #[inline]
     fn fold(&mut self, e: u32, kept: ElementFlags, index: u32)
         requires have { FlowHave self.old e }
-        requires index { index < 4294967295 }
-        ensures { FlowFolds self.old self.new e kept index }
+        requires index { index < NO_WRITER }
+        ensures { FlowFolds self.old self.new e (flags_in kept) index }
     {
-        if kept.wrote {
+        if kept.has(Flag::Wrote) {
             lower(&mut self.first, e, index);
         }
-        if kept.looked {
+        if kept.has(Flag::Looked) {
             raise(&mut self.last, e, index + 1);
         }
     }

@@ -1,27 +1,28 @@
 //! The flags of the iteration under way.
 
 ghost use Rattle.std.specs.Prelude.{◌≡◌, ◌≤◌, ◌<◌, ℕ, true, false, length, slice_index_or, vec_capacity};
-ghost use Rattle.shadow_marks.specs.Kept.{nothing_kept, is_nothing, has_element};
+ghost use Rattle.shadow_marks.specs.Kept.{nothing_kept, has_element};
 
-use crate::element_flags::ElementFlags;
+use crate::element_flags::{ElementFlags, Flag};
 use loop_core_marks::Access;
 use std::alloc::{AllocError, Global};
 
 /// The greatest number of marks of one iteration.
 pub const MAX_MARKS: usize = 4096;
 
-/// What the iteration under way did at each element so far, and which elements it touched.
+/// What the iteration under way did at each element so far: a byte for each, and a list of those that
+/// it touched.
 #[derive(Drop)]
 pub struct IterFlags {
     cells: Vec<ElementFlags>,
     touched: Vec<u32>,
     ghost room: { 4096 ≤ vec_capacity touched },
     ghost within: { (e : ℕ) → has_element touched.items e ≡ true → e < length cells.items },
-    ghost covered: { (e : ℕ) → has_element touched.items e ≡ false → is_nothing (slice_index_or cells.items e nothing_kept) ≡ true },
+    ghost covered: { (e : ℕ) → has_element touched.items e ≡ false → (slice_index_or cells.items e nothing_kept).bits ≡ 0 },
 }
 
 impl IterFlags {
-    ghost use Rattle.std.specs.Prelude.{◌≢◌, ◌+◌, IfOk, MatchOption};
+    ghost use Rattle.std.specs.Prelude.{◌≢◌, ◌+◌, ◌||◌, IfOk, MatchOption};
     ghost use Rattle.loop_core_marks.specs.Flags.{flagged};
     ghost use Rattle.shadow_marks.specs.Iteration.{elements_of, touched_count, flags_at, IsEmptied, TakesFlags, TakesNone};
 
@@ -41,7 +42,7 @@ impl IterFlags {
     #[inline]
     pub fn mark(&mut self, e: u32, access: Access)
         requires in_range { e < elements_of self.old }
-        requires room { touched_count self.old < 4096 }
+        requires room { touched_count self.old < MAX_MARKS }
         ensures here { flags_at self.new e ≡ flagged (flags_at self.old e) access }
         ensures others { (other : ℕ) → other ≢ e → flags_at self.new other ≡ flags_at self.old other }
         ensures elements { elements_of self.new ≡ elements_of self.old }
@@ -52,16 +53,26 @@ impl IterFlags {
         self.cells[e as usize] = before.after(access);
     }
 
+    /// Whether an element, which is in range, was touched since the flags were emptied.
+    #[inline]
+    pub fn is_touched(&self, e: u32) -> bool
+        requires { e < elements_of self.now }
+        ensures { result ≡ ((flags_at self.now e).plain || (flags_at self.now e).wrote) }
+    {
+        let kept = self.cells[e as usize];
+        kept.has(Flag::Plain) || kept.has(Flag::Wrote)
+    }
+
     /// Lists an element as touched, where its flags don't tell that it is.
     #[inline]
     fn touch(&mut self, e: u32)
         requires in_range { e < elements_of self.old }
-        requires room { touched_count self.old < 4096 }
+        requires room { touched_count self.old < MAX_MARKS }
         ensures listed { has_element self.new.touched.items e ≡ true }
         ensures cells { self.new.cells ≡ self.old.cells }
         ensures count { touched_count self.new ≤ touched_count self.old + 1 }
     {
-        if !self.cells[e as usize].is_touched() {
+        if self.cells[e as usize].is_none() {
             self.touched.push_reserved(e);
         }
     }

@@ -3,11 +3,10 @@
 #![tactic(auto)]
 
 mod bits;
-pub mod element_flags;
+mod element_flags;
 mod ending;
 pub mod iter_flags;
 pub mod planes;
 
-pub use element_flags::{ElementFlags, Operators};
 pub use iter_flags::{IterFlags, MAX_MARKS};
-pub use planes::{FlowPlanes, LrpdPlanes, OperatorPlanes, Planes, Tested};
+pub use planes::{FlowPlanes, LrpdPlanes, NO_WRITER, OperatorPlanes, Planes, Tested};

@@ -1,5 +1,6 @@
 use Rattle.std.proofs.Common.{refl, arith}
 use Rattle.std.proofs.lemmas.Grind.{common_steps}
+use Rattle.shadow_marks.specs.Kept.{flags_in}
 use Rattle.shadow_marks.proofs.FoldLaws.{operators_have, parts_fold}
 use Rattle.shadow_marks.proofs.planes.Planes.fold.Goals as goal
 
@@ -8,7 +9,7 @@ fold-requires c = operators_have c.args.self.now.elements _ c.args.e c.requires.
 
 pub returns : goal.returns
 returns c =
-    parts_fold c.args.self.now _ c.args.e c.args.index c.args.kept c.requires.whole c.requires.in_range c.requires.index
+    parts_fold c.args.self.now _ c.args.e c.args.index (flags_in c.args.kept) c.requires.whole c.requires.in_range c.requires.index
     (record {
       elements = refl;
       plain = grind (arith, common_steps);

@@ -1,0 +1,110 @@
+-- A flag that is set in a byte of flags.
+use Rattle.std.proofs.Common.{◌≡◌, ℕ, ◌^◌, ◌<◌, min, Bool, true, false, not, ◌||◌, eqb, refl, sym, ◌∙◌, ap, arith, eq-eqb, ne_eqb}
+use Rattle.std.specs.Prelude.{bit_and, bit_or}
+use Rattle.std.specs.Int.{bit_at}
+use Rattle.std.proofs.Math.Bool.{or-false}
+use Rattle.std.proofs.lemmas.Nat.Bits.{bit_at_and, bit_at-zero}
+use Rattle.array_maps.specs.declared.access.Op.{Op}
+use Rattle.array_maps.specs.declared.access.Op.TheVariants.{Add, Or, And, Xor, AddH}
+use Rattle.loop_core_marks.specs.Flags.{Flags}
+use Rattle.shadow_marks.specs.declared.element_flags.Flag.{Flag}
+use Rattle.shadow_marks.specs.declared.element_flags.Flag.TheVariants.{Wrote, Looked, Plain, By}
+use Rattle.shadow_marks.specs.declared.element_flags.ElementFlags.{ElementFlags}
+use Rattle.shadow_marks.specs.Kept.{place_by, place_of, flags_in, with_flag, with_look}
+use Rattle.shadow_marks.proofs.BitLaws.{bit_ored, same_place}
+
+-- flags that agree are the same
+pub record FlagsAgree (a b : Flags) : Type 0 where
+  pub wrote : a.wrote ≡ b.wrote
+  pub looked : a.looked ≡ b.looked
+  pub plain : a.plain ≡ b.plain
+  pub by : (op : Op) → a.by op ≡ b.by op
+
+pub same_flags : (a b : Flags) → FlagsAgree a b → a ≡ b
+same_flags a b h = λ i. record { wrote = h.wrote i; looked = h.looked i; plain = h.plain i; by = λ op. h.by op i }
+
+or_true : (b : Bool) → (b || true) ≡ true
+or_true true = refl
+or_true false = refl
+
+-- operators stand behind the other flags
+behind : (n : ℕ) (op : Op) → n < 3 → eqb n (place_by op) ≡ false
+behind n Add h = ne_eqb n 3 (λ same. absurd (omega arith))
+behind n Or h = ne_eqb n 4 (λ same. absurd (omega arith))
+behind n And h = ne_eqb n 5 (λ same. absurd (omega arith))
+behind n Xor h = ne_eqb n 6 (λ same. absurd (omega arith))
+behind n AddH h = ne_eqb n 7 (λ same. absurd (omega arith))
+
+before : (op : Op) (n : ℕ) → n < 3 → eqb (place_by op) n ≡ false
+before Add n h = ne_eqb 3 n (λ same. absurd (omega arith))
+before Or n h = ne_eqb 4 n (λ same. absurd (omega arith))
+before And n h = ne_eqb 5 n (λ same. absurd (omega arith))
+before Xor n h = ne_eqb 6 n (λ same. absurd (omega arith))
+before AddH n h = ne_eqb 7 n (λ same. absurd (omega arith))
+
+-- a bit of the flags with one more
+unchanged : (bits mask place k : ℕ) → mask ≡ 2 ^ place → eqb k place ≡ false → eqb (bit_at (bit_or bits mask) k) 1 ≡ eqb (bit_at bits k) 1
+unchanged bits mask place k m other = bit_ored bits mask place k m ∙ ap (λ b. eqb (bit_at bits k) 1 || b) other ∙ or-false (eqb (bit_at bits k) 1)
+
+changed : (bits mask place : ℕ) → mask ≡ 2 ^ place → eqb (bit_at (bit_or bits mask) place) 1 ≡ true
+changed bits mask place m =
+    bit_ored bits mask place place m ∙ ap (λ b. eqb (bit_at bits place) 1 || b) (eq-eqb place place refl) ∙ or_true (eqb (bit_at bits place) 1)
+
+pub flag_ored : (kept : ElementFlags) (flag : Flag) (mask : ℕ) → mask ≡ 2 ^ place_of flag →
+    flags_in (record { bits = bit_or kept.bits mask }) ≡ with_flag flag (flags_in kept)
+flag_ored kept Wrote mask m = same_flags _ _ (record {
+  wrote = changed kept.bits mask 0 m;
+  looked = unchanged kept.bits mask 0 1 m refl;
+  plain = unchanged kept.bits mask 0 2 m refl;
+  by = λ op. unchanged kept.bits mask 0 (place_by op) m (before op 0 (omega arith));
+})
+flag_ored kept Looked mask m = same_flags _ _ (record {
+  wrote = unchanged kept.bits mask 1 0 m refl;
+  looked = changed kept.bits mask 1 m;
+  plain = unchanged kept.bits mask 1 2 m refl;
+  by = λ op. unchanged kept.bits mask 1 (place_by op) m (before op 1 (omega arith));
+})
+flag_ored kept Plain mask m = same_flags _ _ (record {
+  wrote = unchanged kept.bits mask 2 0 m refl;
+  looked = unchanged kept.bits mask 2 1 m refl;
+  plain = changed kept.bits mask 2 m;
+  by = λ op. unchanged kept.bits mask 2 (place_by op) m (before op 2 (omega arith));
+})
+flag_ored kept (By op) mask m = same_flags _ _ (record {
+  wrote = unchanged kept.bits mask (place_by op) 0 m (behind 0 op (omega arith));
+  looked = unchanged kept.bits mask (place_by op) 1 m (behind 1 op (omega arith));
+  plain = unchanged kept.bits mask (place_by op) 2 m (behind 2 op (omega arith));
+  by = λ other.
+      bit_ored kept.bits mask (place_by op) (place_by other) m
+      ∙ ap (λ b. eqb (bit_at kept.bits (place_by other)) 1 || b) (same_place other op);
+})
+
+-- a look
+pub look_after_write : (flags : Flags) → flags.wrote ≡ true → flags ≡ with_look flags
+look_after_write flags wrote = same_flags _ _ (record {
+  wrote = refl;
+  looked = sym (ap (λ b. flags.looked || not b) wrote ∙ or-false flags.looked);
+  plain = refl;
+  by = λ op. refl;
+})
+
+pub look_before_write : (flags : Flags) → flags.wrote ≡ false → with_flag Looked flags ≡ with_look flags
+look_before_write flags none = same_flags _ _ (record {
+  wrote = refl;
+  looked = sym (ap (λ b. flags.looked || not b) none ∙ or_true flags.looked);
+  plain = refl;
+  by = λ op. refl;
+})
+
+-- where no operator's bit is set there is no reduce
+masked : (bits mask k : ℕ) → bit_and bits mask ≡ 0 → bit_at mask k ≡ 1 → eqb (bit_at bits k) 1 ≡ false
+masked bits mask k none one =
+    let met : min (bit_at bits k) (bit_at mask k) ≡ 0 = sym (bit_at_and bits mask k) ∙ ap (λ n. bit_at n k) none ∙ bit_at-zero k in
+    ne_eqb (bit_at bits k) 1 (λ set. absurd (omega arith))
+
+pub no_reduce : (bits : ℕ) (op : Op) → bit_and bits 248 ≡ 0 → eqb (bit_at bits (place_by op)) 1 ≡ false
+no_reduce bits Add none = masked bits 248 3 none refl
+no_reduce bits Or none = masked bits 248 4 none refl
+no_reduce bits And none = masked bits 248 5 none refl
+no_reduce bits Xor none = masked bits 248 6 none refl
+no_reduce bits AddH none = masked bits 248 7 none refl

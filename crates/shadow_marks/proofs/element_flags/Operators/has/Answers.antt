@@ -1,6 +1,0 @@
-use Rattle.shadow_marks.specs.Kept.{place_of}
-use Rattle.shadow_marks.proofs.BitLaws.{bit_tested}
-use Rattle.shadow_marks.proofs.element_flags.Operators.has.Goals as goal
-
-pub returns : goal.returns
-returns c = bit_tested c.args.self.bits c.bit.result (place_of c.args.op) c.bit.ensures
