@@ -5,3 +5,4 @@ pub mod Writing
 pub mod Counts
 pub mod SamePlanes
 pub mod MergeLaws
+pub mod WholeLaws

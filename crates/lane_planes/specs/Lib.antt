@@ -2,4 +2,3 @@ pub mod Writes
 pub mod Words
 pub mod Merged
 pub mod Conflicts
-pub mod Meaning

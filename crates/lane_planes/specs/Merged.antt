@@ -1,5 +1,6 @@
 -- What planes are after others were merged into them, word by word.
-use Rattle.std.specs.Prelude.{◌≡◌, ℕ, min, max, List, length, slice_index, bit_and, bit_or}
+use Rattle.std.specs.Prelude.{◌≡◌, ℕ, ◌≤◌, min, max, List, ◌++◌, length, slice_index, bit_and, bit_or}
+use Rattle.loop_core_marks.specs.Marks.{Visit}
 use Rattle.shadow_marks.specs.declared.planes.LrpdPlanes.{LrpdPlanes}
 use Rattle.shadow_marks.specs.declared.planes.FlowPlanes.{FlowPlanes}
 use Rattle.shadow_marks.specs.declared.planes.Tested.{Tested}
@@ -48,6 +49,10 @@ SameTested (Lrpd mine) (Lrpd theirs) = SameLrpd mine theirs
 SameTested (Flow mine) (Flow theirs) = SameFlow mine theirs
 SameTested _ _ = ⊥
 
+-- first writers are numbers of 32 bits
+abbrev pub FirstsFit : Tested → Type 0
+FirstsFit tested = (planes : FlowPlanes) → tested ≡ Flow planes → (e : ℕ) → slice_index planes.first.items e ≤ 4294967295
+
 -- the planes of the operators
 pub record MergedOperators (mine theirs joined : OperatorPlanes) : Type 0 where
   pub add : Ored mine.add.items theirs.add.items joined.add.items
@@ -78,3 +83,7 @@ pub record MergedPlanes (mine theirs joined : Planes) : Type 0 where
   pub plain : Ored mine.plain.items theirs.plain.items joined.plain.items
   pub operators : MergedOperators mine.operators theirs.operators joined.operators
   pub tested : MergedTested mine.tested theirs.tested joined.tested
+
+-- at each element the visits of the one and then those of the other
+abbrev pub joined_visits : (mine theirs : ℕ → List Visit) → ℕ → List Visit
+joined_visits mine theirs e = mine e ++ theirs e

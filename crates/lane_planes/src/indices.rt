@@ -10,7 +10,9 @@ use std::simd::prelude::*;
 pub(crate) fn lesser_into<const N: usize>(into: &mut [u32], from: &[u32])
     requires lanes { (0 < N) × (N ≤ 64) }
     requires same { length into.old ≡ length from.now }
-    ensures { Writes (λ i. min (slice_index into.old i) (slice_index from.now i)) 0 (length into.old) into.old into.new }
+    ensures words { Writes (λ i. min (slice_index into.old i) (slice_index from.now i)) 0 (length into.old) into.old into.new }
+    ensures mine_fit { (i : ℕ) → slice_index into.old i ≤ 4294967295 }
+    ensures theirs_fit { (i : ℕ) → slice_index from.now i ≤ 4294967295 }
 {
     let mut at = 0;
     while at + N <= into.len() {

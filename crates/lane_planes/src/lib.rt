@@ -2,8 +2,6 @@
 //! word at a time for what is left: planes merged, conflicts told, counted and the least found.
 #![tactic(auto)]
 
-ghost use Rattle.lane_planes.specs.Meaning.{MergeMeans};
-
 mod bits;
 mod conflict;
 mod counting;
@@ -16,9 +14,3 @@ mod merging;
 pub use counting::{count_bits, first_bit};
 pub use judging::conflicts;
 pub use merging::merge;
-
-/// The law of merged words: planes that were merged have at each element the marks of the two, merged.
-/// Nothing runs here: the contract is the law.
-pub fn law_of_merge()
-    ensures { MergeMeans }
-{}

@@ -1,8 +1,10 @@
 //! Planes of two disjoint sets of iterations, merged.
 
-ghost use Rattle.std.specs.Prelude.{◌≡◌, ◌<◌, ◌≤◌, length};
-ghost use Rattle.shadow_marks.specs.Standing.{ArePlanes, test_of};
-ghost use Rattle.lane_planes.specs.Merged.{MergedOperators, MergedLrpd, MergedFlow, MergedTested, MergedPlanes, SameOperators, SameTested, SameLrpd, SameFlow};
+ghost use Rattle.std.specs.Prelude.{◌≡◌, ◌<◌, ◌≤◌, ℕ, List, length, slice_index};
+ghost use Rattle.loop_core_marks.specs.Marks.{Visit, Marks, merged};
+ghost use Rattle.shadow_marks.specs.Standing.{ArePlanes, test_of, StandAt, StandFor};
+ghost use Rattle.shadow_marks.specs.Ending.{KeepsShape};
+ghost use Rattle.lane_planes.specs.Merged.{joined_visits, MergedOperators, MergedLrpd, MergedFlow, MergedTested, MergedPlanes, SameOperators, SameTested, SameLrpd, SameFlow, FirstsFit};
 
 use crate::bits::{or_into, written_by_two_into};
 use crate::indices::{greater_into, lesser_into};
@@ -16,7 +18,10 @@ pub fn merge<const N: usize>(into: &mut Planes, from: &Planes)
     requires theirs { ArePlanes from.now }
     requires elements { into.old.elements ≡ from.now.elements }
     requires test { test_of into.old.tested ≡ test_of from.now.tested }
-    ensures { MergedPlanes into.old from.now into.new }
+    ensures words { MergedPlanes into.old from.now into.new }
+    ensures shape { KeepsShape into.old into.new }
+    ensures marks { (e : ℕ) (a b : Marks) → e < into.old.elements → StandAt into.old e a → StandAt from.now e b → StandAt into.new e (merged a b) }
+    ensures visits { (mine theirs : ℕ → List Visit) → StandFor into.old mine → StandFor from.now theirs → StandFor into.new (joined_visits mine theirs) }
 {
     or_into::<N>(into.plain.as_mut_slice(), from.plain.as_slice());
     merge_operators::<N>(&mut into.operators, &from.operators);
@@ -37,9 +42,10 @@ fn merge_operators<const N: usize>(into: &mut OperatorPlanes, from: &OperatorPla
 
 fn merge_tested<const N: usize>(into: &mut Tested, from: &Tested)
     requires lanes { (0 < N) × (N ≤ 64) }
-
     requires same { SameTested into.old from.now }
-    ensures { MergedTested into.old from.now into.new }
+    ensures words { MergedTested into.old from.now into.new }
+    ensures mine_fit { FirstsFit into.old }
+    ensures theirs_fit { FirstsFit from.now }
 {
     match into {
         Tested::Lrpd(mine) => {
@@ -77,7 +83,9 @@ fn merge_lrpd<const N: usize>(into: &mut LrpdPlanes, from: &LrpdPlanes)
 fn merge_flow<const N: usize>(into: &mut FlowPlanes, from: &FlowPlanes)
     requires lanes { (0 < N) × (N ≤ 64) }
     requires same { SameFlow into.old from.now }
-    ensures { MergedFlow into.old from.now into.new }
+    ensures words { MergedFlow into.old from.now into.new }
+    ensures mine_fit { (e : ℕ) → slice_index into.old.first.items e ≤ 4294967295 }
+    ensures theirs_fit { (e : ℕ) → slice_index from.now.first.items e ≤ 4294967295 }
 {
     lesser_into::<N>(into.first.as_mut_slice(), from.first.as_slice());
     greater_into::<N>(into.last.as_mut_slice(), from.last.as_slice());
