@@ -6,3 +6,5 @@ pub mod Counts
 pub mod SamePlanes
 pub mod MergeLaws
 pub mod WholeLaws
+pub mod ReductionLaws
+pub mod ConflictLaws

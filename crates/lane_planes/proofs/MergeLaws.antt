@@ -54,7 +54,7 @@ tested_at elements e (Flow mine) (Flow theirs) (Flow joined) a b below whole wor
     record {
       first = words.first.written e (omega arith) in_first ∙ ap (λ n. min n (slice_index theirs.first.items e)) at_a.first ∙ ap (min (first_number a.first)) at_b.first
           ∙ sym (first_is_number.lesser_is a.first b.first
-              (subst (λ n. n ≤ 4294967295) at_a.first (fit_a mine refl e)) (subst (λ n. n ≤ 4294967295) at_b.first (fit_b theirs refl e)));
+          (subst (λ n. n ≤ 4294967295) at_a.first (fit_a mine refl e)) (subst (λ n. n ≤ 4294967295) at_b.first (fit_b theirs refl e)));
       last = words.last.written e (omega arith) in_last ∙ ap (λ n. max n (slice_index theirs.last.items e)) at_a.last ∙ ap (max a.last) at_b.last;
     }
 tested_at elements e (Lrpd mine) (Flow theirs) joined a b below whole words fit_a fit_b at_a at_b = absurd words

@@ -1,11 +1,11 @@
 -- What a plane of conflicts is, word by word.
-use Rattle.std.specs.Prelude.{◌≡◌, ℕ, ◌+◌, ◌/◌, ◌<◌, List, [], ◌∷◌, length, slice_index, bit_and, bit_or}
+use Rattle.std.specs.Prelude.{◌≡◌, ℕ, ◌+◌, ◌/◌, ◌^◌, ◌<◌, ◌≤◌, List, [], ◌∷◌, length, slice_index, bit_and, bit_or}
 use Rattle.shadow_marks.specs.declared.planes.LrpdPlanes.{LrpdPlanes}
 use Rattle.shadow_marks.specs.declared.planes.FlowPlanes.{FlowPlanes}
 use Rattle.shadow_marks.specs.declared.planes.Tested.{Tested}
 use Rattle.shadow_marks.specs.declared.planes.Tested.TheVariants.{Lrpd, Flow}
 use Rattle.shadow_marks.specs.declared.planes.Planes.{Planes}
-use Rattle.lane_planes.specs.Words.{without_reductions, FlowWords}
+use Rattle.lane_planes.specs.Words.{in_some, without_reductions, FlowWords}
 
 -- by the LRPD test: a reader that doesn't write and a writer, or a reader that writes and another writer
 abbrev pub lrpd_word : LrpdPlanes → ℕ → ℕ
@@ -48,3 +48,12 @@ pub record ConflictWords (planes : Planes) (words : List ℕ) : Type 0 where
   pub failing : List ℕ
   pub fails : FailingWords planes.tested (length words) failing
   pub each : (i : ℕ) → i < length words → slice_index words i ≡ cleared_word planes (slice_index failing i) i
+
+-- last readers, and the words of the operators' planes, are numbers of 32 and of 64 bits
+abbrev pub LastsFit : Tested → Type 0
+LastsFit tested = (planes : FlowPlanes) → tested ≡ Flow planes → (e : ℕ) → slice_index planes.last.items e ≤ 4294967295
+
+abbrev pub OperatorWordsFit : Planes → (many : ℕ) → Type 0
+OperatorWordsFit planes many = (i : ℕ) → i < many →
+    in_some (slice_index planes.operators.addh.items i ∷ slice_index planes.operators.xor.items i ∷ slice_index planes.operators.and.items i
+    ∷ slice_index planes.operators.or.items i ∷ slice_index planes.operators.add.items i ∷ []) < 2 ^ 64

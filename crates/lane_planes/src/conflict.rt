@@ -1,7 +1,7 @@
 //! Which elements conflict.
 
-ghost use Rattle.std.specs.Prelude.{◌≡◌, ℕ, ◌+◌, ◌<◌, ◌≤◌, length, slice_index, bit_or, bit_and, [], ◌∷◌};
-ghost use Rattle.lane_planes.specs.Words.{without_reductions};
+ghost use Rattle.std.specs.Prelude.{◌≡◌, ℕ, ◌+◌, ◌^◌, ◌<◌, ◌≤◌, length, slice_index, bit_or, bit_and, [], ◌∷◌};
+ghost use Rattle.lane_planes.specs.Words.{in_some, without_reductions};
 ghost use Rattle.lane_planes.specs.Writes.{Writes};
 
 use crate::loading::words_at;
@@ -90,7 +90,8 @@ pub(crate) fn clear_reductions<const N: usize>(into: &mut [u64], planes: Reducti
     requires same_and { length into.old ≡ length planes.and.now }
     requires same_xor { length into.old ≡ length planes.xor.now }
     requires same_addh { length into.old ≡ length planes.addh.now }
-    ensures { Writes (λ i. without_reductions (slice_index into.old i) (slice_index planes.entry.plain.now i) (slice_index planes.entry.addh.now i ∷ slice_index planes.entry.xor.now i ∷ slice_index planes.entry.and.now i ∷ slice_index planes.entry.or.now i ∷ slice_index planes.entry.add.now i ∷ [])) 0 (length into.old) into.old into.new }
+    ensures words { Writes (λ i. without_reductions (slice_index into.old i) (slice_index planes.entry.plain.now i) (slice_index planes.entry.addh.now i ∷ slice_index planes.entry.xor.now i ∷ slice_index planes.entry.and.now i ∷ slice_index planes.entry.or.now i ∷ slice_index planes.entry.add.now i ∷ [])) 0 (length into.old) into.old into.new }
+    ensures fit { (i : ℕ) → i < length into.old → in_some (slice_index planes.entry.addh.now i ∷ slice_index planes.entry.xor.now i ∷ slice_index planes.entry.and.now i ∷ slice_index planes.entry.or.now i ∷ slice_index planes.entry.add.now i ∷ []) < 2 ^ 64 }
 {
     let mut at = 0;
     while at + N <= into.len() {
@@ -112,7 +113,8 @@ fn clear_reductions_at<const N: usize>(into: &mut [u64], planes: ReductionPlanes
     requires same_xor { length into.old ≡ length planes.xor.now }
     requires same_addh { length into.old ≡ length planes.addh.now }
     requires room { at + N ≤ length into.old }
-    ensures { Writes (λ i. without_reductions (slice_index into.old i) (slice_index planes.entry.plain.now i) (slice_index planes.entry.addh.now i ∷ slice_index planes.entry.xor.now i ∷ slice_index planes.entry.and.now i ∷ slice_index planes.entry.or.now i ∷ slice_index planes.entry.add.now i ∷ [])) at (at + N) into.old into.new }
+    ensures words { Writes (λ i. without_reductions (slice_index into.old i) (slice_index planes.entry.plain.now i) (slice_index planes.entry.addh.now i ∷ slice_index planes.entry.xor.now i ∷ slice_index planes.entry.and.now i ∷ slice_index planes.entry.or.now i ∷ slice_index planes.entry.add.now i ∷ [])) at (at + N) into.old into.new }
+    ensures fit { (i : ℕ) → in_some (slice_index planes.entry.addh.now i ∷ slice_index planes.entry.xor.now i ∷ slice_index planes.entry.and.now i ∷ slice_index planes.entry.or.now i ∷ slice_index planes.entry.add.now i ∷ []) < 2 ^ 64 }
 {
     let here = words_at::<N>(into, at);
     let plain = words_at::<N>(planes.plain, at);

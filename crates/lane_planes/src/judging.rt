@@ -1,8 +1,11 @@
 //! The plane of conflicts.
 
-ghost use Rattle.std.specs.Prelude.{◌≡◌, ◌<◌, ◌≤◌, length};
-ghost use Rattle.shadow_marks.specs.Standing.{ArePlanes, words_for};
-ghost use Rattle.lane_planes.specs.Conflicts.{ConflictWords, FailingWords, TestedFit};
+ghost use Rattle.std.specs.Prelude.{◌≡◌, ◌<◌, ◌≤◌, ℕ, List, length};
+ghost use Rattle.std.specs.List.{filter, range_with_len};
+ghost use Rattle.loop_core_marks.specs.Marks.{Visit, Marks, marks_of, marked_conflict};
+ghost use Rattle.loop_core_marks.specs.Planes.{bit_of, elements_of};
+ghost use Rattle.shadow_marks.specs.Standing.{ArePlanes, IsBitPlane, StandAt, StandFor, test_of, words_for};
+ghost use Rattle.lane_planes.specs.Conflicts.{ConflictWords, FailingWords, LastsFit, TestedFit};
 
 use crate::conflict::{ReductionPlanes, clear_reductions, lrpd_into};
 use crate::flow::flow_into;
@@ -14,7 +17,10 @@ pub fn conflicts<const N: usize>(planes: &Planes, into: &mut [u64])
     requires lanes { (0 < N) × (N ≤ 64) }
     requires whole { ArePlanes planes.now }
     requires words { length into.old ≡ words_for planes.now.elements }
-    ensures { ConflictWords planes.now into.new }
+    ensures words { ConflictWords planes.now into.new }
+    ensures marks { (e : ℕ) (marks : Marks) → e < planes.now.elements → StandAt planes.now e marks → bit_of into.new e ≡ marked_conflict (test_of planes.now.tested) marks }
+    ensures plane { IsBitPlane planes.now.elements into.new }
+    ensures elements { (visits : ℕ → List Visit) → StandFor planes.now visits → elements_of into.new ≡ filter (λ e. marked_conflict (test_of planes.now.tested) (marks_of (visits e))) (range_with_len 0 planes.now.elements) }
 {
     failing_into::<N>(&planes.tested, into);
     let reductions = reduction_planes(planes);
@@ -25,7 +31,8 @@ pub fn conflicts<const N: usize>(planes: &Planes, into: &mut [u64])
 fn failing_into<const N: usize>(tested: &Tested, into: &mut [u64])
     requires lanes { (0 < N) × (N ≤ 64) }
     requires fit { TestedFit tested.now (length into.old) }
-    ensures { FailingWords tested.now (length into.old) into.new }
+    ensures words { FailingWords tested.now (length into.old) into.new }
+    ensures fit { LastsFit tested.now }
 {
     match tested {
         Tested::Lrpd(planes) => lrpd_into::<N>(

@@ -1,6 +1,6 @@
 //! Vectors out of slices.
 
-ghost use Rattle.std.specs.Prelude.{ℕ, ◌+◌, ◌≤◌, length, slice_index};
+ghost use Rattle.std.specs.Prelude.{ℕ, ◌+◌, ◌^◌, ◌<◌, ◌≤◌, length, slice_index};
 ghost use Rattle.lane_planes.specs.Writes.{HasLanes};
 
 use std::simd::prelude::*;
@@ -9,7 +9,8 @@ use std::simd::prelude::*;
 #[inline(always)]
 pub(crate) fn words_at<const N: usize>(words: &[u64], at: usize) -> Simd<u64, N>
     requires { at + N ≤ length words.now }
-    ensures { HasLanes N (λ k. slice_index words.now (at + k)) result }
+    ensures lanes { HasLanes N (λ k. slice_index words.now (at + k)) result }
+    ensures fit { (i : ℕ) → slice_index words.now i < 2 ^ 64 }
 {
     Simd::from_slice(&words[at..])
 }

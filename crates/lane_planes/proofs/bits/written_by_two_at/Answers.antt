@@ -8,5 +8,5 @@ returns g c =
     let n = g.row.N in
     writes_lanes _ c.args.at n _ _ c.requires.room
     (combined bit_or n _ _ _ _
-    (combined bit_or n _ _ _ _ c.words_at-mine.ensures c.words_at-theirs.ensures)
-    (combined bit_and n _ _ _ _ c.words_at-once.ensures c.words_at-again.ensures))
+    (combined bit_or n _ _ _ _ c.words_at-mine.ensures.lanes c.words_at-theirs.ensures.lanes)
+    (combined bit_and n _ _ _ _ c.words_at-once.ensures.lanes c.words_at-again.ensures.lanes))

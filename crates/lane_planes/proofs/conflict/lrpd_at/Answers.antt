@@ -8,5 +8,5 @@ returns g c =
     let n = g.row.N in
     writes_lanes _ c.args.at n _ _ c.requires.room
     (combined bit_or n _ _ _ _
-    (combined bit_and n _ _ _ _ c.words_at-reader.ensures c.words_at-writer.ensures)
-    (combined bit_and n _ _ _ _ c.words_at-both.ensures c.words_at-two.ensures))
+    (combined bit_and n _ _ _ _ c.words_at-reader.ensures.lanes c.words_at-writer.ensures.lanes)
+    (combined bit_and n _ _ _ _ c.words_at-both.ensures.lanes c.words_at-two.ensures.lanes))
