@@ -1,26 +1,23 @@
 -- A plane of conflicts tells what the marks tell.
-use Rattle.std.proofs.Common.{◌≡◌, ℕ, zero, suc, ◌+◌, ◌-◌, ◌*◌, ◌/◌, ◌%◌, ◌^◌, ◌<◌, ◌≤◌, min, Bool, false, ltb, List, [], ◌∷◌, length, refl, sym, ◌∙◌, ap, subst, ⊎_elim, arith}
-use Rattle.std.specs.Prelude.{◌==◌, ◌&&◌, ◌||◌, not, nat_lt, slice_index, bit_and, bit_or}
-use Rattle.std.specs.Int.{bit_at}
+use Rattle.std.proofs.Common.{◌≡◌, ℕ, zero, suc, ◌+◌, ◌-◌, ◌*◌, ◌/◌, ◌%◌, ◌^◌, ◌<◌, ◌≤◌, min, false, List, [], ◌∷◌, length, refl, sym, ◌∙◌, ap, subst, ⊎_elim, arith}
+use Rattle.std.specs.Prelude.{◌==◌, ◌&&◌, ◌||◌, not, nat_lt, slice_index, bit_and}
 use Rattle.std.specs.List.{filter, range_with_len}
 use Rattle.std.proofs.Math.Bool.{and_comm}
 use Rattle.std.proofs.lemmas.Bool.{cases_lt}
 use Rattle.std.proofs.lemmas.List.{get_or_past}
 use Rattle.std.proofs.lemmas.Nat.Bits.{bit_at-zero, bit_at_above}
 use Rattle.array_maps.specs.declared.access.Op.TheVariants.{Add, Or, And, Xor, AddH}
-use Rattle.loop_core_marks.specs.Marks.{Visit, Marks, marks_of, first_number, marked_reduction, marked_fails, marked_conflict, stands_before}
+use Rattle.loop_core_marks.specs.Marks.{Visit, Marks, marks_of, first_number, marked_reduction, marked_fails, marked_conflict}
 use Rattle.loop_core_marks.specs.Planes.{bit_of, elements_of}
 use Rattle.loop_core_marks.proofs.MarkLaws.{first_is_number}
 use Rattle.loop_core_marks.proofs.PlaneLaws.{plane_has_elements}
-use Rattle.shadow_marks.specs.declared.planes.LrpdPlanes.{LrpdPlanes}
-use Rattle.shadow_marks.specs.declared.planes.FlowPlanes.{FlowPlanes}
 use Rattle.shadow_marks.specs.declared.planes.Tested.{Tested}
 use Rattle.shadow_marks.specs.declared.planes.Tested.TheVariants.{Lrpd, Flow}
 use Rattle.shadow_marks.specs.declared.planes.Planes.{Planes}
-use Rattle.shadow_marks.specs.Standing.{IsBitPlane, ArePlanes, AreTested, StandAt, StandFor, TestedStandAt, test_of, words_for}
-use Rattle.lane_planes.specs.Words.{HasBits, stands_at, in_some, without_reductions}
+use Rattle.shadow_marks.specs.Standing.{ArePlanes, AreTested, StandAt, StandFor, TestedStandAt, test_of, words_for}
+use Rattle.lane_planes.specs.Words.{stands_at, in_some, without_reductions}
 use Rattle.lane_planes.specs.Writes.{Writes}
-use Rattle.lane_planes.specs.Conflicts.{FailingWords, LastsFit, OperatorWordsFit, ConflictWords, cleared_word}
+use Rattle.lane_planes.specs.Conflicts.{FailingWords, LastsFit, OperatorWordsFit, ConflictWords}
 use Rattle.lane_planes.proofs.BitMeaning.{bit, bit-and, bit-or}
 use Rattle.lane_planes.proofs.MergeLaws.{word_within}
 use Rattle.lane_planes.proofs.ReductionLaws.{marked_bit, clear_bit}
