@@ -1,0 +1,31 @@
+use Rattle.std.proofs.Common.{bit_and, bit_or, w64}
+use Rattle.std.specs.Int.{bit_not}
+use Rattle.std.proofs.lemmas.Nat.{or_lt}
+use Rattle.lane_planes.proofs.Lanes.{combined, turned}
+use Rattle.lane_planes.proofs.Writing.{writes_lanes}
+use Rattle.lane_planes.proofs.conflict.clear_reductions_at.Goals as goal
+
+pub returns-clause-words : goal.returns-clause-words
+returns-clause-words g c =
+    let n = g.row.N in
+    let here = c.words_at-here.ensures.lanes in
+    let plain = c.words_at-plain.ensures.lanes in
+    let add = c.words_at-add.ensures.lanes in
+    let or = c.words_at-or.ensures.lanes in
+    let and = c.words_at-and.ensures.lanes in
+    let xor = c.words_at-xor.ensures.lanes in
+    let addh = c.words_at-addh.ensures.lanes in
+    let some_2 = combined bit_or n _ _ _ _ add or in
+    let some_3 = combined bit_or n _ _ _ _ some_2 and in
+    let some_4 = combined bit_or n _ _ _ _ some_3 xor in
+    let some_5 = combined bit_or n _ _ _ _ some_4 addh in
+    let two_2 = combined bit_and n _ _ _ _ add or in
+    let two_3 = combined bit_or n _ _ _ _ two_2 (combined bit_and n _ _ _ _ some_2 and) in
+    let two_4 = combined bit_or n _ _ _ _ two_3 (combined bit_and n _ _ _ _ some_3 xor) in
+    let two_5 = combined bit_or n _ _ _ _ two_4 (combined bit_and n _ _ _ _ some_4 addh) in
+    let kept = combined bit_or n _ _ _ _ (combined bit_or n _ _ _ _ plain two_5) (turned (bit_not w64) n _ _ some_5) in
+    writes_lanes _ c.args.at n _ _ c.requires.room (combined bit_and n _ _ _ _ here kept)
+
+pub returns-clause-fit : goal.returns-clause-fit
+returns-clause-fit g c i =
+    or_lt 64 _ _ (or_lt 64 _ _ (or_lt 64 _ _ (or_lt 64 _ _ (c.words_at-add.ensures.fit i) (c.words_at-or.ensures.fit i)) (c.words_at-and.ensures.fit i)) (c.words_at-xor.ensures.fit i)) (c.words_at-addh.ensures.fit i)

@@ -1,0 +1,59 @@
+-- What a plane of conflicts is, word by word.
+use Rattle.std.specs.Prelude.{◌≡◌, ℕ, ◌+◌, ◌/◌, ◌^◌, ◌<◌, ◌≤◌, List, [], ◌∷◌, length, slice_index, bit_and, bit_or}
+use Rattle.shadow_marks.specs.declared.planes.LrpdPlanes.{LrpdPlanes}
+use Rattle.shadow_marks.specs.declared.planes.FlowPlanes.{FlowPlanes}
+use Rattle.shadow_marks.specs.declared.planes.Tested.{Tested}
+use Rattle.shadow_marks.specs.declared.planes.Tested.TheVariants.{Lrpd, Flow}
+use Rattle.shadow_marks.specs.declared.planes.Planes.{Planes}
+use Rattle.lane_planes.specs.Words.{in_some, without_reductions, FlowWords}
+
+-- by the LRPD test: a reader that doesn't write and a writer, or a reader that writes and another writer
+abbrev pub lrpd_word : LrpdPlanes → ℕ → ℕ
+lrpd_word planes i =
+    bit_or (bit_and (slice_index planes.read_only.items i) (slice_index planes.written.items i))
+    (bit_and (slice_index planes.read_and_written.items i) (slice_index planes.written_by_two.items i))
+
+pub record LrpdWords (many : ℕ) (planes : LrpdPlanes) (words : List ℕ) : Type 0 where
+  pub count : length words ≡ many
+  pub each : (i : ℕ) → i < many → slice_index words i ≡ lrpd_word planes i
+
+-- where a test fails, whether or not elements are reduction-only
+abbrev pub FailingWords : Tested → (many : ℕ) → List ℕ → Type 0
+FailingWords (Lrpd planes) many words = LrpdWords many planes words
+FailingWords (Flow planes) many words = FlowWords many planes.first.items planes.last.items words
+
+-- planes fit so many words
+pub record LrpdFit (planes : LrpdPlanes) (many : ℕ) : Type 0 where
+  pub read_only : many ≡ length planes.read_only.items
+  pub written : many ≡ length planes.written.items
+  pub read_and_written : many ≡ length planes.read_and_written.items
+  pub written_by_two : many ≡ length planes.written_by_two.items
+
+pub record FlowFit (planes : FlowPlanes) (many : ℕ) : Type 0 where
+  pub same : length planes.first.items ≡ length planes.last.items
+  pub words : many ≡ (length planes.first.items + 63) / 64
+
+abbrev pub TestedFit : Tested → ℕ → Type 0
+TestedFit (Lrpd planes) many = LrpdFit planes many
+TestedFit (Flow planes) many = FlowFit planes many
+
+-- a word without the reduction-only elements of these planes
+abbrev pub cleared_word : Planes → (word i : ℕ) → ℕ
+cleared_word planes word i = without_reductions word (slice_index planes.plain.items i)
+    (slice_index planes.operators.addh.items i ∷ slice_index planes.operators.xor.items i ∷ slice_index planes.operators.and.items i
+    ∷ slice_index planes.operators.or.items i ∷ slice_index planes.operators.add.items i ∷ [])
+
+-- the plane of conflicts: where the test fails, without the elements that are reduction-only
+pub record ConflictWords (planes : Planes) (words : List ℕ) : Type 0 where
+  pub failing : List ℕ
+  pub fails : FailingWords planes.tested (length words) failing
+  pub each : (i : ℕ) → i < length words → slice_index words i ≡ cleared_word planes (slice_index failing i) i
+
+-- last readers, and the words of the operators' planes, are numbers of 32 and of 64 bits
+abbrev pub LastsFit : Tested → Type 0
+LastsFit tested = (planes : FlowPlanes) → tested ≡ Flow planes → (e : ℕ) → slice_index planes.last.items e ≤ 4294967295
+
+abbrev pub OperatorWordsFit : Planes → (many : ℕ) → Type 0
+OperatorWordsFit planes many = (i : ℕ) → i < many →
+    in_some (slice_index planes.operators.addh.items i ∷ slice_index planes.operators.xor.items i ∷ slice_index planes.operators.and.items i
+    ∷ slice_index planes.operators.or.items i ∷ slice_index planes.operators.add.items i ∷ []) < 2 ^ 64

@@ -1,0 +1,4 @@
+pub mod Writes
+pub mod Words
+pub mod Merged
+pub mod Conflicts

@@ -1,0 +1,68 @@
+//! The plane of conflicts.
+
+ghost use Rattle.std.specs.Prelude.{◌≡◌, ◌<◌, ◌≤◌, ℕ, List, length};
+ghost use Rattle.std.specs.List.{filter, range_with_len};
+ghost use Rattle.loop_core_marks.specs.Marks.{Visit, Marks, marks_of, marked_conflict};
+ghost use Rattle.loop_core_marks.specs.Planes.{bit_of, elements_of};
+ghost use Rattle.shadow_marks.specs.Standing.{ArePlanes, IsBitPlane, StandAt, StandFor, test_of, words_for};
+ghost use Rattle.lane_planes.specs.Conflicts.{ConflictWords, FailingWords, LastsFit, TestedFit};
+
+use crate::conflict::{ReductionPlanes, clear_reductions, lrpd_into};
+use crate::flow::flow_into;
+use shadow_marks::{Planes, Tested};
+
+/// Writes which elements conflict, a bit for each, in vectors of N lanes: where the test of the planes
+/// fails and the element isn't reduction-only. Bits past the last element are zero.
+pub fn conflicts<const N: usize>(planes: &Planes, into: &mut [u64])
+    requires lanes { (0 < N) × (N ≤ 64) }
+    requires whole { ArePlanes planes.now }
+    requires words { length into.old ≡ words_for planes.now.elements }
+    ensures words { ConflictWords planes.now into.new }
+    ensures marks { (e : ℕ) (marks : Marks) → e < planes.now.elements → StandAt planes.now e marks → bit_of into.new e ≡ marked_conflict (test_of planes.now.tested) marks }
+    ensures plane { IsBitPlane planes.now.elements into.new }
+    ensures elements { (visits : ℕ → List Visit) → StandFor planes.now visits → elements_of into.new ≡ filter (λ e. marked_conflict (test_of planes.now.tested) (marks_of (visits e))) (range_with_len 0 planes.now.elements) }
+{
+    failing_into::<N>(&planes.tested, into);
+    let reductions = reduction_planes(planes);
+    clear_reductions::<N>(into, reductions);
+}
+
+/// Writes where the test fails, whether or not elements are reduction-only.
+fn failing_into<const N: usize>(tested: &Tested, into: &mut [u64])
+    requires lanes { (0 < N) × (N ≤ 64) }
+    requires fit { TestedFit tested.now (length into.old) }
+    ensures words { FailingWords tested.now (length into.old) into.new }
+    ensures fit { LastsFit tested.now }
+{
+    match tested {
+        Tested::Lrpd(planes) => lrpd_into::<N>(
+            into,
+            planes.read_only.as_slice(),
+            planes.written.as_slice(),
+            planes.read_and_written.as_slice(),
+            planes.written_by_two.as_slice(),
+        ),
+        Tested::Flow(planes) => {
+            flow_into::<N>(into, planes.first.as_slice(), planes.last.as_slice())
+        }
+    }
+}
+
+/// The planes that tell which elements are reduction-only.
+fn reduction_planes(planes: &Planes) -> ReductionPlanes<'_>
+    ensures plain { result.plain.now ≡ planes.now.plain.items }
+    ensures add { result.add.now ≡ planes.now.operators.add.items }
+    ensures or { result.or.now ≡ planes.now.operators.or.items }
+    ensures and { result.and.now ≡ planes.now.operators.and.items }
+    ensures xor { result.xor.now ≡ planes.now.operators.xor.items }
+    ensures addh { result.addh.now ≡ planes.now.operators.addh.items }
+{
+    ReductionPlanes {
+        plain: planes.plain.as_slice(),
+        add: planes.operators.add.as_slice(),
+        or: planes.operators.or.as_slice(),
+        and: planes.operators.and.as_slice(),
+        xor: planes.operators.xor.as_slice(),
+        addh: planes.operators.addh.as_slice(),
+    }
+}

@@ -1,0 +1,92 @@
+//! Planes of two disjoint sets of iterations, merged.
+
+ghost use Rattle.std.specs.Prelude.{◌≡◌, ◌<◌, ◌≤◌, ℕ, List, length, slice_index};
+ghost use Rattle.loop_core_marks.specs.Marks.{Visit, Marks, merged};
+ghost use Rattle.shadow_marks.specs.Standing.{ArePlanes, test_of, StandAt, StandFor};
+ghost use Rattle.shadow_marks.specs.Ending.{KeepsShape};
+ghost use Rattle.lane_planes.specs.Merged.{joined_visits, MergedOperators, MergedLrpd, MergedFlow, MergedTested, MergedPlanes, SameOperators, SameTested, SameLrpd, SameFlow, FirstsFit};
+
+use crate::bits::{or_into, written_by_two_into};
+use crate::indices::{greater_into, lesser_into};
+use shadow_marks::{FlowPlanes, LrpdPlanes, OperatorPlanes, Planes, Tested};
+
+/// Merges planes of other iterations into these, in vectors of N lanes. Both are for the same number of
+/// elements and the same test.
+pub fn merge<const N: usize>(into: &mut Planes, from: &Planes)
+    requires lanes { (0 < N) × (N ≤ 64) }
+    requires mine { ArePlanes into.old }
+    requires theirs { ArePlanes from.now }
+    requires elements { into.old.elements ≡ from.now.elements }
+    requires test { test_of into.old.tested ≡ test_of from.now.tested }
+    ensures words { MergedPlanes into.old from.now into.new }
+    ensures shape { KeepsShape into.old into.new }
+    ensures marks { (e : ℕ) (a b : Marks) → e < into.old.elements → StandAt into.old e a → StandAt from.now e b → StandAt into.new e (merged a b) }
+    ensures visits { (mine theirs : ℕ → List Visit) → StandFor into.old mine → StandFor from.now theirs → StandFor into.new (joined_visits mine theirs) }
+{
+    or_into::<N>(into.plain.as_mut_slice(), from.plain.as_slice());
+    merge_operators::<N>(&mut into.operators, &from.operators);
+    merge_tested::<N>(&mut into.tested, &from.tested);
+}
+
+fn merge_operators<const N: usize>(into: &mut OperatorPlanes, from: &OperatorPlanes)
+    requires lanes { (0 < N) × (N ≤ 64) }
+    requires same { SameOperators into.old from.now }
+    ensures { MergedOperators into.old from.now into.new }
+{
+    or_into::<N>(into.add.as_mut_slice(), from.add.as_slice());
+    or_into::<N>(into.or.as_mut_slice(), from.or.as_slice());
+    or_into::<N>(into.and.as_mut_slice(), from.and.as_slice());
+    or_into::<N>(into.xor.as_mut_slice(), from.xor.as_slice());
+    or_into::<N>(into.addh.as_mut_slice(), from.addh.as_slice());
+}
+
+fn merge_tested<const N: usize>(into: &mut Tested, from: &Tested)
+    requires lanes { (0 < N) × (N ≤ 64) }
+    requires same { SameTested into.old from.now }
+    ensures words { MergedTested into.old from.now into.new }
+    ensures mine_fit { FirstsFit into.old }
+    ensures theirs_fit { FirstsFit from.now }
+{
+    match into {
+        Tested::Lrpd(mine) => {
+            if let Tested::Lrpd(theirs) = from {
+                merge_lrpd::<N>(mine, theirs);
+            }
+        }
+        Tested::Flow(mine) => {
+            if let Tested::Flow(theirs) = from {
+                merge_flow::<N>(mine, theirs);
+            }
+        }
+    }
+}
+
+fn merge_lrpd<const N: usize>(into: &mut LrpdPlanes, from: &LrpdPlanes)
+    requires lanes { (0 < N) × (N ≤ 64) }
+    requires same { SameLrpd into.old from.now }
+    ensures { MergedLrpd into.old from.now into.new }
+{
+    written_by_two_into::<N>(
+        into.written_by_two.as_mut_slice(),
+        from.written_by_two.as_slice(),
+        into.written.as_slice(),
+        from.written.as_slice(),
+    );
+    or_into::<N>(into.written.as_mut_slice(), from.written.as_slice());
+    or_into::<N>(into.read_only.as_mut_slice(), from.read_only.as_slice());
+    or_into::<N>(
+        into.read_and_written.as_mut_slice(),
+        from.read_and_written.as_slice(),
+    );
+}
+
+fn merge_flow<const N: usize>(into: &mut FlowPlanes, from: &FlowPlanes)
+    requires lanes { (0 < N) × (N ≤ 64) }
+    requires same { SameFlow into.old from.now }
+    ensures words { MergedFlow into.old from.now into.new }
+    ensures mine_fit { (e : ℕ) → slice_index into.old.first.items e ≤ 4294967295 }
+    ensures theirs_fit { (e : ℕ) → slice_index from.now.first.items e ≤ 4294967295 }
+{
+    lesser_into::<N>(into.first.as_mut_slice(), from.first.as_slice());
+    greater_into::<N>(into.last.as_mut_slice(), from.last.as_slice());
+}
