@@ -6,23 +6,23 @@ use Rattle.bpf_text_lines.specs.declared.text_error.TextError.{TextError}
 use Rattle.bpf_text_lines.specs.declared.text_error.TextError.TheVariants as errors
 use Rattle.bpf_insn_form.specs.Outcome.{Refuses}
 use Rattle.bpf_text_lines.specs.Refusals.{at_line, ◌>>=◌, text_refusal}
-use Rattle.bpf_text.specs.declared.event.EventWord.{EventWord}
+use Rattle.loop_event.specs.declared.event.Event.{Event}
 use Rattle.bpf_text_lines.proofs.RefusalLaws.{bind_fails}
 use Rattle.bpf_text.specs.EventsText.{events_of, bounds_of, events_behind, schedule_of}
 
 -- ---- lines
 
-pub events_behind-line : (before : List EventWord) (line : ℕ × List ℕ) (lines : List (ℕ × List ℕ)) (more : List EventWord) →
+pub events_behind-line : (before : List Event) (line : ℕ × List ℕ) (lines : List (ℕ × List ℕ)) (more : List Event) →
     at_line line.0 (events_of (words_of line.1)) ≡ Ok more → events_behind before (line ∷ lines) ≡ events_behind (before ++ more) lines
 unfolding events_behind
-events_behind-line before line lines more read = ap (λ (r : Result (List EventWord) TextError). r >>= λ m. events_behind (before ++ m) lines) read
+events_behind-line before line lines more read = ap (λ (r : Result (List Event) TextError). r >>= λ m. events_behind (before ++ m) lines) read
 
-pub events_behind-fails : (e : TextError) (before : List EventWord) (line : ℕ × List ℕ) (lines : List (ℕ × List ℕ)) →
+pub events_behind-fails : (e : TextError) (before : List Event) (line : ℕ × List ℕ) (lines : List (ℕ × List ℕ)) →
     Refuses (text_refusal e) (at_line line.0 (events_of (words_of line.1))) → Refuses (text_refusal e) (events_behind before (line ∷ lines))
 unfolding events_behind
 events_behind-fails e before line lines fails = bind_fails e (at_line line.0 (events_of (words_of line.1))) (λ m. events_behind (before ++ m) lines) fails
 
-pub events_behind-end : (before : List EventWord) → events_behind before [] ≡ Ok before
+pub events_behind-end : (before : List Event) → events_behind before [] ≡ Ok before
 unfolding events_behind
 events_behind-end before = refl
 
@@ -38,7 +38,7 @@ unfolding schedule_of
 bounds_fail e contents line lines same fails = rw same (bind_fails e (at_line line.0 (bounds_of (words_of line.1))) _ fails)
 
 -- the schedule whose bounds are read
-abbrev with_events : List ℕ → Result (List EventWord) TextError → Result (List ℕ × List EventWord) TextError
+abbrev with_events : List ℕ → Result (List Event) TextError → Result (List ℕ × List Event) TextError
 with_events bounds read = read >>= λ events. Ok (bounds, events)
 
 bounds_read : (contents : List (ℕ × List ℕ)) (line : ℕ × List ℕ) (lines : List (ℕ × List ℕ)) (bounds : List ℕ) → contents ≡ line ∷ lines →
@@ -49,9 +49,9 @@ bounds_read contents line lines bounds same read = rw same (ap (λ (r : Result (
 pub events_fail : (e : TextError) (contents : List (ℕ × List ℕ)) (line : ℕ × List ℕ) (lines : List (ℕ × List ℕ)) (bounds : List ℕ) → contents ≡ line ∷ lines →
     at_line line.0 (bounds_of (words_of line.1)) ≡ Ok bounds → Refuses (text_refusal e) (events_behind [] lines) → Refuses (text_refusal e) (schedule_of contents)
 events_fail e contents line lines bounds same read fails =
-    let P : Result (List ℕ × List EventWord) TextError → Type 0 = λ r. Refuses (text_refusal e) r in
+    let P : Result (List ℕ × List Event) TextError → Type 0 = λ r. Refuses (text_refusal e) r in
     subst P (sym (bounds_read contents line lines bounds same read)) (bind_fails e (events_behind [] lines) (λ events. Ok (bounds, events)) fails)
 
-pub events_read : (contents : List (ℕ × List ℕ)) (line : ℕ × List ℕ) (lines : List (ℕ × List ℕ)) (bounds : List ℕ) (events : List EventWord) → contents ≡ line ∷ lines →
+pub events_read : (contents : List (ℕ × List ℕ)) (line : ℕ × List ℕ) (lines : List (ℕ × List ℕ)) (bounds : List ℕ) (events : List Event) → contents ≡ line ∷ lines →
     at_line line.0 (bounds_of (words_of line.1)) ≡ Ok bounds → events_behind [] lines ≡ Ok events → schedule_of contents ≡ Ok (bounds, events)
 events_read contents line lines bounds events same read rest = bounds_read contents line lines bounds same read ∙ ap (with_events bounds) rest

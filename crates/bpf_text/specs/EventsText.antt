@@ -11,9 +11,9 @@ use Rattle.bpf_text_lines.specs.declared.text_error.TextError.{TextError}
 use Rattle.bpf_text_lines.specs.declared.text_error.TextError.TheVariants as errors
 use Rattle.bpf_text_lines.specs.Refusals.{at_line, with_first, ◌>>=◌}
 use Rattle.bpf_text_lines.specs.Fields.{fields_of, field_of}
-use Rattle.bpf_text.specs.declared.event.EventKind.{EventKind}
-use Rattle.bpf_text.specs.declared.event.EventKind.TheVariants as kind
-use Rattle.bpf_text.specs.declared.event.EventWord.{EventWord}
+use Rattle.loop_event.specs.declared.event.EventKind.{EventKind}
+use Rattle.loop_event.specs.declared.event.EventKind.TheVariants as kind
+use Rattle.loop_event.specs.declared.event.Event.{Event}
 
 -- the kind that a letter stands for
 abbrev pub kind_at : ℕ → Option EventKind
@@ -30,22 +30,22 @@ abbrev pub is_event : List ℕ → Bool
 is_event word = is_some (kind_at (slice_index word 0)) && is_number (drop 1 word)
 
 -- an event of a kind and a worker
-abbrev pub event : Option EventKind → Result ℕ TextFault → Result EventWord TextFault
+abbrev pub event : Option EventKind → Result ℕ TextFault → Result Event TextFault
 event None worker = Err faults.Form
 event (Some k) (Err fault) = Err fault
 event (Some k) (Ok worker) = Ok (record { kind = k; worker = worker })
 
 -- the event of a word: its letter, and a worker of 0 to 255
-abbrev pub event_at : List ℕ → Result EventWord TextFault
+abbrev pub event_at : List ℕ → Result Event TextFault
 event_at word = event (kind_at (slice_index word 0)) (field_of 255 (drop 1 word))
 
 -- the events of words
-abbrev pub events_in : List (List ℕ) → Result (List EventWord) TextFault
+abbrev pub events_in : List (List ℕ) → Result (List Event) TextFault
 events_in [] = Ok []
 events_in (word ∷ words) = with_first (event_at word) (events_in words)
 
 -- the same, where a word that is no event comes before a worker outside its field
-abbrev pub events_of : List (List ℕ) → Result (List EventWord) TextFault
+abbrev pub events_of : List (List ℕ) → Result (List Event) TextFault
 events_of words = if list_all is_event words then events_in words else Err faults.Form
 
 -- the bounds that the words of a first line give
@@ -54,14 +54,14 @@ bounds_of [] = Err faults.Form
 bounds_of (word ∷ words) = if bytes_eq word (codes "bounds") then fields_of (2 ^ 32 - 1) words else Err faults.Form
 
 -- the events of earlier lines, and those of these lines behind them
-unfoldable pub events_behind : List EventWord → List (ℕ × List ℕ) → Result (List EventWord) TextError
+unfoldable pub events_behind : List Event → List (ℕ × List ℕ) → Result (List Event) TextError
 events_behind before [] = Ok before
 events_behind before (line ∷ lines) = do
   events ← at_line line.0 (events_of (words_of line.1))
   events_behind (before ++ events) lines
 
 -- the bounds and events that lines give, the first of which has the bounds
-unfoldable pub schedule_of : List (ℕ × List ℕ) → Result (List ℕ × List EventWord) TextError
+unfoldable pub schedule_of : List (ℕ × List ℕ) → Result (List ℕ × List Event) TextError
 schedule_of [] = Err (errors.Refused faults.Form 0)
 schedule_of (line ∷ lines) = do
   bounds ← at_line line.0 (bounds_of (words_of line.1))
@@ -69,5 +69,5 @@ schedule_of (line ∷ lines) = do
   Ok (bounds, events)
 
 -- what an events text means
-abbrev pub events_text : List ℕ → Result (List ℕ × List EventWord) TextError
+abbrev pub events_text : List ℕ → Result (List ℕ × List Event) TextError
 events_text text = if nat_lt 1048576 (length text) then Err (errors.Refused faults.TooLong 0) else schedule_of (contents_of text)

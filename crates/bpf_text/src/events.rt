@@ -8,11 +8,11 @@ ghost use Rattle.bpf_insn_form.specs.Outcome.{Gives};
 ghost use Rattle.bpf_text_lines.specs.Refusals.{at_line, text_refusal};
 ghost use Rattle.bpf_text.specs.EventsText.{kind_at, is_event, event_at, events_in, events_of, bounds_of, events_behind, schedule_of, events_text};
 
-use crate::event::{EventKind, EventWord};
 use bpf_text_lines::{
     Lines, MAX_TEXT, NumberError, TextError, TextFault, Words, is_number, next_word, read_number,
     read_u32_fields,
 };
+use loop_event::{Event, EventKind};
 use std::alloc::Global;
 
 /// The kind that a letter stands for.
@@ -53,7 +53,7 @@ fn are_events(words: Words<'_>) -> bool
 }
 
 /// The event of a word, or its fault.
-fn read_event(word: &[u8], line: u32) -> Result<EventWord, TextError>
+fn read_event(word: &[u8], line: u32) -> Result<Event, TextError>
     ensures { Gives text_refusal (λ e. e) result (at_line line (event_at word.now)) }
 {
     if word.is_empty() {
@@ -63,7 +63,7 @@ fn read_event(word: &[u8], line: u32) -> Result<EventWord, TextError>
         return Err(TextFault::Form.at(line));
     };
     match read_number(&word[1..], u64::from(u8::MAX)) {
-        Ok(worker) => Ok(EventWord {
+        Ok(worker) => Ok(Event {
             kind,
             worker: worker as u8,
         }),
@@ -73,7 +73,7 @@ fn read_event(word: &[u8], line: u32) -> Result<EventWord, TextError>
 }
 
 /// The events of a line's words, or the first fault.
-fn read_words(alloc: Global, words: Words<'_>, line: u32) -> Result<Vec<EventWord>, TextError>
+fn read_words(alloc: Global, words: Words<'_>, line: u32) -> Result<Vec<Event>, TextError>
     ensures { Gives text_refusal (λ v. v.items) result (at_line line (events_in words.entry)) }
 {
     let mut words = words;
@@ -85,7 +85,7 @@ fn read_words(alloc: Global, words: Words<'_>, line: u32) -> Result<Vec<EventWor
 }
 
 /// The events of a line. A word that is no event is found before a worker outside its field.
-fn read_events(alloc: Global, words: &[u8], line: u32) -> Result<Vec<EventWord>, TextError>
+fn read_events(alloc: Global, words: &[u8], line: u32) -> Result<Vec<Event>, TextError>
     ensures { Gives text_refusal (λ v. v.items) result (at_line line (events_of (words_of words.now))) }
 {
     if !are_events(Words::of(words)) {
@@ -108,7 +108,7 @@ fn read_bounds(alloc: Global, content: &[u8], line: u32) -> Result<Vec<u32>, Tex
 }
 
 /// The events of lines.
-fn read_lines(alloc: Global, lines: Lines<'_>) -> Result<Vec<EventWord>, TextError>
+fn read_lines(alloc: Global, lines: Lines<'_>) -> Result<Vec<Event>, TextError>
     ensures { Gives text_refusal (λ v. v.items) result (events_behind [] lines.entry) }
 {
     let mut lines = lines;
@@ -121,7 +121,7 @@ fn read_lines(alloc: Global, lines: Lines<'_>) -> Result<Vec<EventWord>, TextErr
 }
 
 /// The bounds and events of a text that isn't too long.
-fn read_schedule(alloc: Global, text: &[u8]) -> Result<(Vec<u32>, Vec<EventWord>), TextError>
+fn read_schedule(alloc: Global, text: &[u8]) -> Result<(Vec<u32>, Vec<Event>), TextError>
     requires { length text.now ≤ 1048576 }
     ensures { Gives text_refusal (λ x. (x.0.items, x.1.items)) result (schedule_of (contents_of text.now)) }
 {
@@ -141,7 +141,7 @@ fn read_schedule(alloc: Global, text: &[u8]) -> Result<(Vec<u32>, Vec<EventWord>
 /// The refusal is the least line over all faults of the text, and there the least fault: `TooLong` at
 /// line 0, `Form` at line 0 where there is no first line, `Form`, `Field` for a bound outside 0 to
 /// 2^32 - 1 or a worker outside 0 to 255. `Memory` may come in place of any answer.
-pub fn parse_events(alloc: Global, text: &str) -> Result<(Vec<u32>, Vec<EventWord>), TextError>
+pub fn parse_events(alloc: Global, text: &str) -> Result<(Vec<u32>, Vec<Event>), TextError>
     ensures { Gives text_refusal (λ x. (x.0.items, x.1.items)) result (events_text text.now) }
 {
     let bytes = text.as_bytes();

@@ -10,7 +10,6 @@
 //! ```
 #![tactic(auto)]
 
-mod event;
 mod events;
 mod maps;
 mod maps_print;
@@ -18,7 +17,7 @@ mod maps_print;
 pub use bpf_text_hex::{HexUnit, read_hex, write_hex};
 pub use bpf_text_lines::{TextError, TextFault};
 pub use bpf_text_units::{parse_unit, print_unit};
-pub use event::{EventKind, EventWord};
 pub use events::parse_events;
+pub use loop_event::{Event, EventKind};
 pub use maps::parse_maps;
 pub use maps_print::print_maps;

@@ -1,8 +1,9 @@
 -- Paths: the longest has as many slots as `longest` says.
-use Rattle.std.proofs.Common.{◌≡◌, ℕ, zero, suc, ◌+◌, ◌-◌, ◌<◌, ◌≤◌, max, Bool, true, false, ◌||◌, List, [], ◌∷◌, length, refl, ap, sym, ◌∙◌, subst, arith, Option, Some, None, is_some}
+use Rattle.std.proofs.Common.{◌≡◌, ℕ, zero, suc, ◌+◌, ◌-◌, ◌<◌, ◌≤◌, max, Bool, true, false, ◌||◌, List, [], ◌∷◌, ◌++◌, length, refl, ap, sym, ◌∙◌, subst, arith, Option, Some, None, is_some}
 use Rattle.std.specs.Prelude.{nat_eq, nat_le, option_to_list, if◌then◌else◌}
 use Rattle.std.specs.List.{list_any}
 use Rattle.std.proofs.lemmas.Bool.Decides.{nat_tests}
+use Rattle.std.proofs.lemmas.List.{length-append}
 use Rattle.bpf_insn_form.specs.declared.insn.Insn.{Insn}
 use Rattle.bpf_insn_form.specs.declared.insn.Insn.TheVariants.{Ja, Ja32, Jump, Exit}
 use Rattle.bpf_insn_form.specs.Slots.{slots_of}
@@ -11,7 +12,7 @@ use Rattle.bpf_verify_model.specs.Count.{behind_jump, through, longest, start_of
 use Rattle.bpf_verify_model.specs.declared.rule.Rule.TheVariants.{NoSlot, OverLimits}
 use Rattle.bpf_verify_model.specs.Accepted.{Accepted, first_fault, fault_within, is_too_large}
 use Rattle.bpf_verify_model.proofs.JumpLaws.{jumps_forward}
-use Rattle.bpf_verify_model.specs.LongestPath.{ways_out, IsPath, CountIsLongestPath}
+use Rattle.bpf_verify_model.specs.LongestPath.{ways_out, IsPath, ways_behind, CountIsLongestPath}
 use Rattle.bpf_verify_model.proofs.LongestLaws.{longest-step}
 
 -- a path from one of some slots, and of how many
@@ -178,17 +179,64 @@ accepted-runs program accepted = by_tests (nat_eq (slot_count program.insns) 0) 
 le_refl : (n : ℕ) → n ≤ n
 le_refl n = omega arith
 
+-- a slot that passes a test, among others
+record Among (test : ℕ → Bool) (slots : List ℕ) : Type 0 where
+  slot : ℕ
+  passes : test slot ≡ true
+  among : list_any (nat_eq slot) slots ≡ true
+
+or_any : {c : Bool} (b : Bool) → c ≡ true → (b || c) ≡ true
+or_any true h = refl
+or_any false h = h
+
+some_among : (test : ℕ → Bool) (slots : List ℕ) → list_any test slots ≡ true → Among test slots
+some_among test [] some = absurd cc
+some_among test (slot ∷ slots) some = by_test (test slot) refl (λ rest. some_among test slots rest) some
+  where
+    by_test : (b : Bool) → test slot ≡ b → (list_any test slots ≡ true → Among test slots) → (b || list_any test slots) ≡ true → Among test (slot ∷ slots)
+    by_test true passes go some = record { slot = slot; passes = passes; among = first_among slot slots }
+    by_test false fails go some = let other : Among test slots = go some in record { slot = other.slot; passes = other.passes; among = or_any (nat_eq other.slot slot) other.among }
+
+-- a path and one slot more
+longer : (insns : List Insn) (starts path : List ℕ) (slot : ℕ) → IsPath insns starts path → list_any (nat_eq slot) (ways_behind insns starts path) ≡ true →
+    is_some (insn_at insns slot) ≡ true → IsPath insns starts (path ++ slot ∷ [])
+longer insns starts [] slot is among here = (among, here, tt)
+longer insns starts (first ∷ path) slot is among here = (is.0, is.1, longer insns (ways_out first (insn_at insns first)) path slot is.2 among here)
+
+-- the longest path ends
+longest-ends : (insns : List Insn) (starts path : List ℕ) → IsPath insns starts path → ((other : List ℕ) → IsPath insns starts other → length other ≤ length path) →
+    list_any (λ next. is_some (insn_at insns next)) (ways_behind insns starts path) ≡ false
+longest-ends insns starts path is most = by_test (list_any (λ next. is_some (insn_at insns next)) (ways_behind insns starts path)) refl
+  where
+    by_test : (b : Bool) → list_any (λ next. is_some (insn_at insns next)) (ways_behind insns starts path) ≡ b → b ≡ false
+    by_test false e = refl
+    by_test true e =
+        let next : Among (λ slot. is_some (insn_at insns slot)) (ways_behind insns starts path) = some_among (λ slot. is_some (insn_at insns slot)) (ways_behind insns starts path) e in
+        let more : length (path ++ next.slot ∷ []) ≤ length path = most (path ++ next.slot ∷ []) (longer insns starts path next.slot is next.among next.passes) in
+        absurd (omega (arith, more, length-append path (next.slot ∷ [])))
+
+-- of an accepted program no path of a function is longer than its count
+none_above : (program : Program) → Accepted program → (function : ℕ) (path : List ℕ) → IsPath program.insns (start_of program.insns function ∷ []) path →
+    length path ≤ longest program.insns (slot_count program.insns) (start_of program.insns function)
+none_above program accepted function path is =
+    let runs : Runs program = accepted-runs program accepted in
+    none_longer program.insns (slot_count program.insns) runs.forward refl runs.some path (start_of program.insns function ∷ [])
+    (longest program.insns (slot_count program.insns) (start_of program.insns function)) is
+    (λ s among. one_below (longest program.insns (slot_count program.insns)) s (start_of program.insns function)
+    (longest program.insns (slot_count program.insns) (start_of program.insns function)) (nat_eq s (start_of program.insns function)) refl among (le_refl (longest program.insns (slot_count program.insns) (start_of program.insns function))))
+
 pub count_is_longest_path : CountIsLongestPath
 unfolding count_of
 count_is_longest_path = record {
   some_path = λ program accepted function.
       let p : PathFrom program.insns (start_of program.insns function ∷ []) (longest program.insns (slot_count program.insns) (start_of program.insns function)) =
       path_of program.insns (slot_count program.insns) (start_of program.insns function) in
-      record { path = p.path; is_path = p.is_path; long = p.long };
-  none_longer = λ program accepted function path is.
-      let runs : Runs program = accepted-runs program accepted in
-      none_longer program.insns (slot_count program.insns) runs.forward refl runs.some path (start_of program.insns function ∷ [])
-      (longest program.insns (slot_count program.insns) (start_of program.insns function)) is
-      (λ s among. one_below (longest program.insns (slot_count program.insns)) s (start_of program.insns function)
-      (longest program.insns (slot_count program.insns) (start_of program.insns function)) (nat_eq s (start_of program.insns function)) refl among (le_refl (longest program.insns (slot_count program.insns) (start_of program.insns function))));
+      record {
+        path = p.path;
+        is_path = p.is_path;
+        long = p.long;
+        ends = longest-ends program.insns (start_of program.insns function ∷ []) p.path p.is_path
+            (λ other is. subst (λ (m : ℕ). length other ≤ m) (sym p.long) (none_above program accepted function other is));
+      };
+  none_longer = none_above;
 }

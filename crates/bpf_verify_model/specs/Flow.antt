@@ -46,16 +46,17 @@ with_known_result state r (Some value) = with_known state r value
 abbrev pub number_of_size : Size → AbstractValue
 number_of_size size = Number (norm 0 (256 ^ bytes_of size - 1) 0)
 
--- a state with so many bytes of the frame written from a position on
+-- a state with these bytes of the own frame written
 abbrev pub with_own : State → List Bool → State
 with_own state own = record { registers = state.registers; own = own; caller = state.caller }
 
--- a store to the frame marks its bytes
+-- a state with so many bytes of the frame written from a position on, where they are within it
 abbrev pub with_written : State → ℕ → ℤ → State
 with_written state size (pos position) =
     if nat_le (position + size) 512 then with_own state (written_from state.own position size) else state
 with_written state size (negsuc _) = state
 
+-- a store to the frame marks its bytes
 abbrev pub with_store : State → ℕ → ℤ → AbstractValue → State
 with_store state size offset (Frame position) = with_written state size (pos position +ℤ offset)
 with_store state size offset _ = state

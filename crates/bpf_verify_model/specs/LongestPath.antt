@@ -1,5 +1,5 @@
 -- The law of counts: a function's count is its longest path.
-use Rattle.std.specs.Prelude.{◌≡◌, ℕ, ◌+◌, ◌≤◌, true, nat_eq, List, [], ◌∷◌, length, Option, Some, None, is_some, option_to_list}
+use Rattle.std.specs.Prelude.{◌≡◌, ℕ, ◌+◌, ◌≤◌, true, false, nat_eq, List, [], ◌∷◌, length, Option, Some, None, is_some, option_to_list}
 use Rattle.std.specs.List.{list_any}
 use Rattle.bpf_insn_form.specs.declared.insn.Insn.{Insn}
 use Rattle.bpf_insn_form.specs.declared.insn.Insn.TheVariants.{Ja, Ja32, Jump, Exit}
@@ -23,13 +23,19 @@ IsPath insns starts [] = Unit {0}
 IsPath insns starts (slot ∷ path) =
     (list_any (nat_eq slot) starts ≡ true) × (is_some (insn_at insns slot) ≡ true) × IsPath insns (ways_out slot (insn_at insns slot)) path
 
--- a path from a slot that has so many slots
+-- the slots behind a path from one of some slots: the ways out of its last slot, of which an exit has none
+abbrev pub ways_behind : List Insn → (starts path : List ℕ) → List ℕ
+ways_behind insns starts [] = starts
+ways_behind insns starts (slot ∷ path) = ways_behind insns (ways_out slot (insn_at insns slot)) path
+
+-- a path from a slot that has so many slots, and ends at an exit or where none goes on: no instruction starts behind it
 pub record PathOf (insns : List Insn) (slot count : ℕ) : Type 0 where
   pub path : List ℕ
   pub is_path : IsPath insns (slot ∷ []) path
   pub long : length path ≡ count
+  pub ends : list_any (λ next. is_some (insn_at insns next)) (ways_behind insns (slot ∷ []) path) ≡ false
 
--- of each function of an accepted program some path from its start has its count, and none has more
+-- of each function of an accepted program some path from its start to an end has its count, and none has more
 pub record CountIsLongestPath : Type 0 where
   pub some_path : (program : Program) → Accepted program → (function : ℕ) →
       PathOf program.insns (start_of program.insns function) (count_of program.insns function)

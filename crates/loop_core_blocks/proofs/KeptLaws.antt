@@ -11,13 +11,7 @@ use Rattle.loop_core_law.specs.Actions.{writes, is_same, reduces_by, joined, onl
 use Rattle.loop_core_law.specs.Committed.{last_that, last_value, committed_by}
 use Rattle.loop_core_law.proofs.OneElement.{and_true_left, and_true_right, same_op, all_left, all_right, only_reduces}
 use Rattle.loop_core_blocks.specs.Kept.{partial_by, partial, Kept, kept, applied, last_of, committed_of_kept, CommitsOfKept}
-use Rattle.loop_core_blocks.proofs.OperatorLaws.{operators_associate}
-
--- operands in turn are their combination at once
-fold_at_once : (op : Op) (word first : ℕ) (rest : List ℕ) → combined op word (fold (combined op) first rest) ≡ fold (combined op) (combined op word first) rest
-fold_at_once op word first [] = refl
-fold_at_once op word first (next ∷ rest) =
-    fold_at_once op word (combined op first next) rest ∙ ap (λ w. fold (combined op) w rest) (sym (operators_associate op word first next))
+use Rattle.loop_core_blocks.proofs.OperatorLaws.{fold_at_once}
 
 -- where all actions reduce by one operator, a block's partial does what they do
 partial_applied : (op : Op) (actions : List Action) (word : ℕ) → list_all (reduces_by op) actions ≡ true →

@@ -1,15 +1,17 @@
 -- Each operator is associative.
-use Rattle.std.proofs.Common.{◌≡◌, ℕ, zero, suc, ◌+◌, ◌*◌, ◌<◌, ◌⊎◌, inl, inr, refl, sym, ◌∙◌, ap, arith}
+use Rattle.std.proofs.Common.{◌≡◌, ℕ, zero, suc, ◌+◌, ◌*◌, ◌<◌, ◌⊎◌, inl, inr, List, [], ◌∷◌, refl, sym, ◌∙◌, ap, arith}
 use Rattle.std.specs.Prelude.{◌/◌, ◌%◌, ◌^◌, bit_and, bit_or, bit_xor}
+use Rattle.std.specs.List.{fold}
 use Rattle.std.specs.Int.Bits.{xor_assoc, or_zero_l}
 use Rattle.std.proofs.Math.Arith.{bin_ind}
 use Rattle.std.proofs.Math.Nat.{mod-mod, mod-lt, add-mod-mod, mod-add-mod, add_assoc, div-add-mod}
 use Rattle.std.proofs.lemmas.Nat.{and_assoc, and_mod, or_mod, or_shr, xor_mod}
 use Rattle.bpf_insn_words.specs.Words.{alu}
+use Rattle.array_maps.specs.declared.access.Op.{Op}
 use Rattle.array_maps.specs.declared.access.Op.TheVariants.{Add, Or, And, Xor, AddH}
 use Rattle.array_maps.specs.Accesses.{combined}
 use Rattle.array_maps.specs.Halves.{of_halves, half_of, halves_added}
-use Rattle.loop_core_blocks.specs.Kept.{OperatorsAssociate}
+use Rattle.loop_core_blocks.specs.Kept.{combined_from_first, applied, OperatorsAssociate}
 
 -- a number is its half and its last bit
 by_bits : (x y : ℕ) → x / 2 ≡ y / 2 → x % 2 ≡ y % 2 → x ≡ y
@@ -74,13 +76,26 @@ halves_assoc a b c =
     ∙ sym (ap (λ n. of_halves (a % 2 ^ 32 + n) (a / 2 ^ 32 + halves_added b c / 2 ^ 32)) (low_half (b % 2 ^ 32 + c % 2 ^ 32) (b / 2 ^ 32 + c / 2 ^ 32))
     ∙ ap (λ n. of_halves (a % 2 ^ 32 + (b % 2 ^ 32 + c % 2 ^ 32) % 2 ^ 32) (a / 2 ^ 32 + n)) (high_half (b % 2 ^ 32 + c % 2 ^ 32) (b / 2 ^ 32 + c / 2 ^ 32)))
 
-pub operators_associate : OperatorsAssociate
+each_associates : (op : Op) (a b c : ℕ) → combined op (combined op a b) c ≡ combined op a (combined op b c)
 unfolding combined alu halves_added
-operators_associate Add a b c =
+each_associates Add a b c =
     ap (λ n. (n + c % 2 ^ 64) % 2 ^ 64) (mod-mod (a % 2 ^ 64 + b % 2 ^ 64) (2 ^ 64))
     ∙ wrapped_assoc (a % 2 ^ 64) (b % 2 ^ 64) (c % 2 ^ 64) (2 ^ 64)
     ∙ ap (λ n. (a % 2 ^ 64 + n) % 2 ^ 64) (sym (mod-mod (b % 2 ^ 64 + c % 2 ^ 64) (2 ^ 64)))
-operators_associate Or a b c = low_assoc bit_or (λ x y. or_mod x y 64) or_assoc a b c
-operators_associate And a b c = low_assoc bit_and (λ x y. and_mod x y 64) (λ x y z. and_assoc z x y) a b c
-operators_associate Xor a b c = low_assoc bit_xor (λ x y. xor_mod x y 64) xor_assoc a b c
-operators_associate AddH a b c = halves_assoc a b c
+each_associates Or a b c = low_assoc bit_or (λ x y. or_mod x y 64) or_assoc a b c
+each_associates And a b c = low_assoc bit_and (λ x y. and_mod x y 64) (λ x y z. and_assoc z x y) a b c
+each_associates Xor a b c = low_assoc bit_xor (λ x y. xor_mod x y 64) xor_assoc a b c
+each_associates AddH a b c = halves_assoc a b c
+
+-- operands in turn are their combination at once
+pub fold_at_once : (op : Op) (word first : ℕ) (rest : List ℕ) → combined op word (fold (combined op) first rest) ≡ fold (combined op) (combined op word first) rest
+fold_at_once op word first [] = refl
+fold_at_once op word first (next ∷ rest) =
+    fold_at_once op word (combined op first next) rest ∙ ap (λ w. fold (combined op) w rest) (sym (each_associates op word first next))
+
+at_once : (op : Op) (word : ℕ) (operands : List ℕ) → fold (combined op) word operands ≡ applied word (combined_from_first op operands)
+at_once op word [] = refl
+at_once op word (first ∷ rest) = sym (fold_at_once op word first rest)
+
+pub operators_associate : OperatorsAssociate
+operators_associate = record { each = each_associates; at_once = at_once }

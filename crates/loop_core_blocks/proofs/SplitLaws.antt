@@ -1,5 +1,5 @@
 -- An even split is a split.
-use Rattle.std.proofs.Common.{◌≡◌, ℕ, zero, suc, ◌+◌, ◌*◌, ◌≤◌, false, not, ◌||◌, List, map, length, None, refl, sym, ◌∙◌, ap, subst, arith}
+use Rattle.std.proofs.Common.{◌≡◌, ℕ, zero, suc, ◌+◌, ◌*◌, ◌≤◌, ◌<◌, true, false, not, ◌||◌, List, map, length, Some, None, refl, sym, ◌∙◌, ap, subst, arith}
 use Rattle.std.specs.Prelude.{◌==◌, ◌/◌, nat_lt}
 use Rattle.std.specs.List.{range_with_len}
 use Rattle.std.proofs.Math.Nat.{mul-div_cancel_left, zero-mul, zero-div, div-mul-le_self, add-mul}
@@ -7,6 +7,7 @@ use Rattle.std.proofs.lemmas.Bool.{le-ltb}
 use Rattle.std.proofs.lemmas.Nat.{le-div}
 use Rattle.std.proofs.lemmas.Bool.Decides.{nat_tests}
 use Rattle.std.proofs.lemmas.List.FromFn.{length-map-range_with_len}
+use Rattle.loop_core_blocks.specs.declared.faults.SplitFault.TheVariants.{Number}
 use Rattle.loop_core_blocks.specs.Split.{falls, last_bound, ends_amiss, split_fault, even_bounds, EvenIsSplit}
 
 -- what rises never falls
@@ -42,12 +43,33 @@ ends_meet n (suc blocks) h =
     let ends : last_bound (f 0) (map f (range_with_len 1 (suc blocks))) ≡ n = last_is f blocks 1 (f 0) ∙ ap f one_on ∙ mul-div_cancel_left n h in
     both_meet (f 0) (last_bound (f 0) (map f (range_with_len 1 (suc blocks)))) n begins ends
 
-pub even_is_split : EvenIsSplit
-even_is_split n blocks some small =
-    let f : ℕ → ℕ = λ k. k * n / blocks in
+-- the bounds of an even split into some blocks don't fall, and are one more
+even_rises : (n blocks : ℕ) → 1 ≤ blocks → falls 0 (even_bounds n blocks) ≡ false
+even_rises n blocks some = never_falls (λ k. k * n / blocks) (λ k. quotient_rises k n blocks some) (blocks + 1) 0 0 (omega arith)
+
+even_long : (n blocks : ℕ) → length (even_bounds n blocks) ≡ blocks + 1
+even_long n blocks = length-map-range_with_len (λ k. k * n / blocks) 0 (blocks + 1)
+
+even_split : (n blocks : ℕ) → 1 ≤ blocks → blocks ≤ 64 → split_fault (even_bounds n blocks) n ≡ None
+even_split n blocks some small =
     let count : blocks + 1 ≡ suc blocks = omega arith in
-    let long : length (even_bounds n blocks) ≡ blocks + 1 = length-map-range_with_len f 0 (blocks + 1) in
-    split_is (even_bounds n blocks) n
-    (never_falls f (λ k. quotient_rises k n blocks some) (blocks + 1) 0 0 (omega arith))
-    (ap (λ m. nat_lt m 2 || nat_lt 65 m) long ∙ few (blocks + 1) (omega arith) (omega arith))
-    (ap (λ m. ends_amiss (map f (range_with_len 0 m)) n) count ∙ ends_meet n blocks some)
+    split_is (even_bounds n blocks) n (even_rises n blocks some)
+    (ap (λ m. nat_lt m 2 || nat_lt 65 m) (even_long n blocks) ∙ few (blocks + 1) (omega arith) (omega arith))
+    (ap (λ m. ends_amiss (map (λ k. k * n / blocks) (range_with_len 0 m)) n) count ∙ ends_meet n blocks some)
+
+number_is : (bounds : List ℕ) (n : ℕ) → falls 0 bounds ≡ false → (nat_lt (length bounds) 2 || nat_lt 65 (length bounds)) ≡ true → split_fault bounds n ≡ Some Number
+number_is bounds n a b = rw (a, b) refl
+
+many : (m : ℕ) → 65 < m → (nat_lt m 2 || nat_lt 65 m) ≡ true
+many m h = grind (arith, nat_tests)
+
+not_below_zero : (m : ℕ) → (nat_lt m 0 || false) ≡ false
+not_below_zero m = grind (arith, nat_tests)
+
+pub even_is_split : EvenIsSplit
+even_is_split = record {
+  split = even_split;
+  none = λ n. number_is (even_bounds n 0) n (not_below_zero (0 * n / 0)) refl;
+  more = λ n blocks many_blocks.
+      number_is (even_bounds n blocks) n (even_rises n blocks (omega arith)) (ap (λ m. nat_lt m 2 || nat_lt 65 m) (even_long n blocks) ∙ many (blocks + 1) (omega arith));
+}

@@ -46,9 +46,10 @@ abbrev pub committed_of_kept : (reduction : Bool) → List Kept → ℕ → ℕ
 committed_of_kept true blocks word = fold applied word (map (λ (k : Kept). k.partial) blocks)
 committed_of_kept false blocks word = unwrap_or (last_of (map (λ (k : Kept). k.last_value) blocks)) word
 
--- each operator is associative
-abbrev pub OperatorsAssociate : Type 0
-OperatorsAssociate = (op : Op) (a b c : ℕ) → combined op (combined op a b) c ≡ combined op a (combined op b c)
+-- each operator is associative; so operands that are applied to a word in turn are their combination applied at once
+pub record OperatorsAssociate : Type 0 where
+  pub each : (op : Op) (a b c : ℕ) → combined op (combined op a b) c ≡ combined op a (combined op b c)
+  pub at_once : (op : Op) (word : ℕ) (operands : List ℕ) → fold (combined op) word operands ≡ applied word (combined_from_first op operands)
 
 -- what a pass leaves of all iterations is what it leaves of what is kept of the blocks that they stand in
 abbrev pub CommitsOfKept : Type 0

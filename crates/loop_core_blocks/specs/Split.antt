@@ -1,5 +1,5 @@
 -- Splits of a loop into blocks: bounds, of which each two neighbours are a block's interval.
-use Rattle.std.specs.Prelude.{◌≡◌, ℕ, ◌+◌, ◌*◌, ◌/◌, ◌≤◌, Bool, false, not, ◌||◌, ◌==◌, nat_lt, if◌then◌else◌, List, [], ◌∷◌, map, length, Option, Some, None}
+use Rattle.std.specs.Prelude.{◌≡◌, ℕ, ◌+◌, ◌*◌, ◌/◌, ◌≤◌, ◌<◌, Bool, false, not, ◌||◌, ◌==◌, nat_lt, if◌then◌else◌, List, [], ◌∷◌, map, length, Option, Some, None}
 use Rattle.std.specs.List.{range_with_len}
 use Rattle.loop_core_blocks.specs.declared.faults.SplitFault.{SplitFault}
 use Rattle.loop_core_blocks.specs.declared.faults.SplitFault.TheVariants.{Falling, Number, Ends}
@@ -31,6 +31,8 @@ split_fault bounds n =
 abbrev pub even_bounds : (n blocks : ℕ) → List ℕ
 even_bounds n blocks = map (λ k. k * n / blocks) (range_with_len 0 (blocks + 1))
 
--- an even split of n iterations into 1 to 64 blocks is one
-abbrev pub EvenIsSplit : Type 0
-EvenIsSplit = (n blocks : ℕ) → 1 ≤ blocks → blocks ≤ 64 → split_fault (even_bounds n blocks) n ≡ None
+-- an even split of n iterations into 1 to 64 blocks is one; into none or into more, it has too few bounds or too many
+pub record EvenIsSplit : Type 0 where
+  pub split : (n blocks : ℕ) → 1 ≤ blocks → blocks ≤ 64 → split_fault (even_bounds n blocks) n ≡ None
+  pub none : (n : ℕ) → split_fault (even_bounds n 0) n ≡ Some Number
+  pub more : (n blocks : ℕ) → 64 < blocks → split_fault (even_bounds n blocks) n ≡ Some Number

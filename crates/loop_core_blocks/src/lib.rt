@@ -12,7 +12,7 @@ ghost use Rattle.loop_core_blocks.specs.Split.{EvenIsSplit};
 pub use faults::{GatherFault, SplitFault};
 
 /// The law of operators: each of the five is associative, so that operands may be combined block by
-/// block.
+/// block, each from its first on.
 pub fn law_of_operators()
     ensures { OperatorsAssociate }
 {}
@@ -29,7 +29,8 @@ pub fn law_of_blocks()
     ensures { ScansFollow }
 {}
 
-/// The law of even splits: 1 to 64 blocks of any number of iterations are a split.
+/// The law of even splits: 1 to 64 blocks of any number of iterations are a split; none, or more, have
+/// the wrong number of bounds.
 pub fn law_of_even_splits()
     ensures { EvenIsSplit }
 {}

@@ -2,3 +2,4 @@ pub mod FlagLaws
 pub mod ReductionLaws
 pub mod MarkLaws
 pub mod PlaneLaws
+pub mod PlaneBits

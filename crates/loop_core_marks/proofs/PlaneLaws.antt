@@ -1,14 +1,12 @@
 -- A plane has just the elements that pass.
-use Rattle.std.proofs.Common.{◌≡◌, ℕ, zero, suc, ◌+◌, ◌-◌, ◌*◌, ◌≤◌, ◌<◌, Bool, false, List, [], ◌∷◌, ◌++◌, length, refl, ◌∙◌, ap, arith}
+use Rattle.std.proofs.Common.{◌≡◌, ℕ, zero, suc, ◌+◌, ◌-◌, ◌*◌, ◌≤◌, ◌<◌, Bool, false, [], ◌∷◌, ◌++◌, length, refl, ◌∙◌, ap, arith}
 use Rattle.std.specs.Prelude.{cond}
 use Rattle.std.specs.List.{filter, range_with_len}
 use Rattle.std.proofs.lemmas.List.{append-nil}
 use Rattle.std.proofs.lemmas.List.Elements.{filter-append}
-use Rattle.loop_core_law.specs.declared.verdict.Verdict.TheVariants.{Conflict}
-use Rattle.loop_core_law.specs.Report.{judged}
-use Rattle.loop_core_marks.specs.Planes.{bit_of, elements_of, least_in, judged_by, PlaneHasElements, PlaneJudges}
+use Rattle.loop_core_marks.specs.Planes.{bit_of, PlaneHasElements}
 
-range-append : (from few more : ℕ) → range_with_len from (few + more) ≡ range_with_len from few ++ range_with_len (from + few) more
+pub range-append : (from few more : ℕ) → range_with_len from (few + more) ≡ range_with_len from few ++ range_with_len (from + few) more
 range-append from zero more =
     let none : zero + more ≡ more = omega arith in
     let here : from ≡ from + zero = omega arith in
@@ -18,13 +16,13 @@ range-append from (suc few) more =
     let there : from + 1 + few ≡ from + suc few = omega arith in
     ap (range_with_len from) one_more ∙ ap (λ rest. from ∷ rest) (range-append (from + 1) few more ∙ ap (λ n. range_with_len (from + 1) few ++ range_with_len n more) there)
 
-filter-same : (p q : ℕ → Bool) (from count : ℕ) → ((e : ℕ) → from ≤ e → e < from + count → p e ≡ q e) → filter p (range_with_len from count) ≡ filter q (range_with_len from count)
+pub filter-same : (p q : ℕ → Bool) (from count : ℕ) → ((e : ℕ) → from ≤ e → e < from + count → p e ≡ q e) → filter p (range_with_len from count) ≡ filter q (range_with_len from count)
 filter-same p q from zero same = refl
 filter-same p q from (suc count) same =
     ap (λ b. cond b (from ∷ filter p (range_with_len (from + 1) count)) (filter p (range_with_len (from + 1) count))) (same from (omega arith) (omega arith))
     ∙ ap (λ rest. cond (q from) (from ∷ rest) rest) (filter-same p q (from + 1) count (λ e low high. same e (omega arith) (omega arith)))
 
-filter-none : (p : ℕ → Bool) (from count : ℕ) → ((e : ℕ) → from ≤ e → e < from + count → p e ≡ false) → filter p (range_with_len from count) ≡ []
+pub filter-none : (p : ℕ → Bool) (from count : ℕ) → ((e : ℕ) → from ≤ e → e < from + count → p e ≡ false) → filter p (range_with_len from count) ≡ []
 filter-none p from zero none = refl
 filter-none p from (suc count) none =
     ap (λ b. cond b (from ∷ filter p (range_with_len (from + 1) count)) (filter p (range_with_len (from + 1) count))) (none from (omega arith) (omega arith))
@@ -44,10 +42,3 @@ split_plane p test elements all within same none =
 
 pub plane_has_elements : PlaneHasElements
 plane_has_elements words test elements within same none = split_plane (bit_of words) test elements (64 * length words) within same none
-
-count_and_least : (elements : List ℕ) → judged_by (length elements) (least_in elements) ≡ judged elements
-count_and_least [] = refl
-count_and_least (least ∷ others) = let one_more : suc (length others) ≡ length others + 1 = omega arith in ap (λ count. Conflict count least) one_more
-
-pub plane_judges : PlaneJudges
-plane_judges words = count_and_least (elements_of words)

@@ -1,7 +1,8 @@
 -- Conflicting elements as a plane: a word for each 64 elements, of which each bit says whether an element is one.
-use Rattle.std.specs.Prelude.{◌≡◌, ℕ, ◌*◌, ◌/◌, ◌%◌, ◌≤◌, ◌<◌, Bool, false, ◌==◌, List, [], ◌∷◌, length, slice_index_or, Option, Some, None}
-use Rattle.std.specs.Int.{bit_at}
+use Rattle.std.specs.Prelude.{◌≡◌, ℕ, ◌+◌, ◌*◌, ◌/◌, ◌%◌, ◌≤◌, ◌<◌, Bool, false, ◌==◌, if◌then◌else◌, List, [], ◌∷◌, length, slice_index_or, count_ones, Option, Some, None}
+use Rattle.std.specs.Int.{w64, bit_at, trailing_zeros}
 use Rattle.std.specs.List.{filter, range_with_len}
+use Rattle.array_maps.specs.MapList.{AreWords}
 use Rattle.loop_core_law.specs.declared.verdict.Verdict.{Verdict}
 use Rattle.loop_core_law.specs.declared.verdict.Verdict.TheVariants.{Parallel, Conflict}
 use Rattle.loop_core_law.specs.Report.{judged}
@@ -24,9 +25,19 @@ abbrev pub judged_by : (count : ℕ) → (least : Option ℕ) → Verdict
 judged_by count None = Parallel
 judged_by count (Some least) = Conflict count least
 
--- the verdict that a plane of conflicts tells
+-- how many bits of words are set
+abbrev pub set_bits : List ℕ → ℕ
+set_bits [] = 0
+set_bits (word ∷ words) = count_ones word + set_bits words
+
+-- the least bit that is set, of words of which the first is word k: 64 * k and the trailing zeros of the first that isn't 0
+abbrev pub least_bit : (k : ℕ) → List ℕ → Option ℕ
+least_bit k [] = None
+least_bit k (word ∷ words) = if word == 0 then least_bit (k + 1) words else Some (64 * k + trailing_zeros w64 word)
+
+-- the verdict that a plane of conflicts tells: how many bits are set, and which is the least
 abbrev pub plane_verdict : List ℕ → Verdict
-plane_verdict words = judged_by (length (elements_of words)) (least_in (elements_of words))
+plane_verdict words = judged_by (set_bits words) (least_bit 0 words)
 
 -- a plane whose bits say what a test says of so many elements, and are zero past the end, has just the elements that pass
 abbrev pub PlaneHasElements : Type 0
@@ -34,6 +45,9 @@ PlaneHasElements = (words : List ℕ) (test : ℕ → Bool) (elements : ℕ) →
     ((e : ℕ) → e < elements → bit_of words e ≡ test e) → ((e : ℕ) → elements ≤ e → e < 64 * length words → bit_of words e ≡ false) →
     elements_of words ≡ filter test (range_with_len 0 elements)
 
--- and the verdict that it tells is that on those elements
-abbrev pub PlaneJudges : Type 0
-PlaneJudges = (words : List ℕ) → plane_verdict words ≡ judged (elements_of words)
+-- a plane has as many elements as bits are set in its words, the least of them is the least bit, and the verdict that it
+-- tells is that on them
+pub record PlaneJudges : Type 0 where
+  pub count : (words : List ℕ) → AreWords words → length (elements_of words) ≡ set_bits words
+  pub least : (words : List ℕ) → AreWords words → least_in (elements_of words) ≡ least_bit 0 words
+  pub verdict : (words : List ℕ) → AreWords words → plane_verdict words ≡ judged (elements_of words)

@@ -27,8 +27,9 @@ pub fn law_of_marks()
 {}
 
 /// The law of planes: a plane of bits, a word for each 64 elements, whose bits say what a test says of
-/// each element and are zero past the end, has just the elements that pass; so they are counted and the
-/// least of them found in the bits.
+/// each element and are zero past the end, has just the elements that pass. They are as many as bits
+/// are set in its words, and the least of them is 64 times the index of the first word that isn't 0,
+/// and its trailing zeros.
 pub fn law_of_planes()
     ensures elements { PlaneHasElements }
     ensures verdict { PlaneJudges }

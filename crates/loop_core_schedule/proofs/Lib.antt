@@ -4,3 +4,4 @@ pub mod Steps
 pub mod RunBlocks
 pub mod ScheduleLaws
 pub mod OutcomeLaws
+pub mod KeptBlockLaws

@@ -13,7 +13,7 @@ use Rattle.loop_core_blocks.specs.declared.faults.GatherFault.TheVariants.{Missi
 use Rattle.loop_core_blocks.specs.Split.{falls, split_fault}
 use Rattle.loop_core_blocks.specs.Gather.{Block, starts_late, with_number, least_of, lacks_some, twice, stands_in, gather_fault}
 use Rattle.loop_core_blocks.proofs.GatherLaws.{blocks_gather}
-use Rattle.loop_core_schedule.specs.declared.event.Event.{Event}
+use Rattle.loop_event.specs.declared.event.Event.{Event}
 use Rattle.loop_core_schedule.specs.declared.replay_fault.ReplayFault.{ReplayFault}
 use Rattle.loop_core_schedule.specs.declared.replay_fault.ReplayFault.TheVariants as faults
 use Rattle.loop_core_schedule.specs.Intervals.{blocks_of, start_of}

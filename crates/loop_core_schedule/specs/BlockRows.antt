@@ -1,8 +1,8 @@
--- Worked blocks: the marks of loops that are run as one block, by either test, and what is kept of blocks. Each is worked
--- out by hand.
+-- Worked blocks: first writers and last readers of loops that are run as one block, marks of halves, and what is kept of
+-- blocks. Each is worked out by hand.
 use Rattle.std.specs.Prelude.{◌≡◌, ℕ, ◌&&◌, Bool, List, [], ◌∷◌, map, Some, None}
 use Rattle.std.specs.List.{filter, range_with_len}
-use Rattle.array_maps.specs.declared.access.Op.TheVariants.{Add, Or, And, AddH}
+use Rattle.array_maps.specs.declared.access.Op.TheVariants.{Add, And, AddH}
 use Rattle.bpf_insn_form.specs.declared.insn.Insn.{Insn}
 use Rattle.bpf_step_model.specs.Run.{Ending, Ended, mapped}
 use Rattle.bpf_step_model.specs.Iteration.{Iterated}
@@ -39,12 +39,6 @@ abbrev pub right : Ending (List Iterated)
 right = block_of 5 4 shift_right (9 ∷ 0 ∷ 0 ∷ 0 ∷ 0 ∷ []) 0 4
 
 pub record RightRows : Type 0 where
-  pub w : marked 5 0 (λ m. m.written) right ≡ Ended (1 ∷ 2 ∷ 3 ∷ 4 ∷ [])
-  pub r : marked 5 0 (λ m. m.read_only) right ≡ Ended (0 ∷ 1 ∷ 2 ∷ 3 ∷ [])
-  pub nx : marked 5 0 (λ m. m.plain) right ≡ Ended (0 ∷ 1 ∷ 2 ∷ 3 ∷ 4 ∷ [])
-  pub m : marked 5 0 (λ m. m.written_by_two) right ≡ Ended []
-  pub np : marked 5 0 (λ m. m.read_and_written) right ≡ Ended []
-  pub add : marked 5 0 (λ m. m.by Add) right ≡ Ended []
   pub first : of_each 5 0 (λ m. m.first) right ≡ Ended (None ∷ Some 0 ∷ Some 1 ∷ Some 2 ∷ Some 3 ∷ [])
   pub last : of_each 5 0 (λ m. m.last) right ≡ Ended (1 ∷ 2 ∷ 3 ∷ 4 ∷ 0 ∷ [])
 
@@ -61,19 +55,18 @@ abbrev pub mixed : Ending (List Iterated)
 mixed = block_of 1 4 mixed_operators (1 ∷ []) 0 4
 
 pub record MixedRows : Type 0 where
-  pub marks : marked 1 0 (λ m. m.written && (m.written_by_two && (m.read_and_written && (m.by Add && m.by Or)))) mixed ≡ Ended (0 ∷ [])
-  pub none : marked 1 0 (λ m. m.plain) mixed ≡ Ended []
-  pub readers : marked 1 0 (λ m. m.read_only) mixed ≡ Ended []
   pub ends : of_each 1 0 (λ m. m.first) mixed ≡ Ended (Some 0 ∷ [])
   pub later : of_each 1 2 (λ m. m.first) (block_of 1 4 mixed_operators (1 ∷ []) 2 4) ≡ Ended (Some 2 ∷ [])
   pub last : of_each 1 2 (λ m. m.last) (block_of 1 4 mixed_operators (1 ∷ []) 2 4) ≡ Ended (4 ∷ [])
   pub kept : kept_at_0 mixed 1 ≡ Ended (record { last_value = Some 9; partial = None })
 
 -- five iterations that write an element before they read it: the last of all wins
+abbrev pub writers : Ending (List Iterated)
+writers = block_of 1 5 last_writer (3 ∷ []) 0 5
+
 pub record WriterRows : Type 0 where
-  pub marks : marked 1 0 (λ m. m.written && (m.written_by_two && m.plain)) (block_of 1 5 last_writer (3 ∷ []) 0 5) ≡ Ended (0 ∷ [])
-  pub readers : of_each 1 0 (λ m. m.last) (block_of 1 5 last_writer (3 ∷ []) 0 5) ≡ Ended (0 ∷ [])
-  pub kept : kept_at_0 (block_of 1 5 last_writer (3 ∷ []) 0 5) 3 ≡ Ended (record { last_value = Some 4; partial = None })
+  pub readers : of_each 1 0 (λ m. m.last) writers ≡ Ended (0 ∷ [])
+  pub kept : kept_at_0 writers 3 ≡ Ended (record { last_value = Some 4; partial = None })
   pub empty : kept_at_0 (block_of 1 5 last_writer (3 ∷ []) 2 2) 3 ≡ Ended (record { last_value = None; partial = None })
 
 -- operands of blocks, from the first on

@@ -5,6 +5,8 @@ pub mod Outcome
 pub mod SplitLaw
 pub mod ScheduleLaw
 pub mod OutcomeLaw
+pub mod KeptLaw
+pub mod PlaneRows
 pub mod BlockRows
 pub mod SplitRows
 pub mod GatherRows

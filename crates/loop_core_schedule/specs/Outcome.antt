@@ -9,7 +9,7 @@ use Rattle.loop_core_law.specs.declared.loop_test.Test.{Test}
 use Rattle.loop_core_law.specs.declared.verdict.Verdict.{Verdict}
 use Rattle.loop_core_law.specs.LeastBreak.{is_break}
 use Rattle.loop_core_law.specs.Report.{verdict}
-use Rattle.loop_core_schedule.specs.declared.event.Event.{Event}
+use Rattle.loop_event.specs.declared.event.Event.{Event}
 use Rattle.loop_core_schedule.specs.declared.replay_fault.ReplayFault.{ReplayFault}
 use Rattle.loop_core_schedule.specs.Schedule.{State, replay}
 

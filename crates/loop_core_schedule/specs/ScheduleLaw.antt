@@ -6,7 +6,7 @@ use Rattle.bpf_step_model.specs.State.{LoopCall}
 use Rattle.loop_core_law.specs.LeastBreak.{least_break}
 use Rattle.loop_core_blocks.specs.Split.{split_fault}
 use Rattle.loop_core_blocks.specs.Gather.{Block, IsRunOf, least_of, stands_in, gather_fault}
-use Rattle.loop_core_schedule.specs.declared.event.Event.{Event}
+use Rattle.loop_event.specs.declared.event.Event.{Event}
 use Rattle.loop_core_schedule.specs.Intervals.{blocks_of}
 use Rattle.loop_core_schedule.specs.Events.{Shared}
 use Rattle.loop_core_schedule.specs.Schedule.{State, replay}

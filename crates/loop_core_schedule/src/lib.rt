@@ -3,18 +3,19 @@
 //! function's contract is a law.
 #![tactic(auto)]
 
-pub mod event;
 pub mod replay_fault;
 
 ghost use Rattle.loop_core_schedule.specs.BlockRows.{BlockRows};
 ghost use Rattle.loop_core_schedule.specs.GatherRows.{GatherRows};
+ghost use Rattle.loop_core_schedule.specs.KeptLaw.{KeptBlocksTell};
 ghost use Rattle.loop_core_schedule.specs.OutcomeLaw.{OutcomeByTest};
+ghost use Rattle.loop_core_schedule.specs.PlaneRows.{PlaneRows};
 ghost use Rattle.loop_core_schedule.specs.ReplayRows.{ReplayRows};
 ghost use Rattle.loop_core_schedule.specs.ScheduleLaw.{EndedSchedulesComplete};
 ghost use Rattle.loop_core_schedule.specs.SplitLaw.{SplitsPartition};
 ghost use Rattle.loop_core_schedule.specs.SplitRows.{SplitRows};
 
-pub use event::{Event, EventKind};
+pub use loop_event::{Event, EventKind};
 pub use replay_fault::ReplayFault;
 
 /// The law of splits: each index of the loop lies in exactly one block, and the blocks reach no
@@ -36,9 +37,21 @@ pub fn law_of_outcomes()
     ensures { OutcomeByTest }
 {}
 
-/// The definitions give the marks, kept values and breaks of worked blocks.
+/// The law of kept blocks: the merged marks of blocks are those of all their iterations, so they tell
+/// whether an element conflicts and whether it is reduction-only; and what a pass leaves there follows
+/// from that and from the blocks' kept values.
+pub fn law_of_kept_blocks()
+    ensures { KeptBlocksTell }
+{}
+
+/// The definitions give the first writers, last readers and kept values of worked blocks.
 pub fn worked_blocks()
     ensures { BlockRows }
+{}
+
+/// The definitions give the planes of marks of worked blocks, and what planes of conflicts tell.
+pub fn worked_planes()
+    ensures { PlaneRows }
 {}
 
 /// The definitions give the fault of worked lists of blocks.

@@ -1,7 +1,7 @@
 //! Bounds and events.
 
 use crate::rows::{are_told, repeated, told};
-use bpf_text::{EventKind, EventWord, TextError, parse_events};
+use bpf_text::{Event, EventKind, TextError, parse_events};
 use std::alloc::Global;
 use std::test::Fail;
 
@@ -15,7 +15,7 @@ fn events_are_read(rt: HostRuntime) -> Result<(), Fail> {
     let text = "bounds 0 4 4294967295 ; three\n c0 l0\tt255\n\np1 s1";
     let (bounds, events) = parse_events(alloc, text)?;
     assert_eq!(rt; bounds.as_slice(), [0, 4, 4_294_967_295].as_slice());
-    let word = |kind, worker| EventWord { kind, worker };
+    let word = |kind, worker| Event { kind, worker };
     let want = [
         word(EventKind::Claim, 0),
         word(EventKind::Look, 0),

@@ -1,4 +1,5 @@
-use Rattle.loop_core_marks.proofs.PlaneLaws.{plane_has_elements, plane_judges}
+use Rattle.loop_core_marks.proofs.PlaneBits.{plane_judges}
+use Rattle.loop_core_marks.proofs.PlaneLaws.{plane_has_elements}
 use Rattle.loop_core_marks.proofs.law_of_planes.Goals as goal
 
 pub returns-clause-elements : goal.returns-clause-elements

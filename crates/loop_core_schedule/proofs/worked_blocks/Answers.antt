@@ -10,7 +10,7 @@ use Rattle.loop_core_schedule.proofs.worked_blocks.Goals as goal
 
 right : RightRows
 unfolding iteration step alu holds combined half_of with_half halves_added
-right = record { w = refl; r = refl; nx = refl; m = refl; np = refl; add = refl; first = refl; last = refl }
+right = record { first = refl; last = refl }
 
 left : LeftRows
 unfolding iteration step alu holds combined half_of with_half halves_added
@@ -18,11 +18,11 @@ left = record { first = refl; last = refl }
 
 mixed : MixedRows
 unfolding iteration step alu holds combined half_of with_half halves_added
-mixed = record { marks = refl; none = refl; readers = refl; ends = refl; later = refl; last = refl; kept = refl }
+mixed = record { ends = refl; later = refl; last = refl; kept = refl }
 
 writer : WriterRows
 unfolding iteration step alu holds combined half_of with_half halves_added
-writer = record { marks = refl; readers = refl; kept = refl; empty = refl }
+writer = record { readers = refl; kept = refl; empty = refl }
 
 partial : PartialRows
 unfolding iteration step alu holds combined half_of with_half halves_added
