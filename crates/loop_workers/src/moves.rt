@@ -1,0 +1,154 @@
+//! What each event does to a worker and to what it shares.
+
+ghost use Rattle.std.specs.Prelude.{◌≡◌, ◌<◌, ◌≤◌, ℕ, Bool, List, IfSome, IfNone, Some, None};
+ghost use Rattle.loop_core_blocks.specs.Gather.{starts_late};
+ghost use Rattle.loop_core_schedule.specs.Intervals.{blocks_of, end_of};
+ghost use Rattle.loop_core_schedule.specs.Events.{claims, looks, iterates, posts};
+ghost use Rattle.loop_workers.specs.Standing.{seen, shared_of, WorkerFits};
+ghost use Rattle.loop_workers.specs.Moves.{moved_of, Asks, IsNeverEnabled};
+
+use crate::worker::{Shared, Worker};
+use loop_event::EventKind;
+use loop_split::Split;
+
+/// What a worker and what it shares become, and the block that was run to its break or its end with it.
+#[derive(Clone, Copy)]
+pub(crate) struct Move {
+    pub(crate) worker: Worker,
+    pub(crate) shared: Shared,
+    pub(crate) ran: Option<u32>,
+}
+
+/// What an enabled event is.
+#[derive(Clone, Copy)]
+pub(crate) enum Asked {
+    Moves(Move),
+    Iteration { block: u32, index: u32 },
+}
+
+fn becomes(worker: Worker, shared: Shared) -> Move
+    ensures { result ≡ record { worker = worker; shared = shared; ran = None } }
+{
+    Move {
+        worker,
+        shared,
+        ran: None,
+    }
+}
+
+fn having_run(block: u32, worker: Worker, shared: Shared) -> Move
+    ensures { result ≡ record { worker = worker; shared = shared; ran = Some block } }
+{
+    Move {
+        worker,
+        shared,
+        ran: Some(block),
+    }
+}
+
+fn claim(split: &Split, shared: Shared) -> Move
+    ensures { (runs : List ℕ) → claims split.now (shared_of shared runs) ≡ moved_of result runs }
+{
+    if shared.next < split.blocks() {
+        let next = shared.next + 1;
+        becomes(
+            Worker::Holding { block: shared.next },
+            Shared { next, ..shared },
+        )
+    } else {
+        becomes(Worker::Drained, shared)
+    }
+}
+
+/// Whether a block that starts at this index starts past the least break.
+fn is_late(least: Option<u32>, start: u32) -> bool
+    ensures { result ≡ starts_late least start }
+{
+    match least {
+        None => false,
+        Some(index) => index < start,
+    }
+}
+
+fn look(split: &Split, block: u32, shared: Shared) -> Move
+    requires { block < blocks_of split.now }
+    ensures { (runs : List ℕ) → looks split.now block (shared_of shared runs) ≡ moved_of result runs }
+{
+    let start = split.start(block);
+    if is_late(shared.least, start) {
+        becomes(Worker::Idle, shared)
+    } else if start == split.end(block) {
+        having_run(block, Worker::Idle, shared)
+    } else {
+        becomes(
+            Worker::Running {
+                block,
+                index: start,
+            },
+            shared,
+        )
+    }
+}
+
+/// What comes of the iteration of this index, which broke or not.
+pub(crate) fn iterate(split: &Split, block: u32, index: u32, broke: bool, shared: Shared) -> Move
+    requires block { block < blocks_of split.now }
+    requires index { index < end_of split.now block }
+    ensures { (breaks : ℕ → Bool) (runs : List ℕ) → breaks index ≡ broke →
+        iterates breaks split.now block index (shared_of shared runs) ≡ moved_of result runs }
+{
+    if broke {
+        having_run(block, Worker::Posting { index }, shared)
+    } else if index + 1 == split.end(block) {
+        having_run(block, Worker::Idle, shared)
+    } else {
+        becomes(
+            Worker::Running {
+                block,
+                index: index + 1,
+            },
+            shared,
+        )
+    }
+}
+
+fn post(index: u32, shared: Shared) -> Move
+    ensures { (runs : List ℕ) → posts index (shared_of shared runs) ≡ moved_of result runs }
+{
+    let least = match shared.least {
+        None => index,
+        Some(least) => index.min(least),
+    };
+    becomes(
+        Worker::Idle,
+        Shared {
+            least: Some(least),
+            ..shared
+        },
+    )
+}
+
+/// What an event of this kind is for a worker, or `None` where it isn't enabled.
+pub(crate) fn asked(
+    split: &Split,
+    kind: EventKind,
+    worker: Worker,
+    shared: Shared,
+) -> Option<Asked>
+    requires { WorkerFits split.now worker }
+    ensures some { IfSome result (Asks split.now kind worker shared) }
+    ensures none { IfNone result (IsNeverEnabled split.now kind worker shared) }
+{
+    match (kind, worker) {
+        (EventKind::Claim, Worker::Idle) => Some(Asked::Moves(claim(split, shared))),
+        (EventKind::Look, Worker::Holding { block }) => {
+            Some(Asked::Moves(look(split, block, shared)))
+        }
+        (EventKind::Turn, Worker::Running { block, index }) => {
+            Some(Asked::Iteration { block, index })
+        }
+        (EventKind::Post, Worker::Posting { index }) => Some(Asked::Moves(post(index, shared))),
+        (EventKind::Stop, Worker::Drained) => Some(Asked::Moves(becomes(Worker::Stopped, shared))),
+        _ => None,
+    }
+}
