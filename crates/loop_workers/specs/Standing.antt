@@ -1,5 +1,5 @@
 -- Workers and what they share, as they stand while a list of events goes by.
-use Rattle.std.specs.Prelude.{◌≡◌, ℕ, ◌<◌, ◌≤◌, List, map, slice_index_or}
+use Rattle.std.specs.Prelude.{ℕ, ◌<◌, ◌≤◌, List, map, slice_index_or}
 use Rattle.loop_core_schedule.specs.Intervals.{blocks_of, end_of}
 use Rattle.loop_core_schedule.specs.Events as events
 use Rattle.loop_core_schedule.specs.Schedule.{State}

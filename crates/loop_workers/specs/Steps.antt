@@ -1,5 +1,5 @@
 -- What comes of an event, whichever iterations break and whichever blocks were run before.
-use Rattle.std.specs.Prelude.{◌≡◌, ℕ, Bool, List, [], ◌∷◌, ◌++◌, slice_get, Option, Some, Ok, Err}
+use Rattle.std.specs.Prelude.{◌≡◌, ℕ, Bool, List, [], ◌∷◌, ◌++◌, slice_get, Option, Some, None, Ok, Err}
 use Rattle.std.specs.Option.{option_to_list}
 use Rattle.loop_event.specs.declared.event.Event.{Event}
 use Rattle.loop_event.specs.declared.event.EventKind.TheVariants as kinds
@@ -19,6 +19,12 @@ Leads bounds e place old new ran =
 -- it has this fault
 abbrev pub Faults : List ℕ → Event → (place : ℕ) → Standing → ReplayFault → Type 0
 Faults bounds e place old fault = (breaks : ℕ → Bool) (runs : List ℕ) → after_event breaks bounds e place (state old runs) ≡ Err fault
+
+-- the event was done, and this block was run with it or none
+abbrev pub IsStepOf : Option ℕ → Step → Type 0
+IsStepOf ran steps.Done = ran ≡ None
+IsStepOf ran (steps.Ran block) = ran ≡ Some block
+IsStepOf ran (steps.Turn turn) = ⊥
 
 -- the worker of a turn runs that block, and has that index before it
 abbrev pub IsBefore : Standing → Turn → Type 0

@@ -5,7 +5,7 @@ ghost use Rattle.loop_core_blocks.specs.Gather.{starts_late};
 ghost use Rattle.loop_core_schedule.specs.Intervals.{blocks_of, end_of};
 ghost use Rattle.loop_core_schedule.specs.Events.{claims, looks, iterates, posts};
 ghost use Rattle.loop_workers.specs.Standing.{seen, shared_of, WorkerFits};
-ghost use Rattle.loop_workers.specs.Moves.{moved_of, Asks, IsNeverEnabled};
+ghost use Rattle.loop_workers.specs.Moves.{MoveFits, moved_of, Asks, IsNeverEnabled};
 
 use crate::worker::{Shared, Worker};
 use loop_event::EventKind;
@@ -47,7 +47,9 @@ fn having_run(block: u32, worker: Worker, shared: Shared) -> Move
 }
 
 fn claim(split: &Split, shared: Shared) -> Move
-    ensures { (runs : List ℕ) → claims split.now (shared_of shared runs) ≡ moved_of result runs }
+    requires { shared.next ≤ blocks_of split.now }
+    ensures fits { MoveFits split.now result }
+    ensures claims { (runs : List ℕ) → claims split.now (shared_of shared runs) ≡ moved_of result runs }
 {
     if shared.next < split.blocks() {
         let next = shared.next + 1;
@@ -71,8 +73,10 @@ fn is_late(least: Option<u32>, start: u32) -> bool
 }
 
 fn look(split: &Split, block: u32, shared: Shared) -> Move
-    requires { block < blocks_of split.now }
-    ensures { (runs : List ℕ) → looks split.now block (shared_of shared runs) ≡ moved_of result runs }
+    requires next { shared.next ≤ blocks_of split.now }
+    requires block { block < blocks_of split.now }
+    ensures fits { MoveFits split.now result }
+    ensures looks { (runs : List ℕ) → looks split.now block (shared_of shared runs) ≡ moved_of result runs }
 {
     let start = split.start(block);
     if is_late(shared.least, start) {
@@ -92,14 +96,17 @@ fn look(split: &Split, block: u32, shared: Shared) -> Move
 
 /// What comes of the iteration of this index, which broke or not.
 pub(crate) fn iterate(split: &Split, block: u32, index: u32, broke: bool, shared: Shared) -> Move
+    requires next { shared.next ≤ blocks_of split.now }
     requires block { block < blocks_of split.now }
     requires index { index < end_of split.now block }
-    ensures { (breaks : ℕ → Bool) (runs : List ℕ) → breaks index ≡ broke →
+    ensures fits { MoveFits split.now result }
+    ensures iterates { (breaks : ℕ → Bool) (runs : List ℕ) → breaks index ≡ broke →
         iterates breaks split.now block index (shared_of shared runs) ≡ moved_of result runs }
 {
+    let end = split.end(block);
     if broke {
         having_run(block, Worker::Posting { index }, shared)
-    } else if index + 1 == split.end(block) {
+    } else if index + 1 == end {
         having_run(block, Worker::Idle, shared)
     } else {
         becomes(
@@ -112,8 +119,10 @@ pub(crate) fn iterate(split: &Split, block: u32, index: u32, broke: bool, shared
     }
 }
 
-fn post(index: u32, shared: Shared) -> Move
-    ensures { (runs : List ℕ) → posts index (shared_of shared runs) ≡ moved_of result runs }
+fn post(split: &Split, index: u32, shared: Shared) -> Move
+    requires { shared.next ≤ blocks_of split.now }
+    ensures fits { MoveFits split.now result }
+    ensures posts { (runs : List ℕ) → posts index (shared_of shared runs) ≡ moved_of result runs }
 {
     let least = match shared.least {
         None => index,
@@ -129,13 +138,14 @@ fn post(index: u32, shared: Shared) -> Move
 }
 
 /// What an event of this kind is for a worker, or `None` where it isn't enabled.
-pub(crate) fn asked(
+pub(crate) fn asked_of(
     split: &Split,
     kind: EventKind,
     worker: Worker,
     shared: Shared,
 ) -> Option<Asked>
-    requires { WorkerFits split.now worker }
+    requires next { shared.next ≤ blocks_of split.now }
+    requires worker { WorkerFits split.now worker }
     ensures some { IfSome result (Asks split.now kind worker shared) }
     ensures none { IfNone result (IsNeverEnabled split.now kind worker shared) }
 {
@@ -147,7 +157,9 @@ pub(crate) fn asked(
         (EventKind::Turn, Worker::Running { block, index }) => {
             Some(Asked::Iteration { block, index })
         }
-        (EventKind::Post, Worker::Posting { index }) => Some(Asked::Moves(post(index, shared))),
+        (EventKind::Post, Worker::Posting { index }) => Some(Asked::Moves(post(
+            split, index, shared,
+        ))),
         (EventKind::Stop, Worker::Drained) => Some(Asked::Moves(becomes(Worker::Stopped, shared))),
         _ => None,
     }
