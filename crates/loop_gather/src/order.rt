@@ -2,15 +2,14 @@
 
 ghost use Rattle.std.specs.Prelude.{◌≡◌, ◌==◌, not, List, map, length, Some, None, IfOk, IfErr, IfSome, IfNone};
 ghost use Rattle.std.specs.List.{list_any, position_from};
-ghost use Rattle.loop_core_law.specs.LeastBreak.{lesser};
-ghost use Rattle.loop_core_blocks.specs.Gather.{Block, starts_late, gather_fault};
+ghost use Rattle.loop_core_blocks.specs.Gather.{Block, gather_fault};
 ghost use Rattle.loop_gather.specs.Told.{summary_of, least_told, twice_told, stands_told, order_told};
 ghost use Rattle.loop_gather.specs.Counting.{Counts};
 
 use crate::summary::Summary;
 use arrayvec::ArrayVec;
 use loop_core_blocks::GatherFault;
-use loop_split::Split;
+use loop_split::{Split, is_late, lesser};
 
 const MOST_BLOCKS: usize = 64;
 
@@ -23,43 +22,15 @@ pub struct Counting {
     pub places: ArrayVec<usize, MOST_BLOCKS>,
 }
 
-fn lesser_of(index: Option<u32>, other: Option<u32>) -> Option<u32>
-    ensures { result ≡ lesser index other }
-{
-    match index {
-        None => other,
-        Some(least) => Some(least_of_both(least, other)),
-    }
-}
-
-fn least_of_both(index: u32, other: Option<u32>) -> u32
-    ensures { Some result ≡ lesser (Some index) other }
-{
-    match other {
-        None => index,
-        Some(other) => index.min(other),
-    }
-}
-
 #[tactic(auto, using(crate::proofs::ToldLaws::lesser_assoc))]
 fn least_break(blocks: &[Summary]) -> Option<u32>
     ensures { result ≡ least_told blocks.now }
 {
     let mut least = None;
     for block in blocks {
-        least = lesser_of(least, block.broke);
+        least = lesser(least, block.broke);
     }
     least
-}
-
-/// Whether a block that starts at this index starts past the least break.
-fn is_late(least: Option<u32>, start: u32) -> bool
-    ensures { result ≡ starts_late least start }
-{
-    match least {
-        None => false,
-        Some(index) => index < start,
-    }
 }
 
 fn place_of(blocks: &[Summary], number: u32) -> Option<usize>

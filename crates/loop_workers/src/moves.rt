@@ -1,7 +1,6 @@
 //! What each event does to a worker and to what it shares.
 
 ghost use Rattle.std.specs.Prelude.{◌≡◌, ◌<◌, ◌≤◌, ℕ, Bool, List, IfSome, IfNone, Some, None};
-ghost use Rattle.loop_core_blocks.specs.Gather.{starts_late};
 ghost use Rattle.loop_core_schedule.specs.Intervals.{blocks_of, end_of};
 ghost use Rattle.loop_core_schedule.specs.Events.{claims, looks, iterates, posts};
 ghost use Rattle.loop_workers.specs.Standing.{seen, shared_of, WorkerFits};
@@ -9,7 +8,7 @@ ghost use Rattle.loop_workers.specs.Moves.{MoveFits, moved_of, Asks, IsNeverEnab
 
 use crate::worker::{Shared, Worker};
 use loop_event::EventKind;
-use loop_split::Split;
+use loop_split::{Split, is_late, lesser};
 
 /// What a worker and what it shares become, and the block that was run to its break or its end with it.
 #[derive(Clone, Copy)]
@@ -59,16 +58,6 @@ fn claim(split: &Split, shared: Shared) -> Move
         )
     } else {
         becomes(Worker::Drained, shared)
-    }
-}
-
-/// Whether a block that starts at this index starts past the least break.
-fn is_late(least: Option<u32>, start: u32) -> bool
-    ensures { result ≡ starts_late least start }
-{
-    match least {
-        None => false,
-        Some(index) => index < start,
     }
 }
 
@@ -124,14 +113,10 @@ fn post(split: &Split, index: u32, shared: Shared) -> Move
     ensures fits { MoveFits split.now result }
     ensures posts { (runs : List ℕ) → posts index (shared_of shared runs) ≡ moved_of result runs }
 {
-    let least = match shared.least {
-        None => index,
-        Some(least) => index.min(least),
-    };
     becomes(
         Worker::Idle,
         Shared {
-            least: Some(least),
+            least: lesser(Some(index), shared.least),
             ..shared
         },
     )

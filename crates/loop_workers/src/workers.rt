@@ -44,6 +44,18 @@ fn step_of(ran: Option<u32>) -> Step
     }
 }
 
+impl Default for Workers {
+    ghost use Rattle.std.specs.Prelude.{◌≡◌, []};
+    ghost use Rattle.loop_core_schedule.specs.Schedule.{at_first};
+    ghost use Rattle.loop_workers.specs.Standing.{state};
+
+    ghost is_default = { λ w. state w [] ≡ at_first };
+
+    fn default() -> Workers {
+        Workers::new()
+    }
+}
+
 impl Workers {
     /// Workers that haven't done anything.
     pub fn new() -> Workers
