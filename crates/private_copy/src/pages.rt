@@ -110,6 +110,8 @@ impl Pages {
     }
 
     /// Places a page that isn't placed.
+    #[cold]
+    #[inline(never)]
     fn place(&mut self, number: u32)
         requires within { number < total_of self.old }
         requires absent { has_page self.old.order number ≡ false }
