@@ -1,7 +1,7 @@
 //! A private copy of maps, and the iterations that use it.
 
 ghost use Rattle.std.specs.Prelude.{◌≡◌, ◌≢◌, ℕ, ◌+◌, ◌-◌, ◌*◌, ◌/◌, ◌^◌, ◌<◌, ◌≤◌, ◌++◌, ◌∷◌, [], false, true, min, length, slice_get, IfOk, OnErr, OnOk, List};
-ghost use Rattle.array_maps.specs.MapList.{AreWords};
+ghost use Rattle.std.specs.List.{All};
 ghost use Rattle.array_maps.specs.Accesses.{Access};
 ghost use Rattle.shadow_marks.specs.Iteration.{elements_of, touched_count};
 ghost use Rattle.private_copy.specs.Cells.{total_of, cell_at};
@@ -29,7 +29,7 @@ pub struct Private<'a> {
     pub(crate) serves: u32,
     pub(crate) under_way: bool,
     ghost small: { length start.now ≤ 65536 },
-    ghost fit: { AreWords start.now },
+    ghost fit: { All (λ word. word < 2 ^ 64) start.now },
     ghost flagged: { elements_of flags ≡ length start.now },
     ghost paged: { total_of pages ≡ (length start.now + 63) / 64 },
     ghost writers: { (e : ℕ) → (cell_at pages e).writer ≤ begun },
@@ -38,6 +38,16 @@ pub struct Private<'a> {
     ghost room: { min serves (total_of pages - length pages.order) ≤ pages.spare },
     ghost numbered: { 0 < serves → 0 < begun },
     ghost settled: { under_way ≡ false → touched_count flags + serves ≡ 0 },
+}
+
+/// The words of maps, each of which is below 2^64.
+#[tactic(auto, using(std::proofs::lemmas::List::Elements::All-from_recursion))]
+fn words_of(maps: &Maps) -> &[u64]
+    ensures words { result.now ≡ maps.now.words }
+    ensures fit { All (λ word. word < 2 ^ 64) result.now }
+    ensures limits { length result.now ≤ 65536 }
+{
+    maps.words()
 }
 
 impl<'a> Private<'a> {
@@ -58,7 +68,7 @@ impl<'a> Private<'a> {
         ensures begun { IfOk result (λ copy. (copy_of copy).begun ≡ 0) }
         ensures stands { IfOk result (λ copy. StandsFor (copy_of copy) []) }
     {
-        let start = start.words();
+        let start = words_of(start);
         let elements = start.len() as u32;
         Ok(Private {
             start,
