@@ -7,7 +7,7 @@ ghost use Rattle.array_maps.specs.MapList.{lists, zero_maps};
 ghost use Rattle.bpfspec_command_line.specs.declared.job.Mode.TheVariants.{Order};
 ghost use Rattle.bpfspec_answers.specs.declared.refusal.Refusal.TheVariants.{Text};
 ghost use Rattle.bpfspec_serve.specs.declared.answer_error.AnswerError.TheVariants.{Refused};
-ghost use Rattle.bpfspec_serve.specs.Output.{text_error, codec_error, readable, unit_program, function_of, functions_of, fitting, start_words, RunsTo, OfProgram, OfUnit, OfReadable, OfInput, Met, written, verified};
+ghost use Rattle.bpfspec_serve.specs.Output.{text_error, codec_error, readable, unit_program, function_of, functions_of, fitting, start_words, RunsTo, OfReadable, OfInput, Met, written, accepted, verified};
 ghost use Rattle.bpfspec_serve.specs.Sections.{unit_section};
 
 use crate::answer_error::AnswerError;
@@ -16,10 +16,10 @@ use array_maps::{Maps, MapsError};
 use bpf_insn::{CodecError, decode};
 use bpf_insn_form::Unit;
 use bpf_text::{TextError, parse_maps, parse_unit, print_unit, read_hex, write_hex};
-use bpf_verify::{Verified as Accepted, VerifyError, verify};
+use bpf_verify::{Verified, VerifyError, verify};
 use bpfspec_answers::{Function, Refusal, Section, print_accepted, print_report};
 use bpfspec_command_line::{Mode, UnitForm};
-use spec_run::{RunError, Verified, run_in_order, thin};
+use spec_run::{RunError, run_in_order};
 use std::alloc::{AllocError, Global};
 use std::str;
 
@@ -68,6 +68,20 @@ fn read_unit(alloc: Global, form: UnitForm, section: &str) -> Result<Unit, Answe
             Err(error) => Err(text_error(error, Section::Unit)),
         },
         UnitForm::Hex => read_hex_unit(alloc, section),
+    }
+}
+
+/// The accepted program of a section.
+fn accept(alloc: Global, form: UnitForm, section: &str) -> Result<Verified, AnswerError>
+    ensures { Met (λ program. program) (λ outcome. outcome ≡ accepted (unit_program form section.now)) result }
+{
+    let unit = read_unit(alloc, form, section)?;
+    match verify(alloc, unit) {
+        Ok(program) => Ok(program),
+        Err(VerifyError::Refused { rule, slot }) => {
+            Err(AnswerError::Refused(Refusal::Rule { rule, slot }))
+        }
+        Err(VerifyError::Memory) => Err(AnswerError::Memory),
     }
 }
 
@@ -156,9 +170,7 @@ fn order(alloc: Global, form: UnitForm, argument: u64, input: &str) -> Result<St
 {
     let unit = part(input);
     let maps = part(unit.rest);
-    let Some(program) = thin(read_unit(alloc, form, unit.section)?) else {
-        return Err(AnswerError::Refused(Refusal::NotThin));
-    };
+    let program = accept(alloc, form, unit.section)?;
     let maps = start_maps(alloc, &program, maps.section)?;
     run(alloc, &program, maps, argument)
 }
@@ -177,7 +189,7 @@ fn translate(
 }
 
 /// A function of an accepted program, whose number is at most the program's `callbacks()`.
-fn function_of(program: &Accepted, number: u32) -> Function
+fn function_of(program: &Verified, number: u32) -> Function
     requires { number ≤ length (callback_starts program.now.insns) }
     ensures { result ≡ function_of program.now.insns number }
 {
@@ -188,7 +200,7 @@ fn function_of(program: &Accepted, number: u32) -> Function
 }
 
 /// The functions of an accepted program: main, and each callback.
-fn functions_of(alloc: Global, program: &Accepted) -> Result<Vec<Function>, AllocError>
+fn functions_of(alloc: Global, program: &Verified) -> Result<Vec<Function>, AllocError>
     ensures { IfOk result (λ functions. functions.items ≡ functions_of program.now.insns) }
 {
     let mut functions = Vec::new(alloc);
@@ -199,18 +211,12 @@ fn functions_of(alloc: Global, program: &Accepted) -> Result<Vec<Function>, Allo
     Ok(functions)
 }
 
-/// What comes of a unit that is verified.
+/// What is told of an accepted program.
 fn judge(alloc: Global, form: UnitForm, input: &str) -> Result<String, AnswerError>
-    ensures { Met string_bytes (λ outcome. outcome ≡ verified (unit_program form (unit_section input.now))) result }
+    ensures { Met string_bytes (λ outcome. outcome ≡ verified (accepted (unit_program form (unit_section input.now)))) result }
 {
-    let unit = read_unit(alloc, form, part(input).section)?;
-    match verify(alloc, unit) {
-        Ok(program) => Ok(print_accepted(alloc, &functions_of(alloc, &program)?)?),
-        Err(VerifyError::Refused { rule, slot }) => {
-            Err(AnswerError::Refused(Refusal::Rule { rule, slot }))
-        }
-        Err(VerifyError::Memory) => Err(AnswerError::Memory),
-    }
+    let program = accept(alloc, form, part(input).section)?;
+    Ok(print_accepted(alloc, &functions_of(alloc, &program)?)?)
 }
 
 /// An input as a text.
