@@ -38,8 +38,8 @@ const HEX_UNITS: &str = "
     maps 0                                    => 2 refused A7 at unit line 1
     maps 1 | 95                               => 1 refused I1 at slot 0
     maps 1 | 95 | %% | no maps                => 1 refused I1 at slot 0
-    maps 1 | b700000007000000 | 9500000000000000 => 1 refused V0 at slot 0
-    maps 1 | b700000007000000 | 9500000000000000 | %% | no maps => 1 refused V0 at slot 0
+    maps 1 | b700000007000000 | 9500000000000000 => 0 return 7 | map 0: 0
+    maps 1 | b700000007000000 | 9500000000000000 | %% | no maps => 2 refused A1 at maps line 1
 ";
 
 #[test]
@@ -55,12 +55,12 @@ const BEHIND: &str =
 const ASSEMBLER_UNITS: &str = "
     maps 1 | mov64 r1, 0 | <behind> | %% | map 0: 5 => 0 return 0 | loop 0 at 5: answer 0, in order | map 0: 5
     maps 1 | mov64 r1, 8388608 | <behind> => 0 return 8388608 | loop 0 at 5: answer 8388608, in order | map 0: 35184367894528
-    maps 1 | mov64 r1, 8388609 | <behind> => 1 refused V0 at slot 0
-    maps 1 | mov64 r1, -1 | <behind>      => 1 refused V0 at slot 0
-    maps 2 | mov64 r1, 8 | <behind>       => 1 refused V0 at slot 0
-    maps 1 1 | mov64 r1, 8 | <behind>     => 1 refused V0 at slot 0
-    maps 1 | mov64 r1, 8 | <behind> | exit => 1 refused V0 at slot 0
-    maps 1                                => 1 refused V0 at slot 0
+    maps 1 | mov64 r1, 8388609 | <behind> => 0 return 18446744073709551609 | loop 0 at 5: answer -7, refused | map 0: 0
+    maps 1 | mov64 r1, -1 | <behind>      => 0 return 18446744073709551609 | loop 0 at 5: answer -7, refused | map 0: 0
+    maps 2 | mov64 r1, 8 | <behind>       => 0 return 8 | loop 0 at 5: answer 8, in order | map 0: 28 0
+    maps 1 1 | mov64 r1, 8 | <behind>     => 0 return 8 | loop 0 at 5: answer 8, in order | map 0: 28 | map 1: 0
+    maps 1 | mov64 r1, 8 | <behind> | exit => 0 return 8 | loop 0 at 5: answer 8, in order | map 0: 28
+    maps 1                                => 1 refused V1 at slot 0
 ";
 
 #[test]
