@@ -97,20 +97,20 @@ function_of insns number = record { start = start_of insns number; count = count
 abbrev pub functions_of : List Insn → List Function
 functions_of insns = map (function_of insns) (range_with_len 0 (length (callback_starts insns) + 1))
 
--- a program is accepted, or refused by its first fault
-abbrev pub accepted_or_not : Program → Option BrokenRule → Result Program AnswerError
-accepted_or_not program None = Ok program
-accepted_or_not program (Some fault) = refused (refusals.Rule fault.rule fault.slot)
+-- a program that breaks no rule, or the refusal by its first fault
+abbrev pub unless_broken : Program → Option BrokenRule → Result Program AnswerError
+unless_broken program None = Ok program
+unless_broken program (Some fault) = refused (refusals.Rule fault.rule fault.slot)
 
--- an accepted program is told with its functions, another is refused by its first fault
-abbrev pub judged : Program → Option BrokenRule → Outcome
-judged program None = Ok (accepted_text (functions_of program.insns))
-judged program (Some fault) = refused (refusals.Rule fault.rule fault.slot)
+-- a section's program, where it is accepted
+abbrev pub accepted : Result Program AnswerError → Result Program AnswerError
+accepted (Err error) = Err error
+accepted (Ok program) = unless_broken program (first_fault program)
 
--- the same where there is a program
+-- an accepted program is told with its functions
 abbrev pub verified : Result Program AnswerError → Outcome
 verified (Err error) = Err error
-verified (Ok program) = judged program (first_fault program)
+verified (Ok program) = Ok (accepted_text (functions_of program.insns))
 
 -- values as the start words of maps of these sizes
 abbrev pub fitting : List ℕ → Result (List (List ℕ)) AnswerError → Outcome
@@ -129,15 +129,10 @@ RunsTo program argument (Err error) outcome = outcome ≡ Err error
 RunsTo program argument (Ok words) outcome =
     (told : Reported) × (report_in_order program 4096 argument words ≡ Ended told) × (outcome ≡ Ok (report_text program.sizes told))
 
--- an accepted program runs, another is refused by its first fault
-abbrev pub OfJudged : Program → Option BrokenRule → ℕ → List ℕ → Outcome → Type 0
-OfJudged program None argument maps outcome = RunsTo program argument (start_words program.sizes maps) outcome
-OfJudged program (Some fault) argument maps outcome = outcome ≡ refused (refusals.Rule fault.rule fault.slot)
-
--- the same where there is a program
-abbrev pub OfUnit : Result Program AnswerError → ℕ → List ℕ → Outcome → Type 0
-OfUnit (Err error) argument maps outcome = outcome ≡ Err error
-OfUnit (Ok program) argument maps outcome = OfJudged program (first_fault program) argument maps outcome
+-- an accepted program runs on the maps of a section
+abbrev pub OfProgram : Result Program AnswerError → ℕ → List ℕ → Outcome → Type 0
+OfProgram (Err error) argument maps outcome = outcome ≡ Err error
+OfProgram (Ok program) argument maps outcome = RunsTo program argument (start_words program.sizes maps) outcome
 
 -- an input is at most 3,145,728 bytes of UTF-8
 abbrev pub readable : List ℕ → Outcome
@@ -148,8 +143,8 @@ readable input =
 -- what comes of an input that can be read
 abbrev pub OfReadable : Mode → Outcome → Outcome → Type 0
 OfReadable mode (Err error) outcome = outcome ≡ Err error
-OfReadable (Order form argument) (Ok input) outcome = OfUnit (unit_program form (unit_section input)) argument (maps_section input) outcome
-OfReadable (Verify form) (Ok input) outcome = outcome ≡ verified (unit_program form (unit_section input))
+OfReadable (Order form argument) (Ok input) outcome = OfProgram (accepted (unit_program form (unit_section input))) argument (maps_section input) outcome
+OfReadable (Verify form) (Ok input) outcome = outcome ≡ verified (accepted (unit_program form (unit_section input)))
 OfReadable Asm (Ok input) outcome = outcome ≡ written Hex (unit_program Assembler (unit_section input))
 OfReadable Disasm (Ok input) outcome = outcome ≡ written Assembler (unit_program Hex (unit_section input))
 

@@ -2,13 +2,12 @@
 
 ghost use Rattle.std.specs.Prelude.{◌≡◌, ◌<◌, ◌≤◌, IfOk, Ok, length};
 ghost use Rattle.bpf_insn_form.specs.Program.{callback_starts};
-ghost use Rattle.bpf_verify_model.specs.Accepted.{first_fault};
 ghost use Rattle.std.specs.String.{string_bytes};
 ghost use Rattle.array_maps.specs.MapList.{lists, zero_maps};
 ghost use Rattle.bpfspec_command_line.specs.declared.job.Mode.TheVariants.{Order};
 ghost use Rattle.bpfspec_answers.specs.declared.refusal.Refusal.TheVariants.{Text};
 ghost use Rattle.bpfspec_serve.specs.declared.answer_error.AnswerError.TheVariants.{Refused};
-ghost use Rattle.bpfspec_serve.specs.Output.{text_error, codec_error, readable, unit_program, function_of, functions_of, accepted_or_not, fitting, start_words, RunsTo, OfUnit, OfReadable, OfInput, Met, written, verified};
+ghost use Rattle.bpfspec_serve.specs.Output.{text_error, codec_error, readable, unit_program, function_of, functions_of, fitting, start_words, RunsTo, OfReadable, OfInput, Met, written, accepted, verified};
 ghost use Rattle.bpfspec_serve.specs.Sections.{unit_section};
 
 use crate::answer_error::AnswerError;
@@ -69,6 +68,20 @@ fn read_unit(alloc: Global, form: UnitForm, section: &str) -> Result<Unit, Answe
             Err(error) => Err(text_error(error, Section::Unit)),
         },
         UnitForm::Hex => read_hex_unit(alloc, section),
+    }
+}
+
+/// The accepted program of a section.
+fn accept(alloc: Global, form: UnitForm, section: &str) -> Result<Verified, AnswerError>
+    ensures { Met (λ program. program) (λ outcome. outcome ≡ accepted (unit_program form section.now)) result }
+{
+    let unit = read_unit(alloc, form, section)?;
+    match verify(alloc, unit) {
+        Ok(program) => Ok(program),
+        Err(VerifyError::Refused { rule, slot }) => {
+            Err(AnswerError::Refused(Refusal::Rule { rule, slot }))
+        }
+        Err(VerifyError::Memory) => Err(AnswerError::Memory),
     }
 }
 
@@ -151,26 +164,13 @@ fn run(alloc: Global, program: &Verified, maps: Maps, argument: u64) -> Result<S
     }
 }
 
-/// A unit that is accepted; another is refused by its first fault.
-fn accepted(alloc: Global, unit: Unit) -> Result<Verified, AnswerError>
-    ensures { Met (λ program. program) (λ outcome. outcome ≡ accepted_or_not unit (first_fault unit)) result }
-{
-    match verify(alloc, unit) {
-        Ok(program) => Ok(program),
-        Err(VerifyError::Refused { rule, slot }) => {
-            Err(AnswerError::Refused(Refusal::Rule { rule, slot }))
-        }
-        Err(VerifyError::Memory) => Err(AnswerError::Memory),
-    }
-}
-
 /// What comes of a unit, its argument and its maps.
 fn order(alloc: Global, form: UnitForm, argument: u64, input: &str) -> Result<String, AnswerError>
     ensures { Met string_bytes (OfReadable (Order form argument) (Ok input.now)) result }
 {
     let unit = part(input);
     let maps = part(unit.rest);
-    let program = accepted(alloc, read_unit(alloc, form, unit.section)?)?;
+    let program = accept(alloc, form, unit.section)?;
     let maps = start_maps(alloc, &program, maps.section)?;
     run(alloc, &program, maps, argument)
 }
@@ -211,11 +211,11 @@ fn functions_of(alloc: Global, program: &Verified) -> Result<Vec<Function>, Allo
     Ok(functions)
 }
 
-/// What comes of a unit that is verified.
+/// What is told of an accepted program.
 fn judge(alloc: Global, form: UnitForm, input: &str) -> Result<String, AnswerError>
-    ensures { Met string_bytes (λ outcome. outcome ≡ verified (unit_program form (unit_section input.now))) result }
+    ensures { Met string_bytes (λ outcome. outcome ≡ verified (accepted (unit_program form (unit_section input.now)))) result }
 {
-    let program = accepted(alloc, read_unit(alloc, form, part(input).section)?)?;
+    let program = accept(alloc, form, part(input).section)?;
     Ok(print_accepted(alloc, &functions_of(alloc, &program)?)?)
 }
 

@@ -1,12 +1,11 @@
 -- Main's turns, one after another.
-use Rattle.std.proofs.Common.{◌≡◌, ℕ, ℤ, pos, zero, suc, ◌+◌, ◌<◌, ◌≤◌, List, [], ◌∷◌, ◌++◌, length, Option, Some, None, refl, sym, ap, subst, ◌∙◌, arith}
-use Rattle.std.specs.List.{sum}
+use Rattle.std.proofs.Common.{◌≡◌, ℕ, ℤ, pos, zero, suc, ◌+◌, ◌<◌, ◌≤◌, List, [], ◌∷◌, ◌++◌, Some, None, refl, sym, ap, subst, ◌∙◌, arith}
 use Rattle.array_maps.specs.MapList.{MapList}
 use Rattle.bpf_insn_form.specs.Program.{Program}
 use Rattle.bpf_step_model.specs.State.{Machine, LoopCall, main_entry}
-use Rattle.bpf_step_model.specs.Run.{Ending, Ended, Stuck, Unfinished, mapped, followed, Turn, Exit, Loop, Refused, Stretch, run}
+use Rattle.bpf_step_model.specs.Run.{Ending, Ended, mapped, followed, Turn, Exit, Loop, Refused, Stretch, run}
 use Rattle.bpf_step_model.specs.LoopInOrder.{Looped, loop_in_order}
-use Rattle.bpf_step_model.specs.ProgramInOrder.{LoopMade, Finished, with_loop, resumed, after_loop, after_turn, after_stretch, main_from, program_in_order}
+use Rattle.bpf_step_model.specs.ProgramInOrder.{LoopMade, resumed, after_loop, after_turn, after_stretch, main_from, program_in_order}
 use Rattle.bpf_step_sound.specs.Soundness.{IsSoundProgram, AreMapWords, IsKnown, IsKnownCall, EachProgramEnds, EachRunEnds, EndsWithin, LoopEnds, EachCountIsSmall, most_from, most_after}
 use Rattle.bpf_step.specs.declared.main_function.Turned.{Turned}
 use Rattle.bpf_step.specs.declared.main_function.Turned.TheVariants as turned
@@ -15,13 +14,13 @@ use Rattle.bpf_step.specs.Turns.{IsFilled, TurnsTo, RanMain}
 use Rattle.bpf_step.proofs.Limits.{few_steps, few_counts}
 use Rattle.loop_core_law.specs.declared.verdict.LoopReport.{LoopReport}
 use Rattle.loop_core_law.specs.declared.verdict.Verdict.TheVariants as verdicts
-use Rattle.loop_core_law.specs.Report.{Reported, loop_report_in_order, report_in_order}
+use Rattle.loop_core_law.specs.Report.{report_in_order}
 use Rattle.loop_core_order.specs.Loops.{RanLoopInOrder}
 use Rattle.loop_core_order.proofs.MapEffects.{map_effect, sizes_kept}
 use Rattle.loop_core_order.proofs.SameLoops.{same_loop}
 use Rattle.spec_run.specs.InOrder.{RanInOrder}
 use Rattle.spec_run.specs.declared.running.Report.{Report}
-use Rattle.spec_run.proofs.Lines.{in_order_line, behind_lines, no_lines, one_line, last_line}
+use Rattle.spec_run.proofs.Lines.{behind_lines, no_lines, one_line, last_line}
 
 -- the words of maps
 abbrev pub words_of : MapList → List ℕ
