@@ -19,7 +19,6 @@ abbrev pub what_is_refused : Refusal → List ℕ
 what_is_refused (refusals.Text fault section line) = codes "A" ++ decimal (text_fault_number fault) ++ codes " at " ++ section_name section ++ codes " line " ++ decimal line
 what_is_refused (refusals.Codec fault slot) = codes "I" ++ decimal (codec_fault_number fault) ++ codes " at slot " ++ decimal slot
 what_is_refused (refusals.Rule rule slot) = codes "V" ++ decimal (rule_number rule) ++ codes " at slot " ++ decimal slot
-what_is_refused refusals.NotThin = codes "V0 at slot 0"
 what_is_refused refusals.Sizes = codes "P1"
 
 -- the line of a refusal

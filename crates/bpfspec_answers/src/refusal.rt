@@ -41,8 +41,6 @@ pub enum Refusal {
         rule: Rule,
         slot: u32,
     },
-    /// V0: the program isn't a thin one.
-    NotThin,
     /// P1: the sizes of the maps differ from the program's.
     Sizes,
 }
@@ -73,7 +71,6 @@ fn print_what(out: &mut String, refusal: Refusal) -> Result<(), AllocError>
         }
         Refusal::Codec { fault, slot } => write!(out, "I{} at slot {slot}", fault.number()),
         Refusal::Rule { rule, slot } => write!(out, "V{} at slot {slot}", rule.number()),
-        Refusal::NotThin => out.push_str("V0 at slot 0"),
         Refusal::Sizes => out.push_str("P1"),
     }
 }

@@ -20,7 +20,6 @@ use Rattle.bpf_insn_form.specs.Program.{Program, callback_starts}
 use Rattle.array_maps.specs.MapList.{lengths}
 use Rattle.bpf_step_model.specs.Run.{Ended}
 use Rattle.loop_core_law.specs.Report.{Reported, report_in_order}
-use Rattle.spec_run.specs.Thin.{Thin}
 use Rattle.bpfspec_command_line.specs.declared.job.Mode.{Mode}
 use Rattle.bpfspec_command_line.specs.declared.job.Mode.TheVariants.{Verify, Order, Asm, Disasm}
 use Rattle.bpfspec_command_line.specs.declared.job.UnitForm.{UnitForm}
@@ -98,6 +97,11 @@ function_of insns number = record { start = start_of insns number; count = count
 abbrev pub functions_of : List Insn → List Function
 functions_of insns = map (function_of insns) (range_with_len 0 (length (callback_starts insns) + 1))
 
+-- a program is accepted, or refused by its first fault
+abbrev pub accepted_or_not : Program → Option BrokenRule → Result Program AnswerError
+accepted_or_not program None = Ok program
+accepted_or_not program (Some fault) = refused (refusals.Rule fault.rule fault.slot)
+
 -- an accepted program is told with its functions, another is refused by its first fault
 abbrev pub judged : Program → Option BrokenRule → Outcome
 judged program None = Ok (accepted_text (functions_of program.insns))
@@ -125,15 +129,15 @@ RunsTo program argument (Err error) outcome = outcome ≡ Err error
 RunsTo program argument (Ok words) outcome =
     (told : Reported) × (report_in_order program 4096 argument words ≡ Ended told) × (outcome ≡ Ok (report_text program.sizes told))
 
--- a thin program runs, another is refused
-pub record OfProgram (program : Program) (argument : ℕ) (maps : List ℕ) (outcome : Outcome) : Type 0 where
-  pub other : ¬ Thin program → outcome ≡ refused refusals.NotThin
-  pub thin : Thin program → RunsTo program argument (start_words program.sizes maps) outcome
+-- an accepted program runs, another is refused by its first fault
+abbrev pub OfJudged : Program → Option BrokenRule → ℕ → List ℕ → Outcome → Type 0
+OfJudged program None argument maps outcome = RunsTo program argument (start_words program.sizes maps) outcome
+OfJudged program (Some fault) argument maps outcome = outcome ≡ refused (refusals.Rule fault.rule fault.slot)
 
 -- the same where there is a program
 abbrev pub OfUnit : Result Program AnswerError → ℕ → List ℕ → Outcome → Type 0
 OfUnit (Err error) argument maps outcome = outcome ≡ Err error
-OfUnit (Ok program) argument maps outcome = OfProgram program argument maps outcome
+OfUnit (Ok program) argument maps outcome = OfJudged program (first_fault program) argument maps outcome
 
 -- an input is at most 3,145,728 bytes of UTF-8
 abbrev pub readable : List ℕ → Outcome

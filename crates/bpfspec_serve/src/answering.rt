@@ -2,12 +2,13 @@
 
 ghost use Rattle.std.specs.Prelude.{◌≡◌, ◌<◌, ◌≤◌, IfOk, Ok, length};
 ghost use Rattle.bpf_insn_form.specs.Program.{callback_starts};
+ghost use Rattle.bpf_verify_model.specs.Accepted.{first_fault};
 ghost use Rattle.std.specs.String.{string_bytes};
 ghost use Rattle.array_maps.specs.MapList.{lists, zero_maps};
 ghost use Rattle.bpfspec_command_line.specs.declared.job.Mode.TheVariants.{Order};
 ghost use Rattle.bpfspec_answers.specs.declared.refusal.Refusal.TheVariants.{Text};
 ghost use Rattle.bpfspec_serve.specs.declared.answer_error.AnswerError.TheVariants.{Refused};
-ghost use Rattle.bpfspec_serve.specs.Output.{text_error, codec_error, readable, unit_program, function_of, functions_of, fitting, start_words, RunsTo, OfProgram, OfUnit, OfReadable, OfInput, Met, written, verified};
+ghost use Rattle.bpfspec_serve.specs.Output.{text_error, codec_error, readable, unit_program, function_of, functions_of, accepted_or_not, fitting, start_words, RunsTo, OfUnit, OfReadable, OfInput, Met, written, verified};
 ghost use Rattle.bpfspec_serve.specs.Sections.{unit_section};
 
 use crate::answer_error::AnswerError;
@@ -16,10 +17,10 @@ use array_maps::{Maps, MapsError};
 use bpf_insn::{CodecError, decode};
 use bpf_insn_form::Unit;
 use bpf_text::{TextError, parse_maps, parse_unit, print_unit, read_hex, write_hex};
-use bpf_verify::{Verified as Accepted, VerifyError, verify};
+use bpf_verify::{Verified, VerifyError, verify};
 use bpfspec_answers::{Function, Refusal, Section, print_accepted, print_report};
 use bpfspec_command_line::{Mode, UnitForm};
-use spec_run::{RunError, Verified, run_in_order, thin};
+use spec_run::{RunError, run_in_order};
 use std::alloc::{AllocError, Global};
 use std::str;
 
@@ -150,15 +151,26 @@ fn run(alloc: Global, program: &Verified, maps: Maps, argument: u64) -> Result<S
     }
 }
 
+/// A unit that is accepted; another is refused by its first fault.
+fn accepted(alloc: Global, unit: Unit) -> Result<Verified, AnswerError>
+    ensures { Met (λ program. program) (λ outcome. outcome ≡ accepted_or_not unit (first_fault unit)) result }
+{
+    match verify(alloc, unit) {
+        Ok(program) => Ok(program),
+        Err(VerifyError::Refused { rule, slot }) => {
+            Err(AnswerError::Refused(Refusal::Rule { rule, slot }))
+        }
+        Err(VerifyError::Memory) => Err(AnswerError::Memory),
+    }
+}
+
 /// What comes of a unit, its argument and its maps.
 fn order(alloc: Global, form: UnitForm, argument: u64, input: &str) -> Result<String, AnswerError>
     ensures { Met string_bytes (OfReadable (Order form argument) (Ok input.now)) result }
 {
     let unit = part(input);
     let maps = part(unit.rest);
-    let Some(program) = thin(read_unit(alloc, form, unit.section)?) else {
-        return Err(AnswerError::Refused(Refusal::NotThin));
-    };
+    let program = accepted(alloc, read_unit(alloc, form, unit.section)?)?;
     let maps = start_maps(alloc, &program, maps.section)?;
     run(alloc, &program, maps, argument)
 }
@@ -177,7 +189,7 @@ fn translate(
 }
 
 /// A function of an accepted program, whose number is at most the program's `callbacks()`.
-fn function_of(program: &Accepted, number: u32) -> Function
+fn function_of(program: &Verified, number: u32) -> Function
     requires { number ≤ length (callback_starts program.now.insns) }
     ensures { result ≡ function_of program.now.insns number }
 {
@@ -188,7 +200,7 @@ fn function_of(program: &Accepted, number: u32) -> Function
 }
 
 /// The functions of an accepted program: main, and each callback.
-fn functions_of(alloc: Global, program: &Accepted) -> Result<Vec<Function>, AllocError>
+fn functions_of(alloc: Global, program: &Verified) -> Result<Vec<Function>, AllocError>
     ensures { IfOk result (λ functions. functions.items ≡ functions_of program.now.insns) }
 {
     let mut functions = Vec::new(alloc);
@@ -203,14 +215,8 @@ fn functions_of(alloc: Global, program: &Accepted) -> Result<Vec<Function>, Allo
 fn judge(alloc: Global, form: UnitForm, input: &str) -> Result<String, AnswerError>
     ensures { Met string_bytes (λ outcome. outcome ≡ verified (unit_program form (unit_section input.now))) result }
 {
-    let unit = read_unit(alloc, form, part(input).section)?;
-    match verify(alloc, unit) {
-        Ok(program) => Ok(print_accepted(alloc, &functions_of(alloc, &program)?)?),
-        Err(VerifyError::Refused { rule, slot }) => {
-            Err(AnswerError::Refused(Refusal::Rule { rule, slot }))
-        }
-        Err(VerifyError::Memory) => Err(AnswerError::Memory),
-    }
+    let program = accepted(alloc, read_unit(alloc, form, part(input).section)?)?;
+    Ok(print_accepted(alloc, &functions_of(alloc, &program)?)?)
 }
 
 /// An input as a text.

@@ -1,2 +1,3 @@
-pub mod ThinLists
-pub mod ThinRuns
+pub mod Loops
+pub mod TurnLaws
+pub mod Reports

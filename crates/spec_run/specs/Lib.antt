@@ -1,2 +1,2 @@
-pub mod Thin
+pub mod Turns
 pub mod InOrder

@@ -2,11 +2,12 @@
 
 ghost use Rattle.std.specs.Prelude.{◌≡◌, ◌≢◌, IfOk, OnErr, IsErrOf, Err};
 ghost use Rattle.spec_run.specs.InOrder.{RanInOrder};
-ghost use Rattle.spec_run.specs.Thin.{after_indices};
 
-use crate::verified::{Verified, is_one_element};
+use crate::turning::{Step, take_turn};
 use array_maps::Maps;
-use loop_core_law::{LoopReport, Verdict};
+use bpf_step::Main;
+use bpf_verify::Verified;
+use loop_core_law::LoopReport;
 use std::alloc::{AllocError, AllocFailed, Global};
 use thiserror::Error;
 
@@ -50,16 +51,27 @@ impl<T: Drop> From<AllocFailed<T>> for RunError {
     }
 }
 
-/// A word with each index below n added to it, one after another.
-#[tactic(auto, using(crate::proofs::ThinRuns::adds_index))]
-fn with_indices(word: u64, n: u32) -> u64
-    ensures { result ≡ after_indices word n }
+/// Runs the program on these maps, which are of its sizes. Where memory runs out they are left as they
+/// are then.
+fn run_on(
+    alloc: Global,
+    program: &Verified,
+    maps: &mut Maps,
+    argument: u64,
+) -> Result<Report, RunError>
+    requires { maps.old.sizes ≡ program.now.sizes }
+    ensures ran { IfOk result (λ report. RanInOrder program.now argument maps.old maps.new report) }
+    ensures memory { OnErr result (result ≡ Err RunError.Memory) }
 {
-    let mut sum = word;
-    for index in 0..n {
-        sum = sum.wrapping_add(u64::from(index));
+    let _unit = program.unit();
+    let mut main = Main::new(program, argument);
+    let mut loops = Vec::new(alloc);
+    loop {
+        match take_turn(program, &mut main, maps) {
+            Step::Returned(ret) => return Ok(Report { ret, loops }),
+            Step::Called(report) => loops.push(report)?,
+        }
     }
-    sum
 }
 
 /// Runs the program on the maps, its argument in R1, with each loop in order.
@@ -77,20 +89,11 @@ pub fn run_in_order(
     ensures sizes { maps.old.sizes ≢ program.now.sizes → result ≡ Err RunError.Sizes }
     ensures only { result ≡ Err RunError.Sizes → maps.old.sizes ≢ program.now.sizes }
 {
-    let iterations = program.iterations();
-    if !is_one_element(maps.sizes()) {
+    if maps.sizes() != program.sizes() {
         return Err(RunError::Sizes);
     }
-    let mut loops = Vec::new(alloc);
-    loops.push(LoopReport {
-        slot: 5,
-        answer: i64::from(iterations),
-        verdict: Verdict::InOrder,
-    })?;
-    let word = maps.get(0, 0);
-    maps.set(0, 0, with_indices(word, iterations));
-    Ok(Report {
-        ret: u64::from(iterations),
-        loops,
-    })
+    let mut copy = maps.try_copy(alloc)?;
+    let report = run_on(alloc, program, &mut copy, argument)?;
+    *maps = copy;
+    Ok(report)
 }
