@@ -41,7 +41,10 @@ const HEX_UNITS: &str = "
         b700000000000000 | 9500000000000000 | %% | map 0: 18446744073709551615 \
         => return 8 | loop 0 at 5: answer 8, in order | map 0: 27
     maps 1 | 9                           => refused A1 at unit line 2
+                                         => refused A1 at unit line 0
     maps 0                               => refused A7 at unit line 1
+    maps 4294967296                      => refused A2 at unit line 1
+    maps 1 | 9500000000000000 | %% ; no mark => refused A1 at unit line 3
     maps 1 | 95 | %% | no maps           => refused I1 at slot 0
     maps 1 | b700000000000000 | 1800000000000000 => refused I7 at slot 1
     maps 1 | 8d00000000000000            => refused I2 at slot 0

@@ -75,10 +75,10 @@ fn lines_and_slots_are_written_both_ways(rt: HostRuntime) -> Result<(), Fail> {
     let alloc = rt.alloc();
     for row in BOTH_WAYS.trim().lines() {
         let (line, slots) = row.split_once("=>").ok_or("a row has slots")?;
-        let text = behind(alloc, "0 maps 1 | ", line)?;
-        let hex = behind(alloc, "0 maps 1 | ", slots)?;
-        is_answered(&rt, alloc, "asm", &text[2..], &hex)?;
-        is_answered(&rt, alloc, "disasm", &hex[2..], &text)?;
+        let text = behind(alloc, "maps 1 | ", line)?;
+        let hex = behind(alloc, "maps 1 | ", slots)?;
+        is_answered(&rt, alloc, "asm", &text, &behind(alloc, "0 ", &hex)?)?;
+        is_answered(&rt, alloc, "disasm", &hex, &behind(alloc, "0 ", &text)?)?;
     }
     Ok(())
 }
