@@ -41,7 +41,6 @@ pub struct Private<'a> {
 }
 
 /// The words of maps, each of which is below 2^64.
-#[tactic(auto, using(std::proofs::lemmas::List::Elements::All-from_recursion))]
 fn words_of(maps: &Maps) -> &[u64]
     ensures words { result.now ≡ maps.now.words }
     ensures fit { All (λ word. word < 2 ^ 64) result.now }
