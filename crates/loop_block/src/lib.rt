@@ -1,0 +1,9 @@
+//! Blocks of a speculative loop: the iterations of an interval, each on the loop's start words, and what is kept of
+//! them.
+#![tactic(auto)]
+
+mod block;
+mod running;
+
+pub use block::Block;
+pub use running::run_block;

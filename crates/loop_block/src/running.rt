@@ -1,0 +1,42 @@
+//! Running a block.
+
+ghost use Rattle.std.specs.Prelude.{◌≡◌, ◌<◌, None, IfOk};
+ghost use Rattle.bpf_step_sound.specs.Soundness.{IsKnownCall};
+ghost use Rattle.loop_core_blocks.specs.Split.{split_fault};
+ghost use Rattle.loop_core_schedule.specs.Intervals.{blocks_of, start_of, end_of};
+ghost use Rattle.loop_block.specs.Shown.{shown};
+ghost use Rattle.loop_block.specs.Ran.{IsRunOf};
+
+use crate::block::Block;
+use array_maps::Maps;
+use bpf_step::LoopCall;
+use bpf_verify::Verified;
+use loop_core_law::Test;
+use loop_split::{Gate, Split};
+use std::alloc::{AllocError, Global};
+
+/// Runs a block of a loop call that main of this program made: its iterations from its start on, up to the first
+/// that returns 1, or all, each on the start maps. The gate's `turn` is called before each iteration. The maps are
+/// of the program's sizes, and the split, which has this block, is of the call's iterations.
+pub fn run_block<'a, G: Gate>(
+    alloc: Global,
+    program: &Verified,
+    call: &LoopCall,
+    start: &'a Maps,
+    split: &Split,
+    number: u32,
+    test: Test,
+    gate: &G,
+) -> Result<Block<'a>, AllocError>
+    requires known { IsKnownCall program.now call.now }
+    requires sizes { start.now.sizes ≡ program.now.sizes }
+    requires split { split_fault split.now call.now.n ≡ None }
+    requires within { number < blocks_of split.now }
+    requires stub { ⊥ }
+    ensures number { IfOk result (λ b. (shown b).number ≡ number) }
+    ensures first { IfOk result (λ b. (shown b).first ≡ start_of split.now number) }
+    ensures past { IfOk result (λ b. (shown b).past ≡ end_of split.now number) }
+    ensures ran { IfOk result (λ b. IsRunOf test program.now call.now start.now.words (shown b)) }
+{
+    unreachable!()
+}
