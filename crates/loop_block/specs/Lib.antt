@@ -1,3 +1,4 @@
 pub mod Blocks
 pub mod Shown
 pub mod Ran
+pub mod Runs

@@ -3,6 +3,7 @@
 #![tactic(auto)]
 
 mod block;
+mod runner;
 mod running;
 
 pub use block::Block;

@@ -8,6 +8,7 @@ ghost use Rattle.loop_block.specs.Shown.{shown};
 ghost use Rattle.loop_block.specs.Ran.{IsRunOf};
 
 use crate::block::Block;
+use crate::runner::Runner;
 use array_maps::Maps;
 use bpf_step::LoopCall;
 use bpf_verify::Verified;
@@ -32,11 +33,22 @@ pub fn run_block<'a, G: Gate>(
     requires sizes { start.now.sizes ≡ program.now.sizes }
     requires split { split_fault split.now call.now.n ≡ None }
     requires within { number < blocks_of split.now }
-    requires stub { ⊥ }
     ensures number { IfOk result (λ b. (shown b).number ≡ number) }
     ensures first { IfOk result (λ b. (shown b).first ≡ start_of split.now number) }
     ensures past { IfOk result (λ b. (shown b).past ≡ end_of split.now number) }
     ensures ran { IfOk result (λ b. IsRunOf test program.now call.now start.now.words (shown b)) }
 {
-    unreachable!()
+    let first = split.start(number);
+    let past = split.end(number);
+    let mut runner = Runner::try_new(alloc, program, call, start, test)?;
+    let broke = runner.run(alloc, first, past, gate)?;
+    let Runner { copy, planes, .. } = runner;
+    Ok(Block {
+        number,
+        first,
+        past,
+        broke,
+        planes,
+        copy,
+    })
 }

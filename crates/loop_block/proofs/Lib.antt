@@ -1,0 +1,4 @@
+pub mod MostLaws
+pub mod OneMoreLaws
+pub mod RunLaws
+pub mod SplitEnds
