@@ -1,5 +1,5 @@
 -- One iteration more.
-use Rattle.std.proofs.Common.{◌≡◌, ℕ, ◌+◌, ◌==◌, List, [], ◌∷◌, ◌++◌, length, refl, sym, ◌∙◌, ap, subst, arith}
+use Rattle.std.proofs.Common.{◌≡◌, ℕ, ◌+◌, ◌==◌, List, [], ◌∷◌, ◌++◌, length, sym, ◌∙◌, ap, subst, arith}
 use Rattle.std.proofs.lemmas.List.{map-append, length-map, length-append}
 use Rattle.array_maps.specs.Accesses.{Access}
 use Rattle.array_maps.specs.Store.{Effects}
@@ -33,7 +33,7 @@ module _ (law : AccessesFollow) (old new : Runner) (index : ℕ) (begun run : Pr
     (callback : new.callback ≡ old.callback) (most : new.most ≡ old.most)
     (ended : IsEnded (copy_of run) (copy_of new.copy)) (shape : KeepsShape old.planes new.planes)
     (planes : (first : ℕ) (runs : List (List Access)) (accesses : List Access) → index ≡ first + length runs → StandsWithin (copy_of run) runs accesses →
-        StandFor old.planes (visits_of first runs) → StandFor new.planes (visits_of first (runs ++ accesses ∷ [])))
+    StandFor old.planes (visits_of first runs) → StandFor new.planes (visits_of first (runs ++ accesses ∷ [])))
     (stands : (runs : List (List Access)) (accesses : List Access) → StandsWithin (copy_of run) runs accesses → StandsFor (copy_of new.copy) (runs ++ accesses ∷ [])) where
   same_start : start_words new ≡ start_words old
   same_start = ended.start ∙ law.start begun run ran.iterated.accesses ran.effects ∙ begins.start

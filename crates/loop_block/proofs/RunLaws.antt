@@ -52,7 +52,7 @@ still_ready old new ready same = record {
   enough =
       let most = same.most in
       let enough : most_from new.callback.program new.callback.call.callback ≤ old.most =
-          subst (λ (c : CallbackOf). most_from c.program c.call.callback ≤ old.most) (sym same.callback) ready.enough in
+      subst (λ (c : CallbackOf). most_from c.program c.call.callback ≤ old.most) (sym same.callback) ready.enough in
       omega (arith, most, enough);
   few = let most = same.most in let few = ready.few in omega (arith, most, few);
 }

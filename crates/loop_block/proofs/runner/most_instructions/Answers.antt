@@ -1,4 +1,4 @@
-use Rattle.std.proofs.Common.{◌≡◌, ◌≤◌, sym, ◌∙◌, arith}
+use Rattle.std.proofs.Common.{sym, ◌∙◌, arith}
 use Rattle.bpf_step.proofs.Limits.{few_steps}
 use Rattle.loop_block.proofs.MostLaws.{count_is}
 use Rattle.loop_block.proofs.runner.most_instructions.Goals as goal

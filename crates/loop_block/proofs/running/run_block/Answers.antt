@@ -1,4 +1,4 @@
-use Rattle.std.proofs.Common.{◌≡◌, ◌≤◌, ℕ, ap, arith}
+use Rattle.std.proofs.Common.{◌≡◌, ap, arith}
 use Rattle.bpf_step_model.specs.State.{LoopCall}
 use Rattle.loop_core_blocks.specs.Split.{last_bound}
 use Rattle.loop_block.proofs.SplitEnds.{ends_at}
