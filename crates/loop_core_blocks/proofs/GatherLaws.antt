@@ -52,15 +52,15 @@ real_lesser test n (Some i) (Some j) h k = go (cases_lt i j)
     go (inr more) = let e : j ≡ min i j = omega arith in subst (λ (m : ℕ). IsReal test n (Some m)) e k
 
 -- bounds
-if_none : {A : Type 0} (b : Bool) (x : A) (o : Option A) → (if b then Some x else o) ≡ None → (b ≡ false) × (o ≡ None)
+pub if_none : {A : Type 0} (b : Bool) (x : A) (o : Option A) → (if b then Some x else o) ≡ None → (b ≡ false) × (o ≡ None)
 if_none true x o h = absurd (cc)
 if_none false x o h = (refl, h)
 
-not_false : (b : Bool) → not b ≡ false → b ≡ true
+pub not_false : (b : Bool) → not b ≡ false → b ≡ true
 not_false true h = refl
 not_false false h = absurd (cc)
 
-rising : (before : ℕ) (bound : ℕ) (bounds : List ℕ) → falls before (bound ∷ bounds) ≡ false → before ≤ bound
+pub rising : (before : ℕ) (bound : ℕ) (bounds : List ℕ) → falls before (bound ∷ bounds) ≡ false → before ≤ bound
 rising before bound bounds h = ltb-false bound before (or_false_left (nat_lt bound before) (falls bound bounds) h)
 
 below_last : (before : ℕ) (bounds : List ℕ) → falls before bounds ≡ false → before ≤ last_bound before bounds
@@ -99,7 +99,7 @@ module _ (iterate : ℕ → Ending Iterated) where
       record { first_is = h.first_is; past_is = h.past_is; run = h.run; least_at_most = at_most_right own least (break_from b.first b.ran) h.least_at_most }
 
   -- a block that is found
-  found : (whole : List ℕ) (blocks : List Block) → AllByRecursion IsRun blocks → list_any (λ (b : Block). not (stands_in whole b)) blocks ≡ false →
+  pub found : (whole : List ℕ) (blocks : List Block) → AllByRecursion IsRun blocks → list_any (λ (b : Block). not (stands_in whole b)) blocks ≡ false →
       (k : ℕ) (b : Block) → with_number k blocks ≡ Some b → Stands whole (least_of blocks) k b
   found whole [] runs there k b h = absurd (cc)
   found whole (c ∷ blocks) runs there k b h =
@@ -148,7 +148,7 @@ not_late test n first (Some i) real none = le-ltb i first (go (cases_lt i first)
     go (inr more) = more
 
 -- behind the least break every block starts late
-none_counts : (least : ℕ) (blocks : List Block) (k first : ℕ) (bounds : List ℕ) → least < first → falls first bounds ≡ false → counting (Some least) blocks k first bounds ≡ []
+pub none_counts : (least : ℕ) (blocks : List Block) (k first : ℕ) (bounds : List ℕ) → least < first → falls first bounds ≡ false → counting (Some least) blocks k first bounds ≡ []
 none_counts least blocks k first [] late h = refl
 none_counts least blocks k first (past ∷ bounds) late h =
     let on : nat_lt least first ≡ true = lt-ltb least first late in
@@ -156,7 +156,7 @@ none_counts least blocks k first (past ∷ bounds) late h =
     let later : least < past = omega arith in
     rw on (none_counts least blocks (k + 1) past bounds later (or_false_right (nat_lt past first) (falls past bounds) h))
 
-some_there : (o : Option Block) → is_none o ≡ false → (b : Block) × (o ≡ Some b)
+pub some_there : (o : Option Block) → is_none o ≡ false → (b : Block) × (o ≡ Some b)
 some_there None h = absurd (cc)
 some_there (Some b) h = (b, refl)
 

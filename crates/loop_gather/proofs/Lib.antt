@@ -1,2 +1,10 @@
 pub mod ToldLaws
 pub mod FaultLaws
+pub mod FollowLaws
+pub mod ChoiceLaws
+pub mod JoiningLaws
+pub mod TellingLaws
+pub mod MergingLaws
+pub mod CommitLaws
+pub mod GatheringLaws
+pub mod HeldLaws

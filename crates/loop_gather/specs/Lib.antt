@@ -1,2 +1,4 @@
 pub mod Told
 pub mod Counting
+pub mod Held
+pub mod Gathered

@@ -1,10 +1,17 @@
-//! Which blocks of a speculative loop count, once they were run: the faults of a list of blocks, and the order of those
-//! that say what the loop comes to. What they leave at each element is another crate's.
+//! Blocks of a speculative loop, gathered: which of them count, what they tell of the loop, and what it comes to.
 #![tactic(auto)]
 
+mod gathered;
+mod gathering;
+mod kept;
+mod merged;
 mod order;
+mod settling;
 mod summary;
 
+pub use gathered::Gathered;
+pub use gathering::{GatherError, gather};
 pub use loop_core_blocks::GatherFault;
 pub use order::{Counting, counting_blocks};
+pub use settling::{LoopOutcome, settle};
 pub use summary::Summary;

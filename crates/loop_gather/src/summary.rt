@@ -1,5 +1,12 @@
 //! What gathering asks of a block.
 
+ghost use Rattle.std.specs.Prelude.{◌≡◌, map, IfOk};
+ghost use Rattle.loop_block.specs.Shown.{shown};
+ghost use Rattle.loop_gather.specs.Held.{told_of};
+
+use loop_block::Block;
+use std::alloc::{AllocError, Global};
+
 /// What gathering asks of a block that was run.
 #[derive(Clone, Copy, Debug, PartialEq, Eq)]
 pub struct Summary {
@@ -11,4 +18,26 @@ pub struct Summary {
     pub past: u32,
     /// The index at which it broke.
     pub broke: Option<u32>,
+}
+
+fn summary_of(block: &Block) -> Summary
+    ensures { result ≡ told_of (shown block.now) }
+{
+    Summary {
+        number: block.number(),
+        first: block.first(),
+        past: block.past(),
+        broke: block.broke(),
+    }
+}
+
+/// What is asked of each block.
+pub(crate) fn summaries_of(alloc: Global, blocks: &[Block]) -> Result<Vec<Summary>, AllocError>
+    ensures { IfOk result (λ summaries. summaries.items ≡ map told_of (map shown blocks.now)) }
+{
+    let mut summaries = Vec::new(alloc);
+    for block in blocks {
+        summaries.push(summary_of(block))?;
+    }
+    Ok(summaries)
 }

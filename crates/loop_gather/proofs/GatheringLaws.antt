@@ -1,0 +1,101 @@
+-- What is known as blocks are gathered.
+use Rattle.std.proofs.Common.{◌≡◌, ℕ, ◌<◌, ◌≤◌, List, length, map, Option, Some, None, sym, ◌∙◌, ap, subst}
+use Rattle.std.specs.List.{All, filter, range_with_len}
+use Rattle.std.proofs.lemmas.List.{length-map}
+use Rattle.std.proofs.lemmas.List.Elements.{All-map, All-weaker}
+use Rattle.array_maps.specs.MapList.{AreWords}
+use Rattle.bpf_insn_form.specs.Program.{Program}
+use Rattle.bpf_step_model.specs.State.{LoopCall}
+use Rattle.loop_core_law.specs.declared.loop_test.Test.{Test}
+use Rattle.loop_core_law.specs.declared.verdict.Verdict.{Verdict}
+use Rattle.loop_core_law.specs.LeastBreak.{count_to}
+use Rattle.loop_core_marks.specs.Marks.{Visit, marks_of, marked_conflict}
+use Rattle.loop_core_marks.specs.Planes.{elements_of, plane_verdict}
+use Rattle.loop_core_blocks.specs.declared.faults.GatherFault.{GatherFault}
+use Rattle.loop_core_blocks.specs.Split.{split_fault}
+use Rattle.loop_core_blocks.specs.Gather.{Block, gather_fault}
+use Rattle.loop_core_schedule.specs.Outcome.{Outcome}
+use Rattle.shadow_marks.specs.declared.planes.Planes.{Planes}
+use Rattle.shadow_marks.specs.Standing.{ArePlanes, StandFor, test_of}
+use Rattle.loop_block.specs.declared.block.Block.{Block as Held}
+use Rattle.loop_block.specs.Blocks.{BlockOf}
+use Rattle.loop_block.specs.Ran.{IsRunOf}
+use Rattle.loop_block.specs.Shown.{shown}
+use Rattle.loop_gather.specs.declared.summary.Summary.{Summary}
+use Rattle.loop_gather.specs.Told.{summary_of}
+use Rattle.loop_gather.specs.Counting.{Counts}
+use Rattle.loop_gather.specs.Held.{told_of, chosen, visits_at, left_words, AreHeld}
+use Rattle.loop_gather.specs.Gathered.{all_gathered, Tells}
+use Rattle.loop_gather.proofs.JoiningLaws.{visits_in, stands_in_planes}
+use Rattle.loop_gather.proofs.TellingLaws.{are_told, have_starts, within, answer_within, tells}
+
+module _ (test : Test) (program : Program) (call : LoopCall) (words : List ℕ) (bounds : List ℕ) (held : List Held) (summaries : List Summary)
+    (ran : All (λ b. IsRunOf test program call words (shown b)) held) (made : summaries ≡ map told_of (map shown held)) where
+  abbrev blocks : List BlockOf
+  blocks = map shown held
+
+  all_ran : All (IsRunOf test program call words) blocks
+  all_ran = All-map (IsRunOf test program call words) shown held ran
+
+  named : map summary_of (all_gathered program call words blocks) ≡ summaries
+  named = are_told test program call words blocks all_ran ∙ sym made
+
+  pub faulty : (fault : GatherFault) → ((rs : List Block) → map summary_of rs ≡ summaries → gather_fault bounds rs ≡ Some fault) →
+      gather_fault bounds (all_gathered program call words blocks) ≡ Some fault
+  faulty fault h = h (all_gathered program call words blocks) named
+
+  module _ (least : Option ℕ) (places : List ℕ) (split : split_fault bounds call.n ≡ None) (counts : (rs : List Block) → map summary_of rs ≡ summaries → Counts bounds rs least places) where
+    counted : Counts bounds (all_gathered program call words blocks) least places
+    counted = counts (all_gathered program call words blocks) named
+
+    pub faultless : gather_fault bounds (all_gathered program call words blocks) ≡ None
+    faultless = counted.faultless
+
+    pub places_within : All (λ place. place < length held) places
+    places_within = subst (λ (n : ℕ). All (λ place. place < n) places) (length-map held shown) (within test program call words bounds blocks least places split all_ran counted)
+
+    -- the same of a list of the blocks and one of the places
+    pub places_at : (now : List Held) (at : List ℕ) → now ≡ held → at ≡ places → All (λ place. place < length now) at
+    places_at now at same_blocks same_places =
+        subst (λ (ps : List ℕ). All (λ place. place < length now) ps) (sym same_places)
+        (subst (λ (n : ℕ). All (λ place. place < n) places) (ap length (sym same_blocks)) places_within)
+
+    pub same_stand : (planes : Planes) (now : List Held) (at : List ℕ) → now ≡ held → at ≡ places →
+        ((each : BlockOf → ℕ → List Visit) → All (λ b. StandFor b.planes (each b)) (map shown now) → StandFor planes (visits_at each (chosen at (map shown now)))) →
+        (each : BlockOf → ℕ → List Visit) → All (λ b. StandFor b.planes (each b)) blocks → StandFor planes (visits_at each (chosen places blocks))
+    same_stand planes now at same_blocks same_places stand =
+        subst (λ (ps : List ℕ). (each : BlockOf → ℕ → List Visit) → All (λ b. StandFor b.planes (each b)) blocks → StandFor planes (visits_at each (chosen ps blocks))) same_places
+        (subst (λ (bs : List Held). (each : BlockOf → ℕ → List Visit) → All (λ b. StandFor b.planes (each b)) (map shown bs) → StandFor planes (visits_at each (chosen at (map shown bs)))) same_blocks stand)
+
+    pub answer_fits : count_to call.n least ≤ call.n
+    answer_fits = answer_within test program call words bounds blocks least places split all_ran counted
+
+    pub are_held : (planes : Planes) (start : List ℕ) → start ≡ words → length start ≤ 65536 → ArePlanes planes → planes.elements ≡ length start →
+        AreHeld (length start) blocks places planes
+    are_held planes start same few whole count = record {
+      few = few;
+      within = within test program call words bounds blocks least places split all_ran counted;
+      starts = subst (λ (n : ℕ). All (λ b. length b.copy.start ≡ n) blocks) (ap length (sym same)) (have_starts test program call words blocks all_ran);
+      whole = whole;
+      count = count;
+    }
+
+    pub all_tell : (planes : Planes) (plane : List ℕ) (v : Verdict) (n : ℕ) (start : List ℕ) → planes.elements ≡ length words → test_of planes.tested ≡ test →
+        ((each : BlockOf → ℕ → List Visit) → All (λ b. StandFor b.planes (each b)) blocks → StandFor planes (visits_at each (chosen places blocks))) →
+        AreWords plane →
+        ((visits : ℕ → List Visit) → StandFor planes visits → elements_of plane ≡ filter (λ e. marked_conflict (test_of planes.tested) (marks_of (visits e))) (range_with_len 0 planes.elements)) →
+        v ≡ plane_verdict plane → n ≡ count_to call.n least → start ≡ words →
+        Tells test program call words (record { verdict = v; answer = n; words = left_words planes (chosen places blocks) start })
+    all_tell planes plane v n start count test_is stand fit conflicting verdict_is answer_is start_is =
+        let each : BlockOf → ℕ → List Visit = visits_in program call words in
+        let all : All (λ b. StandFor b.planes (each b)) blocks =
+        All-weaker (IsRunOf test program call words) (λ b. StandFor b.planes (visits_in program call words b)) (λ b one. stands_in_planes program call words test b one) blocks all_ran in
+        let stands : StandFor planes (visits_at (visits_in program call words) (chosen places blocks)) = stand (visits_in program call words) all in
+        let is : elements_of plane ≡ filter (λ e. marked_conflict test (marks_of (visits_at (visits_in program call words) (chosen places blocks) e))) (range_with_len 0 (length words)) =
+        conflicting (visits_at (visits_in program call words) (chosen places blocks)) stands
+        ∙ ap (λ (t : Test). filter (λ e. marked_conflict t (marks_of (visits_at (visits_in program call words) (chosen places blocks) e))) (range_with_len 0 planes.elements)) test_is
+        ∙ ap (λ (m : ℕ). filter (λ e. marked_conflict test (marks_of (visits_at (visits_in program call words) (chosen places blocks) e))) (range_with_len 0 m)) count in
+        let first = tells test program call words bounds blocks least places split all_ran counted planes count stands plane fit is in
+        subst (λ (ws : List ℕ). Tells test program call words (let o : Outcome = record { verdict = v; answer = n; words = left_words planes (chosen places blocks) ws } in o)) (sym start_is)
+        (subst (λ (m : ℕ). Tells test program call words (let o : Outcome = record { verdict = v; answer = m; words = left_words planes (chosen places blocks) words } in o)) (sym answer_is)
+        (subst (λ (u : Verdict). Tells test program call words (let o : Outcome = record { verdict = u; answer = count_to call.n least; words = left_words planes (chosen places blocks) words } in o)) (sym verdict_is) first))

@@ -1,0 +1,36 @@
+-- What gathered blocks hold, element by element.
+use Rattle.std.proofs.Common.{◌≡◌, ℕ, ◌<◌, Bool, List, length, map, sym, ◌∙◌, ap, subst, arith}
+use Rattle.std.specs.Prelude.{slice_index}
+use Rattle.std.specs.List.{All}
+use Rattle.std.proofs.lemmas.List.{length-map, get_or-map}
+use Rattle.loop_core_blocks.specs.Kept.{committed_of_kept}
+use Rattle.loop_core_schedule.specs.Outcome.{Outcome}
+use Rattle.shadow_marks.specs.declared.planes.Planes.{Planes}
+use Rattle.private_copy.proofs.AccessLaws.{shown_at, shown_length}
+use Rattle.loop_block.specs.declared.block.Block.{Block as Held}
+use Rattle.loop_block.specs.Blocks.{BlockOf}
+use Rattle.loop_block.specs.Shown.{shown}
+use Rattle.loop_gather.specs.Held.{chosen, is_reduction, kept_of, left_at, left_words}
+
+pub held_length : (planes : Planes) (blocks : List BlockOf) (start : List ℕ) → length (left_words planes blocks start) ≡ length start
+held_length planes blocks start = shown_length (left_at planes blocks start) (length start)
+
+-- each block has the element
+pub starts_at : (blocks now : List Held) (elements e : ℕ) → now ≡ blocks → All (λ b. length b.copy.start ≡ elements) (map shown blocks) → e < elements →
+    All (λ b. e < length (shown b).copy.start) now
+starts_at blocks now elements e same all inside =
+    subst (All (λ b. e < length (shown b).copy.start)) (sym same) (λ k d within.
+    let many = length-map blocks shown in
+    let long = sym (ap (λ (b : BlockOf). length b.copy.start) (get_or-map shown blocks k d (shown d) within)) ∙ all k (shown d) (omega (arith, many, within)) in
+    omega (arith, inside, long))
+
+-- what is left at an element, where it is known whether it is reduction-only
+pub element_is : (planes : Planes) (blocks now : List Held) (places at : List ℕ) (start : List ℕ) (e : ℕ) (reduced : Bool) (o : Outcome) → is_reduction planes e ≡ reduced → e < length start →
+    now ≡ blocks → at ≡ places → left_words planes (chosen places (map shown blocks)) start ≡ o.words →
+    committed_of_kept reduced (map (kept_of e) (chosen at (map shown now))) (slice_index start e) ≡ slice_index o.words e
+element_is planes blocks now places at start e reduced o by inside same_blocks same_places words =
+    ap (λ (bs : List Held). committed_of_kept reduced (map (kept_of e) (chosen at (map shown bs))) (slice_index start e)) same_blocks
+    ∙ ap (λ (ps : List ℕ). committed_of_kept reduced (map (kept_of e) (chosen ps (map shown blocks))) (slice_index start e)) same_places
+    ∙ ap (λ (b : Bool). committed_of_kept b (map (kept_of e) (chosen places (map shown blocks))) (slice_index start e)) (sym by)
+    ∙ sym (shown_at (left_at planes (chosen places (map shown blocks)) start) (length start) e inside)
+    ∙ ap (λ (ws : List ℕ). slice_index ws e) words
