@@ -1,0 +1,18 @@
+//! Tests of what speculative loops remember: the planes and values of worked loops, halves of elements, refused growths,
+//! and lane kernels against plain loops. They stand in a crate of their own, since a crate with tests is proved twice.
+#![tactic(auto)]
+
+#[cfg(test)]
+mod accesses;
+#[cfg(test)]
+mod growths;
+#[cfg(test)]
+mod iterations;
+#[cfg(test)]
+mod kernels;
+#[cfg(test)]
+mod loops;
+#[cfg(test)]
+mod marked_planes;
+#[cfg(test)]
+mod tellings;
