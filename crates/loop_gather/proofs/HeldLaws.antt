@@ -15,6 +15,12 @@ use Rattle.loop_gather.specs.Held.{chosen, is_reduction, kept_of, left_at, left_
 pub held_length : (planes : Planes) (blocks : List BlockOf) (start : List ℕ) → length (left_words planes blocks start) ≡ length start
 held_length planes blocks start = shown_length (left_at planes blocks start) (length start)
 
+pub start_within : (planes : Planes) (blocks : List BlockOf) (start words : List ℕ) (e : ℕ) → left_words planes blocks start ≡ words → e < length words → e < length start
+start_within planes blocks start words e is inside =
+    let long = held_length planes blocks start in
+    let same = ap (λ (ws : List ℕ). length ws) is in
+    omega (arith, long, same, inside)
+
 -- each block has the element
 pub starts_at : (blocks now : List Held) (elements e : ℕ) → now ≡ blocks → All (λ b. length b.copy.start ≡ elements) (map shown blocks) → e < elements →
     All (λ b. e < length (shown b).copy.start) now
