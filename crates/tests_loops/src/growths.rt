@@ -87,13 +87,26 @@ fn planes_of_both(rt: &impl Abort, alloc: Global, test: Test) -> Result<Planes, 
     let mut planes = planes_of(alloc, test)?;
     store_on_each(alloc, &mut copy, &mut planes)?;
     assert_eq!(rt; add_and_load(alloc, &mut copy, &mut planes)?, 0);
-    assert_eq!(rt; [copy.page(0), copy.page(1), copy.page(2)], [Some(2), Some(0), Some(1)]);
     assert_eq!(rt;
-        [copy.last_value(0), copy.last_value(1), copy.last_value(64), copy.last_value(128)],
+        [copy.page(0), copy.page(1), copy.page(2)],
+        [Some(2), Some(0), Some(1)]
+    );
+    assert_eq!(rt;
+        [
+            copy.last_value(0),
+            copy.last_value(1),
+            copy.last_value(64),
+            copy.last_value(128)
+        ],
         [Some(6), None, Some(4_294_967_296), Some(7)]
     );
     assert_eq!(rt;
-        [copy.partial(0), copy.partial(1), copy.partial(64), copy.partial(128)],
+        [
+            copy.partial(0),
+            copy.partial(1),
+            copy.partial(64),
+            copy.partial(128)
+        ],
         [Some((Op::Add, 11)), None, None, None]
     );
     Ok(planes)

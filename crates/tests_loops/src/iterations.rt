@@ -67,7 +67,11 @@ fn make_all(
         if step.e >= elements {
             return Err(Fail::new("an element is in range"));
         }
-        assert_eq!(rt; make(copy, step.e, step.change), step.told, "in {iteration}");
+        assert_eq!(rt;
+            make(copy, step.e, step.change),
+            step.told,
+            "in {iteration}"
+        );
     }
     Ok(())
 }

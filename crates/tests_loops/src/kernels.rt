@@ -30,7 +30,8 @@ fn are_ored(rt: &impl Abort, joined: &[u64], mine: &[u64], theirs: &[u64]) {
 fn is_merged_lrpd(rt: &impl Abort, joined: &LrpdPlanes, mine: &LrpdPlanes, theirs: &LrpdPlanes) {
     are_ored(rt, &joined.written, &mine.written, &theirs.written);
     are_ored(rt, &joined.read_only, &mine.read_only, &theirs.read_only);
-    are_ored(rt,
+    are_ored(
+        rt,
         &joined.read_and_written,
         &mine.read_and_written,
         &theirs.read_and_written,
@@ -52,7 +53,12 @@ fn is_merged_flow(rt: &impl Abort, joined: &FlowPlanes, mine: &FlowPlanes, their
 }
 
 /// Asserts that planes are two others, merged.
-fn are_merged(rt: &impl Abort, joined: &Planes, mine: &Planes, theirs: &Planes) -> Result<(), Fail> {
+fn are_merged(
+    rt: &impl Abort,
+    joined: &Planes,
+    mine: &Planes,
+    theirs: &Planes,
+) -> Result<(), Fail> {
     are_ored(rt, &joined.plain, &mine.plain, &theirs.plain);
     let (a, b, c) = (&joined.operators, &mine.operators, &theirs.operators);
     are_ored(rt, &a.add, &b.add, &c.add);

@@ -82,7 +82,12 @@ fn runs_so(
     let mut marks = Planes::try_new(alloc, elements, test)?;
     run_iterations(rt, alloc, &mut copy, &mut marks, iterations)?;
     is_told(rt, &planes_told(alloc, &marks)?, planes, iterations);
-    is_told(rt, &values_told(alloc, &copy, elements)?, values, iterations);
+    is_told(
+        rt,
+        &values_told(alloc, &copy, elements)?,
+        values,
+        iterations,
+    );
     Ok(())
 }
 
@@ -157,6 +162,9 @@ fn pages_stand_in_order_of_first_access(rt: HostRuntime) -> Result<(), Fail> {
     let iterations = "load 64 = 0, store 0 0; load 64 = 0, store 0 1";
     run_iterations(&rt, rt.alloc(), &mut copy, &mut planes, iterations)?;
     assert_eq!(rt; copy.pages(), 2);
-    assert_eq!(rt; [copy.page(0), copy.page(1), copy.page(2)], [Some(1), Some(0), None]);
+    assert_eq!(rt;
+        [copy.page(0), copy.page(1), copy.page(2)],
+        [Some(1), Some(0), None]
+    );
     Ok(())
 }

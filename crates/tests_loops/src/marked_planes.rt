@@ -12,7 +12,8 @@ use std::alloc::{AllocError, Global};
 
 /// The draw behind another.
 fn next_draw(draw: u64) -> u64 {
-    draw.wrapping_mul(6_364_136_223_846_793_005).wrapping_add(1_442_695_040_888_963_407)
+    draw.wrapping_mul(6_364_136_223_846_793_005)
+        .wrapping_add(1_442_695_040_888_963_407)
 }
 
 /// The kind of access of a draw: more than half of them reduce.
@@ -45,12 +46,7 @@ fn mark_some(flags: &mut IterFlags, elements: u32, seed: u32)
 }
 
 /// Planes of so many elements on which four iterations were ended, of each second index from 0 or 1 on.
-pub fn planes_of(
-    alloc: Global,
-    elements: u32,
-    test: Test,
-    first: u32,
-) -> Result<Planes, AllocError>
+pub fn planes_of(alloc: Global, elements: u32, test: Test, first: u32) -> Result<Planes, AllocError>
     requires { first ≤ 1 }
     ensures whole { IfOk result ArePlanes }
     ensures elements { IfOk result (λ planes. planes.elements ≡ elements) }
