@@ -1,2 +1,3 @@
 pub mod Told
 pub mod Counting
+pub mod Gathered
