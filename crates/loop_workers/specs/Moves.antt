@@ -1,5 +1,5 @@
 -- What an event asks for.
-use Rattle.std.specs.Prelude.{◌≡◌, ℕ, ◌≤◌, Bool, List, ◌++◌, slice_set, Some, None}
+use Rattle.std.specs.Prelude.{◌≡◌, ℕ, ◌<◌, ◌≤◌, Bool, List, ◌++◌, slice_set, IfSome, Some, None}
 use Rattle.std.specs.Option.{option_to_list}
 use Rattle.loop_event.specs.declared.event.EventKind.{EventKind}
 use Rattle.loop_event.specs.declared.event.EventKind.TheVariants as kinds
@@ -17,10 +17,11 @@ use Rattle.loop_workers.specs.Standing.{seen, shared_of, Standing, WorkerFits}
 abbrev pub moved_of : Move → List ℕ → Moved
 moved_of move runs = becomes (seen move.worker) (shared_of move.shared (option_to_list move.ran ++ runs))
 
--- it is a worker of this split, and what its workers share
+-- it is a worker of this split, and what its workers share; a block that was run with it is one of the split's
 pub record MoveFits (bounds : List ℕ) (move : Move) : Type 0 where
   pub next : move.shared.next ≤ blocks_of bounds
   pub worker : WorkerFits bounds move.worker
+  pub ran : IfSome move.ran (λ block. block < blocks_of bounds)
 
 -- workers after one of them moved
 abbrev pub after_move : Standing → (number : ℕ) → Move → Standing

@@ -1,9 +1,10 @@
 -- What comes of an event, whichever iterations break and whichever blocks were run before.
-use Rattle.std.specs.Prelude.{◌≡◌, ℕ, Bool, List, [], ◌∷◌, ◌++◌, slice_get, Option, Some, None, Ok, Err}
+use Rattle.std.specs.Prelude.{◌≡◌, ℕ, ◌<◌, Bool, List, [], ◌∷◌, ◌++◌, slice_get, Option, Some, None, Ok, Err}
 use Rattle.std.specs.Option.{option_to_list}
 use Rattle.loop_event.specs.declared.event.Event.{Event}
 use Rattle.loop_event.specs.declared.event.EventKind.TheVariants as kinds
 use Rattle.loop_core_schedule.specs.declared.replay_fault.ReplayFault.{ReplayFault}
+use Rattle.loop_core_schedule.specs.Intervals.{blocks_of}
 use Rattle.loop_core_schedule.specs.Schedule.{after_event}
 use Rattle.loop_workers.specs.declared.worker.Worker.TheVariants.{Running}
 use Rattle.loop_workers.specs.declared.worker.Turn.{Turn}
@@ -25,6 +26,12 @@ abbrev pub IsStepOf : Option ℕ → Step → Type 0
 IsStepOf ran steps.Done = ran ≡ None
 IsStepOf ran (steps.Ran block) = ran ≡ Some block
 IsStepOf ran (steps.Turn turn) = ⊥
+
+-- the block that it tells is one of the split's
+abbrev pub StepFits : List ℕ → Step → Type 0
+StepFits bounds steps.Done = Unit {0}
+StepFits bounds (steps.Ran block) = block < blocks_of bounds
+StepFits bounds (steps.Turn turn) = turn.block < blocks_of bounds
 
 -- the worker of a turn runs that block, and has that index before it
 abbrev pub IsBefore : Standing → Turn → Type 0

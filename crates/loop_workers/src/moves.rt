@@ -89,6 +89,7 @@ pub(crate) fn iterate(split: &Split, block: u32, index: u32, broke: bool, shared
     requires block { block < blocks_of split.now }
     requires index { index < end_of split.now block }
     ensures fits { MoveFits split.now result }
+    ensures ran { IfSome result.ran (λ ran. ran ≡ block) }
     ensures iterates { (breaks : ℕ → Bool) (runs : List ℕ) → breaks index ≡ broke →
         iterates breaks split.now block index (shared_of shared runs) ≡ moved_of result runs }
 {

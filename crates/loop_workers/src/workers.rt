@@ -1,12 +1,12 @@
 //! The workers of a replayed schedule.
 
-ghost use Rattle.std.specs.Prelude.{◌≡◌, ◌<◌, ◌≤◌, ℕ, Bool, true, false, List, [], length, IfOk, IfErr, OnOk, OnErr};
+ghost use Rattle.std.specs.Prelude.{◌≡◌, ◌<◌, ◌≤◌, ℕ, Bool, true, false, List, [], length, IfSome, IfOk, IfErr, OnOk, OnErr};
 ghost use Rattle.std.specs.List.{list_all};
 ghost use Rattle.loop_core_schedule.specs.declared.replay_fault.ReplayFault.TheVariants.{NotEnded};
 ghost use Rattle.loop_core_schedule.specs.Schedule.{at_first, has_ended, is_stopped, worker_of};
 ghost use Rattle.loop_workers.specs.Standing.{Fits, state};
 ghost use Rattle.loop_workers.specs.Moves.{after_move};
-ghost use Rattle.loop_workers.specs.Steps.{IsStepOf, Follows, Faults, IsBefore, Turned};
+ghost use Rattle.loop_workers.specs.Steps.{IsStepOf, StepFits, Follows, Faults, IsBefore, Turned};
 
 use crate::moves::{Asked, Move, asked_of, iterate};
 use crate::worker::{Shared, Step, Turn, Worker};
@@ -79,6 +79,7 @@ impl Workers {
     pub fn begin(&mut self, split: &Split, event: Event, place: usize) -> Result<Step, ReplayFault>
         requires { Fits split.now self.old }
         ensures fits { Fits split.now self.new }
+        ensures within { IfOk result (StepFits split.now) }
         ensures follows { IfOk result (Follows split.now event place self.old self.new) }
         ensures fault { IfErr result (Faults split.now event place self.old) }
         ensures kept { OnErr result (self.new ≡ self.old) }
@@ -107,6 +108,7 @@ impl Workers {
         requires fits { Fits split.now self.old }
         requires before { IsBefore self.old turn }
         ensures fits { Fits split.now self.new }
+        ensures ran { IfSome result (λ block. block ≡ turn.block) }
         ensures turned { Turned split.now turn broke self.old self.new result }
     {
         let change = iterate(split, turn.block, turn.index, broke, self.shared);
