@@ -1,3 +1,5 @@
 pub mod MapEffects
 pub mod InOrder
 pub mod SameLoops
+pub mod SameReplays
+pub mod SameOutcomes

@@ -87,7 +87,7 @@ module _ (breaks : ℕ → Bool) (bounds : List ℕ) (rises : falls 0 bounds ≡
   enabled_ok place number state sound below (Some m) kept =
       (sound_after state number m.worker m.shared sound below kept, λ w other. get_or-set_other state.workers number w m.worker Idle other)
 
-  event_ok : (e : Event) (place : ℕ) (state : State) → Sound breaks bounds state → (above : Bool) → nat_lt 15 e.worker ≡ above →
+  pub event_ok : (e : Event) (place : ℕ) (state : State) → Sound breaks bounds state → (above : Bool) → nat_lt 15 e.worker ≡ above →
       OneOk e.worker state (if above then Err (faults.NoSuchWorker place) else if_enabled place e.worker state (event breaks bounds e.kind (worker_of state e.worker) state.shared))
   event_ok e place state sound true h = tt
   event_ok e place state sound false h =
@@ -117,7 +117,7 @@ module _ (breaks : ℕ → Bool) (bounds : List ℕ) (rises : falls 0 bounds ≡
   events_on e events place state later (Err fault) ok = tt
   events_on e events place state later (Ok next) ok = event_before e events state next ok.1 (after_events breaks bounds events (place + 1) next) (later next ok.0)
 
-  events_ok : (events : List Event) (place : ℕ) (state : State) → Sound breaks bounds state → AllOk events state (after_events breaks bounds events place state)
+  pub events_ok : (events : List Event) (place : ℕ) (state : State) → Sound breaks bounds state → AllOk events state (after_events breaks bounds events place state)
   events_ok [] place state sound = (sound, λ w none. refl)
   events_ok (e ∷ events) place state sound =
       events_on e events place state (λ next ok. events_ok events (place + 1) next ok) (after_event breaks bounds e place state)
@@ -129,7 +129,7 @@ module _ (breaks : ℕ → Bool) (bounds : List ℕ) (rises : falls 0 bounds ≡
   idle_at (suc count) zero = refl
   idle_at (suc count) (suc w) = idle_at count w
 
-  sound_at_first : Sound breaks bounds at_first
+  pub sound_at_first : Sound breaks bounds at_first
   sound_at_first = record {
     sixteen = refl;
     within = omega arith;
