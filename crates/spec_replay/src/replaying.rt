@@ -80,6 +80,7 @@ pub fn replay(
         Err(fault) => return Err(NoReplay::Refused(ReplayRefusal::Split(fault))),
     };
     law_of_filled_calls();
+    // This tells the proof that the program is accepted.
     let _unit = program.unit();
     match replay_loop(alloc, program, &first.call, &maps, &split, events, test) {
         Ok(outcome) => Ok(Replayed {
