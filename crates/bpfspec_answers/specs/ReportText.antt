@@ -1,4 +1,4 @@
--- What is printed of a program that ran.
+-- What is printed of a program that ran, and of a loop that was replayed.
 use Rattle.std.specs.Prelude.{ℕ, List, [], ◌∷◌, ◌++◌, take, drop, codes}
 use Rattle.std.specs.Fmt.{decimal, signed_decimal}
 use Rattle.bpf_text.specs.MapsText.{maps_spelling}
@@ -33,3 +33,7 @@ return_line ret = codes "return " ++ decimal ret ++ codes "\n"
 -- the return value, the loop calls, and the maps of these sizes
 abbrev pub report_text : List ℕ → Reported → List ℕ
 report_text sizes told = return_line told.ret ++ numbered_lines loop_line 0 told.loops ++ maps_spelling (values_of sizes told.words)
+
+-- the line of a loop call, which has this number, and the maps of these sizes after it
+abbrev pub replay_text : List ℕ → ℕ → LoopReport → List ℕ → List ℕ
+replay_text sizes number told words = loop_line number told ++ maps_spelling (values_of sizes words)

@@ -1,4 +1,5 @@
-//! What is printed: of an accepted program, of a program that ran, and of a refusal.
+//! What is printed: of an accepted program, of a program that ran, of a loop that was replayed, and of a
+//! refusal.
 //!
 //!     let functions = [Function { start: 0, count: 2 }];
 //!     let text = print_accepted(alloc, &functions)?;
@@ -12,4 +13,4 @@ mod report;
 
 pub use accepted::{Function, print_accepted};
 pub use refusal::{MEMORY_LINE, Refusal, Section, print_refusal};
-pub use report::print_report;
+pub use report::{print_replay, print_report};

@@ -3,11 +3,13 @@
 ghost use Rattle.std.specs.Prelude.{◌≡◌, ◌++◌, IfOk, OnOk};
 ghost use Rattle.std.specs.String.{string_bytes};
 ghost use Rattle.bpfspec_answers.specs.declared.refusal.Refusal.TheVariants.{Text, Codec};
-ghost use Rattle.bpfspec_answers.specs.Refusals.{section_name, what_is_refused, refusal_line};
+ghost use Rattle.bpfspec_answers.specs.Refusals.{section_name, split_fault_number, schedule_fault_text, what_is_refused, refusal_line};
 
 use bpf_insn::CodecFault;
 use bpf_text_lines::TextFault;
 use bpf_verify_model::Rule;
+use loop_core_blocks::SplitFault;
+use loop_core_schedule::ReplayFault;
 use std::alloc::{AllocError, Global};
 
 /// The line that tells that memory ran out.
@@ -20,6 +22,8 @@ pub enum Section {
     Unit,
     /// The values of the maps.
     Maps,
+    /// The bounds of blocks, and events.
+    Events,
 }
 
 /// Why an input has no result.
@@ -43,6 +47,12 @@ pub enum Refusal {
     },
     /// P1: the sizes of the maps differ from the program's.
     Sizes,
+    /// None of the program's loop calls is valid.
+    NoLoop,
+    /// S1 to S3: the bounds don't split the loop's iterations.
+    Split(SplitFault),
+    /// E1 to E3: the events are no schedule of the loop.
+    Schedule(ReplayFault),
 }
 
 /// A section's name.
@@ -52,6 +62,29 @@ fn section_name(section: Section) -> &'static str
     match section {
         Section::Unit => "unit",
         Section::Maps => "maps",
+        Section::Events => "events",
+    }
+}
+
+/// The number of a split's fault.
+fn split_fault_number(fault: SplitFault) -> u8
+    ensures { result ≡ split_fault_number fault }
+{
+    match fault {
+        SplitFault::Falling => 1,
+        SplitFault::Number => 2,
+        SplitFault::Ends => 3,
+    }
+}
+
+/// Adds the fault of a list of events, and where it stands.
+fn print_schedule_fault(out: &mut String, fault: ReplayFault) -> Result<(), AllocError>
+    ensures { OnOk result (string_bytes out.new ≡ string_bytes out.old ++ schedule_fault_text fault) }
+{
+    match fault {
+        ReplayFault::NoSuchWorker { event } => write!(out, "E1 at event {event}"),
+        ReplayFault::NotEnabled { event } => write!(out, "E2 at event {event}"),
+        ReplayFault::NotEnded { events } => write!(out, "E3 at event {events}"),
     }
 }
 
@@ -72,6 +105,9 @@ fn print_what(out: &mut String, refusal: Refusal) -> Result<(), AllocError>
         Refusal::Codec { fault, slot } => write!(out, "I{} at slot {slot}", fault.number()),
         Refusal::Rule { rule, slot } => write!(out, "V{} at slot {slot}", rule.number()),
         Refusal::Sizes => out.push_str("P1"),
+        Refusal::NoLoop => out.push_str("no loop"),
+        Refusal::Split(fault) => write!(out, "S{}", split_fault_number(fault)),
+        Refusal::Schedule(fault) => print_schedule_fault(out, fault),
     }
 }
 

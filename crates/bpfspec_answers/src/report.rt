@@ -1,11 +1,11 @@
-//! What is printed of a program that ran.
+//! What is printed of a program that ran, and of a loop that was replayed.
 
 ghost use Rattle.std.specs.Prelude.{◌≡◌, ◌++◌, IfOk, OnOk, length};
 ghost use Rattle.std.specs.List.{sum};
 ghost use Rattle.std.specs.String.{string_bytes};
 ghost use Rattle.loop_core_law.specs.declared.verdict.Verdict.TheVariants.{Conflict};
 ghost use Rattle.bpf_text.specs.MapsText.{lists, maps_spelling};
-ghost use Rattle.bpfspec_answers.specs.ReportText.{values_of, verdict_text, loop_line, return_line, report_text};
+ghost use Rattle.bpfspec_answers.specs.ReportText.{values_of, verdict_text, loop_line, return_line, report_text, replay_text};
 ghost use Rattle.bpfspec_answers.specs.NumberedLines.{numbered_lines};
 
 use array_maps::Maps;
@@ -57,6 +57,30 @@ fn values_of(alloc: Global, maps: &Maps) -> Result<Vec<Vec<u64>>, AllocError>
     Ok(values)
 }
 
+/// Adds the maps.
+fn print_values(alloc: Global, out: &mut String, maps: &Maps) -> Result<(), AllocError>
+    ensures { OnOk result (string_bytes out.new ≡ string_bytes out.old ++ maps_spelling (values_of maps.now.sizes maps.now.words)) }
+{
+    let values = values_of(alloc, maps)?;
+    out.push_str(&print_maps(alloc, &values)?)
+}
+
+/// What is printed of a loop that was replayed: its line, with its number among the program's loop calls,
+/// and the maps after it.
+pub fn print_replay(
+    alloc: Global,
+    number: usize,
+    told: &LoopReport,
+    maps: &Maps,
+) -> Result<String, AllocError>
+    ensures { IfOk result (λ text. string_bytes text ≡ replay_text maps.now.sizes number told.now maps.now.words) }
+{
+    let mut out = String::new(alloc);
+    print_loop(&mut out, number, told)?;
+    print_values(alloc, &mut out, maps)?;
+    Ok(out)
+}
+
 /// What is printed of a program that ran: its return value, its loop calls and the maps after it.
 pub fn print_report(
     alloc: Global,
@@ -73,7 +97,6 @@ pub fn print_report(
     let mut out = String::new(alloc);
     writeln!(out, "return {ret}")?;
     print_loops(&mut out, loops)?;
-    let values = values_of(alloc, maps)?;
-    out.push_str(&print_maps(alloc, &values)?)?;
+    print_values(alloc, &mut out, maps)?;
     Ok(out)
 }

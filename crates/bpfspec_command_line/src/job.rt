@@ -2,6 +2,7 @@
 
 ghost use Rattle.std.specs.Prelude.{◌≡◌};
 
+use loop_core_law::Test;
 use std::alloc::{AllocError, AllocFailed};
 use thiserror::Error;
 
@@ -18,9 +19,21 @@ pub enum UnitForm {
 #[derive(Clone, Copy, Debug, PartialEq, Eq)]
 pub enum Mode {
     /// Tells whether a unit of this form is accepted.
-    Verify { form: UnitForm },
+    Verify {
+        form: UnitForm,
+    },
     /// Runs a unit of this form in order, with this argument.
-    Order { form: UnitForm, arg: u64 },
+    Order {
+        form: UnitForm,
+        arg: u64,
+    },
+    /// Runs a unit of this form in order up to its first valid loop call, with this argument, and replays
+    /// that loop, which is judged by this test.
+    Replay {
+        form: UnitForm,
+        arg: u64,
+        test: Test,
+    },
     /// Writes a unit of assembler text in hex form.
     Asm,
     /// Writes a unit in hex form as assembler text.

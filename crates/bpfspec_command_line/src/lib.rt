@@ -5,4 +5,5 @@ mod job;
 mod words;
 
 pub use job::{Job, LineFault, Mode, UnitForm};
+pub use loop_core_law::Test;
 pub use words::{read_command_line, read_words};

@@ -4,11 +4,12 @@ ghost use Rattle.std.specs.Prelude.{◌≡◌, ℕ, List, false, map, IfOk, IfSo
 ghost use Rattle.std.specs.IoError.{error_kind};
 ghost use Rattle.std.specs.declared.io.ErrorKind.TheVariants as io_errors;
 ghost use Rattle.clap.specs.Words.{app_of, found_of, kind_of, rows_of, rule_of, subcommand_of, subcommand_rows_of};
-ghost use Rattle.bpfspec_command_line.specs.CommandLine.{AsksFor, AsksForJob, IsArgument, IsForm, IsLocal, arg_rule, bpfspec_app, hex_rule, order_app, verify_app};
+ghost use Rattle.bpfspec_command_line.specs.CommandLine.{AsksFor, AsksForJob, IsArgument, IsForm, IsLocal, IsTest, arg_rule, bpfspec_app, hex_rule, order_app, replay_app, test_rule, verify_app};
 
 use crate::job::{Job, LineFault, Mode, UnitForm};
 use clap::error::ErrorKind;
 use clap::{Arg, ArgAction, ArgMatches, Command};
+use loop_core_law::Test;
 use std::alloc::{AllocError, Global};
 use std::convert::AsStr;
 use std::env::Env;
@@ -35,18 +36,36 @@ fn own_fault(alloc: Global, command: &mut Command<'_>, wrong: &str) -> LineFault
     }
 }
 
-/// The fault of an --arg that is no number of 64 bits, with the usage of its subcommand.
-fn argument_fault(alloc: Global, matches: &ArgMatches<'_>) -> Result<LineFault, AllocError> {
-    let given = matches
-        .subcommand_matches("order")
-        .and_then(|order| order.get_str("arg"))
-        .unwrap_or("");
-    let wrong = format!(in alloc;
-        "invalid value '{given}' for '--arg <N>': not a number from 0 to {}",
-        u64::MAX
-    )?;
-    let mut order = order_command(alloc)?.bin_name("bpfspec order")?;
-    Ok(own_fault(alloc, &mut order, &wrong))
+/// What is told of an option whose value is none of those that are wanted.
+fn other_value(
+    alloc: Global,
+    matches: &ArgMatches<'_>,
+    id: &str,
+    option: &str,
+    wanted: &str,
+) -> Result<String, AllocError> {
+    let given = matches.get_str(id).unwrap_or("");
+    format!(in alloc; "invalid value '{given}' for '{option}': not {wanted}")
+}
+
+/// What is told of the first option whose value clap takes and the program doesn't.
+fn wrong_value(alloc: Global, matches: &ArgMatches<'_>) -> Result<String, AllocError> {
+    if argument(matches).is_none() {
+        let numbers = "a number from 0 to 18446744073709551615";
+        return other_value(alloc, matches, "arg", "--arg <N>", numbers);
+    }
+    other_value(alloc, matches, "test", "--test <TEST>", "flow or lrpd")
+}
+
+/// The fault of a value that clap takes and the program doesn't, with the usage of its subcommand.
+fn value_fault(alloc: Global, matches: &ArgMatches<'_>) -> Result<LineFault, AllocError> {
+    if let Some(replay) = matches.subcommand_matches("replay") {
+        let mut command = replay_command(alloc)?.bin_name("bpfspec replay")?;
+        return Ok(own_fault(alloc, &mut command, &wrong_value(alloc, replay)?));
+    }
+    let order = matches.subcommand_matches("order").unwrap_or(matches);
+    let mut command = order_command(alloc)?.bin_name("bpfspec order")?;
+    Ok(own_fault(alloc, &mut command, &wrong_value(alloc, order)?))
 }
 
 /// The fault of words that the system doesn't give.
@@ -86,6 +105,19 @@ fn arg_option<'a>(alloc: Global) -> Arg<'a>
         .help("The program's argument")
 }
 
+/// --test TEST
+fn test_option<'a>(alloc: Global) -> Arg<'a>
+    ensures rule { rule_of result ≡ test_rule }
+    ensures global { result.global ≡ false }
+{
+    Arg::new(alloc, "test")
+        .long("test")
+        .action(ArgAction::Set)
+        .value_name("TEST")
+        .default_value("flow")
+        .help("How a loop is judged: flow or lrpd")
+}
+
 fn verify_command<'a>(alloc: Global) -> Result<Command<'a>, AllocError>
     ensures app { IfOk result (λ command. app_of command ≡ verify_app) }
     ensures globals { IfOk result IsLocal }
@@ -105,6 +137,17 @@ fn order_command<'a>(alloc: Global) -> Result<Command<'a>, AllocError>
         .arg(arg_option(alloc))
 }
 
+fn replay_command<'a>(alloc: Global) -> Result<Command<'a>, AllocError>
+    ensures app { IfOk result (λ command. app_of command ≡ replay_app) }
+    ensures globals { IfOk result IsLocal }
+{
+    Command::new(alloc, "replay")
+        .about("Replays events of a program's first loop")
+        .arg(hex_flag(alloc))?
+        .arg(arg_option(alloc))?
+        .arg(test_option(alloc))
+}
+
 fn bpfspec_command<'a>(alloc: Global) -> Result<Command<'a>, AllocError>
     ensures { IfOk result (λ command. app_of command ≡ bpfspec_app) }
 {
@@ -114,6 +157,7 @@ fn bpfspec_command<'a>(alloc: Global) -> Result<Command<'a>, AllocError>
         .subcommand_required(true)
         .subcommand(verify_command(alloc)?)?
         .subcommand(order_command(alloc)?)?
+        .subcommand(replay_command(alloc)?)?
         .subcommand(asm)?
         .subcommand(disasm)
 }
@@ -136,8 +180,22 @@ fn argument(matches: &ArgMatches<'_>) -> Option<u64>
     matches.get_one::<u64>("arg")
 }
 
+/// The test that the arguments name, or None where they name another.
+fn loop_test(matches: &ArgMatches<'_>) -> Option<Test>
+    ensures { IfSome result (IsTest (rows_of (found_of matches.now))) }
+{
+    let word = matches.get_str("test")?;
+    if word == "flow" {
+        Some(Test::Flow)
+    } else if word == "lrpd" {
+        Some(Test::Lrpd)
+    } else {
+        None
+    }
+}
+
 /// The mode that the words ask for in which clap found these matches, or None where they name none of
-/// the program's subcommands, or give an argument that is no number below 2^64.
+/// the program's subcommands, give an argument that is no number below 2^64, or name another test.
 fn mode_of(matches: &ArgMatches<'_>) -> Option<Mode>
     ensures { IfSome result (AsksFor (subcommand_rows_of matches.now)) }
 {
@@ -152,6 +210,13 @@ fn mode_of(matches: &ArgMatches<'_>) -> Option<Mode>
             arg: argument(order)?,
         });
     }
+    if let Some(replay) = matches.subcommand_matches("replay") {
+        return Some(Mode::Replay {
+            form: unit_form(replay),
+            arg: argument(replay)?,
+            test: loop_test(replay)?,
+        });
+    }
     if matches.subcommand_matches("asm").is_some() {
         return Some(Mode::Asm);
     }
@@ -161,9 +226,9 @@ fn mode_of(matches: &ArgMatches<'_>) -> Option<Mode>
 
 /// Reads the words of a command line, the program's name first.
 ///
-/// It fails with `Usage` where they aren't `verify [--hex]`, `order [--hex] [--arg N]`, N from
-/// 0 to 18446744073709551615, `asm` or `disasm`, and where they ask for help; and with `Memory` where there
-/// is no memory.
+/// It fails with `Usage` where they aren't `verify [--hex]`, `order [--hex] [--arg N]`,
+/// `replay [--hex] [--arg N] [--test flow|lrpd]`, N from 0 to 18446744073709551615, `asm` or `disasm`, and
+/// where they ask for help; and with `Memory` where there is no memory.
 pub fn read_words<S: AsStr>(alloc: Global, words: &[S]) -> Result<Job, LineFault>
     ensures { IfOk result (AsksForJob (subcommand_of bpfspec_app (map S.text words.now))) }
 {
@@ -174,7 +239,7 @@ pub fn read_words<S: AsStr>(alloc: Global, words: &[S]) -> Result<Job, LineFault
     };
     match mode_of(&matches) {
         Some(mode) => Ok(Job::Serve(mode)),
-        None => Err(argument_fault(alloc, &matches)?),
+        None => Err(value_fault(alloc, &matches)?),
     }
 }
 

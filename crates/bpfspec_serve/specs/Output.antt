@@ -16,12 +16,18 @@ use Rattle.bpf_text_hex.specs.HexForm.{hex_form}
 use Rattle.bpf_text_units.specs.AssemblerForm.{assembler_form}
 use Rattle.bpf_text_units.specs.AssemblerText.{assembler_text}
 use Rattle.bpf_text.specs.MapsText.{maps_text}
+use Rattle.bpf_text.specs.EventsText.{events_text}
 use Rattle.bpf_insn_form.specs.Program.{Program, callback_starts}
 use Rattle.array_maps.specs.MapList.{lengths}
 use Rattle.bpf_step_model.specs.Run.{Ended}
+use Rattle.loop_core_law.specs.declared.loop_test.Test.{Test}
 use Rattle.loop_core_law.specs.Report.{Reported, report_in_order}
+use Rattle.loop_event.specs.declared.event.Event.{Event}
+use Rattle.spec_replay.specs.declared.replaying.ReplayRefusal.{ReplayRefusal}
+use Rattle.spec_replay.specs.declared.replaying.ReplayRefusal.TheVariants as replays
+use Rattle.spec_replay.specs.ProgramReplay.{LoopReplay, ComesTo}
 use Rattle.bpfspec_command_line.specs.declared.job.Mode.{Mode}
-use Rattle.bpfspec_command_line.specs.declared.job.Mode.TheVariants.{Verify, Order, Asm, Disasm}
+use Rattle.bpfspec_command_line.specs.declared.job.Mode.TheVariants.{Verify, Order, Replay, Asm, Disasm}
 use Rattle.bpfspec_command_line.specs.declared.job.UnitForm.{UnitForm}
 use Rattle.bpfspec_command_line.specs.declared.job.UnitForm.TheVariants.{Assembler, Hex}
 use Rattle.bpfspec_answers.specs.declared.accepted.Function.{Function}
@@ -31,14 +37,14 @@ use Rattle.bpfspec_answers.specs.declared.refusal.Refusal.{Refusal}
 use Rattle.bpfspec_answers.specs.declared.refusal.Refusal.TheVariants as refusals
 use Rattle.bpfspec_answers.specs.AcceptedText.{accepted_text}
 use Rattle.bpfspec_answers.specs.Refusals.{refusal_line, memory_line}
-use Rattle.bpfspec_answers.specs.ReportText.{report_text}
+use Rattle.bpfspec_answers.specs.ReportText.{report_text, replay_text}
 use Rattle.bpfspec_serve.specs.declared.answer_error.AnswerError.{AnswerError}
 use Rattle.bpfspec_serve.specs.declared.answer_error.AnswerError.TheVariants as errors
 use Rattle.bpfspec_serve.specs.declared.serving.Served.{Served}
 use Rattle.bpfspec_serve.specs.declared.serving.Served.TheVariants as served
 use Rattle.bpf_verify_model.specs.Accepted.{BrokenRule, first_fault}
 use Rattle.bpf_verify_model.specs.Count.{start_of, count_of}
-use Rattle.bpfspec_serve.specs.Sections.{unit_section, maps_section}
+use Rattle.bpfspec_serve.specs.Sections.{unit_section, maps_section, events_section}
 
 -- what comes of an input: a text, or an error
 abbrev pub Outcome : Type 0
@@ -134,6 +140,31 @@ abbrev pub OfProgram : Result Program AnswerError → ℕ → List ℕ → Outco
 OfProgram (Err error) argument maps outcome = outcome ≡ Err error
 OfProgram (Ok program) argument maps outcome = RunsTo program argument (start_words program.sizes maps) outcome
 
+-- the refusal of a replay
+abbrev pub replay_refusal : ReplayRefusal → Refusal
+replay_refusal replays.NoLoop = refusals.NoLoop
+replay_refusal (replays.Split fault) = refusals.Split fault
+replay_refusal (replays.Schedule fault) = refusals.Schedule fault
+
+-- the line of the loop that was replayed and the maps of these sizes after it, or the replay's refusal
+abbrev pub replay_outcome : List ℕ → Result LoopReplay ReplayRefusal → Outcome
+replay_outcome sizes (Ok loop) = Ok (replay_text sizes loop.number loop.told loop.words)
+replay_outcome sizes (Err refusal) = refused (replay_refusal refusal)
+
+-- a program runs in order from its start words up to its first valid loop call, which is replayed with bounds and events,
+-- and what comes of it is printed
+abbrev pub ReplaysTo : Program → ℕ → Test → Outcome → Result (List ℕ × List Event) AnswerError → Outcome → Type 0
+ReplaysTo program argument test (Err error) schedule outcome = outcome ≡ Err error
+ReplaysTo program argument test (Ok words) (Err error) outcome = outcome ≡ Err error
+ReplaysTo program argument test (Ok words) (Ok schedule) outcome =
+    (comes : Result LoopReplay ReplayRefusal) × ComesTo test program argument words schedule.0 schedule.1 comes × (outcome ≡ replay_outcome program.sizes comes)
+
+-- an accepted program is replayed on the maps of a section with the events of another
+abbrev pub OfReplay : Result Program AnswerError → ℕ → Test → (maps events : List ℕ) → Outcome → Type 0
+OfReplay (Err error) argument test maps events outcome = outcome ≡ Err error
+OfReplay (Ok program) argument test maps events outcome =
+    ReplaysTo program argument test (start_words program.sizes maps) (in_section sections.Events (events_text events)) outcome
+
 -- an input is at most 3,145,728 bytes of UTF-8
 abbrev pub readable : List ℕ → Outcome
 readable input =
@@ -144,6 +175,8 @@ readable input =
 abbrev pub OfReadable : Mode → Outcome → Outcome → Type 0
 OfReadable mode (Err error) outcome = outcome ≡ Err error
 OfReadable (Order form argument) (Ok input) outcome = OfProgram (accepted (unit_program form (unit_section input))) argument (maps_section input) outcome
+OfReadable (Replay form argument test) (Ok input) outcome =
+    OfReplay (accepted (unit_program form (unit_section input))) argument test (maps_section input) (events_section input) outcome
 OfReadable (Verify form) (Ok input) outcome = outcome ≡ verified (accepted (unit_program form (unit_section input)))
 OfReadable Asm (Ok input) outcome = outcome ≡ written Hex (unit_program Assembler (unit_section input))
 OfReadable Disasm (Ok input) outcome = outcome ≡ written Assembler (unit_program Hex (unit_section input))

@@ -22,9 +22,17 @@ abbrev pub behind_mark : List (List ℕ) → List (List ℕ)
 behind_mark [] = []
 behind_mark (line ∷ lines) = if is_mark line then lines else behind_mark lines
 
--- the first section, and the second, which is empty where there is none
+-- the lines on end
+abbrev pub joined : List (List ℕ) → List ℕ
+joined [] = []
+joined (line ∷ lines) = line ++ joined lines
+
+-- the first section, the second, and all that stands behind it; each is empty where there is none
 abbrev pub unit_section : List ℕ → List ℕ
 unit_section input = before_mark (whole_lines input)
 
 abbrev pub maps_section : List ℕ → List ℕ
 maps_section input = before_mark (behind_mark (whole_lines input))
+
+abbrev pub events_section : List ℕ → List ℕ
+events_section input = joined (behind_mark (behind_mark (whole_lines input)))

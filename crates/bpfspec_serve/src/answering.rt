@@ -4,10 +4,11 @@ ghost use Rattle.std.specs.Prelude.{◌≡◌, ◌<◌, ◌≤◌, IfOk, Ok, len
 ghost use Rattle.bpf_insn_form.specs.Program.{callback_starts};
 ghost use Rattle.std.specs.String.{string_bytes};
 ghost use Rattle.array_maps.specs.MapList.{lists, zero_maps};
-ghost use Rattle.bpfspec_command_line.specs.declared.job.Mode.TheVariants.{Order};
+ghost use Rattle.bpf_text.specs.EventsText.{events_text};
+ghost use Rattle.bpfspec_command_line.specs.declared.job.Mode.TheVariants.{Order, Replay};
 ghost use Rattle.bpfspec_answers.specs.declared.refusal.Refusal.TheVariants.{Text};
 ghost use Rattle.bpfspec_serve.specs.declared.answer_error.AnswerError.TheVariants.{Refused};
-ghost use Rattle.bpfspec_serve.specs.Output.{text_error, codec_error, readable, unit_program, function_of, functions_of, fitting, start_words, RunsTo, OfReadable, OfInput, Met, written, accepted, verified};
+ghost use Rattle.bpfspec_serve.specs.Output.{text_error, codec_error, readable, unit_program, function_of, functions_of, fitting, start_words, in_section, replay_refusal, RunsTo, ReplaysTo, OfReadable, OfInput, Met, written, accepted, verified};
 ghost use Rattle.bpfspec_serve.specs.Sections.{unit_section};
 
 use crate::answer_error::AnswerError;
@@ -15,10 +16,12 @@ use crate::sections::part;
 use array_maps::{Maps, MapsError};
 use bpf_insn::{CodecError, decode};
 use bpf_insn_form::Unit;
-use bpf_text::{TextError, parse_maps, parse_unit, print_unit, read_hex, write_hex};
+use bpf_text::{TextError, parse_events, parse_maps, parse_unit, print_unit, read_hex, write_hex};
 use bpf_verify::{Verified, VerifyError, verify};
-use bpfspec_answers::{Function, Refusal, Section, print_accepted, print_report};
-use bpfspec_command_line::{Mode, UnitForm};
+use bpfspec_answers::{Function, Refusal, Section, print_accepted, print_replay, print_report};
+use bpfspec_command_line::{Mode, Test, UnitForm};
+use loop_event::Event;
+use spec_replay::{NoReplay, ReplayRefusal, replay};
 use spec_run::{RunError, run_in_order};
 use std::alloc::{AllocError, Global};
 use std::str;
@@ -175,6 +178,66 @@ fn order(alloc: Global, form: UnitForm, argument: u64, input: &str) -> Result<St
     run(alloc, &program, maps, argument)
 }
 
+/// The bounds and events of a section.
+fn read_events(alloc: Global, section: &str) -> Result<(Vec<u32>, Vec<Event>), AnswerError>
+    ensures { Met (λ x. (x.0.items, x.1.items)) (λ outcome. outcome ≡ in_section Section.Events (events_text section.now)) result }
+{
+    match parse_events(alloc, section) {
+        Ok(schedule) => Ok(schedule),
+        Err(error) => Err(text_error(error, Section::Events)),
+    }
+}
+
+/// The refusal of a replay.
+fn replay_refusal(refusal: ReplayRefusal) -> Refusal
+    ensures { result ≡ replay_refusal refusal }
+{
+    match refusal {
+        ReplayRefusal::NoLoop => Refusal::NoLoop,
+        ReplayRefusal::Split(fault) => Refusal::Split(fault),
+        ReplayRefusal::Schedule(fault) => Refusal::Schedule(fault),
+    }
+}
+
+/// What comes of a program whose first valid loop call is replayed with these bounds and events, on these
+/// maps, which are of its sizes.
+fn replay_on(
+    alloc: Global,
+    program: &Verified,
+    maps: Maps,
+    argument: u64,
+    schedule: (Vec<u32>, Vec<Event>),
+    test: Test,
+) -> Result<String, AnswerError>
+    requires sizes { maps.sizes ≡ program.now.sizes }
+    ensures { Met string_bytes (ReplaysTo program.now argument test (Ok maps.words) (Ok (schedule.0.items, schedule.1.items))) result }
+{
+    let (bounds, events) = schedule;
+    match replay(alloc, program, maps, argument, bounds, &events, test) {
+        Ok(replayed) => Ok(print_replay(alloc, replayed.number, &replayed.told, &replayed.maps)?),
+        Err(NoReplay::Refused(refusal)) => Err(AnswerError::Refused(replay_refusal(refusal))),
+        Err(NoReplay::Memory) => Err(AnswerError::Memory),
+    }
+}
+
+/// What comes of a unit, its argument, its maps, and events of its first valid loop call.
+fn replay_first_loop(
+    alloc: Global,
+    form: UnitForm,
+    argument: u64,
+    test: Test,
+    input: &str,
+) -> Result<String, AnswerError>
+    ensures { Met string_bytes (OfReadable (Replay form argument test) (Ok input.now)) result }
+{
+    let unit = part(input);
+    let maps = part(unit.rest);
+    let program = accept(alloc, form, unit.section)?;
+    let start = start_maps(alloc, &program, maps.section)?;
+    let schedule = read_events(alloc, maps.rest)?;
+    replay_on(alloc, &program, start, argument, schedule, test)
+}
+
 /// What comes of a unit that is written in another form.
 fn translate(
     alloc: Global,
@@ -240,6 +303,7 @@ pub fn outcome(alloc: Global, mode: &Mode, input: &[u8]) -> Result<String, Answe
     match mode {
         Mode::Verify { form } => judge(alloc, *form, text),
         Mode::Order { form, arg } => order(alloc, *form, *arg, text),
+        Mode::Replay { form, arg, test } => replay_first_loop(alloc, *form, *arg, *test, text),
         Mode::Asm => translate(alloc, UnitForm::Assembler, UnitForm::Hex, text),
         Mode::Disasm => translate(alloc, UnitForm::Hex, UnitForm::Assembler, text),
     }

@@ -11,6 +11,9 @@ const JOBS: &str = "
     order --arg 7             => Serve(Order { form: Assembler, arg: 7 })
     verify                    => Serve(Verify { form: Assembler })
     verify --hex              => Serve(Verify { form: Hex })
+    replay                    => Serve(Replay { form: Assembler, arg: 0, test: Flow })
+    replay --test flow --hex  => Serve(Replay { form: Hex, arg: 0, test: Flow })
+    replay --arg 3 --test lrpd => Serve(Replay { form: Assembler, arg: 3, test: Lrpd })
     asm                       => Serve(Asm)
     disasm                    => Serve(Disasm)
 ";
@@ -39,13 +42,14 @@ fn a_command_and_its_arguments_are_read(rt: HostRuntime) -> Result<(), Fail> {
 /// Command lines that ask for nothing, and what is told.
 const USAGE: &str = "
     => 3 !error: 'bpfspec' requires a subcommand but one was not provided | \
-        \x20 [subcommands: verify, order, asm, disasm, help] |  | Usage: bpfspec <COMMAND> |  | \
+        \x20 [subcommands: verify, order, replay, asm, disasm, help] |  | Usage: bpfspec <COMMAND> |  | \
         For more information, try '--help'.
     link => 3 !error: unrecognized subcommand 'link' |  | Usage: bpfspec <COMMAND> |  | \
         For more information, try '--help'.
     --help => 3 !Usage: bpfspec <COMMAND> |  | Commands: | \
         \x20 verify  Tells whether a program is accepted | \
         \x20 order   Runs a program in order | \
+        \x20 replay  Replays events of a program's first loop | \
         \x20 asm     Writes assembler text in hex form | \
         \x20 disasm  Writes the hex form as assembler text | \
         \x20 help    Print this message or the help of the given subcommand(s) |  | \
@@ -53,6 +57,11 @@ const USAGE: &str = "
     order --arg many => 3 !error: invalid value 'many' for '--arg <N>': \
         not a number from 0 to 18446744073709551615 |  | Usage: bpfspec order [OPTIONS] |  | \
         For more information, try '--help'.
+    replay --arg many --test none => 3 !error: invalid value 'many' for '--arg <N>': \
+        not a number from 0 to 18446744073709551615 |  | Usage: bpfspec replay [OPTIONS] |  | \
+        For more information, try '--help'.
+    replay --test none => 3 !error: invalid value 'none' for '--test <TEST>': \
+        not flow or lrpd |  | Usage: bpfspec replay [OPTIONS] |  | For more information, try '--help'.
     order --arg 18446744073709551616 => 3 !error: invalid value '18446744073709551616' for '--arg <N>': \
         not a number from 0 to 18446744073709551615 |  | Usage: bpfspec order [OPTIONS] |  | \
         For more information, try '--help'.
@@ -75,6 +84,10 @@ const OTHER_FAULTS: &str = "
     verify --arg 1
     order 5
     order --arg
+    order --test flow
+    replay --test
+    replay --test Flow
+    replay 1
 ";
 
 #[test]

@@ -9,4 +9,6 @@ mod commands;
 #[cfg(test)]
 mod program;
 #[cfg(test)]
+mod replays;
+#[cfg(test)]
 mod streams;

@@ -13,6 +13,8 @@ returns c =
     ∙ ap₂ with_subcommand top_is (ap (λ (a : App). a.top) c.in_ok-verify_command.ensures.app) in
     let two = c.in_ok-subcommand-2.ensures.shape c.in_ok-order_command.ensures.globals
     ∙ ap₂ with_subcommand one (ap (λ (a : App). a.top) c.in_ok-order_command.ensures.app) in
-    let three = c.in_ok-subcommand-3.ensures.shape (search rules) ∙ ap₂ with_subcommand two (ap (λ (a : App). a.top) asm_is) in
-    IfOk-weaker c.subcommand-4.result _ _
-    (λ command adds. adds.shape (search rules) ∙ ap₂ with_subcommand three (ap (λ (a : App). a.top) disasm_is)) c.subcommand-4.ensures
+    let three = c.in_ok-subcommand-3.ensures.shape c.in_ok-replay_command.ensures.globals
+    ∙ ap₂ with_subcommand two (ap (λ (a : App). a.top) c.in_ok-replay_command.ensures.app) in
+    let four = c.in_ok-subcommand-4.ensures.shape (search rules) ∙ ap₂ with_subcommand three (ap (λ (a : App). a.top) asm_is) in
+    IfOk-weaker c.subcommand-5.result _ _
+    (λ command adds. adds.shape (search rules) ∙ ap₂ with_subcommand four (ap (λ (a : App). a.top) disasm_is)) c.subcommand-5.ensures

@@ -1,6 +1,7 @@
-use Rattle.std.proofs.Common.{refl, sym, ap, drop, ◌∙◌}
+use Rattle.std.proofs.Common.{rules, ◌≡◌, ◌+◌, refl, sym, ap, drop, ◌∙◌}
 use Rattle.std.proofs.lemmas.Str.{IsCharBoundary-start}
-use Rattle.bpfspec_serve.proofs.SectionLaws.{left_behind, section_goes_on, rest_goes_on, line_boundary}
+use Rattle.bpfspec_serve.specs.Sections.{whole_lines, behind_mark}
+use Rattle.bpfspec_serve.proofs.SectionLaws.{left_behind, section_goes_on, rest_goes_on, rest_begins, text_of_lines, line_boundary}
 use Rattle.bpfspec_serve.proofs.sections.part.Goals as goal
 
 pub loop-at-init : goal.loop-at-init
@@ -19,3 +20,10 @@ pub range_from-requires : goal.range_from-requires
 range_from-requires c = λ _.
     let rest = left_behind c.as_bytes-bytes.result.now c.loop-at.at ∙ ap (drop c.loop-at.at) c.as_bytes-bytes.ensures.value in
     line_boundary c.args.text.now _ c.loop-at.at c.line_length-length.result c.utf8.text rest c.loop-at.invariant.boundary.0 c.line_length-length.ensures.some c.line_length-length.ensures.within c.line_length-length.ensures.newline
+
+pub returns-then-is_mark-clause-text : goal.returns-then-is_mark-clause-text
+returns-then-is_mark-clause-text c =
+    let rest = left_behind c.as_bytes-bytes.result.now c.loop-at.at ∙ ap (drop c.loop-at.at) c.as_bytes-bytes.ensures.value in
+    let begins = rest_begins c.args.text.now _ c.loop-at.at c.line_length-length.result rest c.line_length-length.ensures.line (sym c.if-is_mark.ensures) c.loop-at.invariant.rest in
+    let cut : c.range_from.result.now ≡ drop (c.loop-at.at + c.line_length-length.result) c.args.text.now = search rules in
+    text_of_lines c.range_from.result.now (behind_mark (whole_lines c.args.text.now)) (ap whole_lines cut ∙ sym begins)

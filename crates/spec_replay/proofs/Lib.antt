@@ -1,0 +1,2 @@
+pub mod MainTurns
+pub mod ReplayLaws

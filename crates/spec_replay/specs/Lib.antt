@@ -1,0 +1,3 @@
+pub mod FirstLoop
+pub mod FoundLoop
+pub mod ProgramReplay
