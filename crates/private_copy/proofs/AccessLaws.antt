@@ -131,3 +131,17 @@ words_small p k d inside =
         (if b then (cell_at p.pages k).value else slice_index p.start.now k) < 18446744073709551616
     go true h w = h
     go false h w = w
+
+-- a cell that is mixed already is kept as it is
+pub stays_mixed : (p : Private) (e : ℕ) (cell : Cell) → cell ≡ cell_at p.pages e → cell.reduction ≡ Mixed →
+    IsKept p e (record { value = cell.value; writer = cell.writer; reduction = Mixed }) p
+stays_mixed p e cell is mixed = record {
+  start = refl;
+  cell = sym is ∙ ap (λ (r : Reduction). (let kept : Cell = record { value = cell.value; writer = cell.writer; reduction = r } in kept)) mixed;
+  others = λ other differs. refl;
+  pages = refl;
+  flags = refl;
+  serves = refl;
+  begun = refl;
+  under_way = refl;
+}

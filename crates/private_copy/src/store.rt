@@ -25,14 +25,7 @@ impl<'a> Store for Private<'a> {
 
     fn load(&mut self, e: u32) -> u64 {
         let (cell, word) = self.admit(e, Access::Read);
-        self.keep(
-            e,
-            Cell {
-                value: cell.value,
-                writer: cell.writer,
-                reduction: Reduction::Mixed,
-            },
-        );
+        self.mix(e, cell);
         word
     }
 
@@ -97,6 +90,29 @@ impl<'a> Private<'a> {
             self.start[e as usize]
         };
         (cell, word)
+    }
+
+    /// Notes a plain access that leaves the word of an element, whose cell is told. Where a plain access is
+    /// noted already, nothing is written.
+    #[inline]
+    fn mix(&mut self, e: u32, cell: Cell)
+        requires within { e < length self.old.start.now }
+        requires placed { has_page self.old.pages.order (page_of e) ≡ true }
+        requires cell { cell ≡ cell_at self.old.pages e }
+        ensures { IsKept self.old e (record { value = cell.value; writer = cell.writer; reduction = Mixed }) self.new }
+    {
+        let mixed = cell.reduction.is_mixed();
+        if mixed {
+            return;
+        }
+        self.keep(
+            e,
+            Cell {
+                value: cell.value,
+                writer: cell.writer,
+                reduction: Reduction::Mixed,
+            },
+        );
     }
 
     /// Keeps a word that the iteration leaves at an element by a plain access.
