@@ -40,9 +40,9 @@ module _ (s : SettingOf) where
   one_stands b is =
       let below = is.within in
       let first : is_bound (slice_get s.bounds b.number) b.first ≡ true =
-          subst (λ (i : ℕ). is_bound (slice_get s.bounds b.number) i ≡ true) (sym is.first_is) (bound_at s.bounds b.number (omega (arith, below))) in
+      subst (λ (i : ℕ). is_bound (slice_get s.bounds b.number) i ≡ true) (sym is.first_is) (bound_at s.bounds b.number (omega (arith, below))) in
       let past : is_bound (slice_get s.bounds (b.number + 1)) b.past ≡ true =
-          subst (λ (i : ℕ). is_bound (slice_get s.bounds (b.number + 1)) i ≡ true) (sym is.past_is) (bound_at s.bounds (b.number + 1) (omega (arith, below))) in
+      subst (λ (i : ℕ). is_bound (slice_get s.bounds (b.number + 1)) i ≡ true) (sym is.past_is) (bound_at s.bounds (b.number + 1) (omega (arith, below))) in
       rw (first, past) refl
 
   stand : (blocks : List Block) → AreOwn blocks → AllByRecursion (λ b. stands_in s.bounds b ≡ true) (gathered_of blocks)

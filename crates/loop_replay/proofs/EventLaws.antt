@@ -57,7 +57,7 @@ pub next_breaks : (s : SettingOf) → IsSetting s → (events : List Event) (pla
 next_breaks s is events place r come turn before broke at =
     let sound = sound_of s is events place (state_of r) come.led in
     let here : worker_of (state_of r) turn.worker ≡ InBlock turn.block turn.index =
-        seen_at r.workers.workers turn.worker ∙ ap seen (at_is r.workers.workers turn.worker (Running turn.block turn.index) before) in
+    seen_at r.workers.workers turn.worker ∙ ap seen (at_is r.workers.workers turn.worker (Running turn.block turn.index) before) in
     let runs : RunsFrom (breaks_of s) s.bounds turn.block turn.index = subst (WorkerIsSound (breaks_of s) s.bounds r.workers.shared.next) here (sound.fits turn.worker) in
     let end = runs.before_end in
     ap (λ (o : Option ℕ). is_bound o turn.index)
@@ -159,5 +159,5 @@ pub step_refused : (law : EventsInTurn) (given s : SettingOf) → given ≡ s �
     Faults given.bounds e place workers met → replay (breaks_of s) s.bounds events ≡ Err fault
 step_refused law given s same events place old workers blocks seen_as come e there met fault is faults =
     let so : Faults s.bounds e place old.workers met =
-        subst (λ (o : SettingOf). Faults o.bounds e place old.workers met) same (subst (λ (r : ReplayOf). Faults given.bounds e place r.workers met) seen_as faults) in
+    subst (λ (o : SettingOf). Faults o.bounds e place old.workers met) same (subst (λ (r : ReplayOf). Faults given.bounds e place r.workers met) seen_as faults) in
     law.fault (breaks_of s) s.bounds events place e (state_of old) met there come.led (so (breaks_of s) (numbers_of old.blocks.ran)) ∙ ap Err is

@@ -56,11 +56,7 @@ impl<'a> Blocks<'a> {
     }
 
     /// Where a block breaks, which is under way then.
-    pub(crate) fn begin(
-        &mut self,
-        of: &Setting<'a>,
-        number: u32,
-    ) -> Result<Option<u32>, AllocError>
+    pub(crate) fn begin(&mut self, of: &Setting<'a>, number: u32) -> Result<Option<u32>, AllocError>
         requires within { number < blocks_of of.now.bounds }
         requires blocks { AreBlocks of.now self.old }
         ensures blocks { OnOk result (AreBlocks of.now self.new) }

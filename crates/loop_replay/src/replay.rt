@@ -76,12 +76,7 @@ impl<'a> Replay<'a> {
     }
 
     /// Does the event at this place.
-    fn step(
-        &mut self,
-        of: &Setting<'a>,
-        events: &[Event],
-        place: usize,
-    ) -> Result<(), ReplayError>
+    fn step(&mut self, of: &Setting<'a>, events: &[Event], place: usize) -> Result<(), ReplayError>
         requires place { place < length events.now }
         requires come { HasCome of.now events.now place self.old }
         ensures come { OnOk result (HasCome of.now events.now (place + 1) self.new) }
