@@ -4,13 +4,12 @@ ghost use Rattle.std.specs.Prelude.{◌≡◌, ◌<◌, length, slice_index};
 
 use crate::kept::{combined, last_written};
 use crate::merged::is_reduction;
+use crate::order::MOST_BLOCKS;
 use arrayvec::ArrayVec;
 use loop_block::Block;
 use loop_core_law::Verdict;
 use shadow_marks::Planes;
 use std::marker::Model;
-
-const MOST_BLOCKS: usize = 64;
 
 /// Blocks of a loop, gathered: the loop's verdict, and after a pass what it answers and leaves. In contracts it is
 /// the outcome of a pass.

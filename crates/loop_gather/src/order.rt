@@ -11,7 +11,8 @@ use arrayvec::ArrayVec;
 use loop_core_blocks::GatherFault;
 use loop_split::{Split, is_late, lesser};
 
-const MOST_BLOCKS: usize = 64;
+/// The most blocks of a split.
+pub(crate) const MOST_BLOCKS: usize = 64;
 
 /// The blocks that count.
 #[derive(Debug, Drop)]
