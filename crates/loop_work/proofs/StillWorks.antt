@@ -59,20 +59,11 @@ pub all_append : {A : Type 0} (P : A → Type 0) (xs ys : List A) → AllByRecur
 all_append P [] ys all more = more
 all_append P (x ∷ xs) ys all more = (all.0, all_append P xs ys all.1 more)
 
-pub all_by_index : {A : Type 0} (P : A → Type 0) (xs : List A) → AllByRecursion P xs → All P xs
-all_by_index P [] all k d below = absurd (omega arith)
-all_by_index P (x ∷ xs) all zero d below = all.0
-all_by_index P (x ∷ xs) all (suc k) d below = all_by_index P xs all.1 k d (omega arith)
-
 -- what holds of each image holds by index
 pub all_images : {A B : Type 0} (P : B → Type 0) (f : A → B) (xs : List A) → AllByRecursion P (map f xs) → All (λ x. P (f x)) xs
 all_images P f [] all k d below = absurd (omega arith)
 all_images P f (x ∷ xs) all zero d below = all.0
 all_images P f (x ∷ xs) all (suc k) d below = all_images P f xs all.1 k d (omega arith)
-
-pub all_by_recursion : {A : Type 0} (P : A → Type 0) (xs : List A) → All P xs → AllByRecursion P xs
-all_by_recursion P [] all = tt
-all_by_recursion P (x ∷ xs) all = (all 0 x (omega arith), all_by_recursion P xs (λ k d below. all (suc k) d (omega arith)))
 
 -- the runs of draws behind others
 pub runs-append : (bounds draws looks more_draws more_looks : List ℕ) → length looks ≡ length draws →

@@ -20,16 +20,16 @@ post-requires-clause-index g c =
 
 pub returns-clause-took : goal.returns-clause-took
 returns-clause-took g c = elim c.match-broke.branch [
-  in-Some w ↦
-    breaks c.args.test c.args.program.now c.args.call.now c.args.start.now.words c.args.split.now c.args.seat.now c.look.new.seat c.match-broke.seat
-    c.args.number c.look.result (shown c.in_ok-block.block) c.look.ensures.seen
-    (subst (λ (n : ℕ). n ≤ c.look.result) c.start.ensures.start c.if-look-start.false)
-    c.requires.within c.in_ok-block.ensures.number c.in_ok-block.ensures.first c.in_ok-block.ensures.past c.in_ok-block.ensures.ran
-    w.in-Some.index (sym c.broke.ensures ∙ w.in-Some.is) (w.seat-is ∙ w.post.ensures)
+  | in-Some w ↦
+      breaks c.args.test c.args.program.now c.args.call.now c.args.start.now.words c.args.split.now c.args.seat.now c.look.new.seat c.match-broke.seat
+      c.args.number c.look.result (shown c.in_ok-block.block) c.look.ensures.seen
+      (subst (λ (n : ℕ). n ≤ c.look.result) c.start.ensures.start c.if-look-start.false)
+      c.requires.within c.in_ok-block.ensures.number c.in_ok-block.ensures.first c.in_ok-block.ensures.past c.in_ok-block.ensures.ran
+      w.in-Some.index (sym c.broke.ensures ∙ w.in-Some.is) (w.seat-is ∙ w.post.ensures)
   | in_default w ↦
-    runs_on c.args.test c.args.program.now c.args.call.now c.args.start.now.words c.args.split.now c.args.seat.now c.look.new.seat c.match-broke.seat
-    c.args.number c.look.result (shown c.in_ok-block.block) c.look.ensures.seen
-    (subst (λ (n : ℕ). n ≤ c.look.result) c.start.ensures.start c.if-look-start.false)
-    c.requires.within c.in_ok-block.ensures.number c.in_ok-block.ensures.first c.in_ok-block.ensures.past c.in_ok-block.ensures.ran
-    (sym c.broke.ensures ∙ w.in_default.is) w.seat-is
-  ]
+      runs_on c.args.test c.args.program.now c.args.call.now c.args.start.now.words c.args.split.now c.args.seat.now c.look.new.seat c.match-broke.seat
+      c.args.number c.look.result (shown c.in_ok-block.block) c.look.ensures.seen
+      (subst (λ (n : ℕ). n ≤ c.look.result) c.start.ensures.start c.if-look-start.false)
+      c.requires.within c.in_ok-block.ensures.number c.in_ok-block.ensures.first c.in_ok-block.ensures.past c.in_ok-block.ensures.ran
+      (sym c.broke.ensures ∙ w.in_default.is) w.seat-is
+]
