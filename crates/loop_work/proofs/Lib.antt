@@ -1,0 +1,2 @@
+pub mod StillWorks
+pub mod CompleteLaws
