@@ -151,6 +151,15 @@ impl Maps {
         self.words[at] = value;
     }
 
+    /// Sets the words of all elements. There are as many as before.
+    pub fn set_words(&mut self, words: Vec<u64>)
+        requires { length words.items ≡ length self.old.words }
+        ensures { self.new ≡ record { sizes = self.old.sizes; words = words.items } }
+    {
+        are_words(words.as_slice());
+        self.words = words;
+    }
+
     /// A copy.
     pub fn try_copy(&self, alloc: Global) -> Result<Maps, AllocError>
         ensures { IfOk result (λ copy. copy ≡ self.now) }
