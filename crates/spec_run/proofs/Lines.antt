@@ -1,35 +1,40 @@
--- Reports line by line.
-use Rattle.std.proofs.Common.{◌≡◌, List, [], ◌∷◌, ◌++◌, map, refl, sym, ap, append_assoc, append-nil}
-use Rattle.bpf_step_model.specs.Run.{Ending, Ended, Stuck, Unfinished, mapped}
+-- Reports line by line. `line_of` tells the line of a loop call that main made.
+use Rattle.std.proofs.Common.{◌≡◌, List, [], ◌∷◌, ◌++◌, map, refl, sym, ◌∙◌, ap, append_assoc, append-nil}
+use Rattle.bpf_step_model.specs.Run.{Ending, Ended, Stuck, Unfinished, mapped, followed}
 use Rattle.bpf_step_model.specs.ProgramInOrder.{LoopMade, Finished, with_loop}
 use Rattle.loop_core_law.specs.declared.verdict.LoopReport.{LoopReport}
-use Rattle.loop_core_law.specs.LeastBreak.{all_ended}
-use Rattle.loop_core_law.specs.Report.{Reported, line, in_order_if_valid, loop_report_in_order, with_lines, reported_with}
-
--- a loop call's line in order
-abbrev pub in_order_line : LoopMade → LoopReport
-in_order_line made = line made (in_order_if_valid made.call)
+use Rattle.loop_core_law.specs.LeastBreak.{in_front_of, all_ended}
+use Rattle.loop_core_law.specs.Report.{Reported, with_lines, with_each_line, reported_with}
 
 -- the report of a program behind lines that were told before
-abbrev pub behind_lines : List LoopReport → Finished → Reported
-behind_lines lines f = record { ret = f.ret; loops = lines ++ map in_order_line f.loops; words = f.words }
+abbrev pub behind_lines : List LoopReport → Reported → Reported
+behind_lines lines r = record { ret = r.ret; loops = lines ++ r.loops; words = r.words }
 
-each_line : (loops : List LoopMade) → all_ended (map loop_report_in_order loops) ≡ Ended (map in_order_line loops)
-each_line [] = refl
-each_line (made ∷ loops) = ap (mapped (λ (others : List LoopReport). in_order_line made ∷ others)) (each_line loops)
+-- and the report of what main does, line by line, behind them
+abbrev pub told_behind : (LoopMade → Ending LoopReport) → List LoopReport → Ending Finished → Ending Reported
+told_behind line_of lines e = mapped (behind_lines lines) (reported_with line_of e)
 
--- a report in order is the program behind no lines
-pub no_lines : (e : Ending Finished) → reported_with loop_report_in_order e ≡ mapped (behind_lines []) e
-no_lines (Ended f) = ap (mapped (with_lines f)) (each_line f.loops)
+-- a report is one behind no lines
+pub no_lines : (e : Ending Reported) → e ≡ mapped (behind_lines []) e
+no_lines (Ended r) = refl
 no_lines Stuck = refl
 no_lines Unfinished = refl
 
+one_told : (lines : List LoopReport) (f : Finished) (told : LoopReport) (rest : Ending (List LoopReport)) →
+    mapped (behind_lines lines) (mapped (with_lines f) (in_front_of rest told)) ≡ mapped (behind_lines (lines ++ told ∷ [])) (mapped (with_lines f) rest)
+one_told lines f told (Ended others) = ap (λ (all : List LoopReport). Ended (record { ret = f.ret; loops = all; words = f.words })) (sym (append_assoc lines (told ∷ []) others))
+one_told lines f told Stuck = refl
+one_told lines f told Unfinished = refl
+
 -- a line more
-pub one_line : (lines : List LoopReport) (made : LoopMade) (e : Ending Finished) → mapped (behind_lines lines) (mapped (with_loop made) e) ≡ mapped (behind_lines (lines ++ in_order_line made ∷ [])) e
-one_line lines made (Ended f) = ap (λ (all : List LoopReport). Ended (record { ret = f.ret; loops = all; words = f.words })) (sym (append_assoc lines (in_order_line made ∷ []) (map in_order_line f.loops)))
-one_line lines made Stuck = refl
-one_line lines made Unfinished = refl
+pub one_line : (line_of : LoopMade → Ending LoopReport) (lines : List LoopReport) (made : LoopMade) (told : LoopReport) (e : Ending Finished) → line_of made ≡ Ended told →
+    told_behind line_of lines (mapped (with_loop made) e) ≡ told_behind line_of (lines ++ told ∷ []) e
+one_line line_of lines made told (Ended f) is =
+    ap (λ (e : Ending LoopReport). mapped (behind_lines lines) (mapped (with_lines f) (followed (in_front_of (all_ended (map line_of f.loops))) e))) is
+    ∙ one_told lines f told (all_ended (map line_of f.loops))
+one_line line_of lines made told Stuck is = refl
+one_line line_of lines made told Unfinished is = refl
 
 -- all lines
-pub last_line : (lines : List LoopReport) → lines ++ map in_order_line [] ≡ lines
+pub last_line : (lines : List LoopReport) → lines ++ [] ≡ lines
 last_line lines = append-nil lines

@@ -1,101 +1,101 @@
--- Main's turns, one after another.
-use Rattle.std.proofs.Common.{◌≡◌, ℕ, ℤ, pos, zero, suc, ◌+◌, ◌<◌, ◌≤◌, List, [], ◌∷◌, ◌++◌, Some, None, refl, sym, ap, subst, ◌∙◌, arith}
-use Rattle.array_maps.specs.MapList.{MapList}
+-- Main's turns, one after another. `line_of` tells the line of a loop call that main made, and `whole` is the report of the
+-- whole program.
+use Rattle.std.proofs.Common.{◌≡◌, ℕ, ℤ, pos, zero, suc, ◌+◌, ◌<◌, ◌≤◌, List, [], ◌∷◌, ◌++◌, length, Some, None, refl, sym, ap, subst, ◌∙◌, arith}
+use Rattle.std.specs.List.{sum}
+use Rattle.array_maps.specs.MapList.{MapList, AreWords}
 use Rattle.bpf_insn_form.specs.Program.{Program}
 use Rattle.bpf_step_model.specs.State.{Machine, LoopCall, main_entry}
 use Rattle.bpf_step_model.specs.Run.{Ending, Ended, mapped, followed, Turn, Exit, Loop, Refused, Stretch, run}
 use Rattle.bpf_step_model.specs.LoopInOrder.{Looped, loop_in_order}
-use Rattle.bpf_step_model.specs.ProgramInOrder.{LoopMade, resumed, after_loop, after_turn, after_stretch, main_from, program_in_order}
+use Rattle.bpf_step_model.specs.ProgramInOrder.{LoopMade, Finished, resumed, after_loop, after_turn, after_stretch, main_from, program_in_order}
 use Rattle.bpf_step_sound.specs.Soundness.{IsSoundProgram, AreMapWords, IsKnown, IsKnownCall, EachProgramEnds, EachRunEnds, EndsWithin, LoopEnds, EachCountIsSmall, most_from, most_after}
 use Rattle.bpf_step.specs.declared.main_function.Turned.{Turned}
 use Rattle.bpf_step.specs.declared.main_function.Turned.TheVariants as turned
 use Rattle.bpf_step.specs.Mains.{MainOf, IsAt, Waits}
 use Rattle.bpf_step.specs.Turns.{IsFilled, TurnsTo, RanMain}
-use Rattle.bpf_step.proofs.Limits.{few_steps, few_counts}
+use Rattle.bpf_step.proofs.Limits.{few_steps, few_counts, map_words}
 use Rattle.loop_core_law.specs.declared.verdict.LoopReport.{LoopReport}
+use Rattle.loop_core_law.specs.declared.verdict.Verdict.{Verdict}
 use Rattle.loop_core_law.specs.declared.verdict.Verdict.TheVariants as verdicts
-use Rattle.loop_core_law.specs.Report.{report_in_order}
-use Rattle.loop_core_order.specs.Loops.{RanLoopInOrder}
+use Rattle.loop_core_law.specs.Report.{Reported, reported_with}
 use Rattle.loop_core_order.proofs.MapEffects.{map_effect, sizes_kept}
 use Rattle.loop_core_order.proofs.SameLoops.{same_loop}
-use Rattle.spec_run.specs.InOrder.{RanInOrder}
 use Rattle.spec_run.specs.declared.running.Report.{Report}
-use Rattle.spec_run.proofs.Lines.{behind_lines, no_lines, one_line, last_line}
+use Rattle.spec_run.proofs.CallLaws.{RanCall}
+use Rattle.spec_run.proofs.Lines.{told_behind, no_lines, one_line, last_line}
 
 -- the words of maps
 abbrev pub words_of : MapList → List ℕ
 words_of maps = maps.words
 
+-- what is known of an accepted program
+pub record Laws (program : Program) : Type 0 where
+  pub ends : EachRunEnds
+  pub loops : EachProgramEnds
+  pub counts : EachCountIsSmall
+  pub sound : IsSoundProgram program
+
 -- before a turn the report is what main still does, behind the lines so far
-pub record StillRuns (program : Program) (argument : ℕ) (main : MainOf) (first now : MapList) (lines : List LoopReport) : Type 0 where
+pub record StillRuns (line_of : LoopMade → Ending LoopReport) (whole : Ending Reported) (program : Program) (main : MainOf) (first now : MapList) (lines : List LoopReport) : Type 0 where
+  pub laws : Laws program
   pub same : main.program ≡ program
   pub m : Machine
   pub at : IsAt main m
   pub turns : ℕ
   pub enough : most_from program main.slot ≤ turns
-  pub rest : report_in_order program 4096 argument first.words ≡ mapped (behind_lines lines) (main_from program 4096 turns m now.words)
+  pub rest : whole ≡ told_behind line_of lines (main_from program 4096 turns m now.words)
   pub fit : AreMapWords program now.words
   pub sizes : first.sizes ≡ program.sizes
   pub kept : now.sizes ≡ first.sizes
 
-pub starts : (program : Program) (argument : ℕ) (main : MainOf) (maps : MapList) → IsSoundProgram program → main.program ≡ program → IsAt main (main_entry argument)
-    → AreMapWords program maps.words → maps.sizes ≡ program.sizes → StillRuns program argument main maps maps []
+-- as it does at the beginning
+pub starts : (line_of : LoopMade → Ending LoopReport) (program : Program) (argument : ℕ) (main : MainOf) (maps : MapList) {lines : List LoopReport} → Laws program
+    → main.program ≡ program → IsAt main (main_entry argument) → maps.sizes ≡ program.sizes → length maps.words ≡ sum maps.sizes → AreWords maps.words → lines ≡ []
+    → StillRuns line_of (reported_with line_of (program_in_order program 4096 argument maps.words)) program main maps maps lines
 unfolding program_in_order
-starts program argument main maps sound same at fit sizes = record {
+starts line_of program argument main maps laws same at sizes count fit none_told = record {
+  laws = laws;
   same = same;
   m = main_entry argument;
   at = at;
   turns = 4096;
-  enough = few_steps program main.slot sound.accepted;
-  rest = no_lines (program_in_order program 4096 argument maps.words);
-  fit = fit;
+  enough = few_steps program main.slot laws.sound.accepted;
+  rest = no_lines (reported_with line_of (program_in_order program 4096 argument maps.words))
+      ∙ ap (λ (lines : List LoopReport). told_behind line_of lines (program_in_order program 4096 argument maps.words)) (sym none_told);
+  fit = map_words program maps.words (count ∙ ap (λ (sizes : List ℕ). sum sizes) sizes) fit;
   sizes = sizes;
   kept = refl;
 }
 
 -- behind a turn
-pub record Came (program : Program) (argument : ℕ) (slot : ℕ) (first : MapList) (turn : Turn) (words : List ℕ) (lines : List LoopReport) : Type 0 where
+pub record Came (line_of : LoopMade → Ending LoopReport) (whole : Ending Reported) (program : Program) (slot : ℕ) (turn : Turn) (words : List ℕ) (lines : List LoopReport) : Type 0 where
   pub turns : ℕ
   pub few : most_after program turn ≤ turns
   pub fewer : most_after program turn < most_from program slot
-  pub rest : report_in_order program 4096 argument first.words
-      ≡ mapped (behind_lines lines) (after_turn program 4096 (main_from program 4096 turns) turn words)
+  pub rest : whole ≡ told_behind line_of lines (after_turn program 4096 (main_from program 4096 turns) turn words)
 
 -- a run that ended within a number
 within : (program : Program) (most : ℕ) (e : Ending Stretch) (s : Stretch) → e ≡ Ended s → EndsWithin program most e → (0 < s.steps) × (s.steps + most_after program s.turn ≤ most)
 within program most e s told ends = subst (λ (f : Ending Stretch). EndsWithin program most f) told ends
 
-module _ (ends : EachRunEnds) (program : Program) (sound : IsSoundProgram program) (argument : ℕ) where
-  came_with : (main : MainOf) (first now : MapList) (lines : List LoopReport) (m : Machine) (turns : ℕ) (s : Stretch)
-      → m.slot ≡ main.slot → most_from program m.slot ≤ turns → run program 4096 m now.words ≡ Ended s
-      → (0 < s.steps) × (s.steps + most_after program s.turn ≤ most_from program m.slot)
-      → report_in_order program 4096 argument first.words ≡ mapped (behind_lines lines) (main_from program 4096 turns m now.words)
-      → Came program argument main.slot first s.turn s.words lines
-  came_with main first now lines m zero s slot enough told few rest =
-      let some = few.0 in
-      let most = few.1 in
-      absurd (omega (arith, some, most, enough))
-  came_with main first now lines m (suc turns) s slot enough told few rest =
-      let some = few.0 in
-      let most = few.1 in
-      record {
-        turns = turns;
-        few = omega (arith, some, most, enough);
-        fewer = subst (λ (at : ℕ). most_after program s.turn < most_from program at) slot (omega (arith, some, most));
-        rest = rest ∙ ap (λ (e : Ending Stretch). mapped (behind_lines lines) (followed (after_stretch program 4096 (main_from program 4096 turns)) e)) told;
-      }
-
-  came : (main after : MainOf) (first now new : MapList) (lines : List LoopReport) (turn : Turned) → (still : StillRuns program argument main first now lines)
-      → after.program ≡ main.program → (ran : RanMain words_of map_effect still.m now turn after new) → Came program argument main.slot first ran.stretch.turn new.words lines
-  came main after first now new lines turn still same ran =
-      let is = same ∙ still.same in
-      let told = subst (λ (p : Program). run p 4096 still.m now.words ≡ Ended ran.stretch) is ran.told in
-      let known = subst (λ (p : Program). IsKnown p still.m) still.same still.at.known in
-      let slot = still.at.stands.slot in
-      let few = within program (most_from program still.m.slot) (run program 4096 still.m now.words) ran.stretch told
-      (ends program sound 4096 still.m known now.words still.fit (few_steps program still.m.slot sound.accepted)) in
-      subst (λ (words : List ℕ). Came program argument main.slot first ran.stretch.turn words lines) (sym ran.words_are)
-      (came_with main first now lines still.m still.turns ran.stretch (sym slot) (subst (λ (at : ℕ). most_from program at ≤ still.turns) slot still.enough) told few still.rest)
+came_with : (line_of : LoopMade → Ending LoopReport) (whole : Ending Reported) (program : Program) (at : ℕ) (words : List ℕ) (lines : List LoopReport) (m : Machine) (turns : ℕ) (s : Stretch)
+    → m.slot ≡ at → most_from program m.slot ≤ turns → run program 4096 m words ≡ Ended s
+    → (0 < s.steps) × (s.steps + most_after program s.turn ≤ most_from program m.slot)
+    → whole ≡ told_behind line_of lines (main_from program 4096 turns m words)
+    → Came line_of whole program at s.turn s.words lines
+came_with line_of whole program at words lines m zero s slot enough told few rest =
+    let some = few.0 in
+    let most = few.1 in
+    absurd (omega (arith, some, most, enough))
+came_with line_of whole program at words lines m (suc turns) s slot enough told few rest =
+    let some = few.0 in
+    let most = few.1 in
+    record {
+      turns = turns;
+      few = omega (arith, some, most, enough);
+      fewer = subst (λ (at : ℕ). most_after program s.turn < most_from program at) slot (omega (arith, some, most));
+      rest = rest ∙ ap (λ (e : Ending Stretch). told_behind line_of lines (followed (after_stretch program 4096 (main_from program 4096 turns)) e)) told;
+    }
 
 -- a loop in order leaves words again
 looped_words : EachProgramEnds → EachCountIsSmall → (program : Program) → IsSoundProgram program → (call : LoopCall) → IsKnownCall program call → (words : List ℕ) → AreMapWords program words
@@ -138,104 +138,144 @@ is_exit main (Exit ret) n turns = ap Exit (sym turns)
 is_exit main (Loop made next) n turns = absurd turns
 is_exit main (Refused slot answer next) n turns = absurd turns
 
-module _ (ends : EachRunEnds) (laws : EachProgramEnds) (counts : EachCountIsSmall) (program : Program) (sound : IsSoundProgram program) (argument : ℕ) (main after : MainOf) (first now : MapList) (lines : List LoopReport)
-    (still : StillRuns program argument main first now lines) (same : after.program ≡ main.program) where
-  -- main ends
-  pub exits : (new : MapList) (ret : ℕ) → RanMain words_of map_effect still.m now (turned.Exit ret) after new
-      → (report : Report) → report.ret ≡ ret → report.loops.items ≡ lines → RanInOrder program argument first new report
-  exits new ret ran report returns all =
-      let came = came ends program sound argument main after first now new lines (turned.Exit ret) still same ran in
+-- main's next turn, where main is at a machine
+abbrev pub NextTurn : MainOf → MapList → Turned → MainOf → MapList → Type 0
+NextTurn main now turn after new = (m : Machine) → IsAt main m → RanMain words_of map_effect m now turn after new
+
+module _ {line_of : LoopMade → Ending LoopReport} {whole : Ending Reported} {program : Program} {main : MainOf} {first now : MapList} {lines : List LoopReport}
+    (still : StillRuns line_of whole program main first now lines) where
+  came : (after : MainOf) (new : MapList) (turn : Turned) → after.program ≡ main.program → (ran : RanMain words_of map_effect still.m now turn after new)
+      → Came line_of whole program main.slot ran.stretch.turn new.words lines
+  came after new turn same ran =
+      let is = same ∙ still.same in
+      let told = subst (λ (p : Program). run p 4096 still.m now.words ≡ Ended ran.stretch) is ran.told in
+      let known = subst (λ (p : Program). IsKnown p still.m) still.same still.at.known in
+      let slot = still.at.stands.slot in
+      let few = within program (most_from program still.m.slot) (run program 4096 still.m now.words) ran.stretch told
+      (still.laws.ends program still.laws.sound 4096 still.m known now.words still.fit (few_steps program still.m.slot still.laws.sound.accepted)) in
+      subst (λ (words : List ℕ). Came line_of whole program main.slot ran.stretch.turn words lines) (sym ran.words_are)
+      (came_with line_of whole program main.slot now.words lines still.m still.turns ran.stretch (sym slot) (subst (λ (at : ℕ). most_from program at ≤ still.turns) slot still.enough) told few still.rest)
+
+  -- a turn keeps the sizes
+  turn_keeps : (after : MainOf) (new : MapList) (turn : Turned) → RanMain words_of map_effect still.m now turn after new → new.sizes ≡ first.sizes
+  turn_keeps after new turn ran = sizes_kept now new ran.stretch.accesses ran.effects ∙ still.kept
+
+  -- and leaves words
+  turn_fits : (after : MainOf) (new : MapList) (turn : Turned) → after.program ≡ main.program → RanMain words_of map_effect still.m now turn after new → AreMapWords program new.words
+  turn_fits after new turn same ran =
+      subst (λ (ws : List ℕ). AreMapWords program ws) (sym ran.words_are) (subst (λ (p : Program). AreMapWords p ran.stretch.words) (same ∙ still.same) ran.fit)
+
+  -- main ends: the report is told, and the maps keep their sizes
+  pub record Ends (new : MapList) (report : Report) : Type 0 where
+    pub sizes : first.sizes ≡ program.sizes
+    pub told : whole ≡ Ended (record { ret = report.ret; loops = report.loops.items; words = new.words })
+    pub kept : new.sizes ≡ first.sizes
+
+  pub exits : {after : MainOf} {new : MapList} {ret : ℕ} → after.program ≡ main.program → NextTurn main now (turned.Exit ret) after new
+      → (report : Report) → report.ret ≡ ret → report.loops.items ≡ lines → Ends new report
+  exits {after} {new} {ret} same next report returns all =
+      let ran = next still.m still.at in
+      let came = came after new (turned.Exit ret) same ran in
       let turn = is_exit after ran.stretch.turn ret ran.turns in
       record {
         sizes = still.sizes;
         told = came.rest
-            ∙ ap (λ (t : Turn). mapped (behind_lines lines) (after_turn program 4096 (main_from program 4096 came.turns) t new.words)) turn
+            ∙ ap (λ (t : Turn). told_behind line_of lines (after_turn program 4096 (main_from program 4096 came.turns) t new.words)) turn
             ∙ ap (λ (ls : List LoopReport). Ended (record { ret = ret; loops = ls; words = new.words })) (last_line lines ∙ sym all)
             ∙ ap (λ (n : ℕ). Ended (record { ret = n; loops = report.loops.items; words = new.words })) (sym returns);
-        kept = sizes_kept now new ran.stretch.accesses ran.effects ∙ still.kept;
+        kept = turn_keeps after new (turned.Exit ret) ran;
       }
 
   -- its call was refused, and it goes on
-  pub refuses : (new : MapList) (slot : ℕ) (answer : ℤ) → RanMain words_of map_effect still.m now (turned.Refused slot answer) after new
-      → (all : List LoopReport) → all ≡ lines ++ record { slot = slot; answer = answer; verdict = verdicts.Refused } ∷ []
-      → StillRuns program argument after first new all × (most_from program after.slot < most_from program main.slot)
-  refuses new slot answer ran all told =
-      let came = came ends program sound argument main after first now new lines (turned.Refused slot answer) still same ran in
+  pub refuses : {after : MainOf} {new : MapList} {slot : ℕ} {answer : ℤ} {all : List LoopReport} → after.program ≡ main.program → NextTurn main now (turned.Refused slot answer) after new
+      → ((slot : ℕ) (answer : ℤ) (words : List ℕ) →
+      line_of (record { slot = slot; answer = answer; words = words; call = None }) ≡ Ended (record { slot = slot; answer = answer; verdict = verdicts.Refused }))
+      → all ≡ lines ++ record { slot = slot; answer = answer; verdict = verdicts.Refused } ∷ []
+      → StillRuns line_of whole program after first new all
+  refuses {after} {new} {slot} {answer} {all} same next refused_line told =
+      let ran = next still.m still.at in
+      let came = came after new (turned.Refused slot answer) same ran in
       let this = is_refused after ran.stretch.turn slot answer ran.turns in
       let few = subst (λ (t : Turn). most_after program t ≤ came.turns) this.turn_is came.few in
-      let fewer = subst (λ (t : Turn). most_after program t < most_from program main.slot) this.turn_is came.fewer in
-      let made : LoopMade = record { slot = slot; answer = answer; words = new.words; call = None } in (
-        record {
-          same = same ∙ still.same;
-          m = this.next;
-          at = this.at;
-          turns = came.turns;
-          enough = subst (λ (at : ℕ). most_from program at ≤ came.turns) (sym this.at.stands.slot) few;
-          rest = came.rest
-              ∙ ap (λ (t : Turn). mapped (behind_lines lines) (after_turn program 4096 (main_from program 4096 came.turns) t new.words)) this.turn_is
-              ∙ one_line lines made (main_from program 4096 came.turns this.next new.words)
-              ∙ ap (λ (ls : List LoopReport). mapped (behind_lines ls) (main_from program 4096 came.turns this.next new.words)) (sym told);
-          fit = subst (λ (ws : List ℕ). AreMapWords program ws) (sym ran.words_are) (subst (λ (p : Program). AreMapWords p ran.stretch.words) (same ∙ still.same) ran.fit);
-          sizes = still.sizes;
-          kept = sizes_kept now new ran.stretch.accesses ran.effects ∙ still.kept;
-        },
-        subst (λ (at : ℕ). most_from program at < most_from program main.slot) (sym this.at.stands.slot) fewer,
-      )
-
-  -- it called a loop
-  pub record Called (call : LoopCall) (new : MapList) : Type 0 where
-    pub known : IsKnownCall program call
-    pub sizes : new.sizes ≡ program.sizes
-    pub next : Machine
-    pub waits : Waits after next
-
-  pub calls : (new : MapList) (call : LoopCall) → RanMain words_of map_effect still.m now (turned.Loop call) after new → Called call new
-  calls new call ran =
-      let this = is_loop after ran.stretch.turn call ran.turns in
+      let made : LoopMade = record { slot = slot; answer = answer; words = new.words; call = None } in
+      let line : LoopReport = record { slot = slot; answer = answer; verdict = verdicts.Refused } in
+      let goes_on = main_from program 4096 came.turns this.next new.words in
       record {
-        known = subst (λ (p : Program). IsKnownCall p call) (same ∙ still.same) this.known;
-        sizes = sizes_kept now new ran.stretch.accesses ran.effects ∙ still.kept ∙ still.sizes;
-        next = this.next;
-        waits = this.waits;
+        laws = still.laws;
+        same = same ∙ still.same;
+        m = this.next;
+        at = this.at;
+        turns = came.turns;
+        enough = subst (λ (at : ℕ). most_from program at ≤ came.turns) (sym this.at.stands.slot) few;
+        rest = came.rest
+            ∙ ap (λ (t : Turn). told_behind line_of lines (after_turn program 4096 (main_from program 4096 came.turns) t new.words)) this.turn_is
+            ∙ one_line line_of lines made line goes_on (refused_line slot answer new.words)
+            ∙ ap (λ (ls : List LoopReport). told_behind line_of ls goes_on) (sym told);
+        fit = turn_fits after new (turned.Refused slot answer) same ran;
+        sizes = still.sizes;
+        kept = turn_keeps after new (turned.Refused slot answer) ran;
       }
 
-  -- which ran in order, and main goes on with its answer
-  pub loops : (new left : MapList) (call : LoopCall) → (ran : RanMain words_of map_effect still.m now (turned.Loop call) after new)
-      → (answer : ℕ) → RanLoopInOrder program call new left answer
-      → (on : MainOf) → on.program ≡ after.program → ((m : Machine) → Waits after m → IsAt on (resumed m answer))
-      → (slot : ℕ) (told_answer : ℤ) (all : List LoopReport) → slot ≡ call.slot → told_answer ≡ pos answer
-      → all ≡ lines ++ record { slot = slot; answer = told_answer; verdict = verdicts.InOrder } ∷ []
-      → StillRuns program argument on first left all × (most_from program on.slot < most_from program main.slot)
-  loops new left call ran answer looped on same_on goes slot told_answer all is_slot is_answer told =
-      let came = came ends program sound argument main after first now new lines (turned.Loop call) still same ran in
+  -- with less before it
+  pub refusal_lessens : {after : MainOf} {new : MapList} {slot : ℕ} {answer : ℤ} → after.program ≡ main.program → NextTurn main now (turned.Refused slot answer) after new
+      → most_from program after.slot < most_from program main.slot
+  refusal_lessens {after} {new} {slot} {answer} same next =
+      let ran = next still.m still.at in
+      let this = is_refused after ran.stretch.turn slot answer ran.turns in
+      let fewer = subst (λ (t : Turn). most_after program t < most_from program main.slot) this.turn_is (came after new (turned.Refused slot answer) same ran).fewer in
+      subst (λ (at : ℕ). most_from program at < most_from program main.slot) (sym this.at.stands.slot) fewer
+
+  -- it called a loop: the maps are of the program's sizes
+  pub call_sizes : {after : MainOf} {new : MapList} {call : LoopCall} → NextTurn main now (turned.Loop call) after new → new.sizes ≡ program.sizes
+  call_sizes {after} {new} {call} next = turn_keeps after new (turned.Loop call) (next still.m still.at) ∙ still.sizes
+
+  -- which left what it leaves in order, and main goes on with its answer
+  pub loops : {after on : MainOf} {new left : MapList} {call : LoopCall} {answer : ℕ} {verdict : Verdict} {slot : ℕ} {told_answer : ℤ} {all : List LoopReport}
+      → after.program ≡ main.program → NextTurn main now (turned.Loop call) after new
+      → RanCall line_of program call new left answer verdict
+      → on.program ≡ after.program → ((m : Machine) → Waits after m → IsAt on (resumed m answer))
+      → slot ≡ call.slot → told_answer ≡ pos answer → all ≡ lines ++ record { slot = slot; answer = told_answer; verdict = verdict } ∷ []
+      → StillRuns line_of whole program on first left all
+  loops {after} {on} {new} {left} {call} {answer} {verdict} {slot} {told_answer} {all} same next looped same_on goes is_slot is_answer told =
+      let ran = next still.m still.at in
+      let came = came after new (turned.Loop call) same ran in
       let is = same ∙ still.same in
       let this = is_loop after ran.stretch.turn call ran.turns in
       let filled = subst (λ (p : Program). IsFilled p this.made call) is this.filled in
       let known = subst (λ (p : Program). IsKnownCall p call) is this.known in
       let few = subst (λ (t : Turn). most_after program t ≤ came.turns) this.turn_is came.few in
-      let fewer = subst (λ (t : Turn). most_after program t < most_from program main.slot) this.turn_is came.fewer in
       let at : IsAt on (resumed this.next answer) = goes this.next this.waits in
-      let fit = subst (λ (ws : List ℕ). AreMapWords program ws) (sym ran.words_are) (subst (λ (p : Program). AreMapWords p ran.stretch.words) is ran.fit) in
+      let fit = turn_fits after new (turned.Loop call) same ran in
       let ended : loop_in_order program 4096 this.made new.words ≡ Ended (record { answer = answer; words = left.words }) =
-      sym (same_loop laws counts program sound this.made call filled known new.words fit) ∙ looped.told in
+      sym (same_loop still.laws.loops still.laws.counts program still.laws.sound this.made call filled known new.words fit) ∙ looped.ran.told in
       let made : LoopMade = record { slot = this.made.slot; answer = pos answer; words = new.words; call = Some this.made } in
-      let on_left = main_from program 4096 came.turns (resumed this.next answer) left.words in (
-        record {
-          same = same_on ∙ is;
-          m = resumed this.next answer;
-          at = at;
-          turns = came.turns;
-          enough = subst (λ (at : ℕ). most_from program at ≤ came.turns) (sym at.stands.slot) few;
-          rest = came.rest
-              ∙ ap (λ (t : Turn). mapped (behind_lines lines) (after_turn program 4096 (main_from program 4096 came.turns) t new.words)) this.turn_is
-              ∙ ap (λ (e : Ending Looped). mapped (behind_lines lines) (followed (after_loop (main_from program 4096 came.turns) this.made this.next new.words) e)) ended
-              ∙ one_line lines made on_left
-              ∙ ap (λ (s : ℕ). mapped (behind_lines (lines ++ record { slot = s; answer = pos answer; verdict = verdicts.InOrder } ∷ [])) on_left) (sym (is_slot ∙ filled.slot))
-              ∙ ap (λ (a : ℤ). mapped (behind_lines (lines ++ record { slot = slot; answer = a; verdict = verdicts.InOrder } ∷ [])) on_left) (sym is_answer)
-              ∙ ap (λ (ls : List LoopReport). mapped (behind_lines ls) on_left) (sym told);
-          fit = looped_words laws counts program sound call known new.words fit (record { answer = answer; words = left.words }) looped.told;
-          sizes = still.sizes;
-          kept = looped.kept ∙ sizes_kept now new ran.stretch.accesses ran.effects ∙ still.kept;
-        },
-        subst (λ (at : ℕ). most_from program at < most_from program main.slot) (sym at.stands.slot) fewer,
-      )
+      let its_line : LoopReport = record { slot = this.made.slot; answer = pos answer; verdict = verdict } in
+      let goes_on = main_from program 4096 came.turns (resumed this.next answer) left.words in
+      record {
+        laws = still.laws;
+        same = same_on ∙ is;
+        m = resumed this.next answer;
+        at = at;
+        turns = came.turns;
+        enough = subst (λ (at : ℕ). most_from program at ≤ came.turns) (sym at.stands.slot) few;
+        rest = came.rest
+            ∙ ap (λ (t : Turn). told_behind line_of lines (after_turn program 4096 (main_from program 4096 came.turns) t new.words)) this.turn_is
+            ∙ ap (λ (e : Ending Looped). told_behind line_of lines (followed (after_loop (main_from program 4096 came.turns) this.made this.next new.words) e)) ended
+            ∙ one_line line_of lines made its_line goes_on (looped.told this.made filled known fit)
+            ∙ ap (λ (s : ℕ). told_behind line_of (lines ++ record { slot = s; answer = pos answer; verdict = verdict } ∷ []) goes_on) (sym (is_slot ∙ filled.slot))
+            ∙ ap (λ (a : ℤ). told_behind line_of (lines ++ record { slot = slot; answer = a; verdict = verdict } ∷ []) goes_on) (sym is_answer)
+            ∙ ap (λ (ls : List LoopReport). told_behind line_of ls goes_on) (sym told);
+        fit = looped_words still.laws.loops still.laws.counts program still.laws.sound call known new.words fit (record { answer = answer; words = left.words }) looped.ran.told;
+        sizes = still.sizes;
+        kept = looped.ran.kept ∙ turn_keeps after new (turned.Loop call) ran;
+      }
+
+  -- with less before it
+  pub loop_lessens : {after on : MainOf} {new : MapList} {call : LoopCall} {answer : ℕ} → after.program ≡ main.program → NextTurn main now (turned.Loop call) after new
+      → ((m : Machine) → Waits after m → IsAt on (resumed m answer))
+      → most_from program on.slot < most_from program main.slot
+  loop_lessens {after} {on} {new} {call} {answer} same next goes =
+      let ran = next still.m still.at in
+      let this = is_loop after ran.stretch.turn call ran.turns in
+      let fewer = subst (λ (t : Turn). most_after program t < most_from program main.slot) this.turn_is (came after new (turned.Loop call) same ran).fewer in
+      subst (λ (at : ℕ). most_from program at < most_from program main.slot) (sym (goes this.next this.waits).stands.slot) fewer

@@ -3,11 +3,17 @@
 //! ```text
 //! let program = verify(alloc, unit)?;                     // a loop of 8 iterations that adds its index
 //! let mut maps = Maps::of(alloc, &[vec![in alloc; 5]?])?;
-//! let report = run_in_order(alloc, &program, &mut maps, 0)?;
-//! // report.ret is 8, its loop answered 8 in order, and maps.get(0, 0) is 5 + 0 + 1 + .. + 7
+//! let plan = Plan { workers: 4, blocks: 16, test: Test::Flow };
+//! let report = run(&rt, alloc, &program, &mut maps, 0, &plan, &NoGate)?;
+//! // report.ret is 8, its loop answered 8 in parallel, and maps.get(0, 0) is 5 + 0 + 1 + .. + 7
 //! ```
 #![tactic(auto)]
 
+mod plan;
 mod running;
+mod speculating;
 
-pub use running::{Report, RunError, run_in_order};
+pub use loop_run::{LoopOutcome, RunError, run_loop};
+pub use plan::Plan;
+pub use running::{Report, run_in_order};
+pub use speculating::run;

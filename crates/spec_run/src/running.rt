@@ -9,8 +9,8 @@ use bpf_step_sound::{law_of_accepted_programs, law_of_accepted_runs};
 use bpf_verify::Verified;
 use loop_core_law::{LoopReport, Verdict};
 use loop_core_order::in_order;
+use loop_run::RunError;
 use std::alloc::{AllocError, Global};
-use thiserror::Error;
 
 /// What a program did.
 #[derive(Debug, Drop)]
@@ -19,27 +19,6 @@ pub struct Report {
     pub ret: u64,
     /// Its loop calls, in order.
     pub loops: Vec<LoopReport>,
-}
-
-/// Why a program wasn't run. The maps are as before.
-#[derive(Debug, Drop, PartialEq, Error)]
-pub enum RunError {
-    /// P1: the maps' sizes differ from the program's.
-    #[error("P1")]
-    Sizes,
-    /// There was no memory.
-    #[error("memory")]
-    Memory,
-}
-
-impl From<AllocError> for RunError {
-    ghost use Rattle.spec_run.specs.declared.running.RunError.TheVariants.{Memory};
-
-    ghost from_gives = { λ _ e. e ≡ Memory };
-
-    fn from(_e: AllocError) -> RunError {
-        RunError::Memory
-    }
 }
 
 /// Runs the program on these maps, which are of its sizes, and changes them as it goes. Where memory runs
@@ -97,6 +76,7 @@ pub fn run_in_order(
     ensures refused { OnErr result (maps.new ≡ maps.old) }
     ensures sizes { maps.old.sizes ≢ program.now.sizes → result ≡ Err RunError.Sizes }
     ensures only { result ≡ Err RunError.Sizes → maps.old.sizes ≢ program.now.sizes }
+    ensures plan { result ≢ Err RunError.Plan }
 {
     if maps.sizes() != program.sizes() {
         return Err(RunError::Sizes);

@@ -1,9 +1,11 @@
 use Rattle.bpf_step_sound.specs.Soundness.{most_from}
+use Rattle.loop_core_law.specs.Report.{loop_report_in_order, report_in_order}
 use Rattle.spec_run.proofs.Turns.{StillRuns}
 use Rattle.spec_run.proofs.running.run_on.Given as goal
 
 abbrev pub invariant-loop-call : goal.invariant-loop-call
-invariant-loop-call l = StillRuns l.program l.argument l.main l.fn.maps l.maps l.loops.items
+invariant-loop-call l =
+    StillRuns loop_report_in_order (report_in_order l.program 4096 l.argument l.fn.maps.words) l.program l.main l.fn.maps l.maps l.loops.items
 
 abbrev pub decreases-loop-call : goal.decreases-loop-call
 decreases-loop-call l = most_from l.program l.main.slot

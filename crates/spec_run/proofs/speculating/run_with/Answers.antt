@@ -1,0 +1,55 @@
+use Rattle.std.proofs.Common.{rules, ◌≡◌, ℤ, w64, ◌≤◌, ◌∙◌, sym, ap, subst, refl, [], ◌∷◌, ◌++◌, arith}
+use Rattle.std.proofs.lemmas.Grind.{common_steps}
+use Rattle.std.proofs.lemmas.Int.{ints}
+use Rattle.std.specs.Int.{cast_signed, cast_unsigned}
+use Rattle.bpf_insn_form.specs.Program.{Program}
+use Rattle.bpf_step_sound.specs.Soundness.{most_from}
+use Rattle.bpf_step.proofs.Limits.{few_steps}
+use Rattle.loop_core_law.specs.declared.verdict.Verdict.TheVariants.{Refused}
+use Rattle.loop_core_law.specs.Report.{loop_report}
+use Rattle.spec_run.proofs.CallLaws.{call_by_test, answer_kept}
+use Rattle.spec_run.proofs.Turns.{Laws, starts, exits, refuses, refusal_lessens, call_sizes, loops, loop_lessens}
+use Rattle.spec_run.proofs.speculating.run_with.Goals as goal
+
+pub loop-call-init : goal.loop-call-init
+loop-call-init g c =
+    let laws : Laws c.args.program.now = record {
+      ends = c.law_of_accepted_runs.ensures.ends;
+      loops = c.law_of_accepted_programs.ensures;
+      counts = c.law_of_accepted_runs.ensures.counts;
+      sound = record { accepted = c.unit-unit.ensures.accepted; fits = c.unit-unit.ensures.fit };
+    } in
+    starts (loop_report c.args.plan.now.test c.args.program.now 4096) c.args.program.now c.args.argument c.new-main.result c.args.maps.now laws c.new-main.ensures.program c.new-main.ensures.at
+    c.requires.sizes c.sizes-sizes.ensures.words c.words_fit.ensures c.new-loops.ensures.items
+
+pub next-requires-clause-served : goal.next-requires-clause-served
+next-requires-clause-served g c =
+    subst (λ (program : Program). most_from program c.loop-call.main.slot ≤ 4096) (sym c.loop-call.invariant.same)
+    (few_steps c.args.program.now c.loop-call.main.slot c.unit-unit.ensures.accepted)
+
+pub run_call-requires-clause-sizes : goal.run_call-requires-clause-sizes
+run_call-requires-clause-sizes g c κs = call_sizes c.loop-call.invariant c.in-Loop.ensures.ran
+
+pub loop-call-preserved-in-Loop : goal.loop-call-preserved-in-Loop
+loop-call-preserved-in-Loop g c =
+    loops c.loop-call.invariant c.next.ensures.program c.in-Loop.ensures.ran
+    (call_by_test c.law_of_filled_calls.ensures c.loop-call.invariant.laws.sound c.in_ok-outcome.ensures)
+    c.resume.ensures.program c.resume.ensures.at c.slot.ensures
+    (answer_kept c.in_ok-outcome.outcome.answer c.from.result ? c.from.ensures) c.in_ok-push-in-Loop.ensures.items
+
+pub loop-call-smaller-in-Loop : goal.loop-call-smaller-in-Loop
+loop-call-smaller-in-Loop g c = loop_lessens c.loop-call.invariant c.next.ensures.program c.in-Loop.ensures.ran c.resume.ensures.at
+
+pub loop-call-preserved : goal.loop-call-preserved
+loop-call-preserved g c =
+    let kept : c.in-Refused.answer ≡ cast_signed w64 (cast_unsigned w64 c.in-Refused.answer) = first_of (search rules, grind (arith, common_steps), omega (arith, ints)) in
+    refuses c.loop-call.invariant c.next.ensures.program c.in-Refused.ensures.ran (λ slot answer words. refl)
+    (c.in_ok-push-in-Refused.ensures.items ∙ ap (λ (z : ℤ). c.loop-call.loops.items ++ record { slot = c.in-Refused.slot; answer = z; verdict = Refused } ∷ []) (sym kept))
+
+pub loop-call-smaller : goal.loop-call-smaller
+loop-call-smaller g c = refusal_lessens c.loop-call.invariant c.next.ensures.program c.in-Refused.ensures.ran
+
+pub returns-in-Exit : goal.returns-in-Exit
+returns-in-Exit g c =
+    let end = exits c.loop-call.invariant c.next.ensures.program c.in-Exit.ensures.ran (record { ret = c.in-Exit.ret; loops = c.loop-call.loops }) refl refl in
+    record { sizes = end.sizes; told = end.told; kept = end.kept }

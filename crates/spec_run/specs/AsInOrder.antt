@@ -1,0 +1,32 @@
+-- What a run gives whose loops may run in parallel.
+use Rattle.std.specs.Prelude.{◌≡◌, ℕ, Result, IfOk, IfErr, OnErr}
+use Rattle.array_maps.specs.MapList.{MapList}
+use Rattle.bpf_insn_form.specs.Program.{Program}
+use Rattle.bpf_step_model.specs.Run.{Ended}
+use Rattle.loop_core_law.specs.declared.loop_test.Test.{Test}
+use Rattle.loop_core_law.specs.Report.{report as report_by}
+use Rattle.loop_run.specs.declared.error.RunError.{RunError}
+use Rattle.loop_run.specs.declared.error.RunError.TheVariants.{Memory}
+use Rattle.spec_run.specs.declared.plan.Plan.{Plan}
+use Rattle.spec_run.specs.declared.running.Report.{Report}
+use Rattle.spec_run.specs.Plans.{IsPlan}
+
+-- the return value, the new maps, which are of the old sizes, and each loop call's slot and answer are those of the
+-- program whose loops run in order from the old maps; each valid call's verdict is that of the test. No iteration is stuck,
+-- and none takes more than 4,096 instructions
+pub record RanAsInOrder (test : Test) (program : Program) (argument : ℕ) (old new : MapList) (report : Report) : Type 0 where
+  pub sizes : old.sizes ≡ program.sizes
+  pub told : report_by test program 4096 argument old.words
+      ≡ Ended (record { ret = report.ret; loops = report.loops.items; words = new.words })
+  pub kept : new.sizes ≡ old.sizes
+
+-- The headline: run gives exactly the return value, maps and report of the program run in order, or refuses for want of
+-- memory and leaves the maps unchanged, for every number of workers, split and schedule. Of the plan the test alone occurs
+-- in what it gives, and of a schedule nothing does
+pub record RunsAsInOrder (program : Program) (argument : ℕ) (plan : Plan) (old new : MapList) (result : Result Report RunError) : Type 0 where
+  -- a report, the return value in it and the new maps are exactly those of the program run in order
+  pub gives : IfOk result (λ report. RanAsInOrder plan.test program argument old new report)
+  -- where the maps are of the program's sizes and the plan is within its limits, it refuses for want of memory alone
+  pub refuses : IfErr result (λ refusal. old.sizes ≡ program.sizes → IsPlan plan → refusal ≡ Memory)
+  -- a refusal leaves the maps unchanged
+  pub unchanged : OnErr result (new ≡ old)
