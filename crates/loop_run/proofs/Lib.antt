@@ -1,0 +1,2 @@
+pub mod PlanLaws
+pub mod WorkerLaws

@@ -1,0 +1,11 @@
+//! A loop call by several workers: each in a thread of its own, over one board; what they ran is gathered, and
+//! committed, or the loop is run in order.
+#![tactic(auto)]
+
+mod error;
+mod looping;
+mod worker;
+
+pub use error::RunError;
+pub use loop_gather::LoopOutcome;
+pub use looping::run_loop;
