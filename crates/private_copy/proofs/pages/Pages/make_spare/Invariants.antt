@@ -1,6 +1,6 @@
 use Rattle.std.proofs.Common.{◌≡◌, ℕ, ◌-◌, ◌<◌, ◌≤◌, length, get_or, None}
 use Rattle.private_copy.specs.Cells.{IsBlank}
-use Rattle.private_copy.proofs.pages.Pages.prepare.Given as goal
+use Rattle.private_copy.proofs.pages.Pages.make_spare.Given as goal
 
 abbrev pub invariant-loop-alloc : goal.invariant-loop-alloc
 invariant-loop-alloc l =
