@@ -1,7 +1,8 @@
 -- The program's command line, in clap's words, and what the words of one ask for.
 use Rattle.std.specs.Prelude.{◌≡◌, ℕ, ◌^◌, ◌<◌, List, [], ◌∷◌, Option, Some, None, codes, true, false}
 use Rattle.std.specs.Str.Parse.{IsNumeral, digits_value, without_leading_plus}
-use Rattle.clap.specs.Words.{App, Row, Rule, Text, first_of, new_app, new_rule, one_of, with_rule, with_subcommand}
+use Rattle.clap.specs.Words.{App, Row, Rule, Text, app_of, first_of, new_app, new_rule, one_of, rule_of, with_rule, with_subcommand}
+use Rattle.clap.specs.declared.builder.arg.Arg.{Arg}
 use Rattle.clap.specs.declared.builder.command.Command.{Command}
 use Rattle.clap.specs.declared.builder.command.Command.TheViews.{out-Command}
 use Rattle.clap.specs.declared.builder.ArgAction.TheVariants.{Set, SetTrue}
@@ -42,9 +43,15 @@ workers_rule = valued_rule (codes "workers") (codes "2")
 abbrev pub blocks_rule : Rule
 blocks_rule = valued_rule (codes "blocks") (codes "4")
 
--- a command whose arguments are its own
-abbrev pub IsLocal : Command → Type 0
-IsLocal command = (out-Command command).has_globals ≡ false
+-- a command that is told so, whose arguments are its own
+pub record IsCommand (app : App) (command : Command) : Type 0 where
+  pub app_is : app_of command ≡ app
+  pub own : (out-Command command).has_globals ≡ false
+
+-- an argument by this rule, which is its command's own
+pub record IsArg (rule : Rule) (arg : Arg) : Type 0 where
+  pub rule_is : rule_of arg ≡ rule
+  pub own : arg.global ≡ false
 
 -- verify [--hex], order [--hex] [--arg N], run [--hex] [--arg N] [--workers N] [--blocks N] [--test flow|lrpd], and
 -- replay [--hex] [--arg N] [--test flow|lrpd]

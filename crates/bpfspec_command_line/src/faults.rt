@@ -58,10 +58,22 @@ fn wrong_value(alloc: Global, matches: &ArgMatches<'_>) -> Result<String, AllocE
 /// What is told of the first option of `run` whose value clap takes and the program doesn't.
 fn wrong_plan(alloc: Global, matches: &ArgMatches<'_>) -> Result<String, AllocError> {
     if workers_of(matches).is_none() {
-        return other_value(alloc, matches, "workers", "--workers <N>", "a number from 1 to 16");
+        return other_value(
+            alloc,
+            matches,
+            "workers",
+            "--workers <N>",
+            "a number from 1 to 16",
+        );
     }
     if blocks_of(matches).is_none() {
-        return other_value(alloc, matches, "blocks", "--blocks <N>", "a number from 1 to 64");
+        return other_value(
+            alloc,
+            matches,
+            "blocks",
+            "--blocks <N>",
+            "a number from 1 to 64",
+        );
     }
     wrong_value(alloc, matches)
 }
