@@ -37,6 +37,7 @@ what_is_refused (refusals.Text fault section line) = codes "A" ++ decimal (text_
 what_is_refused (refusals.Codec fault slot) = codes "I" ++ decimal (codec_fault_number fault) ++ codes " at slot " ++ decimal slot
 what_is_refused (refusals.Rule rule slot) = codes "V" ++ decimal (rule_number rule) ++ codes " at slot " ++ decimal slot
 what_is_refused refusals.Sizes = codes "P1"
+what_is_refused refusals.Plan = codes "P2"
 what_is_refused refusals.NoLoop = codes "no loop"
 what_is_refused (refusals.Split fault) = codes "S" ++ decimal (split_fault_number fault)
 what_is_refused (refusals.Schedule fault) = schedule_fault_text fault

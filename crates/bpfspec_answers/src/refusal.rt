@@ -47,6 +47,8 @@ pub enum Refusal {
     },
     /// P1: the sizes of the maps differ from the program's.
     Sizes,
+    /// P2: the plan by which the program is to run breaks a limit.
+    Plan,
     /// None of the program's loop calls is valid.
     NoLoop,
     /// S1 to S3: the bounds don't split the loop's iterations.
@@ -105,6 +107,7 @@ fn print_what(out: &mut String, refusal: Refusal) -> Result<(), AllocError>
         Refusal::Codec { fault, slot } => write!(out, "I{} at slot {slot}", fault.number()),
         Refusal::Rule { rule, slot } => write!(out, "V{} at slot {slot}", rule.number()),
         Refusal::Sizes => out.push_str("P1"),
+        Refusal::Plan => out.push_str("P2"),
         Refusal::NoLoop => out.push_str("no loop"),
         Refusal::Split(fault) => write!(out, "S{}", split_fault_number(fault)),
         Refusal::Schedule(fault) => print_schedule_fault(out, fault),

@@ -1,14 +1,17 @@
 -- The program's command line, in clap's words, and what the words of one ask for.
 use Rattle.std.specs.Prelude.{◌≡◌, ℕ, ◌^◌, ◌<◌, List, [], ◌∷◌, Option, Some, None, codes, true, false}
 use Rattle.std.specs.Str.Parse.{IsNumeral, digits_value, without_leading_plus}
-use Rattle.clap.specs.Words.{App, Row, Rule, Text, first_of, new_app, new_rule, one_of, with_rule, with_subcommand}
+use Rattle.clap.specs.Words.{App, Row, Rule, Text, app_of, first_of, new_app, new_rule, one_of, rule_of, with_rule, with_subcommand}
+use Rattle.clap.specs.declared.builder.arg.Arg.{Arg}
 use Rattle.clap.specs.declared.builder.command.Command.{Command}
 use Rattle.clap.specs.declared.builder.command.Command.TheViews.{out-Command}
 use Rattle.clap.specs.declared.builder.ArgAction.TheVariants.{Set, SetTrue}
 use Rattle.loop_core_law.specs.declared.loop_test.Test.{Test}
 use Rattle.loop_core_law.specs.declared.loop_test.Test.TheVariants.{Lrpd, Flow}
+use Rattle.spec_run.specs.declared.plan.Plan.{Plan}
+use Rattle.spec_run.specs.Plans.{IsPlan}
 use Rattle.bpfspec_command_line.specs.declared.job.Job.{Job}
-use Rattle.bpfspec_command_line.specs.declared.job.Job.TheVariants.{Serve}
+use Rattle.bpfspec_command_line.specs.declared.job.Job.TheVariants.{Serve, Run}
 use Rattle.bpfspec_command_line.specs.declared.job.Mode.{Mode}
 use Rattle.bpfspec_command_line.specs.declared.job.Mode.TheVariants.{Verify, Order, Replay, Asm, Disasm}
 use Rattle.bpfspec_command_line.specs.declared.job.UnitForm.{UnitForm}
@@ -18,34 +21,48 @@ use Rattle.bpfspec_command_line.specs.declared.job.UnitForm.TheVariants.{Assembl
 abbrev pub hex_rule : Rule
 hex_rule = record (new_rule (codes "hex")) { long = Some (codes "hex"); action = Some SetTrue }
 
--- --arg N, 0 where it isn't given
+-- an option of this name with a value, which is this where it isn't given
+abbrev pub valued_rule : (name default : Text) → Rule
+valued_rule name default = record (new_rule name) {
+  long = Some name;
+  action = Some Set;
+  value_names = 1;
+  defaults = default ∷ [];
+}
+
+-- --arg N, --test flow|lrpd, --workers N and --blocks N
 abbrev pub arg_rule : Rule
-arg_rule = record (new_rule (codes "arg")) {
-  long = Some (codes "arg");
-  action = Some Set;
-  value_names = 1;
-  defaults = codes "0" ∷ [];
-}
+arg_rule = valued_rule (codes "arg") (codes "0")
 
--- --test flow|lrpd, flow where it isn't given
 abbrev pub test_rule : Rule
-test_rule = record (new_rule (codes "test")) {
-  long = Some (codes "test");
-  action = Some Set;
-  value_names = 1;
-  defaults = codes "flow" ∷ [];
-}
+test_rule = valued_rule (codes "test") (codes "flow")
 
--- a command whose arguments are its own
-abbrev pub IsLocal : Command → Type 0
-IsLocal command = (out-Command command).has_globals ≡ false
+abbrev pub workers_rule : Rule
+workers_rule = valued_rule (codes "workers") (codes "2")
 
--- verify [--hex], order [--hex] [--arg N], and replay [--hex] [--arg N] [--test flow|lrpd]
+abbrev pub blocks_rule : Rule
+blocks_rule = valued_rule (codes "blocks") (codes "4")
+
+-- a command that is told so, whose arguments are its own
+pub record IsCommand (app : App) (command : Command) : Type 0 where
+  pub app_is : app_of command ≡ app
+  pub own : (out-Command command).has_globals ≡ false
+
+-- an argument by this rule, which is its command's own
+pub record IsArg (rule : Rule) (arg : Arg) : Type 0 where
+  pub rule_is : rule_of arg ≡ rule
+  pub own : arg.global ≡ false
+
+-- verify [--hex], order [--hex] [--arg N], run [--hex] [--arg N] [--workers N] [--blocks N] [--test flow|lrpd], and
+-- replay [--hex] [--arg N] [--test flow|lrpd]
 abbrev pub verify_app : App
 verify_app = with_rule (new_app (codes "verify")) hex_rule
 
 abbrev pub order_app : App
 order_app = with_rule (with_rule (new_app (codes "order")) hex_rule) arg_rule
+
+abbrev pub run_app : App
+run_app = with_rule (with_rule (with_rule (with_rule (with_rule (new_app (codes "run")) hex_rule) arg_rule) workers_rule) blocks_rule) test_rule
 
 abbrev pub replay_app : App
 replay_app = with_rule (with_rule (with_rule (new_app (codes "replay")) hex_rule) arg_rule) test_rule
@@ -57,8 +74,8 @@ top_app = record { top = record (new_app (codes "bpfspec")).top { subcommand_req
 -- the program's command line
 abbrev pub bpfspec_app : App
 bpfspec_app =
-    with_subcommand (with_subcommand (with_subcommand (with_subcommand (with_subcommand top_app verify_app.top) order_app.top)
-    replay_app.top) (new_app (codes "asm")).top) (new_app (codes "disasm")).top
+    with_subcommand (with_subcommand (with_subcommand (with_subcommand (with_subcommand (with_subcommand top_app verify_app.top) order_app.top)
+    run_app.top) replay_app.top) (new_app (codes "asm")).top) (new_app (codes "disasm")).top
 
 -- whether the arguments say hex: by the flag --hex
 pub record IsForm (rows : List Row) (form : UnitForm) : Type 0 where
@@ -66,10 +83,14 @@ pub record IsForm (rows : List Row) (form : UnitForm) : Type 0 where
   pub unset : one_of (codes "hex") rows ≡ Some (codes "false") → form ≡ Assembler
   pub set : one_of (codes "hex") rows ≡ Some (codes "true") → form ≡ Hex
 
+-- the number of this many bits that an option of this name gives
+pub record IsNumber (bits : ℕ) (name : Text) (rows : List Row) (number : ℕ) : Type 0 where
+  pub given : (text : Text) → one_of name rows ≡ Some text → IsNumeral 10 (without_leading_plus text)
+      → digits_value 10 (without_leading_plus text) < 2 ^ bits → number ≡ digits_value 10 (without_leading_plus text)
+
 -- the number of --arg
-pub record IsArgument (rows : List Row) (argument : ℕ) : Type 0 where
-  pub given : (text : Text) → one_of (codes "arg") rows ≡ Some text → IsNumeral 10 (without_leading_plus text)
-      → digits_value 10 (without_leading_plus text) < 2 ^ 64 → argument ≡ digits_value 10 (without_leading_plus text)
+abbrev pub IsArgument : List Row → ℕ → Type 0
+IsArgument rows argument = IsNumber 64 (codes "arg") rows argument
 
 -- the word for a test
 abbrev pub test_word : Test → Text
@@ -79,6 +100,13 @@ test_word Lrpd = codes "lrpd"
 -- the test that --test names
 abbrev pub IsTest : List Row → Test → Type 0
 IsTest rows test = first_of (codes "test") rows ≡ Some (test_word test)
+
+-- the plan of --workers, --blocks and --test, within its limits
+pub record IsPlanOf (rows : List Row) (plan : Plan) : Type 0 where
+  pub workers : IsNumber 32 (codes "workers") rows plan.workers
+  pub blocks : IsNumber 32 (codes "blocks") rows plan.blocks
+  pub test : IsTest rows plan.test
+  pub within : IsPlan plan
 
 -- the mode that a subcommand of this name and its arguments ask for
 abbrev pub Names : Text → List Row → Mode → Type 0
@@ -93,6 +121,13 @@ abbrev pub AsksFor : Option (Text × List Row) → Mode → Type 0
 AsksFor None mode = ⊥
 AsksFor (Some named) mode = Names named.0 named.1 mode
 
+-- the argument and the plan that the subcommand run and its arguments ask for
+abbrev pub AsksForRun : Option (Text × List Row) → UnitForm → ℕ → Plan → Type 0
+AsksForRun None form argument plan = ⊥
+AsksForRun (Some named) form argument plan =
+    (named.0 ≡ codes "run") × IsForm named.1 form × IsArgument named.1 argument × IsPlanOf named.1 plan
+
 -- a job that the words of a command line ask for
 abbrev pub AsksForJob : Option (Text × List Row) → Job → Type 0
 AsksForJob named (Serve mode) = AsksFor named mode
+AsksForJob named (Run form argument plan) = AsksForRun named form argument plan

@@ -3,6 +3,7 @@
 ghost use Rattle.std.specs.Prelude.{◌≡◌};
 
 use loop_core_law::Test;
+use spec_run::Plan;
 use std::alloc::{AllocError, AllocFailed};
 use thiserror::Error;
 
@@ -45,6 +46,12 @@ pub enum Mode {
 pub enum Job {
     /// To read the input in this mode and write the answer.
     Serve(Mode),
+    /// To run a unit of this form with this argument, and its loops by this plan, which is within its limits.
+    Run {
+        form: UnitForm,
+        arg: u64,
+        plan: Plan,
+    },
 }
 
 /// Why a command line asks for nothing.

@@ -1,9 +1,13 @@
 //! The command line of the program: what its words ask for.
 #![tactic(auto)]
 
+mod commands;
+mod faults;
 mod job;
+mod values;
 mod words;
 
 pub use job::{Job, LineFault, Mode, UnitForm};
 pub use loop_core_law::Test;
+pub use spec_run::Plan;
 pub use words::{read_command_line, read_words};

@@ -1,5 +1,5 @@
 -- What inputs can be read.
-use Rattle.std.proofs.Common.{◌≡◌, ℕ, ◌≤◌, ◌<◌, Bool, false, true, List, length, if◌then◌else◌, Ok, refl, take, Option, Some, None, IfSome, sym, ap, ◌∙◌, subst, nat_eq, arith}
+use Rattle.std.proofs.Common.{◌≡◌, ℕ, ◌≤◌, ◌<◌, Bool, false, true, List, length, if◌then◌else◌, Result, Ok, Err, refl, take, Option, Some, None, IfSome, sym, ap, ◌∙◌, subst, nat_eq, arith}
 use Rattle.std.specs.Cmp.Lexicographic.{pointwise, same_text}
 use Rattle.std.specs.List.{concat}
 use Rattle.array_maps.specs.MapList.{lengths}
@@ -12,11 +12,13 @@ use Rattle.bpf_text_lines.specs.declared.text_error.TextFault.TheVariants as tex
 use Rattle.bpfspec_answers.specs.declared.refusal.Section.TheVariants as sections
 use Rattle.bpfspec_answers.specs.declared.refusal.Refusal.TheVariants as refusals
 use Rattle.bpfspec_streams.specs.Streams.{ReadsToEnd}
-use Rattle.bpfspec_serve.specs.HowServed.{AnswersReader, HowWritten}
+use Rattle.bpfspec_serve.specs.HowServed.{AnswersReader, HowWritten, HowServed, Answered, Out_of_memory, Read_failed}
+use Rattle.bpfspec_serve.specs.declared.answer_error.AnswerError.{AnswerError}
+use Rattle.bpfspec_serve.specs.declared.answer_error.AnswerError.TheVariants as errors
 use Rattle.bpfspec_serve.specs.declared.serving.Served.{Served}
-use Rattle.bpfspec_command_line.specs.declared.job.Mode.{Mode}
+use Rattle.bpfspec_command_line.specs.declared.job.Job.{Job}
 use Rattle.std.proofs.lemmas.List.{take_all, length-take}
-use Rattle.bpfspec_serve.specs.Output.{refused, readable, fitting, OfReadable, Answer, Answers}
+use Rattle.bpfspec_serve.specs.Output.{refused, readable, fitting, OfReadable, OfInput, Answer, Answers, Met, Tells}
 
 -- an input that isn't too long
 short : (input : List ℕ) → length input ≤ 3145728 → readable input
@@ -67,20 +69,35 @@ reads_enough : (n : ℕ) (input : List ℕ) → 3145728 < n → readable (take n
 reads_enough n input behind = enough n input behind (nat_le (length input) n) refl
 
 -- the answer to the bytes that were read is the answer to all that the reader had left
-pub answers_reader : (mode : Mode) (old new : Option (List ℕ)) (read : List ℕ) (answer : Answer) → IfSome old (λ bytes. read ≡ take 3145729 bytes)
-    → ReadsToEnd old new 3145729 read → Answers mode read answer → AnswersReader mode old new answer
-answers_reader mode None new read answer same to_end answers = record { input = read; known = tt; answers = answers; read = read; to_end = to_end }
-answers_reader mode (Some bytes) new read answer same to_end answers = record {
+pub answers_reader : (job : Job) (old new : Option (List ℕ)) (read : List ℕ) (answer : Answer) → IfSome old (λ bytes. read ≡ take 3145729 bytes)
+    → ReadsToEnd old new 3145729 read → Answers job read answer → AnswersReader job old new answer
+answers_reader job None new read answer same to_end answers = record { input = read; known = tt; answers = answers; read = read; to_end = to_end }
+answers_reader job (Some bytes) new read answer same to_end answers = record {
   input = bytes;
   known = refl;
   answers = record {
     outcome = answers.outcome;
-    comes = subst (λ r. OfReadable mode r answers.outcome) (ap readable same ∙ reads_enough 3145729 bytes (omega arith)) answers.comes;
+    comes = subst (λ r. OfReadable job r answers.outcome) (ap readable same ∙ reads_enough 3145729 bytes (omega arith)) answers.comes;
     told = answers.told;
   };
   read = read;
   to_end = to_end;
 }
+
+-- an answer that tells what comes of an input answers it
+pub told_answers : {X : Type 0} (view : X → List ℕ) (job : Job) (input : List ℕ) (outcome : Result X AnswerError) (answer : Answer)
+    → Met view (OfInput job input) outcome → Tells view outcome answer → Answers job input answer
+told_answers view job input (Ok x) answer comes told = record { outcome = Ok (view x); comes = comes; told = told }
+told_answers view job input (Err (errors.Refused refusal)) answer comes told = record { outcome = refused refusal; comes = comes; told = told }
+told_answers view job input (Err errors.Memory) answer comes told = absurd told
+
+-- what is served once an input was read is served
+pub served_as : {A B : Answer → Type 0} {result : Served} {reads_failed writes_failed : ℕ → Type 0} {before after : Option (List ℕ)}
+    → ((answer : Answer) → A answer → B answer) → reads_failed 0
+    → HowServed A result (λ n. n ≡ 0) writes_failed before after → HowServed B result reads_failed writes_failed before after
+served_as weaker none (Answered answer is zero written) = Answered answer (weaker answer is) none written
+served_as weaker none (Out_of_memory zero written) = Out_of_memory none written
+served_as weaker none (Read_failed device one zero nothing) = absurd (omega (arith, one))
 
 -- the same text by another name
 pub written_as : {wanted result : Served} {failed : ℕ → Type 0} {before after : Option (List ℕ)} (text other : List ℕ) → text ≡ other

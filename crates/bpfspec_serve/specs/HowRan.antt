@@ -2,8 +2,7 @@
 use Rattle.std.specs.Prelude.{◌≡◌, ℕ, List, Option}
 use Rattle.clap.specs.Words.{subcommand_of}
 use Rattle.bpfspec_command_line.specs.CommandLine.{AsksForJob, bpfspec_app}
-use Rattle.bpfspec_command_line.specs.declared.job.Job.TheVariants.{Serve}
-use Rattle.bpfspec_command_line.specs.declared.job.Mode.{Mode}
+use Rattle.bpfspec_command_line.specs.declared.job.Job.{Job}
 use Rattle.bpfspec_serve.specs.declared.program_end.ProgramEnd.{ProgramEnd}
 use Rattle.bpfspec_serve.specs.declared.program_end.ProgramEnd.TheVariants as ends
 use Rattle.bpfspec_serve.specs.declared.serving.Served.{Served}
@@ -12,11 +11,11 @@ use Rattle.bpfspec_serve.specs.HowServed.{HowServed, HowWritten}
 use Rattle.bpfspec_serve.specs.Output.{Answer}
 use Rattle.bpfspec_answers.specs.Refusals.{memory_line}
 
--- the words of a command line ask for a mode, in which an input is served; or there is no memory for them; or they ask
+-- the words of a command line ask for a job, by which an input is served; or there is no memory for them; or they ask
 -- for nothing, and nothing is written to the output
-pub data HowRan (Is_answer : Mode → Answer → Type 0) (end : ProgramEnd) (reads_failed writes_failed : ℕ → Type 0) (before after : Option (List ℕ)) : Type 0 where
-  Serves : (words : List (List ℕ)) (mode : Mode) (result : Served) → AsksForJob (subcommand_of bpfspec_app words) (Serve mode) → end ≡ ends.Served result
-      → HowServed (Is_answer mode) result reads_failed writes_failed before after → HowRan Is_answer end reads_failed writes_failed before after
+pub data HowRan (Is_answer : Job → Answer → Type 0) (end : ProgramEnd) (reads_failed writes_failed : ℕ → Type 0) (before after : Option (List ℕ)) : Type 0 where
+  Serves : (words : List (List ℕ)) (job : Job) (result : Served) → AsksForJob (subcommand_of bpfspec_app words) job → end ≡ ends.Served result
+      → HowServed (Is_answer job) result reads_failed writes_failed before after → HowRan Is_answer end reads_failed writes_failed before after
   No_memory : (result : Served) → end ≡ ends.Served result
       → HowWritten memory_line served.Memory result writes_failed before after → HowRan Is_answer end reads_failed writes_failed before after
   No_job : end ≡ ends.Usage → before ≡ after → HowRan Is_answer end reads_failed writes_failed before after

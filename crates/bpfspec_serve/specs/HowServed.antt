@@ -1,7 +1,7 @@
 -- How a call that serves an input came out.
 use Rattle.std.specs.Prelude.{◌≡◌, ℕ, List, [], Option, IfSome}
 use Rattle.std.specs.Io.KnownBytes.{Appends}
-use Rattle.bpfspec_command_line.specs.declared.job.Mode.{Mode}
+use Rattle.bpfspec_command_line.specs.declared.job.Job.{Job}
 use Rattle.bpfspec_serve.specs.declared.serving.Served.{Served}
 use Rattle.bpfspec_serve.specs.declared.serving.Served.TheVariants as served
 use Rattle.bpfspec_serve.specs.Output.{Answer, Answers}
@@ -10,10 +10,10 @@ use Rattle.bpfspec_streams.specs.Streams.{AppendsBeginning, ReadsToEnd}
 
 -- the answer to what a reader had left, where that is known, and else to some input; of which no more than one byte past
 -- the limit is read
-pub record AnswersReader (mode : Mode) (old new : Option (List ℕ)) (answer : Answer) : Type 0 where
+pub record AnswersReader (job : Job) (old new : Option (List ℕ)) (answer : Answer) : Type 0 where
   pub input : List ℕ
   pub known : IfSome old (λ bytes. input ≡ bytes)
-  pub answers : Answers mode input answer
+  pub answers : Answers job input answer
   pub read : List ℕ
   pub to_end : ReadsToEnd old new 3145729 read
 

@@ -19,13 +19,17 @@ use Rattle.bpf_text.specs.MapsText.{maps_text}
 use Rattle.bpf_text.specs.EventsText.{events_text}
 use Rattle.bpf_insn_form.specs.Program.{Program, callback_starts}
 use Rattle.array_maps.specs.MapList.{lengths}
-use Rattle.bpf_step_model.specs.Run.{Ended}
+use Rattle.bpf_step_model.specs.Run.{Ending, Ended}
 use Rattle.loop_core_law.specs.declared.loop_test.Test.{Test}
-use Rattle.loop_core_law.specs.Report.{Reported, report_in_order}
+use Rattle.loop_core_law.specs.Report.{Reported, report, report_in_order}
 use Rattle.loop_event.specs.declared.event.Event.{Event}
 use Rattle.spec_replay.specs.declared.replaying.ReplayRefusal.{ReplayRefusal}
 use Rattle.spec_replay.specs.declared.replaying.ReplayRefusal.TheVariants as replays
 use Rattle.spec_replay.specs.ProgramReplay.{LoopReplay, ComesTo}
+use Rattle.spec_run.specs.declared.plan.Plan.{Plan}
+use Rattle.spec_run.specs.Plans.{IsPlan}
+use Rattle.bpfspec_command_line.specs.declared.job.Job.{Job}
+use Rattle.bpfspec_command_line.specs.declared.job.Job.TheVariants.{Serve, Run}
 use Rattle.bpfspec_command_line.specs.declared.job.Mode.{Mode}
 use Rattle.bpfspec_command_line.specs.declared.job.Mode.TheVariants.{Verify, Order, Replay, Asm, Disasm}
 use Rattle.bpfspec_command_line.specs.declared.job.UnitForm.{UnitForm}
@@ -128,17 +132,33 @@ abbrev pub start_words : List ℕ → List ℕ → Outcome
 start_words sizes [] = Ok (replicate (sum sizes) 0)
 start_words sizes (b ∷ bs) = fitting sizes (in_section sections.Maps (maps_text (b ∷ bs)))
 
--- a program runs in order from its start words, at most 4,096 instructions up to each turn of main and in each
--- iteration, and its report is printed
-abbrev pub RunsTo : Program → ℕ → Outcome → Outcome → Type 0
-RunsTo program argument (Err error) outcome = outcome ≡ Err error
-RunsTo program argument (Ok words) outcome =
-    (told : Reported) × (report_in_order program 4096 argument words ≡ Ended told) × (outcome ≡ Ok (report_text program.sizes told))
+-- what is reported of a program is printed
+abbrev pub IsPrinted : Program → Ending Reported → Outcome → Type 0
+IsPrinted program reported outcome = (told : Reported) × (reported ≡ Ended told) × (outcome ≡ Ok (report_text program.sizes told))
 
--- an accepted program runs on the maps of a section
-abbrev pub OfProgram : Result Program AnswerError → ℕ → List ℕ → Outcome → Type 0
-OfProgram (Err error) argument maps outcome = outcome ≡ Err error
-OfProgram (Ok program) argument maps outcome = RunsTo program argument (start_words program.sizes maps) outcome
+-- a program runs in order from its start words, at most 4,096 instructions up to each turn of main and in each
+-- iteration
+abbrev pub RunsInOrder : Program → ℕ → Outcome → Outcome → Type 0
+RunsInOrder program argument (Err error) outcome = outcome ≡ Err error
+RunsInOrder program argument (Ok words) outcome = IsPrinted program (report_in_order program 4096 argument words) outcome
+
+-- an accepted program runs in order on the maps of a section
+abbrev pub OfOrder : Result Program AnswerError → ℕ → List ℕ → Outcome → Type 0
+OfOrder (Err error) argument maps outcome = outcome ≡ Err error
+OfOrder (Ok program) argument maps outcome = RunsInOrder program argument (start_words program.sizes maps) outcome
+
+-- a program runs from its start words, its loops by a plan: what is told of it is the report of the program in order, with
+-- the verdicts of the plan's test, and nothing else of the plan occurs in it; one outside its limits is refused
+abbrev pub RunsByPlan : Program → ℕ → Plan → Outcome → Outcome → Type 0
+RunsByPlan program argument plan (Err error) outcome = outcome ≡ Err error
+RunsByPlan program argument plan (Ok words) outcome =
+    (IsPlan plan → IsPrinted program (report plan.test program 4096 argument words) outcome)
+    × (¬ IsPlan plan → outcome ≡ refused refusals.Plan)
+
+-- an accepted program runs by a plan on the maps of a section
+abbrev pub OfRun : Result Program AnswerError → ℕ → Plan → List ℕ → Outcome → Type 0
+OfRun (Err error) argument plan maps outcome = outcome ≡ Err error
+OfRun (Ok program) argument plan maps outcome = RunsByPlan program argument plan (start_words program.sizes maps) outcome
 
 -- the refusal of a replay
 abbrev pub replay_refusal : ReplayRefusal → Refusal
@@ -171,19 +191,24 @@ readable input =
     if nat_lt 3145728 (length input) then refused (refusals.Text text_faults.TooLong sections.Unit 0)
     else if is_utf8 input then Ok input else refused (refusals.Text text_faults.Form sections.Unit 0)
 
--- what comes of an input that can be read
-abbrev pub OfReadable : Mode → Outcome → Outcome → Type 0
-OfReadable mode (Err error) outcome = outcome ≡ Err error
-OfReadable (Order form argument) (Ok input) outcome = OfProgram (accepted (unit_program form (unit_section input))) argument (maps_section input) outcome
-OfReadable (Replay form argument test) (Ok input) outcome =
+-- what comes of an input in a mode
+abbrev pub InMode : Mode → List ℕ → Outcome → Type 0
+InMode (Order form argument) input outcome = OfOrder (accepted (unit_program form (unit_section input))) argument (maps_section input) outcome
+InMode (Replay form argument test) input outcome =
     OfReplay (accepted (unit_program form (unit_section input))) argument test (maps_section input) (events_section input) outcome
-OfReadable (Verify form) (Ok input) outcome = outcome ≡ verified (accepted (unit_program form (unit_section input)))
-OfReadable Asm (Ok input) outcome = outcome ≡ written Hex (unit_program Assembler (unit_section input))
-OfReadable Disasm (Ok input) outcome = outcome ≡ written Assembler (unit_program Hex (unit_section input))
+InMode (Verify form) input outcome = outcome ≡ verified (accepted (unit_program form (unit_section input)))
+InMode Asm input outcome = outcome ≡ written Hex (unit_program Assembler (unit_section input))
+InMode Disasm input outcome = outcome ≡ written Assembler (unit_program Hex (unit_section input))
+
+-- what comes of an input that can be read
+abbrev pub OfReadable : Job → Outcome → Outcome → Type 0
+OfReadable job (Err error) outcome = outcome ≡ Err error
+OfReadable (Serve mode) (Ok input) outcome = InMode mode input outcome
+OfReadable (Run form argument plan) (Ok input) outcome = OfRun (accepted (unit_program form (unit_section input))) argument plan (maps_section input) outcome
 
 -- what comes of an input
-abbrev pub OfInput : Mode → List ℕ → Outcome → Type 0
-OfInput mode input outcome = OfReadable mode (readable input) outcome
+abbrev pub OfInput : Job → List ℕ → Outcome → Type 0
+OfInput job input outcome = OfReadable job (readable input) outcome
 
 -- an answer: its text, and how it is served
 pub record Answer : Type 0 where
@@ -202,9 +227,9 @@ answer_of (Err (errors.Refused refusal)) = record { served = refused_as refusal;
 answer_of (Err errors.Memory) = record { served = served.Memory; text = memory_line }
 
 -- the answer to an input
-pub record Answers (mode : Mode) (input : List ℕ) (answer : Answer) : Type 0 where
+pub record Answers (job : Job) (input : List ℕ) (answer : Answer) : Type 0 where
   pub outcome : Outcome
-  pub comes : OfInput mode input outcome
+  pub comes : OfInput job input outcome
   pub told : answer ≡ answer_of outcome
 
 -- what a function returns, seen by view, is as wanted, or memory ran out
@@ -212,3 +237,9 @@ abbrev pub Met : {X Y : Type 0} → (X → Y) → (Result Y AnswerError → Type
 Met view wanted (Ok x) = wanted (Ok (view x))
 Met view wanted (Err (errors.Refused refusal)) = wanted (refused refusal)
 Met view wanted (Err errors.Memory) = Unit {0}
+
+-- an answer that tells what a function returned, seen by view; none tells that memory ran out
+abbrev pub Tells : {X : Type 0} → (X → List ℕ) → Result X AnswerError → Answer → Type 0
+Tells view (Ok x) answer = answer ≡ answer_of (Ok (view x))
+Tells view (Err (errors.Refused refusal)) answer = answer ≡ answer_of (refused refusal)
+Tells view (Err errors.Memory) answer = ⊥

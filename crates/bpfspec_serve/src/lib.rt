@@ -13,14 +13,18 @@ mod answer_error;
 mod answering;
 mod program;
 mod program_end;
+mod reading;
 mod sections;
 mod serving;
 
-pub use bpfspec_command_line::{Job, LineFault, Mode, UnitForm, read_command_line, read_words};
+pub use bpfspec_command_line::{
+    Job, LineFault, Mode, Plan, Test, UnitForm, read_command_line, read_words,
+};
 pub use bpfspec_streams::{
     Counted, DeviceFault, ReadAllError, Sink, Source, read_all, read_outcome, write_all,
     write_outcome,
 };
+pub use loop_split::{Gate, NoGate};
 pub use program::run;
 pub use program_end::{ProgramEnd, exit_status};
-pub use serving::{Served, serve};
+pub use serving::{Served, serve, serve_run};

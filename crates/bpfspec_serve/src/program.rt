@@ -3,27 +3,42 @@
 ghost use Rattle.std.specs.Prelude.{◌≡◌, ◌+◌, ◌-◌, ◌^◌, ◌<◌};
 ghost use Rattle.bpfspec_serve.specs.ExitStatus.{exit_status};
 ghost use Rattle.bpfspec_serve.specs.HowRan.{HowRan};
-ghost use Rattle.bpfspec_serve.specs.HowServed.{AnswersReader};
+ghost use Rattle.bpfspec_serve.specs.HowServed.{AnswersReader, HowServed};
 
 use crate::program_end::{ProgramEnd, exit_status};
-use crate::serving::{Served, serve, write};
+use crate::serving::{Served, serve, serve_run, write};
 use bpfspec_answers::MEMORY_LINE;
-use bpfspec_command_line::{Job, LineFault, Mode, read_command_line};
+use bpfspec_command_line::{Job, LineFault, read_command_line};
 use bpfspec_streams::{Sink, Source, write_all};
+use loop_split::NoGate;
 use std::env::Env;
+use std::thread::Threads;
 
-/// The mode of a job.
-fn mode_of(job: Job) -> Mode
-    ensures { job ≡ Job.Serve result }
+/// Serves an input as a job asks.
+fn serve_job<R: AllocGlobal + Threads + Sync, S: Source, W: Sink>(
+    rt: &R,
+    job: &Job,
+    input: &mut S,
+    output: &mut W,
+) -> Served
+    requires reads { S.failed input.old < 2 ^ 64 - 1 }
+    requires writes { W.failed output.old < 2 ^ 64 - 1 }
+    ensures { HowServed (AnswersReader job.now (S.left input.old) (S.left input.new)) result
+        (λ n. S.failed input.new ≡ S.failed input.old + n) (λ n. W.failed output.new ≡ W.failed output.old + n)
+        (W.taken output.old) (W.taken output.new) }
 {
+    let alloc = rt.alloc();
     match job {
-        Job::Serve(mode) => mode,
+        Job::Serve(mode) => serve(alloc, mode, input, output),
+        Job::Run { form, arg, plan } => {
+            serve_run(rt, alloc, *form, *arg, plan, &NoGate, input, output)
+        }
     }
 }
 
 /// Serves an input as the command line asks, or tells why it asks for nothing: its usage on
 /// `messages`, or on `output` that memory ran out.
-fn carry_out<R: Env + AllocGlobal, S: Source, W: Sink, M: Sink>(
+fn carry_out<R: Env + AllocGlobal + Threads + Sync, S: Source, W: Sink, M: Sink>(
     rt: &R,
     input: &mut S,
     output: &mut W,
@@ -32,12 +47,12 @@ fn carry_out<R: Env + AllocGlobal, S: Source, W: Sink, M: Sink>(
     requires reads { S.failed input.old < 2 ^ 64 - 1 }
     requires writes { W.failed output.old < 2 ^ 64 - 1 }
     requires tells { M.failed messages.old < 2 ^ 64 - 1 }
-    ensures { HowRan (λ mode. AnswersReader mode (S.left input.old) (S.left input.new)) result
+    ensures { HowRan (λ job. AnswersReader job (S.left input.old) (S.left input.new)) result
         (λ n. S.failed input.new ≡ S.failed input.old + n) (λ n. W.failed output.new ≡ W.failed output.old + n)
         (W.taken output.old) (W.taken output.new) }
 {
     match read_command_line(rt) {
-        Ok(job) => ProgramEnd::Served(serve(rt.alloc(), &mode_of(job), input, output)),
+        Ok(job) => ProgramEnd::Served(serve_job(rt, &job, input, output)),
         Err(LineFault::Usage(text)) => {
             let _ = write_all(messages, text.as_bytes());
             ProgramEnd::Usage
@@ -46,10 +61,11 @@ fn carry_out<R: Env + AllocGlobal, S: Source, W: Sink, M: Sink>(
     }
 }
 
-/// Runs the program, and gives its exit status. Usage is told on `messages`, all else on `output`.
+/// Runs the program, and gives its exit status. Usage is told on `messages`, all else on `output`. It waits
+/// for the threads that a run takes, and for nothing else.
 ///
 /// The `failures` of all three have to be below 2^64 - 1.
-pub fn run<R: Env + AllocGlobal, S: Source, W: Sink, M: Sink>(
+pub fn run<R: Env + AllocGlobal + Threads + Sync, S: Source, W: Sink, M: Sink>(
     rt: &R,
     input: &mut S,
     output: &mut W,
@@ -59,7 +75,7 @@ pub fn run<R: Env + AllocGlobal, S: Source, W: Sink, M: Sink>(
     requires writes { W.failed output.old < 2 ^ 64 - 1 }
     requires tells { M.failed messages.old < 2 ^ 64 - 1 }
     ensures { (end : ProgramEnd) × (result ≡ exit_status end)
-        × HowRan (λ mode. AnswersReader mode (S.left input.old) (S.left input.new)) end
+        × HowRan (λ job. AnswersReader job (S.left input.old) (S.left input.new)) end
         (λ n. S.failed input.new ≡ S.failed input.old + n) (λ n. W.failed output.new ≡ W.failed output.old + n)
         (W.taken output.old) (W.taken output.new) }
 {

@@ -2,16 +2,20 @@
 
 ghost use Rattle.std.specs.Prelude.{◌≡◌, ◌+◌, ◌-◌, ◌^◌, ◌<◌, IfOk};
 ghost use Rattle.std.specs.String.{string_bytes};
+ghost use Rattle.bpfspec_command_line.specs.declared.job.Job.TheVariants.{Serve, Run};
 ghost use Rattle.bpfspec_serve.specs.HowServed.{AnswersReader, HowWritten, HowServed};
-ghost use Rattle.bpfspec_serve.specs.Output.{refused_as, Answers};
+ghost use Rattle.bpfspec_serve.specs.Output.{refused_as, Tells};
 ghost use Rattle.bpfspec_streams.specs.Streams.{ConsumesAtMost};
 
 use crate::answer_error::AnswerError;
-use crate::answering::{MAX_INPUT, outcome};
+use crate::answering::{outcome, run_outcome};
+use crate::reading::MOST_READ;
 use bpfspec_answers::{MEMORY_LINE, Refusal, print_refusal};
-use bpfspec_command_line::Mode;
+use bpfspec_command_line::{Mode, Plan, UnitForm};
 use bpfspec_streams::{ReadAllError, Sink, Source, read_all, write_all};
+use loop_split::Gate;
 use std::alloc::{AllocError, Global};
+use std::thread::Threads;
 
 /// How an input was served.
 #[derive(Clone, Copy, Debug, PartialEq, Eq)]
@@ -45,14 +49,14 @@ fn refused_as(refusal: Refusal) -> Served
     }
 }
 
-/// The answer to an input.
-fn answer_to(alloc: Global, mode: &Mode, input: &[u8]) -> Result<Answer, AllocError>
-    ensures { IfOk result (λ answer. Answers mode.now input.now (record {
+/// The answer that tells what came of an input.
+fn answer_to(alloc: Global, outcome: Result<String, AnswerError>) -> Result<Answer, AllocError>
+    ensures { IfOk result (λ answer. Tells string_bytes outcome (record {
       served = answer.served;
       text = string_bytes answer.text;
     })) }
 {
-    match outcome(alloc, mode, input) {
+    match outcome {
         Ok(text) => Ok(Answer {
             served: Served::Done,
             text,
@@ -77,6 +81,18 @@ pub(crate) fn write<W: Sink>(sink: &mut W, text: &[u8], wanted: Served) -> Serve
     }
 }
 
+/// Writes what came of an input, or that memory ran out.
+fn tell<W: Sink>(alloc: Global, outcome: Result<String, AnswerError>, sink: &mut W) -> Served
+    requires { W.failed sink.old < 2 ^ 64 - 1 }
+    ensures { HowServed (Tells string_bytes outcome) result (λ n. n ≡ 0) (λ n. W.failed sink.new ≡ W.failed sink.old + n)
+        (W.taken sink.old) (W.taken sink.new) }
+{
+    match answer_to(alloc, outcome) {
+        Ok(answer) => write(sink, answer.text.as_bytes(), answer.served),
+        Err(_) => write(sink, MEMORY_LINE, Served::Memory),
+    }
+}
+
 /// Reads an input to its end, at most 3,145,729 bytes, answers it, and writes the answer. The answer
 /// is whole before its first byte is written.
 ///
@@ -85,17 +101,47 @@ pub fn serve<R: Source, W: Sink>(alloc: Global, mode: &Mode, source: &mut R, sin
     requires reads { R.failed source.old < 2 ^ 64 - 1 }
     requires writes { W.failed sink.old < 2 ^ 64 - 1 }
     ensures taken { ConsumesAtMost (R.left source.old) (R.left source.new) 3145729 }
-    ensures answer { HowServed (AnswersReader mode.now (R.left source.old) (R.left source.new)) result
+    ensures answer { HowServed (AnswersReader (Serve mode.now) (R.left source.old) (R.left source.new)) result
         (λ n. R.failed source.new ≡ R.failed source.old + n) (λ n. W.failed sink.new ≡ W.failed sink.old + n)
         (W.taken sink.old) (W.taken sink.new) }
 {
-    let input = match read_all(alloc, source, MAX_INPUT + 1) {
-        Ok(input) => input,
-        Err(ReadAllError::Device) => return Served::Device,
-        Err(ReadAllError::Memory) => return write(sink, MEMORY_LINE, Served::Memory),
-    };
-    match answer_to(alloc, mode, &input) {
-        Ok(answer) => write(sink, answer.text.as_bytes(), answer.served),
-        Err(_) => write(sink, MEMORY_LINE, Served::Memory),
+    match read_all(alloc, source, MOST_READ) {
+        Ok(input) => tell(alloc, outcome(alloc, mode, &input), sink),
+        Err(ReadAllError::Device) => Served::Device,
+        Err(ReadAllError::Memory) => write(sink, MEMORY_LINE, Served::Memory),
+    }
+}
+
+/// Does the same for an input whose unit is of this form and runs with this argument, its loops by this
+/// plan: its workers pass the gate, and run in threads that it waits for. Whatever they do when, the answer
+/// is the report of the program in order, with the verdicts of the plan's test; or a refusal, P2 where the
+/// plan isn't within its limits.
+///
+/// The source's and the sink's `failures` have to be below 2^64 - 1.
+pub fn serve_run<T: Threads + Sync, G: Gate, R: Source, W: Sink>(
+    rt: &T,
+    alloc: Global,
+    form: UnitForm,
+    arg: u64,
+    plan: &Plan,
+    gate: &G,
+    source: &mut R,
+    sink: &mut W,
+) -> Served
+    requires reads { R.failed source.old < 2 ^ 64 - 1 }
+    requires writes { W.failed sink.old < 2 ^ 64 - 1 }
+    ensures taken { ConsumesAtMost (R.left source.old) (R.left source.new) 3145729 }
+    ensures answer { HowServed (AnswersReader (Run form arg plan.now) (R.left source.old) (R.left source.new)) result
+        (λ n. R.failed source.new ≡ R.failed source.old + n) (λ n. W.failed sink.new ≡ W.failed sink.old + n)
+        (W.taken sink.old) (W.taken sink.new) }
+{
+    match read_all(alloc, source, MOST_READ) {
+        Ok(input) => tell(
+            alloc,
+            run_outcome(rt, alloc, form, arg, plan, gate, &input),
+            sink,
+        ),
+        Err(ReadAllError::Device) => Served::Device,
+        Err(ReadAllError::Memory) => write(sink, MEMORY_LINE, Served::Memory),
     }
 }

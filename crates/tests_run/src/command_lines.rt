@@ -11,6 +11,9 @@ const JOBS: &str = "
     order --arg 7             => Serve(Order { form: Assembler, arg: 7 })
     verify                    => Serve(Verify { form: Assembler })
     verify --hex              => Serve(Verify { form: Hex })
+    run                       => Run { form: Assembler, arg: 0, plan: Plan { workers: 2, blocks: 4, test: Flow } }
+    run --workers 16 --blocks 64 --test lrpd => Run { form: Assembler, arg: 0, plan: Plan { workers: 16, blocks: 64, test: Lrpd } }
+    run --blocks 1 --workers 1 --arg 7 --hex --test flow => Run { form: Hex, arg: 7, plan: Plan { workers: 1, blocks: 1, test: Flow } }
     replay                    => Serve(Replay { form: Assembler, arg: 0, test: Flow })
     replay --test flow --hex  => Serve(Replay { form: Hex, arg: 0, test: Flow })
     replay --arg 3 --test lrpd => Serve(Replay { form: Assembler, arg: 3, test: Lrpd })
@@ -42,13 +45,14 @@ fn a_command_and_its_arguments_are_read(rt: HostRuntime) -> Result<(), Fail> {
 /// Command lines that ask for nothing, and what is told.
 const USAGE: &str = "
     => 3 !error: 'bpfspec' requires a subcommand but one was not provided | \
-        \x20 [subcommands: verify, order, replay, asm, disasm, help] |  | Usage: bpfspec <COMMAND> |  | \
+        \x20 [subcommands: verify, order, run, replay, asm, disasm, help] |  | Usage: bpfspec <COMMAND> |  | \
         For more information, try '--help'.
     link => 3 !error: unrecognized subcommand 'link' |  | Usage: bpfspec <COMMAND> |  | \
         For more information, try '--help'.
     --help => 3 !Usage: bpfspec <COMMAND> |  | Commands: | \
         \x20 verify  Tells whether a program is accepted | \
         \x20 order   Runs a program in order | \
+        \x20 run     Runs a program, its loops in parallel | \
         \x20 replay  Replays events of a program's first loop | \
         \x20 asm     Writes assembler text in hex form | \
         \x20 disasm  Writes the hex form as assembler text | \
@@ -60,6 +64,12 @@ const USAGE: &str = "
     replay --arg many --test none => 3 !error: invalid value 'many' for '--arg <N>': \
         not a number from 0 to 18446744073709551615 |  | Usage: bpfspec replay [OPTIONS] |  | \
         For more information, try '--help'.
+    run --workers 17 --blocks 65 => 3 !error: invalid value '17' for '--workers <N>': \
+        not a number from 1 to 16 |  | Usage: bpfspec run [OPTIONS] |  | For more information, try '--help'.
+    run --blocks 0 --arg many => 3 !error: invalid value '0' for '--blocks <N>': \
+        not a number from 1 to 64 |  | Usage: bpfspec run [OPTIONS] |  | For more information, try '--help'.
+    run --test none => 3 !error: invalid value 'none' for '--test <TEST>': \
+        not flow or lrpd |  | Usage: bpfspec run [OPTIONS] |  | For more information, try '--help'.
     replay --test none => 3 !error: invalid value 'none' for '--test <TEST>': \
         not flow or lrpd |  | Usage: bpfspec replay [OPTIONS] |  | For more information, try '--help'.
     order --arg 18446744073709551616 => 3 !error: invalid value '18446744073709551616' for '--arg <N>': \
@@ -85,6 +95,17 @@ const OTHER_FAULTS: &str = "
     order 5
     order --arg
     order --test flow
+    order --workers 2
+    run --workers 0
+    run --workers 17
+    run --workers 4294967298
+    run --workers -1
+    run --blocks 65
+    run --blocks 18446744073709551617
+    run --blocks four
+    run --arg 18446744073709551616
+    run 1
+    replay --blocks 4
     replay --test
     replay --test Flow
     replay 1
@@ -93,7 +114,7 @@ const OTHER_FAULTS: &str = "
 #[test]
 fn other_words_are_usage_faults(rt: HostRuntime) -> Result<(), Fail> {
     for line in OTHER_FAULTS.trim().lines() {
-        let ran = run_line(rt.alloc(), line, b"")?;
+        let ran = run_line(&rt, rt.alloc(), line, b"")?;
         assert!(rt; told(rt.alloc(), &ran)?.starts_with("3 !"), "of {line}");
     }
     Ok(())
@@ -102,7 +123,7 @@ fn other_words_are_usage_faults(rt: HostRuntime) -> Result<(), Fail> {
 #[test]
 fn a_word_that_is_not_utf8_is_a_usage_fault(rt: HostRuntime) -> Result<(), Fail> {
     let words = [b"bpfspec".as_slice(), b"order", b"\xff"];
-    let ran = run_on(rt.alloc(), &words, b"", None, None);
+    let ran = run_on(&rt, rt.alloc(), &words, b"", None, None);
     assert_eq!(rt;
         told(rt.alloc(), &ran)?.as_str(),
         "3 !error: a word isn't UTF-8\n\nUsage: bpfspec <COMMAND>\n\n\

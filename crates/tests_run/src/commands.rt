@@ -3,7 +3,9 @@
 
 use crate::program::{are_answered, is_answered, run_line, run_on, told, words_of};
 use std::alloc::{AllocError, Global};
+use std::process::Abort;
 use std::test::Fail;
+use std::thread::Threads;
 
 /// A loop of eight iterations that adds its index, in hex form, and what comes of its values and none.
 const HEX_UNITS: &str = "
@@ -119,7 +121,7 @@ fn disasm_writes_assembler_text(rt: HostRuntime) -> Result<(), Fail> {
 
 #[test]
 fn an_input_is_utf8(rt: HostRuntime) -> Result<(), Fail> {
-    let ran = run_line(rt.alloc(), "asm", b"maps 1 ; \xff")?;
+    let ran = run_line(&rt, rt.alloc(), "asm", b"maps 1 ; \xff")?;
     assert_eq!(rt;
         told(rt.alloc(), &ran)?.as_str(),
         "2 refused A1 at unit line 0\n"
@@ -139,10 +141,10 @@ fn longest(alloc: Global) -> Result<String, AllocError> {
 #[test]
 fn an_input_has_a_limit(rt: HostRuntime) -> Result<(), Fail> {
     let mut input = longest(rt.alloc())?;
-    let ran = run_line(rt.alloc(), "asm", input.as_bytes())?;
+    let ran = run_line(&rt, rt.alloc(), "asm", input.as_bytes())?;
     assert_eq!(rt; told(rt.alloc(), &ran)?.as_str(), "0 maps 1\n");
     input.push_str("\u{e9}")?;
-    let ran = run_line(rt.alloc(), "asm", input.as_bytes())?;
+    let ran = run_line(&rt, rt.alloc(), "asm", input.as_bytes())?;
     assert_eq!(rt;
         told(rt.alloc(), &ran)?.as_str(),
         "2 refused A6 at unit line 0\n"
@@ -153,44 +155,80 @@ fn an_input_has_a_limit(rt: HostRuntime) -> Result<(), Fail> {
 /// A unit of two instructions.
 const SEVEN: &[u8] = b"maps 1\nmov64 r0, 7\nexit\n";
 
+/// By these two commands an input is read, run and answered.
+const BOTH_RUNS: [&str; 2] = ["order", "run"];
+
+const SEVEN_ANSWERED: &[u8] = b"return 7\nmap 0: 0\n";
+
 /// Nothing is written where a read fails, at whichever.
 #[test]
 fn a_failed_read_ends_with_5(rt: HostRuntime) -> Result<(), Fail> {
     let alloc = rt.alloc();
-    let words = words_of(alloc, "asm")?;
     let reads = SEVEN.len() as u64 / 3 + 1;
-    for position in 0..reads + 1 {
-        let ran = run_on(alloc, &words, SEVEN, Some(position), None);
-        assert_eq!(rt; ran.status, if position < reads { 5 } else { 0 });
-        assert_eq!(rt; ran.output.is_empty(), position < reads);
+    for line in BOTH_RUNS {
+        let words = words_of(alloc, line)?;
+        for position in 0..reads + 1 {
+            let ran = run_on(&rt, alloc, &words, SEVEN, Some(position), None);
+            assert_eq!(rt; ran.status, if position < reads { 5 } else { 0 });
+            assert_eq!(rt; ran.output.is_empty(), position < reads);
+        }
     }
     Ok(())
 }
 
+/// Where a write fails, at whichever, a beginning of the answer was written.
 #[test]
 fn a_failed_write_leaves_a_beginning(rt: HostRuntime) -> Result<(), Fail> {
-    let words = words_of(rt.alloc(), "verify")?;
-    let ran = run_on(rt.alloc(), &words, SEVEN, None, Some(1));
-    assert_eq!(rt; told(rt.alloc(), &ran)?.as_str(), "5 acc");
+    let alloc = rt.alloc();
+    let writes = SEVEN_ANSWERED.len() / 3;
+    for line in BOTH_RUNS {
+        let words = words_of(alloc, line)?;
+        for position in 0..writes + 1 {
+            let ran = run_on(&rt, alloc, &words, SEVEN, None, Some(position as u64));
+            let beginning = &SEVEN_ANSWERED[..position * 3];
+            assert_eq!(rt; ran.status, if position < writes { 5 } else { 0 });
+            assert_eq!(rt; ran.output.as_slice(), beginning);
+        }
+    }
     Ok(())
 }
 
 /// Where a growth was refused the memory line is written, and a second try has the memory. The
 /// sink's own growth may be the refused one: then nothing was taken.
-#[test]
-fn a_refused_growth_is_told(rt: HostRuntime) -> Result<(), Fail> {
-    let alloc = rt.alloc();
-    let words = words_of(alloc, "verify")?;
-    let mut ran = run_on(alloc, &words, SEVEN, None, None);
+fn is_told_unless_memory_is_lacking<R: Abort + Threads + Sync>(
+    rt: &R,
+    alloc: Global,
+    line: &str,
+    input: &str,
+    answer: &str,
+) -> Result<(), Fail> {
+    let words = words_of(alloc, line)?;
+    let mut ran = run_on(rt, alloc, &words, input.as_bytes(), None, None);
     if ran.status == 4 {
         assert_eq!(rt; told(alloc, &ran)?.as_str(), "4 refused memory\n");
     }
     if ran.status != 0 {
-        ran = run_on(alloc, &words, SEVEN, None, None);
+        ran = run_on(rt, alloc, &words, input.as_bytes(), None, None);
     }
-    assert_eq!(rt;
-        told(alloc, &ran)?.as_str(),
-        "0 accepted\nfunction 0 at 0 count 2\n"
-    );
+    assert_eq!(rt; told(alloc, &ran)?.as_str(), answer);
     Ok(())
+}
+
+#[test]
+fn a_refused_growth_is_told(rt: HostRuntime) -> Result<(), Fail> {
+    let input = str::from_utf8(SEVEN)?;
+    let answer = "0 accepted\nfunction 0 at 0 count 2\n";
+    is_told_unless_memory_is_lacking(&rt, rt.alloc(), "verify", input, answer)
+}
+
+/// Two loops, each of which adds its indices to the second element.
+const TWO_LOOPS: &str =
+    "maps 2\nmov64 r6, 3\nmov64 r1, r6\nldcode r2, cb\nmov64 r3, 0\nmov64 r4, 0\ncall 181\n\
+    mov64 r1, r6\nldcode r2, cb\nmov64 r3, 0\nmov64 r4, 0\ncall 181\nexit\ncb:\nldmapval r3, 0, 8\n\
+    atomic64 add [r3+0], r1\nmov64 r0, 0\nexit\n";
+
+#[test]
+fn a_refused_growth_of_a_run_is_told(rt: HostRuntime) -> Result<(), Fail> {
+    let answer = "0 return 3\nloop 0 at 6: answer 3, parallel\nloop 1 at 12: answer 3, parallel\nmap 0: 0 6\n";
+    is_told_unless_memory_is_lacking(&rt, rt.alloc(), "run", TWO_LOOPS, answer)
 }

@@ -6,14 +6,20 @@ use std::alloc::{AllocError, Global};
 use std::env::{Env, FillError};
 use std::process::Abort;
 use std::test::Fail;
+use std::thread::Threads;
 
-/// The words that a process was started with.
+/// A process that was started with these words, on this runtime.
 #[derive(Drop)]
-pub struct Words<'a>(&'a [&'a [u8]]);
+pub struct Started<'a, R> {
+    rt: &'a R,
+    words: &'a [&'a [u8]],
+}
 
-impl Env for Words<'_> {
+impl<R: Threads> Threads for Started<'_, R> {}
+
+impl<R> Env for Started<'_, R> {
     fn arg(&self, i: usize, buf: &mut [u8]) -> Result<usize, FillError> {
-        let Some(word) = self.0.get(i) else {
+        let Some(word) = self.words.get(i) else {
             return Err(FillError::NotPresent);
         };
         if word.len() > buf.len() {
@@ -41,7 +47,8 @@ pub struct Ran {
 }
 
 /// Runs the program with these words over streams that fail as the numbers say.
-pub fn run_on(
+pub fn run_on<R: Threads + Sync>(
+    rt: &R,
     alloc: Global,
     words: &[&[u8]],
     input: &[u8],
@@ -52,7 +59,7 @@ pub fn run_on(
     let mut output = Narrow::new(alloc, writes_until_failure);
     let mut messages = Narrow::new(alloc, None);
     let status = run(
-        &(Words(words), alloc),
+        &(Started { rt, words }, alloc),
         &mut source,
         &mut output,
         &mut messages,
@@ -75,8 +82,20 @@ pub fn words_of(alloc: Global, line: &str) -> Result<Vec<&[u8]>, AllocError> {
 }
 
 /// Runs the program with the words of a command line.
-pub fn run_line(alloc: Global, line: &str, input: &[u8]) -> Result<Ran, AllocError> {
-    Ok(run_on(alloc, &words_of(alloc, line)?, input, None, None))
+pub fn run_line<R: Threads + Sync>(
+    rt: &R,
+    alloc: Global,
+    line: &str,
+    input: &[u8],
+) -> Result<Ran, AllocError> {
+    Ok(run_on(
+        rt,
+        alloc,
+        &words_of(alloc, line)?,
+        input,
+        None,
+        None,
+    ))
 }
 
 /// The exit status and the output, and behind `!` what was told on standard error.
@@ -93,14 +112,14 @@ fn lines_of(alloc: Global, row: &str) -> Result<String, AllocError> {
 }
 
 /// Asserts what the program answers to an input.
-pub fn is_answered(
-    rt: &impl Abort,
+pub fn is_answered<R: Abort + Threads + Sync>(
+    rt: &R,
     alloc: Global,
     line: &str,
     input: &str,
     wanted: &str,
 ) -> Result<(), Fail> {
-    let ran = run_line(alloc, line, lines_of(alloc, input)?.as_bytes())?;
+    let ran = run_line(rt, alloc, line, lines_of(alloc, input)?.as_bytes())?;
     assert_eq!(rt;
         told(alloc, &ran)?.trim_end(),
         lines_of(alloc, wanted)?.as_str(),
@@ -111,7 +130,12 @@ pub fn is_answered(
 
 /// Asserts what the program answers, row by row. A row has the lines of an input and, behind `=>`, the
 /// status and the lines of the output.
-pub fn are_answered(rt: &impl Abort, alloc: Global, line: &str, table: &str) -> Result<(), Fail> {
+pub fn are_answered<R: Abort + Threads + Sync>(
+    rt: &R,
+    alloc: Global,
+    line: &str,
+    table: &str,
+) -> Result<(), Fail> {
     for row in table.trim().lines() {
         let (input, answer) = row.split_once("=>").ok_or("a row has an answer")?;
         is_answered(rt, alloc, line, input, answer)?;

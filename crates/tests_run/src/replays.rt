@@ -5,10 +5,11 @@ use crate::program::is_answered;
 use std::alloc::Global;
 use std::process::Abort;
 use std::test::Fail;
+use std::thread::Threads;
 
 /// Asserts what is answered to a unit with each row behind it.
-fn are_replayed(
-    rt: &impl Abort,
+fn are_replayed<R: Abort + Threads + Sync>(
+    rt: &R,
     alloc: Global,
     line: &str,
     unit: &str,

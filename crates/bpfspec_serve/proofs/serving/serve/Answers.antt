@@ -1,15 +1,15 @@
 use Rattle.std.proofs.Common.{subst, arith}
 use Rattle.std.specs.String.{string_bytes}
-use Rattle.bpfspec_serve.specs.HowServed.{Answered}
-use Rattle.bpfspec_serve.specs.Output.{Answer, Answers}
-use Rattle.bpfspec_serve.proofs.OutputLaws.{answers_reader, written_as}
+use Rattle.bpfspec_command_line.specs.declared.job.Job.TheVariants.{Serve}
+use Rattle.bpfspec_serve.specs.Output.{Answers}
+use Rattle.bpfspec_serve.proofs.OutputLaws.{answers_reader, served_as, told_answers}
 use Rattle.bpfspec_serve.proofs.serving.serve.Goals as goal
 
-pub returns-in-Ok-answer_to-clause-answer : goal.returns-in-Ok-answer_to-clause-answer
-returns-in-Ok-answer_to-clause-answer g c =
-    let answer : Answer = record { served = c.in-Ok-answer_to.answer.served; text = string_bytes c.in-Ok-answer_to.answer.text } in
-    let answers = subst (λ bytes. Answers c.args.mode.now bytes answer) c.deref.ensures.value c.in-Ok-answer_to.ensures in
-    Answered answer
-    (answers_reader c.args.mode.now (g.R.Source.left c.args.source.now) _ c.in-Ok.input.items answer c.in-Ok.ensures.bytes c.in-Ok.ensures.whole answers)
-    (omega (arith, c.in-Ok.ensures.ok))
-    (written_as _ answer.text c.as_bytes.ensures.value c.write-in-Ok-answer_to.ensures)
+pub returns-in-Ok-clause-answer : goal.returns-in-Ok-clause-answer
+returns-in-Ok-clause-answer g c =
+    let job = Serve c.args.mode.now in
+    served_as
+    (λ answer told.
+    answers_reader job (g.R.Source.left c.args.source.now) _ c.in-Ok.input.items answer c.in-Ok.ensures.bytes c.in-Ok.ensures.whole
+    (subst (λ bytes. Answers job bytes answer) c.deref.ensures.value (told_answers string_bytes job _ c.outcome.result answer c.outcome.ensures told)))
+    (omega (arith, c.in-Ok.ensures.ok)) c.tell.ensures

@@ -3,7 +3,7 @@ use Rattle.std.specs.Prelude.{option_map}
 use Rattle.std.specs.Borrow.{Bor}
 use Rattle.clap.specs.Words.{found_of, Text}
 use Rattle.clap.proofs.WalkLemmas.{first_value-rows}
-use Rattle.bpfspec_command_line.proofs.words.loop_test.Goals as goal
+use Rattle.bpfspec_command_line.proofs.values.loop_test.Goals as goal
 
 pub returns-then-eq : goal.returns-then-eq
 returns-then-eq c =

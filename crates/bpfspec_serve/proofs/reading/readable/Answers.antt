@@ -1,6 +1,6 @@
 use Rattle.std.proofs.Common.{ap, Ok, ◌∙◌, arith}
 use Rattle.bpfspec_serve.proofs.OutputLaws.{reads_text, refuses_bytes}
-use Rattle.bpfspec_serve.proofs.answering.readable.Goals as goal
+use Rattle.bpfspec_serve.proofs.reading.readable.Goals as goal
 
 pub returns-in-Ok : goal.returns-in-Ok
 returns-in-Ok c = ap Ok c.in-Ok.ensures.cases.0 ∙ reads_text c.args.input.now (grind arith) c.in-Ok.ensures.cases.1

@@ -1,6 +1,6 @@
 use Rattle.clap.specs.Words.{found_of}
 use Rattle.bpfspec_command_line.proofs.CommandLaws.{hex_form, assembler_form}
-use Rattle.bpfspec_command_line.proofs.words.unit_form.Goals as goal
+use Rattle.bpfspec_command_line.proofs.values.unit_form.Goals as goal
 
 pub returns-then-get_flag : goal.returns-then-get_flag
 returns-then-get_flag c = hex_form (found_of c.args.matches.now) c.if-get_flag.ensures.none c.if-get_flag.ensures.other

@@ -1,0 +1,142 @@
+//! The commands of the program, as clap is told of them.
+
+ghost use Rattle.std.specs.Prelude.{IfOk};
+ghost use Rattle.clap.specs.Words.{new_app};
+ghost use Rattle.bpfspec_command_line.specs.CommandLine.{IsArg, IsCommand, arg_rule, blocks_rule, bpfspec_app, hex_rule, order_app, replay_app, run_app, test_rule, top_app, valued_rule, verify_app, workers_rule};
+
+use clap::{Arg, ArgAction, Command};
+use std::alloc::{AllocError, Global};
+
+/// --hex
+fn hex_flag<'a>(alloc: Global) -> Arg<'a>
+    ensures { IsArg hex_rule result }
+{
+    Arg::new(alloc, "hex")
+        .long("hex")
+        .action(ArgAction::SetTrue)
+        .help("The unit is in hex form")
+}
+
+/// An option of this name with a value, which is this where it isn't given.
+fn valued_option<'a>(
+    alloc: Global,
+    name: &'a str,
+    value: &'a str,
+    default: &'a str,
+    help: &'a str,
+) -> Arg<'a>
+    ensures { IsArg (valued_rule name.entry.now default.entry.now) result }
+{
+    Arg::new(alloc, name)
+        .long(name)
+        .action(ArgAction::Set)
+        .value_name(value)
+        .default_value(default)
+        .help(help)
+}
+
+/// --arg N
+fn arg_option<'a>(alloc: Global) -> Arg<'a>
+    ensures { IsArg arg_rule result }
+{
+    valued_option(alloc, "arg", "N", "0", "The program's argument")
+}
+
+/// --test TEST
+fn test_option<'a>(alloc: Global) -> Arg<'a>
+    ensures { IsArg test_rule result }
+{
+    valued_option(
+        alloc,
+        "test",
+        "TEST",
+        "flow",
+        "How a loop is judged: flow or lrpd",
+    )
+}
+
+/// --workers N
+fn workers_option<'a>(alloc: Global) -> Arg<'a>
+    ensures { IsArg workers_rule result }
+{
+    valued_option(
+        alloc,
+        "workers",
+        "N",
+        "2",
+        "How many workers a loop has, 1 to 16",
+    )
+}
+
+/// --blocks N
+fn blocks_option<'a>(alloc: Global) -> Arg<'a>
+    ensures { IsArg blocks_rule result }
+{
+    valued_option(
+        alloc,
+        "blocks",
+        "N",
+        "4",
+        "How many blocks a loop is split into, 1 to 64",
+    )
+}
+
+/// A command of this name and with this help, without arguments.
+fn new_command<'a>(alloc: Global, name: &'a str, about: &'a str) -> Command<'a>
+    ensures { IsCommand (new_app name.entry.now) result }
+{
+    Command::new(alloc, name).about(about)
+}
+
+fn verify_command<'a>(alloc: Global) -> Result<Command<'a>, AllocError>
+    ensures { IfOk result (IsCommand verify_app) }
+{
+    new_command(alloc, "verify", "Tells whether a program is accepted").arg(hex_flag(alloc))
+}
+
+pub fn order_command<'a>(alloc: Global) -> Result<Command<'a>, AllocError>
+    ensures { IfOk result (IsCommand order_app) }
+{
+    new_command(alloc, "order", "Runs a program in order")
+        .arg(hex_flag(alloc))?
+        .arg(arg_option(alloc))
+}
+
+pub fn run_command<'a>(alloc: Global) -> Result<Command<'a>, AllocError>
+    ensures { IfOk result (IsCommand run_app) }
+{
+    new_command(alloc, "run", "Runs a program, its loops in parallel")
+        .arg(hex_flag(alloc))?
+        .arg(arg_option(alloc))?
+        .arg(workers_option(alloc))?
+        .arg(blocks_option(alloc))?
+        .arg(test_option(alloc))
+}
+
+pub fn replay_command<'a>(alloc: Global) -> Result<Command<'a>, AllocError>
+    ensures { IfOk result (IsCommand replay_app) }
+{
+    new_command(alloc, "replay", "Replays events of a program's first loop")
+        .arg(hex_flag(alloc))?
+        .arg(arg_option(alloc))?
+        .arg(test_option(alloc))
+}
+
+/// The program without its subcommands, of which one is wanted.
+fn top_command<'a>(alloc: Global) -> Command<'a>
+    ensures { IsCommand top_app result }
+{
+    Command::new(alloc, "bpfspec").subcommand_required(true)
+}
+
+pub fn bpfspec_command<'a>(alloc: Global) -> Result<Command<'a>, AllocError>
+    ensures { IfOk result (IsCommand bpfspec_app) }
+{
+    top_command(alloc)
+        .subcommand(verify_command(alloc)?)?
+        .subcommand(order_command(alloc)?)?
+        .subcommand(run_command(alloc)?)?
+        .subcommand(replay_command(alloc)?)?
+        .subcommand(new_command(alloc, "asm", "Writes assembler text in hex form"))?
+        .subcommand(new_command(alloc, "disasm", "Writes the hex form as assembler text"))
+}

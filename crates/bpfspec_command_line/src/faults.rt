@@ -1,0 +1,107 @@
+//! Why a command line asks for nothing, as it is told.
+
+ghost use Rattle.std.specs.Prelude.{◌≡◌};
+ghost use Rattle.std.specs.IoError.{error_kind};
+ghost use Rattle.std.specs.declared.io.ErrorKind.TheVariants as io_errors;
+ghost use Rattle.clap.specs.Words.{kind_of};
+
+use crate::commands::{bpfspec_command, order_command, replay_command, run_command};
+use crate::job::LineFault;
+use crate::values::{argument, blocks_of, workers_of};
+use clap::error::ErrorKind;
+use clap::{ArgMatches, Command};
+use std::alloc::{AllocError, Global};
+use std::io;
+
+/// The fault that clap tells of.
+pub fn fault_of(alloc: Global, error: &clap::Error) -> LineFault
+    ensures { kind_of error.now ≡ ErrorKind.OutOfMemory → result ≡ LineFault.Memory }
+{
+    if error.kind() == ErrorKind::OutOfMemory {
+        return LineFault::Memory;
+    }
+    match error.to_string(alloc) {
+        Ok(text) => LineFault::Usage(text),
+        Err(_) => LineFault::Memory,
+    }
+}
+
+/// The fault of words that are wrong in a way that clap doesn't judge, told as clap tells its own.
+fn own_fault(alloc: Global, command: &mut Command<'_>, wrong: &str) -> LineFault {
+    match command.error(ErrorKind::ValueValidation, wrong) {
+        Ok(error) => fault_of(alloc, &error),
+        Err(_) => LineFault::Memory,
+    }
+}
+
+/// What is told of an option whose value is none of those that are wanted.
+fn other_value(
+    alloc: Global,
+    matches: &ArgMatches<'_>,
+    id: &str,
+    option: &str,
+    wanted: &str,
+) -> Result<String, AllocError> {
+    let given = matches.get_str(id).unwrap_or("");
+    format!(in alloc; "invalid value '{given}' for '{option}': not {wanted}")
+}
+
+/// What is told of the first option whose value clap takes and the program doesn't.
+fn wrong_value(alloc: Global, matches: &ArgMatches<'_>) -> Result<String, AllocError> {
+    if argument(matches).is_none() {
+        let numbers = "a number from 0 to 18446744073709551615";
+        return other_value(alloc, matches, "arg", "--arg <N>", numbers);
+    }
+    other_value(alloc, matches, "test", "--test <TEST>", "flow or lrpd")
+}
+
+/// What is told of the first option of `run` whose value clap takes and the program doesn't.
+fn wrong_plan(alloc: Global, matches: &ArgMatches<'_>) -> Result<String, AllocError> {
+    if workers_of(matches).is_none() {
+        return other_value(
+            alloc,
+            matches,
+            "workers",
+            "--workers <N>",
+            "a number from 1 to 16",
+        );
+    }
+    if blocks_of(matches).is_none() {
+        return other_value(
+            alloc,
+            matches,
+            "blocks",
+            "--blocks <N>",
+            "a number from 1 to 64",
+        );
+    }
+    wrong_value(alloc, matches)
+}
+
+/// The fault of a value that clap takes and the program doesn't, with the usage of its subcommand.
+pub fn value_fault(alloc: Global, matches: &ArgMatches<'_>) -> Result<LineFault, AllocError> {
+    if let Some(run) = matches.subcommand_matches("run") {
+        let mut command = run_command(alloc)?.bin_name("bpfspec run")?;
+        return Ok(own_fault(alloc, &mut command, &wrong_plan(alloc, run)?));
+    }
+    if let Some(replay) = matches.subcommand_matches("replay") {
+        let mut command = replay_command(alloc)?.bin_name("bpfspec replay")?;
+        return Ok(own_fault(alloc, &mut command, &wrong_value(alloc, replay)?));
+    }
+    let order = matches.subcommand_matches("order").unwrap_or(matches);
+    let mut command = order_command(alloc)?.bin_name("bpfspec order")?;
+    Ok(own_fault(alloc, &mut command, &wrong_value(alloc, order)?))
+}
+
+/// The fault of words that the system doesn't give.
+pub fn words_fault(alloc: Global, error: &io::Error) -> LineFault
+    ensures { error_kind error.now ≡ io_errors.OutOfMemory → result ≡ LineFault.Memory }
+{
+    if error.kind() == io::ErrorKind::OutOfMemory {
+        return LineFault::Memory;
+    }
+    match bpfspec_command(alloc) {
+        Ok(mut command) => own_fault(alloc, &mut command, "a word isn't UTF-8"),
+        Err(_) => LineFault::Memory,
+    }
+}

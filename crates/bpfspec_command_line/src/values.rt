@@ -1,0 +1,88 @@
+//! The values that the arguments of a command give.
+
+ghost use Rattle.std.specs.Prelude.{◌≡◌, ◌<◌, ◌≤◌, codes, IfSome};
+ghost use Rattle.clap.specs.Words.{found_of, rows_of};
+ghost use Rattle.bpfspec_command_line.specs.CommandLine.{IsArgument, IsForm, IsNumber, IsPlanOf, IsTest};
+
+use crate::job::UnitForm;
+use clap::ArgMatches;
+use loop_core_law::Test;
+use spec_run::Plan;
+
+/// The form that the arguments ask for.
+pub fn unit_form(matches: &ArgMatches<'_>) -> UnitForm
+    ensures { IsForm (rows_of (found_of matches.now)) result }
+{
+    if matches.get_flag("hex") {
+        UnitForm::Hex
+    } else {
+        UnitForm::Assembler
+    }
+}
+
+/// The program's argument that the arguments give, or None where it is no number below 2^64.
+pub fn argument(matches: &ArgMatches<'_>) -> Option<u64>
+    ensures { IfSome result (IsArgument (rows_of (found_of matches.now))) }
+{
+    matches.get_one::<u64>("arg")
+}
+
+/// The test that the arguments name, or None where they name another.
+pub fn loop_test(matches: &ArgMatches<'_>) -> Option<Test>
+    ensures { IfSome result (IsTest (rows_of (found_of matches.now))) }
+{
+    let word = matches.get_str("test")?;
+    if word == "flow" {
+        Some(Test::Flow)
+    } else if word == "lrpd" {
+        Some(Test::Lrpd)
+    } else {
+        None
+    }
+}
+
+/// The number that an option of this name gives, or None where it is none below 2^32.
+fn number_of(matches: &ArgMatches<'_>, name: &str) -> Option<u32>
+    ensures { IfSome result (IsNumber 32 name.now (rows_of (found_of matches.now))) }
+{
+    matches.get_one::<u32>(name)
+}
+
+/// The same, or None where it isn't 1 to `most`.
+fn number_within(matches: &ArgMatches<'_>, name: &str, most: u32) -> Option<u32>
+    ensures number { IfSome result (IsNumber 32 name.now (rows_of (found_of matches.now))) }
+    ensures within { IfSome result (λ n. (0 < n) × (n ≤ most)) }
+{
+    let number = number_of(matches, name)?;
+    if number == 0 || most < number {
+        return None;
+    }
+    Some(number)
+}
+
+/// How many workers the arguments give, or None where it is no number from 1 to 16.
+pub fn workers_of(matches: &ArgMatches<'_>) -> Option<u32>
+    ensures number { IfSome result (IsNumber 32 (codes "workers") (rows_of (found_of matches.now))) }
+    ensures within { IfSome result (λ n. (0 < n) × (n ≤ 16)) }
+{
+    number_within(matches, "workers", 16)
+}
+
+/// How many blocks the arguments give, or None where it is no number from 1 to 64.
+pub fn blocks_of(matches: &ArgMatches<'_>) -> Option<u32>
+    ensures number { IfSome result (IsNumber 32 (codes "blocks") (rows_of (found_of matches.now))) }
+    ensures within { IfSome result (λ n. (0 < n) × (n ≤ 64)) }
+{
+    number_within(matches, "blocks", 64)
+}
+
+/// The plan that the arguments give, or None where it isn't within its limits, or they name another test.
+pub fn plan_of(matches: &ArgMatches<'_>) -> Option<Plan>
+    ensures { IfSome result (IsPlanOf (rows_of (found_of matches.now))) }
+{
+    Some(Plan {
+        workers: workers_of(matches)?,
+        blocks: blocks_of(matches)?,
+        test: loop_test(matches)?,
+    })
+}
