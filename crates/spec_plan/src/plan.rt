@@ -1,7 +1,7 @@
 //! How the loops of a program are run.
 
 ghost use Rattle.std.specs.Prelude.{◌↔◌, IsTrue};
-ghost use Rattle.spec_run.specs.Plans.{IsPlan};
+ghost use Rattle.spec_plan.specs.Plans.{IsPlan};
 
 use loop_core_law::Test;
 

@@ -1,6 +1,6 @@
 -- Which plans are within their limits.
 use Rattle.std.specs.Prelude.{◌<◌, ◌≤◌}
-use Rattle.spec_run.specs.declared.plan.Plan.{Plan}
+use Rattle.spec_plan.specs.declared.plan.Plan.{Plan}
 
 -- 1 to 16 workers and 1 to 64 blocks
 pub record IsPlan (plan : Plan) : Type 0 where
