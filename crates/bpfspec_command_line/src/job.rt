@@ -3,7 +3,7 @@
 ghost use Rattle.std.specs.Prelude.{◌≡◌};
 
 use loop_core_law::Test;
-use spec_run::Plan;
+use spec_plan::Plan;
 use std::alloc::{AllocError, AllocFailed};
 use thiserror::Error;
 

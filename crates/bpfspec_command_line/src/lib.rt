@@ -9,5 +9,5 @@ mod words;
 
 pub use job::{Job, LineFault, Mode, UnitForm};
 pub use loop_core_law::Test;
-pub use spec_run::Plan;
+pub use spec_plan::Plan;
 pub use words::{read_command_line, read_words};

@@ -26,8 +26,8 @@ use Rattle.loop_event.specs.declared.event.Event.{Event}
 use Rattle.spec_replay.specs.declared.replaying.ReplayRefusal.{ReplayRefusal}
 use Rattle.spec_replay.specs.declared.replaying.ReplayRefusal.TheVariants as replays
 use Rattle.spec_replay.specs.ProgramReplay.{LoopReplay, ComesTo}
-use Rattle.spec_run.specs.declared.plan.Plan.{Plan}
-use Rattle.spec_run.specs.Plans.{IsPlan}
+use Rattle.spec_plan.specs.declared.plan.Plan.{Plan}
+use Rattle.spec_plan.specs.Plans.{IsPlan}
 use Rattle.bpfspec_command_line.specs.declared.job.Job.{Job}
 use Rattle.bpfspec_command_line.specs.declared.job.Job.TheVariants.{Serve, Run}
 use Rattle.bpfspec_command_line.specs.declared.job.Mode.{Mode}

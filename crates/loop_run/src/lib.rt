@@ -1,8 +1,10 @@
-//! A loop call by several workers. A stand-in: it always runs out of memory.
+//! A loop call by several workers: each in a thread of its own, over one board; what they ran is gathered, and
+//! committed, or the loop is run in order.
 #![tactic(auto)]
 
 mod error;
 mod looping;
+mod worker;
 
 pub use error::RunError;
 pub use loop_gather::LoopOutcome;

@@ -2,30 +2,101 @@
 
 ghost use Rattle.std.specs.Prelude.{◌≡◌, ◌≢◌, ◌↔◌, Err, IsTrue, IfOk, IfErr};
 ghost use Rattle.bpf_step_sound.specs.Soundness.{IsKnownCall};
-ghost use Rattle.loop_gather.specs.Gathered.{IsOutcome};
+ghost use Rattle.loop_gather.specs.Gathered.{Tells, IsOutcome};
 ghost use Rattle.loop_run.specs.Plans.{IsLoopPlan};
 
 use crate::error::RunError;
+use crate::worker::run_workers;
 use array_maps::Maps;
 use bpf_step::LoopCall;
 use bpf_verify::Verified;
+use loop_board::Board;
 use loop_core_law::Test;
-use loop_gather::LoopOutcome;
+use loop_gather::{GatherError, Gathered, LoopOutcome, gather, settle};
 use loop_split::{Gate, Split};
+use loop_work::law_of_workers;
 use std::alloc::Global;
 use std::thread::Threads;
 
 const MOST_WORKERS: u32 = 16;
 
 /// Whether there are 1 to 16 workers, and the split is of so many iterations.
-#[tactic(auto, using(crate::proofs::PlanLaws::plan_is, crate::proofs::PlanLaws::plan_ends))]
 fn is_loop_plan(workers: u32, split: &Split, n: u32) -> bool
     ensures { IsTrue result ↔ IsLoopPlan workers split.now n }
 {
     (1..=MOST_WORKERS).contains(&workers) && split.iterations() == n
 }
 
-/// Runs a loop call.
+/// Runs the blocks of a loop by its workers, and gathers them.
+fn speculate<'a, R: Threads + Sync, G: Gate>(
+    rt: &R,
+    alloc: Global,
+    program: &Verified,
+    call: &LoopCall,
+    start: &'a Maps,
+    split: &Split,
+    workers: u32,
+    test: Test,
+    gate: &G,
+) -> Result<Gathered<'a>, RunError>
+    requires known { IsKnownCall program.now call.now }
+    requires sizes { start.now.sizes ≡ program.now.sizes }
+    requires plan { IsLoopPlan workers split.now call.now.n }
+    ensures told { IfOk result (Tells test program.now call.now start.now.words) }
+    ensures refused { IfErr result (λ e. e ≡ RunError.Memory) }
+{
+    law_of_workers();
+    let Ok((board, seats)) = Board::new(alloc, split.blocks(), workers) else {
+        return Err(RunError::Memory);
+    };
+    let (seats, blocks) = run_workers(
+        rt, alloc, program, call, start, split, &board, seats, test, gate,
+    )?;
+    let Ok(_tally) = board.gather(seats) else {
+        unreachable!()
+    };
+    match gather(alloc, program, call, start, split, blocks, test) {
+        Ok(gathered) => Ok(gathered),
+        Err(GatherError::Fault(_)) => unreachable!(),
+        Err(GatherError::Memory) => Err(RunError::Memory),
+    }
+}
+
+/// What a loop comes to whose plan is within its limits. Only memory may be lacking.
+fn outcome_of<R: Threads + Sync, G: Gate>(
+    rt: &R,
+    alloc: Global,
+    program: &Verified,
+    call: &LoopCall,
+    start: &Maps,
+    split: &Split,
+    workers: u32,
+    test: Test,
+    gate: &G,
+) -> Result<LoopOutcome, RunError>
+    requires known { IsKnownCall program.now call.now }
+    requires sizes { start.now.sizes ≡ program.now.sizes }
+    requires plan { IsLoopPlan workers split.now call.now.n }
+    ensures outcome { IfOk result (λ o. IsOutcome test program.now call.now start.now o.verdict o.answer o.maps) }
+    ensures refused { IfErr result (λ e. e ≡ RunError.Memory) }
+{
+    let gathered = match speculate(rt, alloc, program, call, start, split, workers, test, gate) {
+        Err(refused) => return Err(refused),
+        Ok(gathered) => gathered,
+    };
+    match settle(alloc, program, call, start, &gathered, test) {
+        Err(_) => Err(RunError::Memory),
+        Ok(outcome) => Ok(outcome),
+    }
+}
+
+/// Runs a loop call that main of this program made, from these maps, by so many workers, each in a thread of its
+/// own, over the blocks of a split. A loop that passes the test is committed on a copy of the maps, any other is
+/// run in order on one. It waits for its threads. Where one can't be started, the others do its share; where the
+/// gate holds nobody, a short loop is run by the calling thread alone.
+///
+/// It fails with `Sizes` (P1) where the maps' sizes differ from the program's; else with `Plan` (P2) where the
+/// workers aren't 1 to 16 or the split isn't of the call's iterations; and with `Memory`.
 pub fn run_loop<R: Threads + Sync, G: Gate>(
     rt: &R,
     alloc: Global,
@@ -48,5 +119,5 @@ pub fn run_loop<R: Threads + Sync, G: Gate>(
     if !is_loop_plan(workers, split, call.n()) {
         return Err(RunError::Plan);
     }
-    Err(RunError::Memory)
+    outcome_of(rt, alloc, program, call, start, split, workers, test, gate)
 }

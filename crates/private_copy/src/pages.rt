@@ -60,7 +60,9 @@ impl Pages {
         })
     }
 
-    /// Makes spare pages, so that as many can be placed as are needed, or all that aren't placed yet.
+    /// Sees that there are spare pages, so that as many can be placed as are needed, or all that aren't
+    /// placed yet.
+    #[inline]
     pub(crate) fn prepare(&mut self, alloc: Global, need: u32) -> Result<(), AllocError>
         ensures pages { self.new.pages ≡ self.old.pages }
         ensures order { self.new.order ≡ self.old.order }
@@ -68,6 +70,21 @@ impl Pages {
     {
         let unplaced = self.table.len() - self.placed as usize;
         let wanted = unplaced.min(need as usize);
+        if self.spare.len() < wanted {
+            return self.make_spare(alloc, wanted);
+        }
+        Ok(())
+    }
+
+    /// Makes spare pages until there are so many.
+    #[cold]
+    #[inline(never)]
+    fn make_spare(&mut self, alloc: Global, wanted: usize) -> Result<(), AllocError>
+        requires { wanted ≤ 1024 }
+        ensures pages { self.new.pages ≡ self.old.pages }
+        ensures order { self.new.order ≡ self.old.order }
+        ensures spare { OnOk result (wanted ≤ self.new.spare) }
+    {
         while self.spare.len() < wanted {
             let page = Box::new(alloc, Page { cells: [BLANK; 64] })?;
             self.spare.push(Some(page));

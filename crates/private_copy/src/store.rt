@@ -81,8 +81,8 @@ impl<'a> Private<'a> {
         ensures word { result.1 ≡ slice_index (copy_of self.old).words e }
     {
         self.serves -= 1;
-        self.pages.touch(e);
         self.flags.mark(e, kind);
+        self.pages.touch(e);
         let cell = self.pages.get(e);
         let word = if cell.writer == self.begun {
             cell.value

@@ -33,8 +33,9 @@ impl Planes {
         }
     }
 
-    /// Merges the flags of one element into its marks.
-    #[inline]
+    /// Merges the flags of one element into its marks. Most iterations touch few elements, so the planes
+    /// are looked up here, at each, and not once before the loop.
+    #[inline(never)]
     fn fold(&mut self, e: u32, kept: ElementFlags, index: u32)
         requires whole { ArePlanes self.old }
         requires in_range { e < self.old.elements }

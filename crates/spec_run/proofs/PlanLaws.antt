@@ -3,8 +3,8 @@ use Rattle.std.proofs.Common.{◌≡◌, ℕ, ◌<◌, ◌≤◌, List, None, sy
 use Rattle.loop_core_blocks.specs.Split.{split_fault, even_bounds}
 use Rattle.loop_core_blocks.proofs.SplitLaws.{even_is_split}
 use Rattle.loop_run.specs.Plans.{IsLoopPlan}
-use Rattle.spec_run.specs.Plans.{IsPlan}
-use Rattle.spec_run.specs.declared.plan.Plan.{Plan}
+use Rattle.spec_plan.specs.Plans.{IsPlan}
+use Rattle.spec_plan.specs.declared.plan.Plan.{Plan}
 
 -- each loop can be split evenly
 pub even_is : (n blocks : ℕ) → 0 < blocks → blocks ≤ 64 → split_fault (even_bounds n blocks) n ≡ None

@@ -187,12 +187,12 @@ module _ {line_of : LoopMade → Ending LoopReport} {whole : Ending Reported} {p
       }
 
   -- its call was refused, and it goes on
-  pub refuses : {after : MainOf} {new : MapList} {slot : ℕ} {answer : ℤ} {all : List LoopReport} → after.program ≡ main.program → NextTurn main now (turned.Refused slot answer) after new
+  pub refuses : {after : MainOf} {new : MapList} {slot : ℕ} {answer told_answer : ℤ} {all : List LoopReport} → after.program ≡ main.program → NextTurn main now (turned.Refused slot answer) after new
       → ((slot : ℕ) (answer : ℤ) (words : List ℕ) →
       line_of (record { slot = slot; answer = answer; words = words; call = None }) ≡ Ended (record { slot = slot; answer = answer; verdict = verdicts.Refused }))
-      → all ≡ lines ++ record { slot = slot; answer = answer; verdict = verdicts.Refused } ∷ []
+      → told_answer ≡ answer → all ≡ lines ++ record { slot = slot; answer = told_answer; verdict = verdicts.Refused } ∷ []
       → StillRuns line_of whole program after first new all
-  refuses {after} {new} {slot} {answer} {all} same next refused_line told =
+  refuses {after} {new} {slot} {answer} {told_answer} {all} same next refused_line is_answer told =
       let ran = next still.m still.at in
       let came = came after new (turned.Refused slot answer) same ran in
       let this = is_refused after ran.stretch.turn slot answer ran.turns in
@@ -210,6 +210,7 @@ module _ {line_of : LoopMade → Ending LoopReport} {whole : Ending Reported} {p
         rest = came.rest
             ∙ ap (λ (t : Turn). told_behind line_of lines (after_turn program 4096 (main_from program 4096 came.turns) t new.words)) this.turn_is
             ∙ one_line line_of lines made line goes_on (refused_line slot answer new.words)
+            ∙ ap (λ (a : ℤ). told_behind line_of (lines ++ record { slot = slot; answer = a; verdict = verdicts.Refused } ∷ []) goes_on) (sym is_answer)
             ∙ ap (λ (ls : List LoopReport). told_behind line_of ls goes_on) (sym told);
         fit = turn_fits after new (turned.Refused slot answer) same ran;
         sizes = still.sizes;

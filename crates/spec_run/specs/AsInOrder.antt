@@ -7,9 +7,9 @@ use Rattle.loop_core_law.specs.declared.loop_test.Test.{Test}
 use Rattle.loop_core_law.specs.Report.{report as report_by}
 use Rattle.loop_run.specs.declared.error.RunError.{RunError}
 use Rattle.loop_run.specs.declared.error.RunError.TheVariants.{Memory}
-use Rattle.spec_run.specs.declared.plan.Plan.{Plan}
+use Rattle.spec_plan.specs.declared.plan.Plan.{Plan}
 use Rattle.spec_run.specs.declared.running.Report.{Report}
-use Rattle.spec_run.specs.Plans.{IsPlan}
+use Rattle.spec_plan.specs.Plans.{IsPlan}
 
 -- the return value, the new maps, which are of the old sizes, and each loop call's slot and answer are those of the
 -- program whose loops run in order from the old maps; each valid call's verdict is that of the test. No iteration is stuck,

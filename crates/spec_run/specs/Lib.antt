@@ -1,3 +1,2 @@
 pub mod InOrder
-pub mod Plans
 pub mod AsInOrder

@@ -9,11 +9,10 @@
 //! ```
 #![tactic(auto)]
 
-mod plan;
 mod running;
 mod speculating;
 
 pub use loop_run::{LoopOutcome, RunError, run_loop};
-pub use plan::Plan;
 pub use running::{Report, run_in_order};
+pub use spec_plan::Plan;
 pub use speculating::run;

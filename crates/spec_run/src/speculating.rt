@@ -4,9 +4,8 @@ ghost use Rattle.std.specs.Prelude.{◌≡◌, ◌≢◌, ◌↔◌, IfOk, OnErr
 ghost use Rattle.bpf_step_sound.specs.Soundness.{IsKnownCall};
 ghost use Rattle.loop_gather.specs.Gathered.{IsOutcome};
 ghost use Rattle.spec_run.specs.AsInOrder.{RanAsInOrder, RunsAsInOrder};
-ghost use Rattle.spec_run.specs.Plans.{IsPlan};
+ghost use Rattle.spec_plan.specs.Plans.{IsPlan};
 
-use crate::plan::Plan;
 use crate::running::Report;
 use array_maps::{Maps, Store};
 use bpf_step::{LoopCall, Main, Turned};
@@ -16,6 +15,7 @@ use loop_core_law::{LoopReport, Verdict};
 use loop_core_order::law_of_filled_calls;
 use loop_run::{LoopOutcome, RunError, run_loop};
 use loop_split::{Gate, Split};
+use spec_plan::Plan;
 use std::alloc::{AllocError, Global};
 use std::thread::Threads;
 

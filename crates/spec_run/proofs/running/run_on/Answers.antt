@@ -1,11 +1,10 @@
-use Rattle.std.proofs.Common.{rules, ◌≡◌, ℤ, w64, ◌≤◌, ◌∙◌, sym, ap, subst, refl, [], ◌∷◌, ◌++◌, arith}
+use Rattle.std.proofs.Common.{rules, ◌≡◌, w64, ◌<◌, ◌≤◌, ◌^◌, sym, subst, refl, arith}
 use Rattle.std.proofs.lemmas.Grind.{common_steps}
 use Rattle.std.proofs.lemmas.Int.{ints}
 use Rattle.std.specs.Int.{cast_signed, cast_unsigned}
 use Rattle.bpf_insn_form.specs.Program.{Program}
 use Rattle.bpf_step_sound.specs.Soundness.{most_from}
 use Rattle.bpf_step.proofs.Limits.{few_steps}
-use Rattle.loop_core_law.specs.declared.verdict.Verdict.TheVariants.{Refused}
 use Rattle.loop_core_law.specs.Report.{loop_report_in_order}
 use Rattle.spec_run.proofs.CallLaws.{in_order_call, answer_kept}
 use Rattle.spec_run.proofs.Turns.{Laws, starts, exits, refuses, refusal_lessens, call_sizes, loops, loop_lessens}
@@ -41,9 +40,8 @@ loop-call-smaller-in-Continue-1 c = loop_lessens c.loop-call.invariant c.next.en
 
 pub loop-call-preserved : goal.loop-call-preserved
 loop-call-preserved c =
-    let kept : c.in-Refused.answer ≡ cast_signed w64 (cast_unsigned w64 c.in-Refused.answer) = first_of (search rules, grind (arith, common_steps), omega (arith, ints)) in
-    refuses c.loop-call.invariant c.next.ensures.program c.in-Refused.ensures.ran (λ slot answer words. refl)
-    (c.in_ok-push-in-Refused.ensures.items ∙ ap (λ (z : ℤ). c.loop-call.loops.items ++ record { slot = c.in-Refused.slot; answer = z; verdict = Refused } ∷ []) (sym kept))
+    let kept : cast_signed w64 (cast_unsigned w64 c.in-Refused.answer) ≡ c.in-Refused.answer = first_of (search rules, grind (arith, common_steps), omega (arith, ints)) in
+    refuses c.loop-call.invariant c.next.ensures.program c.in-Refused.ensures.ran (λ slot answer words. refl) kept c.in_ok-push-in-Refused.ensures.items
 
 pub loop-call-smaller : goal.loop-call-smaller
 loop-call-smaller c = refusal_lessens c.loop-call.invariant c.next.ensures.program c.in-Refused.ensures.ran

@@ -1,13 +1,12 @@
-use Rattle.std.proofs.Common.{rules, ◌≡◌, ℤ, w64, ◌≤◌, ◌∙◌, sym, ap, subst, refl, [], ◌∷◌, ◌++◌, arith}
+use Rattle.std.proofs.Common.{rules, ◌≡◌, w64, ◌<◌, ◌≤◌, ◌^◌, ◌∙◌, sym, subst, refl, arith}
 use Rattle.std.proofs.lemmas.Grind.{common_steps}
 use Rattle.std.proofs.lemmas.Int.{ints}
 use Rattle.std.specs.Int.{cast_signed, cast_unsigned}
 use Rattle.bpf_insn_form.specs.Program.{Program}
 use Rattle.bpf_step_sound.specs.Soundness.{most_from}
 use Rattle.bpf_step.proofs.Limits.{few_steps}
-use Rattle.loop_core_law.specs.declared.verdict.Verdict.TheVariants.{Refused}
 use Rattle.loop_core_law.specs.Report.{loop_report}
-use Rattle.spec_run.proofs.CallLaws.{call_by_test, answer_kept}
+use Rattle.spec_run.proofs.CallLaws.{call_by_test}
 use Rattle.spec_run.proofs.Turns.{Laws, starts, exits, refuses, refusal_lessens, call_sizes, loops, loop_lessens}
 use Rattle.spec_run.proofs.speculating.run_with.Goals as goal
 
@@ -28,23 +27,23 @@ next-requires-clause-served g c =
     (few_steps c.args.program.now c.loop-call.main.slot c.unit-unit.ensures.accepted)
 
 pub run_call-requires-clause-sizes : goal.run_call-requires-clause-sizes
-run_call-requires-clause-sizes g c κs = call_sizes c.loop-call.invariant c.in-Loop.ensures.ran
+run_call-requires-clause-sizes g c κs outlives = call_sizes c.loop-call.invariant c.in-Loop.ensures.ran
 
 pub loop-call-preserved-in-Loop : goal.loop-call-preserved-in-Loop
 loop-call-preserved-in-Loop g c =
+    let kept : cast_signed w64 (cast_unsigned w64 c.from.result) ≡ c.from.result = first_of (search rules, grind (arith, common_steps), omega (arith, ints)) in
     loops c.loop-call.invariant c.next.ensures.program c.in-Loop.ensures.ran
-    (call_by_test c.law_of_filled_calls.ensures c.loop-call.invariant.laws.sound c.in_ok-outcome.ensures)
+    (call_by_test c.law_of_filled_calls.ensures c.loop-call.invariant.laws.sound c.in_ok-outcome-in-Loop.ensures)
     c.resume.ensures.program c.resume.ensures.at c.slot.ensures
-    (answer_kept c.in_ok-outcome.outcome.answer c.from.result ? c.from.ensures) c.in_ok-push-in-Loop.ensures.items
+    (kept ∙ c.from.ensures) c.in_ok-push-in-Loop.ensures.items
 
 pub loop-call-smaller-in-Loop : goal.loop-call-smaller-in-Loop
 loop-call-smaller-in-Loop g c = loop_lessens c.loop-call.invariant c.next.ensures.program c.in-Loop.ensures.ran c.resume.ensures.at
 
 pub loop-call-preserved : goal.loop-call-preserved
 loop-call-preserved g c =
-    let kept : c.in-Refused.answer ≡ cast_signed w64 (cast_unsigned w64 c.in-Refused.answer) = first_of (search rules, grind (arith, common_steps), omega (arith, ints)) in
-    refuses c.loop-call.invariant c.next.ensures.program c.in-Refused.ensures.ran (λ slot answer words. refl)
-    (c.in_ok-push-in-Refused.ensures.items ∙ ap (λ (z : ℤ). c.loop-call.loops.items ++ record { slot = c.in-Refused.slot; answer = z; verdict = Refused } ∷ []) (sym kept))
+    let kept : cast_signed w64 (cast_unsigned w64 c.in-Refused.answer) ≡ c.in-Refused.answer = first_of (search rules, grind (arith, common_steps), omega (arith, ints)) in
+    refuses c.loop-call.invariant c.next.ensures.program c.in-Refused.ensures.ran (λ slot answer words. refl) kept c.in_ok-push-in-Refused.ensures.items
 
 pub loop-call-smaller : goal.loop-call-smaller
 loop-call-smaller g c = refusal_lessens c.loop-call.invariant c.next.ensures.program c.in-Refused.ensures.ran
