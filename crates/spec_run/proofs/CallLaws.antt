@@ -1,5 +1,5 @@
 -- What a loop call that was run tells of it.
-use Rattle.std.proofs.Common.{◌≡◌, ℕ, pos, ◌<◌, ◌^◌, ℤ, w64, List, Some, refl, ap, sym, ◌∙◌, arith}
+use Rattle.std.proofs.Common.{◌≡◌, ℕ, pos, ◌<◌, ◌^◌, ℤ, w64, Some, refl, ap, sym, ◌∙◌, arith}
 use Rattle.std.proofs.lemmas.Int.{ints}
 use Rattle.std.specs.Int.{cast_signed, cast_unsigned}
 use Rattle.array_maps.specs.MapList.{MapList}

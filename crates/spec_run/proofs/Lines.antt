@@ -4,7 +4,7 @@ use Rattle.bpf_step_model.specs.Run.{Ending, Ended, Stuck, Unfinished, mapped, f
 use Rattle.bpf_step_model.specs.ProgramInOrder.{LoopMade, Finished, with_loop}
 use Rattle.loop_core_law.specs.declared.verdict.LoopReport.{LoopReport}
 use Rattle.loop_core_law.specs.LeastBreak.{in_front_of, all_ended}
-use Rattle.loop_core_law.specs.Report.{Reported, with_lines, with_each_line, reported_with}
+use Rattle.loop_core_law.specs.Report.{Reported, with_lines, reported_with}
 
 -- the report of a program behind lines that were told before
 abbrev pub behind_lines : List LoopReport → Reported → Reported

@@ -1,5 +1,5 @@
 -- What a plan makes of a loop.
-use Rattle.std.proofs.Common.{◌≡◌, ℕ, ◌<◌, ◌≤◌, List, None, sym, ap, subst, arith}
+use Rattle.std.proofs.Common.{◌≡◌, ℕ, ◌<◌, ◌≤◌, List, None, sym, subst, arith}
 use Rattle.loop_core_blocks.specs.Split.{split_fault, even_bounds}
 use Rattle.loop_core_blocks.proofs.SplitLaws.{even_is_split}
 use Rattle.loop_run.specs.Plans.{IsLoopPlan}

@@ -5,9 +5,9 @@ use Rattle.std.specs.List.{sum}
 use Rattle.array_maps.specs.MapList.{MapList, AreWords}
 use Rattle.bpf_insn_form.specs.Program.{Program}
 use Rattle.bpf_step_model.specs.State.{Machine, LoopCall, main_entry}
-use Rattle.bpf_step_model.specs.Run.{Ending, Ended, mapped, followed, Turn, Exit, Loop, Refused, Stretch, run}
+use Rattle.bpf_step_model.specs.Run.{Ending, Ended, followed, Turn, Exit, Loop, Refused, Stretch, run}
 use Rattle.bpf_step_model.specs.LoopInOrder.{Looped, loop_in_order}
-use Rattle.bpf_step_model.specs.ProgramInOrder.{LoopMade, Finished, resumed, after_loop, after_turn, after_stretch, main_from, program_in_order}
+use Rattle.bpf_step_model.specs.ProgramInOrder.{LoopMade, resumed, after_loop, after_turn, after_stretch, main_from, program_in_order}
 use Rattle.bpf_step_sound.specs.Soundness.{IsSoundProgram, AreMapWords, IsKnown, IsKnownCall, EachProgramEnds, EachRunEnds, EndsWithin, LoopEnds, EachCountIsSmall, most_from, most_after}
 use Rattle.bpf_step.specs.declared.main_function.Turned.{Turned}
 use Rattle.bpf_step.specs.declared.main_function.Turned.TheVariants as turned

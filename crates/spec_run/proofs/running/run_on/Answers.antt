@@ -1,4 +1,4 @@
-use Rattle.std.proofs.Common.{rules, ◌≡◌, w64, ◌<◌, ◌≤◌, ◌^◌, sym, subst, refl, arith}
+use Rattle.std.proofs.Common.{rules, ◌≡◌, w64, ◌≤◌, sym, subst, refl, arith}
 use Rattle.std.proofs.lemmas.Grind.{common_steps}
 use Rattle.std.proofs.lemmas.Int.{ints}
 use Rattle.std.specs.Int.{cast_signed, cast_unsigned}
