@@ -99,6 +99,12 @@ served_as weaker none (Answered answer is zero written) = Answered answer (weake
 served_as weaker none (Out_of_memory zero written) = Out_of_memory none written
 served_as weaker none (Read_failed device one zero nothing) = absurd (omega (arith, one))
 
+-- what is served is served by the same job under another name
+pub serves_job : {old new : Option (List ℕ)} {result : Served} {reads_failed writes_failed : ℕ → Type 0} {before after : Option (List ℕ)} (job other : Job) → other ≡ job
+    → HowServed (AnswersReader job old new) result reads_failed writes_failed before after → HowServed (AnswersReader other old new) result reads_failed writes_failed before after
+serves_job {old} {new} {result} {reads_failed} {writes_failed} {before} {after} job other is served =
+    subst (λ j. HowServed (AnswersReader j old new) result reads_failed writes_failed before after) (sym is) served
+
 -- the same text by another name
 pub written_as : {wanted result : Served} {failed : ℕ → Type 0} {before after : Option (List ℕ)} (text other : List ℕ) → text ≡ other
     → HowWritten text wanted result failed before after → HowWritten other wanted result failed before after

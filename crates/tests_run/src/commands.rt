@@ -229,6 +229,7 @@ const TWO_LOOPS: &str =
 
 #[test]
 fn a_refused_growth_of_a_run_is_told(rt: HostRuntime) -> Result<(), Fail> {
-    let answer = "0 return 3\nloop 0 at 6: answer 3, parallel\nloop 1 at 12: answer 3, parallel\nmap 0: 0 6\n";
+    let answer =
+        "0 return 3\nloop 0 at 6: answer 3, parallel\nloop 1 at 12: answer 3, parallel\nmap 0: 0 6\n";
     is_told_unless_memory_is_lacking(&rt, rt.alloc(), "run", TWO_LOOPS, answer)
 }

@@ -143,7 +143,12 @@ const HEX_UNITS: &str = "
 
 #[test]
 fn refusals_are_those_of_order(rt: HostRuntime) -> Result<(), Fail> {
-    are_run(&rt, rt.alloc(), "run --hex --arg 7\norder --hex --arg 7", HEX_UNITS)
+    are_run(
+        &rt,
+        rt.alloc(),
+        "run --hex --arg 7\norder --hex --arg 7",
+        HEX_UNITS,
+    )
 }
 
 /// Each iteration writes its index to its element, and adds it to the one element of map 1.
@@ -154,7 +159,10 @@ const WRITES_AND_ADDS: &str =
 fn each_element_is_committed(rt: HostRuntime) -> Result<(), Fail> {
     let alloc = rt.alloc();
     let unit = spelled_out(alloc, WRITES_AND_ADDS)?;
-    let mut wanted = String::from_str(alloc, "0 return 4096 | loop 0 at 5: answer 4096, parallel | map 0:")?;
+    let mut wanted = String::from_str(
+        alloc,
+        "0 return 4096 | loop 0 at 5: answer 4096, parallel | map 0:",
+    )?;
     for index in 0..4096 {
         write!(wanted, " {index}")?;
     }

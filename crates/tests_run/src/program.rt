@@ -88,14 +88,7 @@ pub fn run_line<R: Threads + Sync>(
     line: &str,
     input: &[u8],
 ) -> Result<Ran, AllocError> {
-    Ok(run_on(
-        rt,
-        alloc,
-        &words_of(alloc, line)?,
-        input,
-        None,
-        None,
-    ))
+    Ok(run_on(rt, alloc, &words_of(alloc, line)?, input, None, None))
 }
 
 /// The exit status and the output, and behind `!` what was told on standard error.
