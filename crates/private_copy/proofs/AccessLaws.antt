@@ -11,11 +11,11 @@ use Rattle.loop_core_marks.specs.Flags.{kind_of, flagged}
 use Rattle.loop_core_marks.specs.declared.access.Access.{Access as Kind}
 use Rattle.loop_core_marks.specs.declared.access.Access.TheVariants.{Read as Reads}
 use Rattle.shadow_marks.specs.Iteration.{elements_of, flags_at}
+use Rattle.private_copy.specs.declared.page.Combining.{Combining}
+use Rattle.private_copy.specs.declared.page.Combining.TheVariants.{Mixed}
 use Rattle.private_copy.specs.declared.page.Cell.{Cell}
-use Rattle.private_copy.specs.declared.reduction.Reduction.{Reduction}
-use Rattle.private_copy.specs.declared.reduction.Reduction.TheVariants.{Mixed}
 use Rattle.private_copy.specs.declared.private.Private.{Private}
-use Rattle.private_copy.specs.Cells.{PlacedPages, cell_at, blank, blank_cells}
+use Rattle.private_copy.specs.Cells.{PlacedPages, cell_at, blank, blank_cells, mixed_cell, reduction_in}
 use Rattle.private_copy.specs.Reductions.{reduction_after}
 use Rattle.private_copy.specs.Copies.{last_after, Accessed}
 use Rattle.private_copy.specs.Shown.{copy_of, seen, last_in}
@@ -67,7 +67,7 @@ pub accessed : (old mid new : Private) (e : ℕ) (kind : Kind) (action : Action)
     IsAdmitted old e kind mid → IsKept mid e kept new → e < length (copy_of old).words → kind ≡ kind_of action →
     seen kept old.begun (slice_index old.start.now e) ≡ left_by action (slice_index (copy_of old).words e) →
     last_in kept ≡ last_after (last_in (cell_at old.pages e)) action (slice_index (copy_of old).words e) →
-    kept.reduction ≡ reduction_after (cell_at old.pages e).reduction action →
+    reduction_in kept ≡ reduction_after (reduction_in (cell_at old.pages e)) action →
     Accessed (copy_of old) (record { element = e; action = action }) (copy_of new)
 accessed old mid new e kind action kept admitted keeps inside is_kind sees lasts reduces =
     let begun : new.begun ≡ old.begun = keeps.begun ∙ admitted.begun in
@@ -86,35 +86,38 @@ accessed old mid new e kind action kept admitted keeps inside is_kind sees lasts
       elements = ap elements_of keeps.flags ∙ admitted.elements;
       last = ap last_in keeps.cell ∙ lasts;
       other_lasts = λ x differs. ap last_in (others x differs);
-      reduction = ap (λ (cell : Cell). cell.reduction) keeps.cell ∙ reduces;
-      other_reductions = λ x differs. ap (λ (cell : Cell). cell.reduction) (others x differs);
+      reduction = ap reduction_in keeps.cell ∙ reduces;
+      other_reductions = λ x differs. ap reduction_in (others x differs);
       pages = keeps.pages ∙ admitted.pages;
       serves = ap (λ n. n + 1) keeps.serves ∙ admitted.serves;
       under_way = keeps.under_way ∙ admitted.under_way;
       begun = begun;
     }
 
+-- what a cell that some iteration wrote keeps
+last_own : (cell : Cell) → cell.writer ≢ 0 → last_in cell ≡ Some cell.value
+last_own cell written = ap (λ (b : Bool). if b then None else Some cell.value) (ne_eqb cell.writer 0 written)
+
 -- an access that leaves a word
-pub leaves : (old mid new : Private) (e : ℕ) (kind : Kind) (action : Action) (value : ℕ) (reduction : Reduction) →
-    IsAdmitted old e kind mid → IsKept mid e (record { value = value; writer = mid.begun; reduction = reduction }) new → e < length (copy_of old).words →
-    kind ≡ kind_of action → is_write action ≡ true → value ≡ left_by action (slice_index (copy_of old).words e) →
-    reduction ≡ reduction_after (cell_at old.pages e).reduction action →
+pub leaves : (old mid new : Private) (e : ℕ) (kind : Kind) (action : Action) (kept : Cell) →
+    IsAdmitted old e kind mid → IsKept mid e kept new → e < length (copy_of old).words →
+    kind ≡ kind_of action → is_write action ≡ true → kept.writer ≡ mid.begun → kept.value ≡ left_by action (slice_index (copy_of old).words e) →
+    reduction_in kept ≡ reduction_after (reduction_in (cell_at old.pages e)) action →
     Accessed (copy_of old) (record { element = e; action = action }) (copy_of new)
-leaves old mid new e kind action value reduction admitted keeps inside is_kind writing is reduces =
+leaves old mid new e kind action kept admitted keeps inside is_kind writing own is reduces =
     let some : 0 < mid.begun = admitted.some in
-    let differ : mid.begun ≢ 0 = λ h. omega (arith, some, h) in
-    accessed old mid new e kind action (record { value = value; writer = mid.begun; reduction = reduction }) admitted keeps inside is_kind
-    (ap (λ (b : Bool). if b then value else slice_index old.start.now e) (eq-eqb mid.begun old.begun admitted.begun) ∙ is)
-    (ap (λ (b : Bool). if b then None else Some value) (ne_eqb mid.begun 0 differ) ∙ ap Some is
+    accessed old mid new e kind action kept admitted keeps inside is_kind
+    (seen_own kept old.begun (slice_index old.start.now e) (own ∙ admitted.begun) ∙ is)
+    (last_own kept (λ none. omega (arith, some, own, none)) ∙ ap Some is
     ∙ ap (λ (b : Bool). if b then Some (left_by action (slice_index (copy_of old).words e)) else last_in (cell_at old.pages e)) (sym writing))
     reduces
 
 -- an access that reads
 pub reads : (old mid new : Private) (e saw : ℕ) (cell : Cell) → IsAdmitted old e Reads mid → cell ≡ cell_at old.pages e →
-    IsKept mid e (record { value = cell.value; writer = cell.writer; reduction = Mixed }) new → e < length (copy_of old).words →
+    IsKept mid e (mixed_cell cell) new → e < length (copy_of old).words →
     Accessed (copy_of old) (record { element = e; action = Read saw }) (copy_of new)
 reads old mid new e saw cell admitted is keeps inside =
-    accessed old mid new e Reads (Read saw) (record { value = cell.value; writer = cell.writer; reduction = Mixed }) admitted keeps inside refl
+    accessed old mid new e Reads (Read saw) (mixed_cell cell) admitted keeps inside refl
     (ap (λ (c : Cell). seen c old.begun (slice_index old.start.now e)) is ∙ sym (word_is old e (in_range old e inside)))
     (ap last_in is)
     refl
@@ -133,11 +136,10 @@ words_small p k d inside =
     go false h w = w
 
 -- a cell that is mixed already is kept as it is
-pub stays_mixed : (p : Private) (e : ℕ) (cell : Cell) → cell ≡ cell_at p.pages e → cell.reduction ≡ Mixed →
-    IsKept p e (record { value = cell.value; writer = cell.writer; reduction = Mixed }) p
+pub stays_mixed : (p : Private) (e : ℕ) (cell : Cell) → cell ≡ cell_at p.pages e → cell.combining ≡ Mixed → IsKept p e (mixed_cell cell) p
 stays_mixed p e cell is mixed = record {
   start = refl;
-  cell = sym is ∙ ap (λ (r : Reduction). (let kept : Cell = record { value = cell.value; writer = cell.writer; reduction = r } in kept)) mixed;
+  cell = sym is ∙ ap (λ (c : Combining). (let kept : Cell = record { value = cell.value; combined = cell.combined; writer = cell.writer; combining = c } in kept)) mixed;
   others = λ other differs. refl;
   pages = refl;
   flags = refl;

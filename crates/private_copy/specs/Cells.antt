@@ -1,13 +1,34 @@
 -- The cells of elements, as pages keep them.
 use Rattle.std.specs.Prelude.{◌≡◌, ℕ, ◌/◌, ◌%◌, Box, List, length, replicate, slice_index_or, Option, Some, None}
 use Rattle.std.specs.declared.alloc.Global.{Global}
-use Rattle.private_copy.specs.declared.reduction.Reduction.TheVariants.{Untouched}
+use Rattle.private_copy.specs.declared.reduction.Reduction.{Reduction}
+use Rattle.private_copy.specs.declared.reduction.Reduction.TheVariants.{Untouched as NoReduction, By as ReducedBy, Mixed as MixedReduction}
+use Rattle.private_copy.specs.declared.page.Combining.{Combining}
+use Rattle.private_copy.specs.declared.page.Combining.TheVariants.{Untouched, By, Mixed}
 use Rattle.private_copy.specs.declared.page.Cell.{Cell}
 use Rattle.private_copy.specs.declared.page.Page.{Page}
 
 -- the cell of an element that wasn't accessed
 abbrev pub blank : Cell
-blank = record { value = 0; writer = 0; reduction = Untouched }
+blank = record { value = 0; combined = 0; writer = 0; combining = Untouched }
+
+-- the same cell, with a plain access of the element noted
+abbrev pub mixed_cell : Cell → Cell
+mixed_cell cell = record { value = cell.value; combined = cell.combined; writer = cell.writer; combining = Mixed }
+
+-- the cell of an element at which a plain access by the iteration of a number left a value
+abbrev pub left_cell : (value number : ℕ) → Cell
+left_cell value number = record { value = value; combined = 0; writer = number; combining = Mixed }
+
+-- what reduces combined
+abbrev pub reduction_by : Combining → ℕ → Reduction
+reduction_by Untouched combined = NoReduction
+reduction_by (By op) combined = ReducedBy op combined
+reduction_by Mixed combined = MixedReduction
+
+-- what the reduces of a cell's element combined
+abbrev pub reduction_in : Cell → Reduction
+reduction_in cell = reduction_by cell.combining cell.combined
 
 -- a page of such cells
 abbrev pub blank_cells : List Cell

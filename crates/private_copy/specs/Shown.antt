@@ -4,7 +4,7 @@ use Rattle.std.specs.List.{range_with_len}
 use Rattle.private_copy.specs.declared.page.Cell.{Cell}
 use Rattle.private_copy.specs.declared.private.Private.{Private}
 use Rattle.shadow_marks.specs.Iteration.{elements_of, IsEmptied}
-use Rattle.private_copy.specs.Cells.{cell_at}
+use Rattle.private_copy.specs.Cells.{cell_at, reduction_in}
 use Rattle.private_copy.specs.Copies.{PrivateCopy}
 
 -- what an iteration of a number sees of an element: what it wrote there, or the start word
@@ -22,7 +22,7 @@ copy_of p = record {
   words = map (λ e. seen (cell_at p.pages e) p.begun (slice_index p.start.now e)) (range_with_len 0 (length p.start.now));
   flags = p.flags;
   last = λ e. last_in (cell_at p.pages e);
-  reduction = λ e. (cell_at p.pages e).reduction;
+  reduction = λ e. reduction_in (cell_at p.pages e);
   pages = p.pages.order;
   serves = p.serves;
   under_way = p.under_way;

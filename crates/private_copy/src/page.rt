@@ -1,27 +1,103 @@
 //! A page: what is kept of 64 elements.
 
-use crate::reduction::Reduction;
+ghost use Rattle.std.specs.Prelude.{◌≡◌, true};
+ghost use Rattle.private_copy.specs.Cells.{reduction_in};
 
-/// What is kept of one element.
+use crate::reduction::Reduction;
+use array_maps::Op;
+
+/// Whether the reduces of an element are combined.
+#[derive(Clone, Copy, Debug, PartialEq, Eq)]
+pub(crate) enum Combining {
+    /// There was no access.
+    Untouched,
+    /// There were reduces by this operator alone.
+    By(Op),
+    /// There was a plain access, or there were reduces by different operators.
+    Mixed,
+}
+
+/// What is kept of one element, in 24 bytes.
 #[derive(Clone, Copy, Debug, PartialEq, Eq)]
 pub(crate) struct Cell {
     /// What the last iteration that writes the element left, where there is one.
     pub(crate) value: u64,
+    /// The operands of reduces combined, where they are.
+    pub(crate) combined: u64,
     /// The number of that iteration, from 1 on; 0 where there is none.
     pub(crate) writer: u32,
-    /// What reduces combined.
-    pub(crate) reduction: Reduction,
+    /// Whether its reduces are combined.
+    pub(crate) combining: Combining,
 }
 
 /// The cell of an element that wasn't accessed.
 pub(crate) const BLANK: Cell = Cell {
     value: 0,
+    combined: 0,
     writer: 0,
-    reduction: Reduction::Untouched,
+    combining: Combining::Untouched,
 };
 
 /// The cells of 64 elements.
 #[derive(Drop)]
 pub(crate) struct Page {
     pub(crate) cells: [Cell; 64],
+}
+
+impl Combining {
+    ghost use Rattle.private_copy.specs.declared.page.Combining.TheVariants.{Mixed};
+
+    /// Whether there was a plain access, or there were reduces by different operators.
+    #[inline]
+    pub(crate) fn is_mixed(self) -> bool
+        ensures { result ≡ true → self ≡ Mixed }
+    {
+        match self {
+            Combining::Mixed => true,
+            Combining::Untouched | Combining::By(_) => false,
+        }
+    }
+}
+
+impl Cell {
+    /// The cell of an element at which a reduce by the iteration of a number left a value.
+    #[inline]
+    pub(crate) fn after_reduce(value: u64, writer: u32, reduction: Reduction) -> Cell
+        ensures value { result.value ≡ value }
+        ensures writer { result.writer ≡ writer }
+        ensures reduction { reduction_in result ≡ reduction }
+    {
+        match reduction {
+            Reduction::Untouched => Cell {
+                value,
+                combined: 0,
+                writer,
+                combining: Combining::Untouched,
+            },
+            Reduction::By(op, combined) => Cell {
+                value,
+                combined,
+                writer,
+                combining: Combining::By(op),
+            },
+            Reduction::Mixed => Cell {
+                value,
+                combined: 0,
+                writer,
+                combining: Combining::Mixed,
+            },
+        }
+    }
+
+    /// What its reduces combined.
+    #[inline]
+    pub(crate) fn reduction(self) -> Reduction
+        ensures { result ≡ reduction_in self }
+    {
+        match self.combining {
+            Combining::Untouched => Reduction::Untouched,
+            Combining::By(op) => Reduction::By(op, self.combined),
+            Combining::Mixed => Reduction::Mixed,
+        }
+    }
 }

@@ -151,6 +151,6 @@ impl<'a> Private<'a> {
         requires { e < length (copy_of self.now).start }
         ensures { result ≡ combination ((copy_of self.now).reduction e) }
     {
-        self.pages.get(e).reduction.combination()
+        self.pages.get(e).reduction().combination()
     }
 }

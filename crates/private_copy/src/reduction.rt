@@ -1,6 +1,6 @@
 //! What the reduces of an element combined.
 
-ghost use Rattle.std.specs.Prelude.{◌≡◌, true};
+ghost use Rattle.std.specs.Prelude.{◌≡◌};
 ghost use Rattle.private_copy.specs.Reductions.{reduced, combination};
 
 use array_maps::{Op, combine};
@@ -17,8 +17,6 @@ pub enum Reduction {
 }
 
 impl Reduction {
-    ghost use Rattle.private_copy.specs.declared.reduction.Reduction.TheVariants.{Mixed};
-
     /// The same after one reduce more.
     #[inline]
     pub fn with(self, op: Op, operand: u64) -> Reduction
@@ -34,17 +32,6 @@ impl Reduction {
                 }
             }
             Reduction::Mixed => Reduction::Mixed,
-        }
-    }
-
-    /// Whether there was a plain access, or reduces by different operators.
-    #[inline]
-    pub(crate) fn is_mixed(self) -> bool
-        ensures { result ≡ true → self ≡ Mixed }
-    {
-        match self {
-            Reduction::Mixed => true,
-            Reduction::Untouched | Reduction::By(..) => false,
         }
     }
 

@@ -2,9 +2,8 @@
 
 ghost use Rattle.std.specs.Prelude.{◌≡◌, ◌/◌, ◌^◌, ◌<◌, ◌≤◌, true, length, slice_index};
 
-use crate::page::Cell;
+use crate::page::{Cell, Combining};
 use crate::private::Private;
-use crate::reduction::Reduction;
 use array_maps::{Half, Op, Part, Rmw, Store, combine, exchange, part_of, with_half};
 use loop_core_marks::Access;
 
@@ -39,11 +38,11 @@ impl<'a> Store for Private<'a> {
         let writer = self.begun;
         self.keep(
             e,
-            Cell {
-                value: combine(op, word, operand),
+            Cell::after_reduce(
+                combine(op, word, operand),
                 writer,
-                reduction: cell.reduction.with(op, operand),
-            },
+                cell.reduction().with(op, operand),
+            ),
         );
     }
 
@@ -65,8 +64,7 @@ impl<'a> Store for Private<'a> {
 
 impl<'a> Private<'a> {
     ghost use Rattle.shadow_marks.specs.Iteration.{elements_of};
-    ghost use Rattle.private_copy.specs.declared.reduction.Reduction.TheVariants.{Mixed};
-    ghost use Rattle.private_copy.specs.Cells.{cell_at};
+    ghost use Rattle.private_copy.specs.Cells.{cell_at, mixed_cell, left_cell};
     ghost use Rattle.private_copy.specs.Touched.{has_page, page_of};
     ghost use Rattle.private_copy.specs.Shown.{copy_of};
     ghost use Rattle.private_copy.specs.Steps.{IsAdmitted, IsKept};
@@ -81,6 +79,7 @@ impl<'a> Private<'a> {
         ensures word { result.1 ≡ slice_index (copy_of self.old).words e }
     {
         self.serves -= 1;
+        // Nothing is written between the steps that find the page, so the machine finds it once.
         self.flags.mark(e, kind);
         self.pages.touch(e);
         let cell = self.pages.get(e);
@@ -99,9 +98,9 @@ impl<'a> Private<'a> {
         requires within { e < length self.old.start.now }
         requires placed { has_page self.old.pages.order (page_of e) ≡ true }
         requires cell { cell ≡ cell_at self.old.pages e }
-        ensures { IsKept self.old e (record { value = cell.value; writer = cell.writer; reduction = Mixed }) self.new }
+        ensures { IsKept self.old e (mixed_cell cell) self.new }
     {
-        let mixed = cell.reduction.is_mixed();
+        let mixed = cell.combining.is_mixed();
         if mixed {
             return;
         }
@@ -109,8 +108,9 @@ impl<'a> Private<'a> {
             e,
             Cell {
                 value: cell.value,
+                combined: cell.combined,
                 writer: cell.writer,
-                reduction: Reduction::Mixed,
+                combining: Combining::Mixed,
             },
         );
     }
@@ -120,15 +120,16 @@ impl<'a> Private<'a> {
     fn leave(&mut self, e: u32, value: u64)
         requires within { e < length self.old.start.now }
         requires placed { has_page self.old.pages.order (page_of e) ≡ true }
-        ensures { IsKept self.old e (record { value = value; writer = self.old.begun; reduction = Mixed }) self.new }
+        ensures { IsKept self.old e (left_cell value self.old.begun) self.new }
     {
         let writer = self.begun;
         self.keep(
             e,
             Cell {
                 value,
+                combined: 0,
                 writer,
-                reduction: Reduction::Mixed,
+                combining: Combining::Mixed,
             },
         );
     }

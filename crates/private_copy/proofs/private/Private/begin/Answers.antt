@@ -1,6 +1,6 @@
 use Rattle.std.proofs.Common.{◌≡◌, ℕ, ap, refl, arith}
 use Rattle.private_copy.specs.declared.page.Cell.{Cell}
-use Rattle.private_copy.specs.Cells.{cell_at}
+use Rattle.private_copy.specs.Cells.{cell_at, reduction_in}
 use Rattle.private_copy.specs.Shown.{copy_of, last_in}
 use Rattle.private_copy.proofs.AccessLaws.{same_cell}
 use Rattle.private_copy.proofs.BeginLaws.{shows_start, none_flagged, begins}
@@ -17,7 +17,7 @@ returns-clause-ok c =
       flags = none_flagged old.flags (let none = old.settled c.requires.ended in omega (arith, none));
       elements = old.flagged;
       last = λ e. ap last_in (cells e);
-      reduction = λ e. ap (λ (cell : Cell). cell.reduction) (cells e);
+      reduction = λ e. ap reduction_in (cells e);
       pages = c.prepare.ensures.order;
       serves = refl;
       under_way = refl;
@@ -35,7 +35,7 @@ returns-clause-stands c runs stands =
       flags = none_flagged old.flags (let none = old.settled c.requires.ended in omega (arith, none));
       elements = old.flagged;
       last = λ e. ap last_in (cells e);
-      reduction = λ e. ap (λ (cell : Cell). cell.reduction) (cells e);
+      reduction = λ e. ap reduction_in (cells e);
       pages = c.prepare.ensures.order;
       serves = refl;
       under_way = refl;

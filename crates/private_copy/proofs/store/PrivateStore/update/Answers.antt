@@ -1,7 +1,8 @@
 use Rattle.std.proofs.Common.{◌∙◌, ap, refl}
 use Rattle.array_maps.specs.Accesses.{Reduce, combined}
 use Rattle.loop_core_marks.specs.declared.access.Access.TheVariants.{Reduce as Reduces}
-use Rattle.private_copy.specs.declared.page.Cell.{Cell}
+use Rattle.private_copy.specs.declared.reduction.Reduction.{Reduction}
+use Rattle.private_copy.specs.Cells.{reduction_in}
 use Rattle.private_copy.specs.Reductions.{reduced}
 use Rattle.private_copy.proofs.AccessLaws.{in_range, leaves}
 use Rattle.private_copy.proofs.store.PrivateStore.update.Goals as goal
@@ -11,8 +12,9 @@ admit-word-requires-clause-within c = in_range c.args.self.now c.args.e c.requir
 
 pub returns : goal.returns
 returns c = record {
-  done = leaves c.args.self.now c.admit-word.new.self c.keep.new.self c.args.e (Reduces c.args.op) (Reduce c.args.op c.args.operand) c.combine.result c.with.result
-      c.admit-word.ensures.admitted c.keep.ensures c.requires.within refl refl
-      (c.combine.ensures ∙ ap (λ w. combined c.args.op w c.args.operand) c.admit-word.ensures.word)
-      (c.with.ensures ∙ ap (λ (cell : Cell). reduced cell.reduction c.args.op c.args.operand) c.admit-word.ensures.cell);
+  done = leaves c.args.self.now c.admit-word.new.self c.keep.new.self c.args.e (Reduces c.args.op) (Reduce c.args.op c.args.operand) c.after_reduce.result
+      c.admit-word.ensures.admitted c.keep.ensures c.requires.within refl refl c.after_reduce.ensures.writer
+      (c.after_reduce.ensures.value ∙ c.combine.ensures ∙ ap (λ w. combined c.args.op w c.args.operand) c.admit-word.ensures.word)
+      (c.after_reduce.ensures.reduction ∙ c.with.ensures
+      ∙ ap (λ (r : Reduction). reduced r c.args.op c.args.operand) (c.reduction.ensures ∙ ap reduction_in c.admit-word.ensures.cell));
 }
