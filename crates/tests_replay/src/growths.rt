@@ -31,7 +31,29 @@ fn events_of(alloc: Global, row: &Row, length: u32) -> Result<Vec<Event>, AllocE
     Ok(events)
 }
 
-/// Replays a list of events by a test.
+/// Replays a list of events, by a second try where there was no memory at the first.
+fn is_still(
+    rt: &impl Abort,
+    alloc: Global,
+    stage: &Stage,
+    row: &Row,
+    events: &[Event],
+    test: Test,
+) {
+    let mut told = stage.comes_to(alloc, row, events, test);
+    if told == Err(ReplayError::Memory) {
+        assert!(rt;
+            stage.words() == row.words,
+            "a refused replay leaves the maps"
+        );
+        told = stage.comes_to(alloc, row, events, test);
+    }
+    assert!(rt;
+        told == Ok(true) && stage.words() == row.words,
+        "of {test:?}"
+    );
+}
+
 fn stand_still(
     rt: &impl Abort,
     alloc: Global,
@@ -43,18 +65,7 @@ fn stand_still(
 {
     let stage = stage_of(alloc, row).ok_or("a loop")?;
     let events = events_of(alloc, row, length)?;
-    let mut told = stage.comes_to(alloc, row, &events, test);
-    if told == Err(ReplayError::Memory) {
-        assert!(rt;
-            stage.words() == row.words,
-            "a refused replay leaves the maps"
-        );
-        told = stage.comes_to(alloc, row, &events, test);
-    }
-    assert!(rt;
-        told == Ok(true) && stage.words() == row.words,
-        "of {test:?}"
-    );
+    is_still(rt, alloc, &stage, row, &events, test);
     Ok(())
 }
 

@@ -1,6 +1,7 @@
 //! A loop at its call: the program that made it, the maps there, and its blocks.
 
-ghost use Rattle.std.specs.Prelude.{◌≡◌, IfSome};
+ghost use Rattle.std.specs.Prelude.{◌≡◌, IfSome, None};
+ghost use Rattle.loop_core_blocks.specs.Split.{split_fault};
 ghost use Rattle.bpf_step_sound.specs.Soundness.{IsKnownCall};
 
 use crate::loops::Row;
@@ -55,26 +56,44 @@ fn first_call(program: &Verified, maps: &mut Maps) -> Option<LoopCall>
     }
 }
 
+/// That call, and the split of its iterations by these bounds, unless there is no memory or something is amiss.
+fn call_and_split(
+    alloc: Global,
+    program: &Verified,
+    maps: &mut Maps,
+    bounds: &[u32],
+) -> Option<(LoopCall, Split)>
+    ensures sizes { IfSome result (λ _. maps.new.sizes ≡ program.now.sizes) }
+    ensures known { IfSome result (λ at. IsKnownCall program.now at.0) }
+    ensures split { IfSome result (λ at. split_fault at.1 at.0.n ≡ None) }
+{
+    if maps.sizes() != program.sizes() {
+        return None;
+    }
+    let call = first_call(program, maps)?;
+    let bounds = bounds.to_vec(alloc).ok()?;
+    match Split::of(bounds, call.n()) {
+        Ok(split) => Some((call, split)),
+        Err(_) => None,
+    }
+}
+
+fn maps_of(alloc: Global, words: &[u64]) -> Option<Maps> {
+    Maps::of(alloc, &[words.to_vec(alloc).ok()?]).ok()
+}
+
 impl Stage {
     /// The first loop of a row's unit, unless there is no memory or the row is amiss.
     pub fn try_new(alloc: Global, row: &Row) -> Option<Stage> {
         let program = program_of(alloc, row.unit)?;
-        let words = row.words.to_vec(alloc).ok()?;
-        let mut maps = Maps::of(alloc, &[words]).ok()?;
-        if maps.sizes() != program.sizes() {
-            return None;
-        }
-        let call = first_call(&program, &mut maps)?;
-        let bounds = row.bounds.to_vec(alloc).ok()?;
-        match Split::of(bounds, call.n()) {
-            Ok(split) => Some(Stage {
-                program,
-                call,
-                maps,
-                split,
-            }),
-            Err(_) => None,
-        }
+        let mut maps = maps_of(alloc, row.words)?;
+        let (call, split) = call_and_split(alloc, &program, &mut maps, row.bounds)?;
+        Some(Stage {
+            program,
+            call,
+            maps,
+            split,
+        })
     }
 
     /// The words of the maps.
