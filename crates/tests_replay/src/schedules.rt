@@ -1,0 +1,81 @@
+//! Every schedule of two workers, found by trying each event that is enabled.
+
+ghost use Rattle.std.specs.Prelude.{◌≤◌};
+
+use crate::loops::{A_BREAK_THAT_IS_NONE, AN_EARLY_BREAK, Row};
+use crate::stage::Stage;
+use crate::table::Table;
+use loop_core_law::Test;
+use loop_event::Event;
+use std::alloc::{AllocError, Global};
+use std::process::Abort;
+use std::test::Fail;
+
+/// Has workers 0 and 1 go on as the bits of a word say, the lowest first, and tells whether they have ended then. Where one
+/// of them should go on that has stopped they haven't.
+pub fn goes_on(
+    row: &Row,
+    word: u32,
+    length: u32,
+    events: &mut Vec<Event>,
+) -> Result<bool, AllocError>
+    requires { length ≤ 17 }
+{
+    let mut table = Table::new(row.bounds, row.breaks);
+    events.clear();
+    for place in 0..length {
+        let worker = (word >> place & 1) as u8;
+        let Some(kind) = table.enabled(worker) else {
+            return Ok(false);
+        };
+        events.push(Event { kind, worker })?;
+        table.go_on(worker);
+    }
+    Ok(table.has_ended())
+}
+
+/// Replays each list that has ended, asserts what it comes to, and tells how many there are. None is longer than 17 events:
+/// three for each of four blocks, a post, and a claim and a stop of each worker.
+fn schedules_agree(rt: &impl Abort, alloc: Global, row: &Row, test: Test) -> Result<u32, Fail> {
+    let stage = Stage::try_new(alloc, row).ok_or("a loop")?;
+    let mut events = Vec::new(alloc);
+    let mut ended = 0u32;
+    for length in 0..18 {
+        for word in 0..1 << length {
+            if goes_on(row, word, length, &mut events)? {
+                ended = ended.saturating_add(1);
+                let told = stage.comes_to(alloc, row, &events, test);
+                assert!(rt; told == Ok(true), "of {events:?}");
+            }
+        }
+    }
+    Ok(ended)
+}
+
+#[test]
+fn schedules_of_a_conflict_agree_by_flow(rt: HostRuntime) -> Result<(), Fail> {
+    let ended = schedules_agree(&rt, rt.alloc(), &A_BREAK_THAT_IS_NONE, Test::Flow)?;
+    assert_eq!(rt; ended, 27_498);
+    Ok(())
+}
+
+#[test]
+fn schedules_of_a_conflict_agree_by_pairs(rt: HostRuntime) -> Result<(), Fail> {
+    let ended = schedules_agree(&rt, rt.alloc(), &A_BREAK_THAT_IS_NONE, Test::Lrpd)?;
+    assert_eq!(rt; ended, 27_498);
+    Ok(())
+}
+
+#[test]
+fn schedules_with_skipped_blocks_agree_by_flow(rt: HostRuntime) -> Result<(), Fail> {
+    let ended = schedules_agree(&rt, rt.alloc(), &AN_EARLY_BREAK, Test::Flow)?;
+    assert_eq!(rt; ended, 17_430);
+    Ok(())
+}
+
+#[test]
+fn schedules_with_skipped_blocks_agree_by_pairs(rt: HostRuntime) -> Result<(), Fail> {
+    let ended = schedules_agree(&rt, rt.alloc(), &AN_EARLY_BREAK, Test::Lrpd)?;
+    assert_eq!(rt; ended, 17_430);
+    Ok(())
+}
