@@ -79,7 +79,7 @@ impl<'a> Private<'a> {
         ensures word { result.1 ≡ slice_index (copy_of self.old).words e }
     {
         self.serves -= 1;
-        // Nothing is written between the steps that find the page, so the machine finds it once.
+        // The mark comes first: nothing is written then between two looks at the table of pages.
         self.flags.mark(e, kind);
         self.pages.touch(e);
         let cell = self.pages.get(e);
