@@ -1,2 +1,3 @@
+pub mod CommitLaws
 pub mod PlanLaws
 pub mod WorkerLaws

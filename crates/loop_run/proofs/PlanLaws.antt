@@ -1,6 +1,6 @@
 -- Which splits are of a loop's iterations.
-use Rattle.std.proofs.Common.{◌≡◌, ℕ, ◌<◌, ◌≤◌, List, None, sym, ◌∙◌, subst}
-use Rattle.loop_core_blocks.specs.Split.{last_bound, split_fault}
+use Rattle.std.proofs.Common.{◌≡◌, ℕ, ◌≤◌, List, None, sym, ◌∙◌, subst}
+use Rattle.loop_core_blocks.specs.Split.{split_fault}
 use Rattle.loop_core_schedule.proofs.SplitLaws.{faultless}
 use Rattle.loop_run.specs.Plans.{IsLoopPlan}
 

@@ -1,7 +1,8 @@
 //! A loop call by several workers: each in a thread of its own, over one board; what they ran is gathered, and
-//! committed, or the loop is run in order.
+//! committed by several threads, or the loop is run in order.
 #![tactic(auto)]
 
+mod committing;
 mod error;
 mod looping;
 mod worker;

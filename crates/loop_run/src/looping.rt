@@ -5,6 +5,7 @@ ghost use Rattle.bpf_step_sound.specs.Soundness.{IsKnownCall};
 ghost use Rattle.loop_gather.specs.Gathered.{Tells, IsOutcome};
 ghost use Rattle.loop_run.specs.Plans.{IsLoopPlan};
 
+use crate::committing::settle_in_threads;
 use crate::error::RunError;
 use crate::worker::run_workers;
 use array_maps::Maps;
@@ -12,7 +13,7 @@ use bpf_step::LoopCall;
 use bpf_verify::Verified;
 use loop_board::Board;
 use loop_core_law::Test;
-use loop_gather::{GatherError, Gathered, LoopOutcome, gather, settle};
+use loop_gather::{GatherError, Gathered, LoopOutcome, gather};
 use loop_split::{Gate, Split};
 use loop_work::law_of_workers;
 use std::alloc::Global;
@@ -84,16 +85,16 @@ fn outcome_of<R: Threads + Sync, G: Gate>(
         Err(refused) => return Err(refused),
         Ok(gathered) => gathered,
     };
-    match settle(alloc, program, call, start, &gathered, test) {
+    match settle_in_threads(rt, alloc, program, call, start, &gathered, test, gate) {
         Err(_) => Err(RunError::Memory),
         Ok(outcome) => Ok(outcome),
     }
 }
 
 /// Runs a loop call that main of this program made, from these maps, by so many workers, each in a thread of its
-/// own, over the blocks of a split. A loop that passes the test is committed on a copy of the maps, any other is
-/// run in order on one. It waits for its threads. Where one can't be started, the others do its share; where the
-/// gate holds nobody, a short loop is run by the calling thread alone.
+/// own, over the blocks of a split. A loop that passes the test is committed on a copy of the maps, by several threads
+/// where it has many elements; any other is run in order on one. It waits for its threads. Where one can't be started,
+/// the others do its share; where the gate holds nobody, a short loop is run by the calling thread alone.
 ///
 /// It fails with `Sizes` (P1) where the maps' sizes differ from the program's; else with `Plan` (P2) where the
 /// workers aren't 1 to 16 or the split isn't of the call's iterations; and with `Memory`.

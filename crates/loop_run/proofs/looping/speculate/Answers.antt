@@ -1,4 +1,4 @@
-use Rattle.std.proofs.Common.{◌≡◌, ◌<◌, Err, map, vec_len, ◌∙◌, ap, rules, arith}
+use Rattle.std.proofs.Common.{◌<◌, Err, map, vec_len, ◌∙◌, ap, rules, arith}
 use Rattle.std.proofs.lemmas.Grind.{common_steps}
 use Rattle.loop_core_blocks.specs.Gather.{gather_fault}
 use Rattle.loop_block.specs.Ran.{as_gathered, IsRunOf}

@@ -1,4 +1,4 @@
-use Rattle.std.proofs.Common.{◌≡◌, ◌≤◌, ◌-◌, ℕ, List, All, IfOk, map, vec_len}
+use Rattle.std.proofs.Common.{◌≤◌, ◌-◌, ℕ, List, All, IfOk, map, vec_len}
 use Rattle.bpf_insn_form.specs.Program.{Program}
 use Rattle.bpf_step_model.specs.State.{LoopCall}
 use Rattle.loop_core_law.specs.declared.loop_test.Test.{Test}
