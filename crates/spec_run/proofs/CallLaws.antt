@@ -1,7 +1,5 @@
 -- What a loop call that was run tells of it.
-use Rattle.std.proofs.Common.{◌≡◌, ℕ, pos, ◌<◌, ◌^◌, ℤ, w64, Some, refl, ap, sym, ◌∙◌, arith}
-use Rattle.std.proofs.lemmas.Int.{ints}
-use Rattle.std.specs.Int.{cast_signed, cast_unsigned}
+use Rattle.std.proofs.Common.{◌≡◌, ℕ, pos, Some, refl, ap, sym, ◌∙◌}
 use Rattle.array_maps.specs.MapList.{MapList}
 use Rattle.bpf_insn_form.specs.Program.{Program}
 use Rattle.bpf_step_model.specs.State.{LoopCall}
@@ -67,7 +65,3 @@ call_by_test {test} {program} {call} {start} {left} {answer} {told_verdict} one_
           ap (mapped (line (record { slot = made.slot; answer = pos answer; words = start.words; call = Some made })))
           (sym ((one_loop program sound made call filled known start.words fit).judges test) ∙ both.judged);
     }
-
--- a number of 32 bits is kept as a signed one of 64
-pub answer_kept : (n : ℕ) (z : ℤ) → n < 2 ^ 32 → z ≡ pos n → cast_signed w64 (cast_unsigned w64 z) ≡ pos n
-answer_kept n z small is = grind (arith, ints)

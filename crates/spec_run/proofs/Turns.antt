@@ -144,6 +144,10 @@ NextTurn main now turn after new = (m : Machine) → IsAt main m → RanMain wor
 
 module _ {line_of : LoopMade → Ending LoopReport} {whole : Ending Reported} {program : Program} {main : MainOf} {first now : MapList} {lines : List LoopReport}
     (still : StillRuns line_of whole program main first now lines) where
+  -- main takes at most so many instructions more
+  pub few_left : most_from main.program main.slot ≤ 4096
+  few_left = subst (λ (p : Program). most_from p main.slot ≤ 4096) (sym still.same) (few_steps program main.slot still.laws.sound.accepted)
+
   came : (after : MainOf) (new : MapList) (turn : Turned) → after.program ≡ main.program → (ran : RanMain words_of map_effect still.m now turn after new)
       → Came line_of whole program main.slot ran.stretch.turn new.words lines
   came after new turn same ran =

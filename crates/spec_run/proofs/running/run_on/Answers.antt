@@ -1,13 +1,8 @@
-use Rattle.std.proofs.Common.{rules, ◌≡◌, w64, ◌≤◌, sym, subst, refl, arith}
-use Rattle.std.proofs.lemmas.Grind.{common_steps}
-use Rattle.std.proofs.lemmas.Int.{ints}
-use Rattle.std.specs.Int.{cast_signed, cast_unsigned}
-use Rattle.bpf_insn_form.specs.Program.{Program}
-use Rattle.bpf_step_sound.specs.Soundness.{most_from}
-use Rattle.bpf_step.proofs.Limits.{few_steps}
+use Rattle.std.proofs.Common.{rules, w64, ◌∙◌, refl}
+use Rattle.std.proofs.lemmas.Int.{to_z-of_z}
 use Rattle.loop_core_law.specs.Report.{loop_report_in_order}
-use Rattle.spec_run.proofs.CallLaws.{in_order_call, answer_kept}
-use Rattle.spec_run.proofs.Turns.{Laws, starts, exits, refuses, refusal_lessens, call_sizes, loops, loop_lessens}
+use Rattle.spec_run.proofs.CallLaws.{in_order_call}
+use Rattle.spec_run.proofs.Turns.{Laws, starts, few_left, exits, refuses, refusal_lessens, call_sizes, loops, loop_lessens}
 use Rattle.spec_run.proofs.running.run_on.Goals as goal
 
 pub loop-call-init : goal.loop-call-init
@@ -22,9 +17,7 @@ loop-call-init c =
     c.requires c.sizes-sizes.ensures.words c.words_fit.ensures c.new-loops.ensures.items
 
 pub next-requires-clause-served : goal.next-requires-clause-served
-next-requires-clause-served c =
-    subst (λ (program : Program). most_from program c.loop-call.main.slot ≤ 4096) (sym c.loop-call.invariant.same)
-    (few_steps c.args.program.now c.loop-call.main.slot c.unit-unit.ensures.accepted)
+next-requires-clause-served c = few_left c.loop-call.invariant
 
 pub in_order-answer-requires-clause-sizes : goal.in_order-answer-requires-clause-sizes
 in_order-answer-requires-clause-sizes c = call_sizes c.loop-call.invariant c.in-Loop.ensures.ran
@@ -33,15 +26,15 @@ pub loop-call-preserved-in-Continue-1 : goal.loop-call-preserved-in-Continue-1
 loop-call-preserved-in-Continue-1 c =
     loops c.loop-call.invariant c.next.ensures.program c.in-Loop.ensures.ran (in_order_call c.in_order-answer.ensures)
     c.resume.ensures.program c.resume.ensures.at c.slot.ensures
-    (answer_kept c.in_order-answer.result c.from.result c.in_order-answer.type_inv c.from.ensures) c.in_ok-push-in-Loop.ensures.items
+    (to_z-of_z w64 c.from.result (search rules) ∙ c.from.ensures) c.in_ok-push-in-Loop.ensures.items
 
 pub loop-call-smaller-in-Continue-1 : goal.loop-call-smaller-in-Continue-1
 loop-call-smaller-in-Continue-1 c = loop_lessens c.loop-call.invariant c.next.ensures.program c.in-Loop.ensures.ran c.resume.ensures.at
 
 pub loop-call-preserved : goal.loop-call-preserved
 loop-call-preserved c =
-    let kept : cast_signed w64 (cast_unsigned w64 c.in-Refused.answer) ≡ c.in-Refused.answer = first_of (search rules, grind (arith, common_steps), omega (arith, ints)) in
-    refuses c.loop-call.invariant c.next.ensures.program c.in-Refused.ensures.ran (λ slot answer words. refl) kept c.in_ok-push-in-Refused.ensures.items
+    refuses c.loop-call.invariant c.next.ensures.program c.in-Refused.ensures.ran (λ slot answer words. refl)
+    (to_z-of_z w64 c.in-Refused.answer (search rules)) c.in_ok-push-in-Refused.ensures.items
 
 pub loop-call-smaller : goal.loop-call-smaller
 loop-call-smaller c = refusal_lessens c.loop-call.invariant c.next.ensures.program c.in-Refused.ensures.ran

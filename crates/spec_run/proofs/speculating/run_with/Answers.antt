@@ -1,13 +1,8 @@
-use Rattle.std.proofs.Common.{rules, ◌≡◌, w64, ◌≤◌, ◌∙◌, sym, subst, refl, arith}
-use Rattle.std.proofs.lemmas.Grind.{common_steps}
-use Rattle.std.proofs.lemmas.Int.{ints}
-use Rattle.std.specs.Int.{cast_signed, cast_unsigned}
-use Rattle.bpf_insn_form.specs.Program.{Program}
-use Rattle.bpf_step_sound.specs.Soundness.{most_from}
-use Rattle.bpf_step.proofs.Limits.{few_steps}
+use Rattle.std.proofs.Common.{rules, w64, ◌∙◌, refl}
+use Rattle.std.proofs.lemmas.Int.{to_z-of_z}
 use Rattle.loop_core_law.specs.Report.{loop_report}
 use Rattle.spec_run.proofs.CallLaws.{call_by_test}
-use Rattle.spec_run.proofs.Turns.{Laws, starts, exits, refuses, refusal_lessens, call_sizes, loops, loop_lessens}
+use Rattle.spec_run.proofs.Turns.{Laws, starts, few_left, exits, refuses, refusal_lessens, call_sizes, loops, loop_lessens}
 use Rattle.spec_run.proofs.speculating.run_with.Goals as goal
 
 pub loop-call-init : goal.loop-call-init
@@ -22,28 +17,25 @@ loop-call-init g c =
     c.requires.sizes c.sizes-sizes.ensures.words c.words_fit.ensures c.new-loops.ensures.items
 
 pub next-requires-clause-served : goal.next-requires-clause-served
-next-requires-clause-served g c =
-    subst (λ (program : Program). most_from program c.loop-call.main.slot ≤ 4096) (sym c.loop-call.invariant.same)
-    (few_steps c.args.program.now c.loop-call.main.slot c.unit-unit.ensures.accepted)
+next-requires-clause-served g c = few_left c.loop-call.invariant
 
 pub run_call-requires-clause-sizes : goal.run_call-requires-clause-sizes
 run_call-requires-clause-sizes g c κs outlives = call_sizes c.loop-call.invariant c.in-Loop.ensures.ran
 
 pub loop-call-preserved-in-Loop : goal.loop-call-preserved-in-Loop
 loop-call-preserved-in-Loop g c =
-    let kept : cast_signed w64 (cast_unsigned w64 c.from.result) ≡ c.from.result = first_of (search rules, grind (arith, common_steps), omega (arith, ints)) in
     loops c.loop-call.invariant c.next.ensures.program c.in-Loop.ensures.ran
     (call_by_test c.law_of_filled_calls.ensures c.loop-call.invariant.laws.sound c.in_ok-outcome-in-Loop.ensures)
     c.resume.ensures.program c.resume.ensures.at c.slot.ensures
-    (kept ∙ c.from.ensures) c.in_ok-push-in-Loop.ensures.items
+    (to_z-of_z w64 c.from.result (search rules) ∙ c.from.ensures) c.in_ok-push-in-Loop.ensures.items
 
 pub loop-call-smaller-in-Loop : goal.loop-call-smaller-in-Loop
 loop-call-smaller-in-Loop g c = loop_lessens c.loop-call.invariant c.next.ensures.program c.in-Loop.ensures.ran c.resume.ensures.at
 
 pub loop-call-preserved : goal.loop-call-preserved
 loop-call-preserved g c =
-    let kept : cast_signed w64 (cast_unsigned w64 c.in-Refused.answer) ≡ c.in-Refused.answer = first_of (search rules, grind (arith, common_steps), omega (arith, ints)) in
-    refuses c.loop-call.invariant c.next.ensures.program c.in-Refused.ensures.ran (λ slot answer words. refl) kept c.in_ok-push-in-Refused.ensures.items
+    refuses c.loop-call.invariant c.next.ensures.program c.in-Refused.ensures.ran (λ slot answer words. refl)
+    (to_z-of_z w64 c.in-Refused.answer (search rules)) c.in_ok-push-in-Refused.ensures.items
 
 pub loop-call-smaller : goal.loop-call-smaller
 loop-call-smaller g c = refusal_lessens c.loop-call.invariant c.next.ensures.program c.in-Refused.ensures.ran
