@@ -1,3 +1,2 @@
 pub mod CommitLaws
-pub mod PlanLaws
 pub mod WorkerLaws
