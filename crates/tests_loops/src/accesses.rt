@@ -5,7 +5,6 @@ ghost use Rattle.private_copy.specs.Shown.{copy_of};
 
 use array_maps::{Half, Op, Part, Rmw, Store};
 use private_copy::Private;
-use std::test::Fail;
 
 /// What an access does at its element.
 #[derive(Clone, Copy)]
@@ -30,111 +29,76 @@ pub struct Step {
     pub told: u64,
 }
 
-/// The words of an access, parted by single spaces.
-#[derive(Drop)]
-struct Words<'a> {
-    rest: &'a str,
-}
-
-impl<'a> Words<'a> {
-    /// The next word; empty where none is left.
-    fn word(&mut self) -> &'a str {
-        let (word, rest) = self.rest.split_once(' ').unwrap_or((self.rest, ""));
-        self.rest = rest;
-        word
-    }
-
-    /// The next number; 0 where none is left.
-    fn number(&mut self) -> Result<u64, Fail> {
-        match self.word() {
-            "" => Ok(0),
-            word => Ok(word.parse::<u64>()?),
-        }
-    }
-
-    /// The next number of 32 bits.
-    fn small(&mut self) -> Result<u32, Fail> {
-        Ok(self.word().parse::<u32>()?)
-    }
-
-    /// The number behind `=`; 0 where there is none.
-    fn told(&mut self) -> Result<u64, Fail> {
-        self.word();
-        self.number()
+/// A number; 0 where there is none.
+fn number_of(word: Option<&str>) -> Option<u64> {
+    match word {
+        None => Some(0),
+        Some(word) => word.parse::<u64>().ok(),
     }
 }
 
-/// The operator of a name.
-fn op_of(name: &str) -> Result<Op, Fail> {
+fn op_of(name: &str) -> Option<Op> {
     match name {
-        "add" => Ok(Op::Add),
-        "or" => Ok(Op::Or),
-        "and" => Ok(Op::And),
-        "xor" => Ok(Op::Xor),
-        "addh" => Ok(Op::AddH),
-        _ => Err(Fail::new("an operator has a name")),
+        "add" => Some(Op::Add),
+        "or" => Some(Op::Or),
+        "and" => Some(Op::And),
+        "xor" => Some(Op::Xor),
+        "addh" => Some(Op::AddH),
+        _ => None,
     }
 }
 
-/// The part of a name.
-fn part_of(name: &str) -> Result<Part, Fail> {
+fn rmw_of(name: &str) -> Option<Rmw> {
     match name {
-        "whole" => Ok(Part::Whole),
-        "low" => Ok(Part::Half(Half::Low)),
-        "high" => Ok(Part::Half(Half::High)),
-        _ => Err(Fail::new("a part has a name")),
+        "xchg" => Some(Rmw::Xchg),
+        "cmpxchg" => Some(Rmw::CmpXchg),
+        _ => Some(Rmw::Op(op_of(name)?)),
     }
 }
 
-/// An access that tells what was there, behind its first word.
-fn fetch_of(rmw: Rmw, words: &mut Words) -> Result<Step, Fail> {
-    let part = part_of(words.word())?;
-    let e = words.small()?;
-    let value = words.number()?;
-    let compare = if rmw == Rmw::CmpXchg {
-        words.number()?
-    } else {
-        0
-    };
-    Ok(Step {
-        e,
-        change: Change::Fetch {
-            part,
-            rmw,
-            value,
-            compare,
+fn part_of(name: &str) -> Option<Part> {
+    match name {
+        "whole" => Some(Part::Whole),
+        "low" => Some(Part::Half(Half::Low)),
+        "high" => Some(Part::Half(Half::High)),
+        _ => None,
+    }
+}
+
+/// What a name says. One with the part of an element tells what was there.
+fn change_of(name: &str, value: u64, compare: u64) -> Option<Change> {
+    match name {
+        "load" => Some(Change::Load),
+        "store" => Some(Change::Store(value)),
+        "low" => Some(Change::StoreHalf(Half::Low, u32::try_from(value).ok()?)),
+        "high" => Some(Change::StoreHalf(Half::High, u32::try_from(value).ok()?)),
+        _ => match name.split_once('-') {
+            None => Some(Change::Update(op_of(name)?, value)),
+            Some((name, part)) => Some(Change::Fetch {
+                part: part_of(part)?,
+                rmw: rmw_of(name)?,
+                value,
+                compare,
+            }),
         },
-        told: words.told()?,
-    })
+    }
 }
 
-/// An access, as `load 3 = 9`, `store 3 9`, `add 3 9`, `low 3 9`, `fetch add high 3 9 = 1`, `xchg whole 3 9 = 1` or
-/// `cmpxchg low 3 9 1 = 1`: the element stands before the operands, and what is compared behind the value.
-pub fn step_of(text: &str) -> Result<Step, Fail> {
-    let mut words = Words { rest: text.trim() };
-    match words.word() {
-        "fetch" => {
-            let op = op_of(words.word())?;
-            fetch_of(Rmw::Op(op), &mut words)
-        }
-        "xchg" => fetch_of(Rmw::Xchg, &mut words),
-        "cmpxchg" => fetch_of(Rmw::CmpXchg, &mut words),
-        name => {
-            let e = words.small()?;
-            let change = match name {
-                "load" => Change::Load,
-                "store" => Change::Store(words.number()?),
-                "low" => Change::StoreHalf(Half::Low, words.small()?),
-                "high" => Change::StoreHalf(Half::High, words.small()?),
-                _ => Change::Update(op_of(name)?, words.number()?),
-            };
-            Ok(Step {
-                e,
-                change,
-                told: words.told()?,
-            })
-        }
-    }
+/// An access, as `load 3 = 9`, `store 3 9`, `add 3 9`, `low 3 9`, `add-high 3 9 = 1`, `xchg-whole 3 9 = 1` or
+/// `cmpxchg-low 3 9 1 = 1`: behind the name stand the element, its operand and what is compared with it, and behind `=`
+/// what is told.
+pub fn step_of(text: &str) -> Option<Step> {
+    let (access, told) = text.split_once('=').unwrap_or((text, "0"));
+    let mut words = access.split_ascii_whitespace();
+    let name = words.next()?;
+    let e = u32::try_from(number_of(words.next())?).ok()?;
+    let value = number_of(words.next())?;
+    let compare = number_of(words.next())?;
+    Some(Step {
+        e,
+        change: change_of(name, value, compare)?,
+        told: number_of(Some(told.trim()))?,
+    })
 }
 
 /// Makes an access of an element, and tells what it tells; 0 where it tells nothing.

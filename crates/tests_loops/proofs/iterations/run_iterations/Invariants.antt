@@ -4,7 +4,7 @@ use Rattle.tests_loops.specs.Resting.{Rests}
 use Rattle.tests_loops.proofs.iterations.run_iterations.Given as goal
 
 abbrev pub invariant-loop-iteration : goal.invariant-loop-iteration
-invariant-loop-iteration g l = record {
+invariant-loop-iteration l = record {
   rests : Rests l.copy l.planes l.index;
   few : l.index ≤ 1000;
   start : (copy_of l.copy).start ≡ (copy_of l.fn.copy).start;
