@@ -4,6 +4,10 @@ use Rattle.std.specs.Cmp.Lexicographic.{pointwise, same_text}
 use Rattle.std.specs.List.{concat}
 use Rattle.array_maps.specs.MapList.{lengths}
 use Rattle.bpf_insn_form.specs.Limits.{AreSizes, sizes_fit}
+use Rattle.bpf_insn_form.specs.Program.{Program}
+use Rattle.bpf_step_model.specs.Run.{Ending, Ended}
+use Rattle.loop_core_law.specs.Report.{Reported}
+use Rattle.bpfspec_answers.specs.ReportText.{report_text}
 use Rattle.std.specs.Prelude.{nat_lt, nat_le}
 use Rattle.std.specs.Str.{IsUtf8, is_utf8}
 use Rattle.std.proofs.lemmas.Bool.Decides.{nat_tests}
@@ -18,7 +22,7 @@ use Rattle.bpfspec_serve.specs.declared.answer_error.AnswerError.TheVariants as 
 use Rattle.bpfspec_serve.specs.declared.serving.Served.{Served}
 use Rattle.bpfspec_command_line.specs.declared.job.Job.{Job}
 use Rattle.std.proofs.lemmas.List.{take_all, length-take}
-use Rattle.bpfspec_serve.specs.Output.{refused, readable, fitting, OfReadable, OfInput, Answer, Answers, Met, Tells}
+use Rattle.bpfspec_serve.specs.Output.{refused, readable, fitting, OfReadable, OfInput, Answer, Answers, IsPrinted, Met, Tells}
 
 -- an input that isn't too long
 short : (input : List ℕ) → length input ≤ 3145728 → readable input
@@ -67,6 +71,11 @@ enough n input behind false long =
 -- one byte past the limit tells as much of an input as all of them
 reads_enough : (n : ℕ) (input : List ℕ) → 3145728 < n → readable (take n input) ≡ readable input
 reads_enough n input behind = enough n input behind (nat_le (length input) n) refl
+
+-- what is reported of a program, on maps of its sizes, is printed
+pub printed : (program : Program) (reported : Ending Reported) (told : Reported) (sizes text : List ℕ) → reported ≡ Ended told → sizes ≡ program.sizes
+    → text ≡ report_text sizes told → IsPrinted program reported (Ok text)
+printed program reported told sizes text same fits is = (told, same, ap Ok (is ∙ ap (λ (s : List ℕ). report_text s told) fits))
 
 -- the answer to the bytes that were read is the answer to all that the reader had left
 pub answers_reader : (job : Job) (old new : Option (List ℕ)) (read : List ℕ) (answer : Answer) → IfSome old (λ bytes. read ≡ take 3145729 bytes)
