@@ -1,2 +1,3 @@
 pub mod CommitLaws
+pub mod WholeLaws
 pub mod WorkerLaws

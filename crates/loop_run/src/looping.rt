@@ -1,16 +1,21 @@
 //! Running a loop.
 
-ghost use Rattle.std.specs.Prelude.{◌≡◌, ◌≢◌, ◌↔◌, Err, IsTrue, IfOk, IfErr};
+ghost use Rattle.std.specs.Prelude.{◌≡◌, ◌≢◌, ◌↔◌, None, Err, IsTrue, All, map, IfOk, IfErr};
 ghost use Rattle.bpf_step_sound.specs.Soundness.{IsKnownCall};
-ghost use Rattle.loop_gather.specs.Gathered.{Tells, IsOutcome};
+ghost use Rattle.loop_core_blocks.specs.Split.{split_fault};
+ghost use Rattle.loop_core_blocks.specs.Gather.{gather_fault};
+ghost use Rattle.loop_block.specs.Ran.{IsRunOf};
+ghost use Rattle.loop_block.specs.Shown.{shown};
+ghost use Rattle.loop_gather.specs.Gathered.{all_gathered, Tells, IsOutcome};
 ghost use Rattle.loop_run.specs.Plans.{IsLoopPlan};
 
 use crate::committing::settle_in_threads;
 use crate::error::RunError;
-use crate::worker::run_workers;
+use crate::worker::{is_worth_threads, run_whole, run_workers};
 use array_maps::Maps;
 use bpf_step::LoopCall;
 use bpf_verify::Verified;
+use loop_block::Block;
 use loop_board::Board;
 use loop_core_law::Test;
 use loop_gather::{GatherError, Gathered, LoopOutcome, gather};
@@ -26,6 +31,53 @@ fn is_loop_plan(workers: u32, split: &Split, n: u32) -> bool
     ensures { IsTrue result ↔ IsLoopPlan workers split.now n }
 {
     (1..=MOST_WORKERS).contains(&workers) && split.iterations() == n
+}
+
+/// Gathers the blocks of a loop, all of which are there. Only memory may be lacking.
+fn gather_all<'a>(
+    alloc: Global,
+    program: &Verified,
+    call: &LoopCall,
+    start: &'a Maps,
+    split: &Split,
+    blocks: Vec<Block<'a>>,
+    test: Test,
+) -> Result<Gathered<'a>, RunError>
+    requires known { IsKnownCall program.now call.now }
+    requires sizes { start.now.sizes ≡ program.now.sizes }
+    requires split { split_fault split.now call.now.n ≡ None }
+    requires ran { All (λ b. IsRunOf test program.now call.now start.now.words (shown b)) blocks.items }
+    requires faultless { gather_fault split.now (all_gathered program.now call.now start.now.words (map shown blocks.items)) ≡ None }
+    ensures told { IfOk result (Tells test program.now call.now start.now.words) }
+    ensures refused { IfErr result (λ e. e ≡ RunError.Memory) }
+{
+    match gather(alloc, program, call, start, split, blocks, test) {
+        Ok(gathered) => Ok(gathered),
+        Err(GatherError::Fault(_)) => unreachable!(),
+        Err(GatherError::Memory) => Err(RunError::Memory),
+    }
+}
+
+/// Runs a loop in the calling thread, as one block, and gathers it.
+#[tactic(auto, using(crate::proofs::WholeLaws::whole_is, crate::proofs::WholeLaws::whole_split))]
+fn speculate_alone<'a, G: Gate>(
+    alloc: Global,
+    program: &Verified,
+    call: &LoopCall,
+    start: &'a Maps,
+    test: Test,
+    gate: &G,
+) -> Result<Gathered<'a>, RunError>
+    requires known { IsKnownCall program.now call.now }
+    requires sizes { start.now.sizes ≡ program.now.sizes }
+    ensures told { IfOk result (Tells test program.now call.now start.now.words) }
+    ensures refused { IfErr result (λ e. e ≡ RunError.Memory) }
+{
+    let Ok(whole) = Split::even(call.n(), 1) else {
+        unreachable!()
+    };
+    let blocks = run_whole(alloc, program, call, start, &whole, test, gate)?;
+    gather_all(alloc, program, call, start, &whole, blocks, test)
 }
 
 /// Runs the blocks of a loop by its workers, and gathers them.
@@ -56,11 +108,7 @@ fn speculate<'a, R: Threads + Sync, G: Gate>(
     let Ok(_tally) = board.gather(seats) else {
         unreachable!()
     };
-    match gather(alloc, program, call, start, split, blocks, test) {
-        Ok(gathered) => Ok(gathered),
-        Err(GatherError::Fault(_)) => unreachable!(),
-        Err(GatherError::Memory) => Err(RunError::Memory),
-    }
+    gather_all(alloc, program, call, start, split, blocks, test)
 }
 
 /// What a loop comes to whose plan is within its limits. Only memory may be lacking.
@@ -81,7 +129,12 @@ fn outcome_of<R: Threads + Sync, G: Gate>(
     ensures outcome { IfOk result (λ o. IsOutcome test program.now call.now start.now o.verdict o.answer o.maps) }
     ensures refused { IfErr result (λ e. e ≡ RunError.Memory) }
 {
-    let gathered = match speculate(rt, alloc, program, call, start, split, workers, test, gate) {
+    let speculated = if is_worth_threads(call, gate) {
+        speculate(rt, alloc, program, call, start, split, workers, test, gate)
+    } else {
+        speculate_alone(alloc, program, call, start, test, gate)
+    };
+    let gathered = match speculated {
         Err(refused) => return Err(refused),
         Ok(gathered) => gathered,
     };
@@ -94,7 +147,7 @@ fn outcome_of<R: Threads + Sync, G: Gate>(
 /// Runs a loop call that main of this program made, from these maps, by so many workers, each in a thread of its
 /// own, over the blocks of a split. A loop that passes the test is committed on a copy of the maps, by several threads
 /// where it has many elements; any other is run in order on one. It waits for its threads. Where one can't be started,
-/// the others do its share; where the gate holds nobody, a short loop is run by the calling thread alone.
+/// the others do its share; where the gate holds nobody, a short loop is run by the calling thread alone, as one block.
 ///
 /// It fails with `Sizes` (P1) where the maps' sizes differ from the program's; else with `Plan` (P2) where the
 /// workers aren't 1 to 16 or the split isn't of the call's iterations; and with `Memory`.

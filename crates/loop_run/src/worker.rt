@@ -5,16 +5,19 @@ ghost use Rattle.bpf_insn_form.specs.Program.{Program};
 ghost use Rattle.bpf_step_model.specs.State.{LoopCall as Call};
 ghost use Rattle.loop_board.specs.Seats.{BoardId};
 ghost use Rattle.bpf_step_sound.specs.Soundness.{IsKnownCall};
-ghost use Rattle.loop_core_blocks.specs.Split.{split_fault};
+ghost use Rattle.loop_core_blocks.specs.Split.{split_fault, even_bounds};
+ghost use Rattle.loop_core_blocks.specs.Gather.{gather_fault};
 ghost use Rattle.loop_core_schedule.specs.Intervals.{blocks_of};
 ghost use Rattle.loop_board.specs.Seats.{new_seat};
+ghost use Rattle.loop_block.specs.Ran.{IsRunOf};
 ghost use Rattle.loop_block.specs.Shown.{shown};
+ghost use Rattle.loop_gather.specs.Gathered.{all_gathered};
 ghost use Rattle.loop_run.specs.Workers.{worker_of, IsWorkerAt, AreOfWorkers};
 
 use array_maps::Maps;
 use bpf_step::LoopCall;
 use bpf_verify::Verified;
-use loop_block::Block;
+use loop_block::{Block, run_block};
 use loop_board::{Board, BoardSeat};
 use loop_core_law::Test;
 use loop_split::{Gate, Split};
@@ -87,34 +90,6 @@ fn in_threads<'a, R: Threads + Sync, G: Gate>(
     thread::map_vec(rt, seats, &one)
 }
 
-/// All workers one after another, in the calling thread.
-fn in_turn<'a, G: Gate>(
-    alloc: Global,
-    program: &Verified,
-    call: &LoopCall,
-    start: &'a Maps,
-    split: &Split,
-    board: &Board,
-    mut seats: Vec<BoardSeat>,
-    test: Test,
-    gate: &G,
-) -> Result<Vec<Result<Worker<'a>, AllocError>>, AllocError>
-    requires known { IsKnownCall program.now call.now }
-    requires sizes { start.now.sizes ≡ program.now.sizes }
-    requires split { split_fault split.now call.now.n ≡ None }
-    requires seats { All (λ s. s ≡ new_seat board.now) seats.items }
-    requires blocks { board.now.blocks ≡ blocks_of split.now }
-    ensures len { IfOk result (λ done. vec_len done ≡ vec_len seats) }
-    ensures each { IfOk result (λ done. All (λ r. IfOk r (λ w. IsWorkerAt test program.now call.now start.now.words split.now board.now (worker_of w))) done.items) }
-{
-    let mut done = Vec::new(alloc);
-    while let Some(seat) = seats.pop() {
-        let worker = one_worker(alloc, program, call, start, split, board, seat, test, gate);
-        done.push(worker)?;
-    }
-    Ok(done)
-}
-
 /// The seats and the blocks of all workers, where each of them is done.
 fn parted<'a>(
     alloc: Global,
@@ -142,38 +117,31 @@ pub(crate) fn is_worth_threads<G: Gate>(call: &LoopCall, gate: &G) -> bool {
     gate.may_hold() || call.n() >= LONG
 }
 
-/// All workers, from the new seats of a board on: each in a thread of its own where one can be started, or all in the
-/// calling thread where the loop isn't worth threads.
-fn all_workers<'a, R: Threads + Sync, G: Gate>(
-    rt: &R,
+/// Runs a loop in the calling thread, as the one block of its split.
+#[tactic(auto, using(crate::proofs::WholeLaws::whole_split, crate::proofs::WholeLaws::whole_has))]
+pub(crate) fn run_whole<'a, G: Gate>(
     alloc: Global,
     program: &Verified,
     call: &LoopCall,
     start: &'a Maps,
-    split: &Split,
-    board: &Board,
-    seats: Vec<BoardSeat>,
+    whole: &Split,
     test: Test,
     gate: &G,
-) -> Result<Vec<Result<Worker<'a>, AllocError>>, AllocError>
+) -> Result<Vec<Block<'a>>, AllocError>
     requires known { IsKnownCall program.now call.now }
     requires sizes { start.now.sizes ≡ program.now.sizes }
-    requires split { split_fault split.now call.now.n ≡ None }
-    requires seats { All (λ s. s ≡ new_seat board.now) seats.items }
-    requires blocks { board.now.blocks ≡ blocks_of split.now }
-    ensures len { IfOk result (λ done. vec_len done ≡ vec_len seats) }
-    ensures each { IfOk result (λ done. All (λ r. IfOk r (λ w. IsWorkerAt test program.now call.now start.now.words split.now board.now (worker_of w))) done.items) }
+    requires whole { whole.now ≡ even_bounds call.now.n 1 }
+    ensures ran { IfOk result (λ blocks. All (λ b. IsRunOf test program.now call.now start.now.words (shown b)) blocks.items) }
+    ensures faultless { IfOk result (λ blocks. gather_fault whole.now (all_gathered program.now call.now start.now.words (map shown blocks.items)) ≡ None) }
 {
-    if is_worth_threads(call, gate) {
-        in_threads(
-            rt, alloc, program, call, start, split, board, seats, test, gate,
-        )
-    } else {
-        in_turn(alloc, program, call, start, split, board, seats, test, gate)
-    }
+    let block = run_block(alloc, program, call, start, whole, 0, test, gate)?;
+    let mut blocks = Vec::new(alloc);
+    blocks.push(block)?;
+    Ok(blocks)
 }
 
-/// Runs all workers of a board's new seats, and gives their seats and their blocks.
+/// Runs all workers of a board's new seats, each in a thread of its own where one can be started, and gives their
+/// seats and their blocks.
 pub(crate) fn run_workers<'a, R: Threads + Sync, G: Gate>(
     rt: &R,
     alloc: Global,
@@ -193,7 +161,7 @@ pub(crate) fn run_workers<'a, R: Threads + Sync, G: Gate>(
     requires blocks { board.now.blocks ≡ blocks_of split.now }
     ensures { IfOk result (λ parts. AreOfWorkers test program.now call.now start.now.words split.now board.now (vec_len seats) parts.0.items (map shown parts.1.items)) }
 {
-    let done = all_workers(
+    let done = in_threads(
         rt, alloc, program, call, start, split, board, seats, test, gate,
     )?;
     parted(alloc, done)
