@@ -1,7 +1,9 @@
 -- What is known as blocks are gathered.
-use Rattle.std.proofs.Common.{◌≡◌, ℕ, ◌<◌, ◌≤◌, List, length, map, Option, Some, None, sym, ◌∙◌, ap, subst}
+use Rattle.std.proofs.Common.{◌≡◌, ℕ, ◌/◌, ◌<◌, ◌≤◌, Bool, true, false, refl, arith, List, length, map, Option, Some, None, sym, ◌∙◌, ap, subst}
+use Rattle.std.specs.Prelude.{slice_index}
 use Rattle.std.specs.List.{All, filter, range_with_len}
 use Rattle.std.proofs.lemmas.List.{length-map}
+use Rattle.std.proofs.lemmas.Option.{get_or_from_slice_get, slice_get_within}
 use Rattle.std.proofs.lemmas.List.Elements.{All-map, All-weaker}
 use Rattle.array_maps.specs.MapList.{AreWords}
 use Rattle.bpf_insn_form.specs.Program.{Program}
@@ -16,7 +18,8 @@ use Rattle.loop_core_blocks.specs.Split.{split_fault}
 use Rattle.loop_core_blocks.specs.Gather.{Block, gather_fault}
 use Rattle.loop_core_schedule.specs.Outcome.{Outcome}
 use Rattle.shadow_marks.specs.declared.planes.Planes.{Planes}
-use Rattle.shadow_marks.specs.Standing.{ArePlanes, StandFor, test_of}
+use Rattle.shadow_marks.specs.Standing.{ArePlanes, StandFor, words_for, test_of}
+use Rattle.private_copy.specs.Touched.{has_page}
 use Rattle.loop_block.specs.declared.block.Block.{Block as Held}
 use Rattle.loop_block.specs.Blocks.{BlockOf}
 use Rattle.loop_block.specs.Ran.{IsRunOf}
@@ -24,9 +27,11 @@ use Rattle.loop_block.specs.Shown.{shown}
 use Rattle.loop_gather.specs.declared.summary.Summary.{Summary}
 use Rattle.loop_gather.specs.Told.{summary_of}
 use Rattle.loop_gather.specs.Counting.{Counts}
-use Rattle.loop_gather.specs.Held.{told_of, chosen, visits_at, left_words, AreHeld}
+use Rattle.loop_gather.specs.Held.{told_of, chosen, visits_at, left_words, IsUntouched, TellsUntouched, AreHeld}
+use Rattle.loop_gather.specs.Touched.{is_marked, AreMarked}
 use Rattle.loop_gather.specs.Gathered.{all_gathered, Tells}
 use Rattle.loop_gather.proofs.JoiningLaws.{visits_in, stands_in_planes}
+use Rattle.loop_gather.proofs.UntouchedLaws.{not_both, untouched}
 use Rattle.loop_gather.proofs.TellingLaws.{are_told, have_starts, within, answer_within, tells}
 
 module _ (test : Test) (program : Program) (call : LoopCall) (words : List ℕ) (bounds : List ℕ) (held : List Held) (summaries : List Summary)
@@ -70,14 +75,31 @@ module _ (test : Test) (program : Program) (call : LoopCall) (words : List ℕ) 
     pub answer_fits : count_to call.n least ≤ call.n
     answer_fits = answer_within test program call words bounds blocks least places split all_ran counted
 
-    pub are_held : (planes : Planes) (start : List ℕ) → start ≡ words → length start ≤ 65536 → ArePlanes planes → planes.elements ≡ length start →
-        AreHeld (length start) blocks places planes
-    are_held planes start same few whole count = record {
+    -- of a block nothing is kept at an element of a page that isn't marked by its bit
+    tells_untouched : (touched : List ℕ) → length touched ≡ words_for (length words) → AreMarked blocks places (length places) touched → (e : ℕ) → e < length words →
+        TellsUntouched (slice_index touched (e / 64)) e blocks places
+    tells_untouched touched pages marked e inside i b below at bit =
+        let ran_b : IsRunOf test program call words b = subst (IsRunOf test program call words) (get_or_from_slice_get blocks (slice_index places i) b b at) (all_ran (slice_index places i) b (slice_get_within blocks (slice_index places i) b at)) in
+        by_page ran_b (has_page b.copy.pages (e / 64)) refl
+      where
+        by_page : IsRunOf test program call words b → (has : Bool) → has_page b.copy.pages (e / 64) ≡ has → IsUntouched e b
+        by_page ran_b true has = absurd (not_both (is_marked touched (e / 64) i) (marked i b (e / 64) below at has (omega (arith, inside, pages))) bit)
+        by_page ran_b false has = untouched test program call words b e ran_b inside has
+
+    pub are_held : (planes : Planes) (start touched : List ℕ) (now : List Held) (at : List ℕ) → start ≡ words → length start ≤ 65536 → ArePlanes planes → planes.elements ≡ length start →
+        now ≡ held → at ≡ places → length touched ≡ words_for (length start) → AreMarked (map shown now) at (length at) touched → AreHeld (length start) blocks places planes touched
+    are_held planes start touched now at same few whole count same_blocks same_places pages marked = record {
       few = few;
       within = within test program call words bounds blocks least places split all_ran counted;
       starts = subst (λ (n : ℕ). All (λ b. length b.copy.start ≡ n) blocks) (ap length (sym same)) (have_starts test program call words blocks all_ran);
       whole = whole;
       count = count;
+      pages = pages;
+      untouched = λ e inside.
+          let long : length start ≡ length words = ap length same in
+          tells_untouched touched (pages ∙ ap words_for long)
+          (subst (λ (ps : List ℕ). AreMarked blocks ps (length ps) touched) same_places (subst (λ (bs : List Held). AreMarked (map shown bs) at (length at) touched) same_blocks marked))
+          e (omega (arith, inside, long));
     }
 
     pub all_tell : (planes : Planes) (plane : List ℕ) (v : Verdict) (n : ℕ) (start : List ℕ) → planes.elements ≡ length words → test_of planes.tested ≡ test →

@@ -1,5 +1,5 @@
 -- What gathered blocks hold, element by element.
-use Rattle.std.proofs.Common.{◌≡◌, ℕ, ◌<◌, Bool, List, length, map, sym, ◌∙◌, ap, subst, arith}
+use Rattle.std.proofs.Common.{◌≡◌, ℕ, ◌/◌, ◌<◌, Bool, List, length, map, refl, sym, ◌∙◌, ap, subst, arith}
 use Rattle.std.specs.Prelude.{slice_index}
 use Rattle.std.specs.List.{All}
 use Rattle.std.proofs.lemmas.List.{length-map, get_or-map}
@@ -10,7 +10,8 @@ use Rattle.private_copy.proofs.AccessLaws.{shown_at, shown_length}
 use Rattle.loop_block.specs.declared.block.Block.{Block as Held}
 use Rattle.loop_block.specs.Blocks.{BlockOf}
 use Rattle.loop_block.specs.Shown.{shown}
-use Rattle.loop_gather.specs.Held.{chosen, is_reduction, kept_of, left_at, left_words}
+use Rattle.loop_gather.specs.Held.{chosen, is_reduction, kept_of, left_at, left_words, TellsUntouched}
+use Rattle.loop_gather.proofs.ChoiceLaws.{left_alone}
 
 pub held_length : (planes : Planes) (blocks : List BlockOf) (start : List ℕ) → length (left_words planes blocks start) ≡ length start
 held_length planes blocks start = shown_length (left_at planes blocks start) (length start)
@@ -38,5 +39,22 @@ element_is planes blocks now places at start e reduced o by inside same_blocks s
     ap (λ (bs : List Held). committed_of_kept reduced (map (kept_of e) (chosen at (map shown bs))) (slice_index start e)) same_blocks
     ∙ ap (λ (ps : List ℕ). committed_of_kept reduced (map (kept_of e) (chosen ps (map shown blocks))) (slice_index start e)) same_places
     ∙ ap (λ (b : Bool). committed_of_kept b (map (kept_of e) (chosen places (map shown blocks))) (slice_index start e)) (sym by)
+    ∙ sym (shown_at (left_at planes (chosen places (map shown blocks)) start) (length start) e inside)
+    ∙ ap (λ (ws : List ℕ). slice_index ws e) words
+
+-- of the blocks whose bits aren't set nothing is kept
+pub untouched_at : (blocks now : List Held) (places at : List ℕ) (touched : List ℕ) (elements e word : ℕ) → now ≡ blocks → at ≡ places → word ≡ slice_index touched (e / 64) → e < elements →
+    ((k : ℕ) → k < elements → TellsUntouched (slice_index touched (k / 64)) k (map shown blocks) places) → TellsUntouched word e (map shown now) at
+untouched_at blocks now places at touched elements e word same_blocks same_places is inside tells =
+    subst (λ (bs : List Held). TellsUntouched word e (map shown bs) at) (sym same_blocks)
+    (subst (λ (ps : List ℕ). TellsUntouched word e (map shown blocks) ps) (sym same_places)
+    (subst (λ (w : ℕ). TellsUntouched w e (map shown blocks) places) (sym is) (tells e inside)))
+
+-- and where no bit is set the start word is left
+pub start_is_left : (planes : Planes) (blocks : List Held) (places start touched : List ℕ) (e word : ℕ) (o : Outcome) → e < length start → left_words planes (chosen places (map shown blocks)) start ≡ o.words →
+    word ≡ slice_index touched (e / 64) → word ≡ 0 → ((k : ℕ) → k < length start → TellsUntouched (slice_index touched (k / 64)) k (map shown blocks) places) →
+    slice_index start e ≡ slice_index o.words e
+start_is_left planes blocks places start touched e word o inside words is none tells =
+    sym (left_alone word e (map shown blocks) places (untouched_at blocks blocks places places touched (length start) e word refl refl is inside tells) (is_reduction planes e) (slice_index start e) none)
     ∙ sym (shown_at (left_at planes (chosen places (map shown blocks)) start) (length start) e inside)
     ∙ ap (λ (ws : List ℕ). slice_index ws e) words

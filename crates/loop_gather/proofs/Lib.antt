@@ -8,3 +8,5 @@ pub mod MergingLaws
 pub mod CommitLaws
 pub mod GatheringLaws
 pub mod HeldLaws
+pub mod TouchedLaws
+pub mod UntouchedLaws

@@ -1,5 +1,6 @@
 -- What is kept of gathered blocks, and what a pass leaves by it.
-use Rattle.std.specs.Prelude.{◌≡◌, ℕ, ◌<◌, ◌≤◌, Bool, not, ◌&&◌, ◌==◌, List, map, length, slice_get, slice_index}
+use Rattle.std.specs.Prelude.{◌≡◌, ℕ, ◌/◌, ◌<◌, ◌≤◌, Bool, false, not, ◌&&◌, ◌==◌, List, map, length, slice_get, slice_index, Some, None}
+use Rattle.std.specs.Int.{bit_at}
 use Rattle.std.specs.List.{All, count_by, filter_map, range_with_len}
 use Rattle.array_maps.specs.Accesses.{operators}
 use Rattle.loop_core_law.specs.declared.loop_test.Test.{Test}
@@ -8,7 +9,7 @@ use Rattle.loop_core_marks.specs.Marks.{Visit}
 use Rattle.loop_core_marks.specs.Planes.{bit_of}
 use Rattle.loop_core_blocks.specs.Kept.{Kept, committed_of_kept}
 use Rattle.shadow_marks.specs.declared.planes.Planes.{Planes}
-use Rattle.shadow_marks.specs.Standing.{ArePlanes, plane_by, test_of}
+use Rattle.shadow_marks.specs.Standing.{ArePlanes, words_for, plane_by, test_of}
 use Rattle.private_copy.specs.Reductions.{combination}
 use Rattle.loop_block.specs.Blocks.{BlockOf}
 use Rattle.loop_gather.specs.declared.summary.Summary.{Summary}
@@ -47,10 +48,23 @@ left_at planes blocks start e = committed_of_kept (is_reduction planes e) (map (
 abbrev pub left_words : Planes → List BlockOf → List ℕ → List ℕ
 left_words planes blocks start = map (left_at planes blocks start) (range_with_len 0 (length start))
 
--- blocks, the places of those that count, and merged planes, all for so many elements
-pub record AreHeld (elements : ℕ) (blocks : List BlockOf) (places : List ℕ) (planes : Planes) : Type 0 where
+-- nothing is kept of a block at an element
+pub record IsUntouched (e : ℕ) (b : BlockOf) : Type 0 where
+  pub last_value : b.copy.last e ≡ None
+  pub partial : combination (b.copy.reduction e) ≡ None
+
+-- a word has a bit for each of the blocks at these places; of a block whose bit isn't set nothing is kept at an element
+abbrev pub TellsUntouched : (word e : ℕ) → List BlockOf → List ℕ → Type 0
+TellsUntouched word e blocks places = (i : ℕ) (b : BlockOf) → i < length places → slice_get blocks (slice_index places i) ≡ Some b →
+    (bit_at word i == 1) ≡ false → IsUntouched e b
+
+-- blocks, the places of those that count, merged planes, and for each page which of those blocks touched it, all for so
+-- many elements
+pub record AreHeld (elements : ℕ) (blocks : List BlockOf) (places : List ℕ) (planes : Planes) (touched : List ℕ) : Type 0 where
   pub few : elements ≤ 65536
   pub within : All (λ place. place < length blocks) places
   pub starts : All (λ b. length b.copy.start ≡ elements) blocks
   pub whole : ArePlanes planes
   pub count : planes.elements ≡ elements
+  pub pages : length touched ≡ words_for elements
+  pub untouched : (e : ℕ) → e < elements → TellsUntouched (slice_index touched (e / 64)) e blocks places

@@ -2,3 +2,4 @@ pub mod Told
 pub mod Counting
 pub mod Held
 pub mod Gathered
+pub mod Touched

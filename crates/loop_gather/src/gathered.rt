@@ -23,6 +23,8 @@ pub struct Gathered<'a> {
     pub(crate) counting: ArrayVec<usize, MOST_BLOCKS>,
     /// The planes of those blocks, merged.
     pub(crate) planes: Planes,
+    /// A word for each page of 64 elements: a bit for each of those blocks that touched it.
+    pub(crate) touched: Vec<u64>,
 }
 
 impl<'a> Model for Gathered<'a> {
@@ -35,7 +37,7 @@ impl<'a> Model for Gathered<'a> {
 
     ghost view = { λ g. record { verdict = g.verdict; answer = g.answer; words = left_words g.planes (chosen g.counting.items (map shown g.blocks.items)) g.start.now } };
 
-    ghost invariant = { λ g. AreHeld (length g.start.now) (map shown g.blocks.items) g.counting.items g.planes };
+    ghost invariant = { λ g. AreHeld (length g.start.now) (map shown g.blocks.items) g.counting.items g.planes g.touched.items };
 }
 
 impl<'a> Gathered<'a> {
@@ -66,10 +68,13 @@ impl<'a> Gathered<'a> {
         ensures { result ≡ slice_index self.now.words e }
     {
         let word = self.start[e as usize];
-        if is_reduction(&self.planes, e) {
-            combined(&self.blocks, &self.counting, e, word)
+        let touched = self.touched[e as usize / 64];
+        if touched == 0 {
+            word
+        } else if is_reduction(&self.planes, e) {
+            combined(&self.blocks, &self.counting, touched, e, word)
         } else {
-            last_written(&self.blocks, &self.counting, e, word)
+            last_written(&self.blocks, &self.counting, touched, e, word)
         }
     }
 }

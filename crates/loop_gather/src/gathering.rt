@@ -15,6 +15,7 @@ use crate::gathered::Gathered;
 use crate::merged::{conflicting_plane, merged_planes, verdict_of};
 use crate::order::counting_blocks;
 use crate::summary::summaries_of;
+use crate::touched::touched_pages;
 use array_maps::Maps;
 use bpf_step::LoopCall;
 use bpf_verify::Verified;
@@ -88,6 +89,7 @@ pub fn gather<'a>(
     let words = start.words();
     let planes = merged_planes(alloc, words.len() as u32, test, &blocks, &counting.places)?;
     let conflicting = conflicting_plane(alloc, &planes)?;
+    let touched = touched_pages(alloc, words.len() as u32, &blocks, &counting.places)?;
     Ok(Gathered {
         verdict: verdict_of(&conflicting),
         answer: counted(call.n(), counting.least),
@@ -95,5 +97,6 @@ pub fn gather<'a>(
         blocks,
         counting: counting.places,
         planes,
+        touched,
     })
 }

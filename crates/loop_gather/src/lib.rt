@@ -8,6 +8,7 @@ mod merged;
 mod order;
 mod settling;
 mod summary;
+mod touched;
 
 pub use gathered::Gathered;
 pub use gathering::{GatherError, gather};

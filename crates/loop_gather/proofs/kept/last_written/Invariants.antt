@@ -5,7 +5,7 @@ use Rattle.loop_gather.specs.Held.{chosen, kept_of}
 use Rattle.loop_gather.proofs.kept.last_written.Given as goal
 
 -- the value so far, with what is left
-abbrev pub invariant-loop-place : goal.invariant-loop-place
-invariant-loop-place l =
+abbrev pub invariant-loop-i : goal.invariant-loop-i
+invariant-loop-i l =
     committed_of_kept false (map (kept_of l.e) (chosen l.places (map shown l.blocks))) l.word
-    ≡ committed_of_kept false (map (kept_of l.e) (chosen (drop l.place-index l.places) (map shown l.blocks))) l.value
+    ≡ committed_of_kept false (map (kept_of l.e) (chosen (drop l.i l.places) (map shown l.blocks))) l.value
