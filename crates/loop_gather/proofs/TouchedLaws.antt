@@ -1,12 +1,11 @@
 -- Pages marked by the bits of the blocks that touched them.
-use Rattle.std.proofs.Common.{◌≡◌, ℕ, suc, ◌+◌, ◌^◌, ◌<◌, Bool, true, false, ◌||◌, eqb, List, [], ◌∷◌, length, get_or, set, Some, refl, sym, ◌∙◌, ap, subst, inl, inr, arith, get_or-set_same, get_or-set_other, eq-eqb}
+use Rattle.std.proofs.Common.{◌≡◌, ℕ, suc, ◌^◌, ◌<◌, Bool, true, false, ◌||◌, eqb, List, [], ◌∷◌, length, get_or, set, Some, refl, sym, ◌∙◌, ap, subst, inl, inr, arith, get_or-set_same, get_or-set_other, eq-eqb}
 use Rattle.std.specs.Prelude.{bit_or, slice_get}
 use Rattle.std.specs.Int.{bit_at}
 use Rattle.std.proofs.lemmas.Bool.{cases_eq, eqb-true}
 use Rattle.private_copy.specs.Touched.{has_page}
 use Rattle.shadow_marks.proofs.BitLaws.{bit_ored}
-use Rattle.loop_block.specs.Blocks.{BlockOf}
-use Rattle.loop_gather.specs.Touched.{is_marked, MarksPage, MarksPages, AreMarked}
+use Rattle.loop_gather.specs.Touched.{is_marked, MarksPages}
 
 or_true : (b : Bool) → (b || true) ≡ true
 or_true true = refl
@@ -41,22 +40,6 @@ pub record MarkedSoFar (old new pages : List ℕ) (bit k : ℕ) : Type 0 where
   pub each : (j page : ℕ) → j < k → slice_get pages j ≡ Some page → page < length old → is_marked new page bit ≡ true
   pub stay : (other n : ℕ) → is_marked old other n ≡ true → is_marked new other n ≡ true
 
-pub one_page_more : (old now new pages : List ℕ) (bit k page : ℕ) → MarkedSoFar old now pages bit k → slice_get pages k ≡ Some page → MarksPage now new page bit →
-    MarkedSoFar old new pages bit (k + 1)
-one_page_more old now new pages bit k page so_far at marks = record {
-  count = marks.count ∙ so_far.count;
-  each = λ j other below there within.
-      elim (cases_eq j k) [
-        | inl same ↦
-            let both : Some page ≡ Some other = sym at ∙ ap (slice_get pages) (sym same) ∙ there in
-            let is : page ≡ other = cc in
-            let count = so_far.count in
-            subst (λ p. is_marked new p bit ≡ true) is (marks.here (omega (arith, is, within, count)))
-        | inr apart ↦ marks.stay other bit (so_far.each j other (omega (arith, below, apart)) there within)
-      ];
-  stay = λ other n was. marks.stay other n (so_far.stay other n was);
-}
-
 -- what holds of each page of a list holds of one that is there
 found : (P : ℕ → Type 0) (pages : List ℕ) (page : ℕ) → ((j q : ℕ) → j < length pages → slice_get pages j ≡ Some q → P q) → has_page pages page ≡ true → P page
 found P [] page each has = absurd (cc)
@@ -72,17 +55,3 @@ all_pages old new pages bit k all so_far = record {
   each = λ page has. found (λ q. q < length old → is_marked new q bit ≡ true) pages page (λ j q below at. so_far.each j q (omega (arith, below, all)) at) has;
   stay = so_far.stay;
 }
-
--- one block more
-pub one_block_more : (blocks : List BlockOf) (places old new : List ℕ) (i : ℕ) (b : BlockOf) → AreMarked blocks places i old → slice_get blocks (get_or places i 0) ≡ Some b →
-    MarksPages old new b.copy.pages i → AreMarked blocks places (i + 1) new
-one_block_more blocks places old new i b so_far at marks j other page below there has within =
-    let count = marks.count in
-    elim (cases_eq j i) [
-      | inl same ↦
-          let both : Some b ≡ Some other = sym at ∙ ap (λ n. slice_get blocks (get_or places n 0)) (sym same) ∙ there in
-          let is : other ≡ b = cc in
-          subst (λ n. is_marked new page n ≡ true) (sym same)
-          (marks.each page (ap (λ (o : BlockOf). has_page o.copy.pages page) (sym is) ∙ has) (omega (arith, within, count)))
-      | inr apart ↦ marks.stay page j (so_far j other page (omega (arith, below, apart)) there has (omega (arith, within, count)))
-    ]

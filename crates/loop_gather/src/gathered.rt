@@ -1,7 +1,8 @@
 //! What gathered blocks tell of a loop.
 
-ghost use Rattle.std.specs.Prelude.{◌≡◌, ◌<◌, length, slice_index};
+ghost use Rattle.std.specs.Prelude.{◌≡◌, ◌<◌, length, slice_index, IfOk};
 
+use crate::committing::commit;
 use crate::kept::{combined, last_written};
 use crate::merged::is_reduction;
 use crate::order::MOST_BLOCKS;
@@ -9,6 +10,7 @@ use arrayvec::ArrayVec;
 use loop_block::Block;
 use loop_core_law::Verdict;
 use shadow_marks::Planes;
+use std::alloc::{AllocError, Global};
 use std::marker::Model;
 
 /// Blocks of a loop, gathered: the loop's verdict, and after a pass what it answers and leaves. In contracts it is
@@ -76,5 +78,15 @@ impl<'a> Gathered<'a> {
         } else {
             last_written(&self.blocks, &self.counting, touched, e, word)
         }
+    }
+
+    /// What the loop leaves at each element after a pass, in order. Only elements of pages that were touched are
+    /// worked out.
+    pub(crate) fn left_words(&self, alloc: Global) -> Result<Vec<u64>, AllocError>
+        ensures { IfOk result (λ words. words.items ≡ self.now.words) }
+    {
+        let mut words = self.start.to_vec(alloc)?;
+        commit(words.as_mut_slice(), self.touched.as_slice(), self);
+        Ok(words)
     }
 }

@@ -1,6 +1,7 @@
 //! Blocks of a speculative loop, gathered: which of them count, what they tell of the loop, and what it comes to.
 #![tactic(auto)]
 
+mod committing;
 mod gathered;
 mod gathering;
 mod kept;

@@ -1,11 +1,11 @@
 //! What a gathered loop comes to.
 
-ghost use Rattle.std.specs.Prelude.{◌≡◌, IfOk, length};
+ghost use Rattle.std.specs.Prelude.{◌≡◌, IfOk};
 ghost use Rattle.bpf_step_sound.specs.Soundness.{IsKnownCall};
 ghost use Rattle.loop_gather.specs.Gathered.{Tells, IsOutcome};
 
 use crate::gathered::Gathered;
-use array_maps::{Maps, Store};
+use array_maps::Maps;
 use bpf_step::LoopCall;
 use bpf_verify::Verified;
 use loop_core_law::{Test, Verdict};
@@ -21,16 +21,6 @@ pub struct LoopOutcome {
     pub answer: u32,
     /// The maps after it.
     pub maps: Maps,
-}
-
-/// Sets each element to what a pass leaves there. The maps have as many elements.
-fn commit(maps: &mut Maps, gathered: &Gathered)
-    requires { length maps.old.words ≡ length gathered.now.words }
-    ensures { maps.new ≡ record { sizes = maps.old.sizes; words = gathered.now.words } }
-{
-    for e in 0..gathered.elements() {
-        maps.store(e, gathered.element(e));
-    }
 }
 
 /// What a loop call comes to that main of this program made, and whose blocks were gathered for this test: after a
@@ -52,7 +42,7 @@ pub fn settle(
     let mut maps = start.try_copy(alloc)?;
     let verdict = gathered.verdict();
     let answer = if verdict == Verdict::Parallel {
-        commit(&mut maps, gathered);
+        maps.set_words(gathered.left_words(alloc)?);
         gathered.answer()
     } else {
         in_order(program, call, &mut maps)
