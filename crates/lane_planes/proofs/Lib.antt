@@ -6,5 +6,7 @@ pub mod Counts
 pub mod SamePlanes
 pub mod MergeLaws
 pub mod WholeLaws
+pub mod PageLaws
+pub mod IdleLaws
 pub mod ReductionLaws
 pub mod ConflictLaws

@@ -6,8 +6,8 @@ use Rattle.std.proofs.lemmas.Simd.{length-put_chunk, get_or-put_chunk_below, get
 use Rattle.lane_planes.specs.Writes.{HasLanes, Writes}
 
 -- nothing is written yet
-pub writes_none : (rule : ℕ → ℕ) (xs : List ℕ) → Writes rule 0 0 xs xs
-writes_none rule xs = record { long = refl; written = λ i low high. omega arith; below = λ i low. refl; above = λ i high. refl }
+pub writes_none : (rule : ℕ → ℕ) (at : ℕ) (xs : List ℕ) → Writes rule at at xs xs
+writes_none rule at xs = record { long = refl; written = λ i low high. omega arith; below = λ i low. refl; above = λ i high. refl }
 
 -- a vector is written
 pub writes_lanes : (rule : ℕ → ℕ) (at n : ℕ) (old lanes : List ℕ) → at + n ≤ length old → HasLanes n (λ k. rule (at + k)) lanes → Writes rule at (at + n) old (put_chunk at old lanes)
@@ -24,16 +24,26 @@ writes_lanes rule at n old lanes room new = record {
   above = λ i high. let many : length lanes ≡ n = new.count in let past : at + length lanes ≤ i = omega arith in get_or-put_chunk_above at old lanes i 0 past;
 }
 
--- after a run the next one is written, by a rule that tells the same where nothing was written before
-pub writes_more : (rule step : ℕ → ℕ) (from at upto : ℕ) (old mid now : List ℕ) → from ≤ at → at ≤ upto →
-    ((i : ℕ) → get_or mid i 0 ≡ get_or old i 0 → step i ≡ rule i) → Writes rule from at old mid → Writes step at upto mid now → Writes rule from upto old now
-writes_more rule step from at upto old mid now rising going same before after = record {
+-- what a rule tells stands there already
+pub writes_same : (rule : ℕ → ℕ) (at upto : ℕ) (xs : List ℕ) → ((i : ℕ) → at ≤ i → i < upto → get_or xs i 0 ≡ rule i) → Writes rule at upto xs xs
+writes_same rule at upto xs same = record { long = refl; written = same; below = λ i low. refl; above = λ i high. refl }
+
+-- after a run the next one is written, by a rule that tells the same there
+pub writes_on : (rule step : ℕ → ℕ) (from at upto : ℕ) (old mid now : List ℕ) → from ≤ at → at ≤ upto → ((i : ℕ) → at ≤ i → step i ≡ rule i) →
+    Writes rule from at old mid → Writes step at upto mid now → Writes rule from upto old now
+writes_on rule step from at upto old mid now rising going same before after = record {
   long = after.long ∙ before.long;
   written = λ i low high.
       ⊎_elim
       (λ (earlier : i < at). after.below i earlier ∙ before.written i low earlier)
-      (λ (here : at ≤ i). after.written i here high ∙ same i (before.above i here))
+      (λ (here : at ≤ i). after.written i here high ∙ same i here)
       (cases_lt i at);
   below = λ i low. let early : i < at = omega arith in after.below i early ∙ before.below i low;
   above = λ i high. let late : at ≤ i = omega arith in after.above i high ∙ before.above i late;
 }
+
+-- or by a rule that tells the same where nothing was written before
+pub writes_more : (rule step : ℕ → ℕ) (from at upto : ℕ) (old mid now : List ℕ) → from ≤ at → at ≤ upto →
+    ((i : ℕ) → get_or mid i 0 ≡ get_or old i 0 → step i ≡ rule i) → Writes rule from at old mid → Writes step at upto mid now → Writes rule from upto old now
+writes_more rule step from at upto old mid now rising going same before after =
+    writes_on rule step from at upto old mid now rising going (λ i here. same i (before.above i here)) before after

@@ -1,5 +1,7 @@
--- What planes are after others were merged into them, word by word.
-use Rattle.std.specs.Prelude.{◌≡◌, ℕ, ◌≤◌, min, max, List, ◌++◌, length, slice_index, bit_and, bit_or}
+-- What planes are after others were merged into them, word by word. A page is 64 elements: it has one word of each plane of
+-- bits, and up to 64 of the numbers.
+use Rattle.std.specs.Prelude.{◌≡◌, ℕ, ◌*◌, ◌^◌, ◌<◌, ◌≤◌, min, max, List, ◌++◌, length, slice_index, bit_and, bit_or}
+use Rattle.array_maps.specs.declared.access.Op.{Op}
 use Rattle.loop_core_marks.specs.Marks.{Visit}
 use Rattle.shadow_marks.specs.declared.planes.LrpdPlanes.{LrpdPlanes}
 use Rattle.shadow_marks.specs.declared.planes.FlowPlanes.{FlowPlanes}
@@ -7,23 +9,24 @@ use Rattle.shadow_marks.specs.declared.planes.Tested.{Tested}
 use Rattle.shadow_marks.specs.declared.planes.Tested.TheVariants.{Lrpd, Flow}
 use Rattle.shadow_marks.specs.declared.planes.OperatorPlanes.{OperatorPlanes}
 use Rattle.shadow_marks.specs.declared.planes.Planes.{Planes}
+use Rattle.shadow_marks.specs.Standing.{StandFor, plane_by, words_for}
 use Rattle.lane_planes.specs.Writes.{Writes}
 
--- each word is the one or the other
-abbrev pub Ored : (mine theirs joined : List ℕ) → Type 0
-Ored mine theirs joined = Writes (λ i. bit_or (slice_index mine i) (slice_index theirs i)) 0 (length mine) mine joined
+-- in the pages from one up to another each word is the one or the other
+abbrev pub Ored : (at upto : ℕ) (mine theirs joined : List ℕ) → Type 0
+Ored at upto mine theirs joined = Writes (λ i. bit_or (slice_index mine i) (slice_index theirs i)) at upto mine joined
 
 -- two iterations write where two of one set do, or one of each
-abbrev pub WrittenByTwo : (mine theirs written also_written joined : List ℕ) → Type 0
-WrittenByTwo mine theirs written also_written joined =
-    Writes (λ i. bit_or (bit_or (slice_index mine i) (slice_index theirs i)) (bit_and (slice_index written i) (slice_index also_written i))) 0 (length mine) mine joined
+abbrev pub WrittenByTwo : (at upto : ℕ) (mine theirs written also_written joined : List ℕ) → Type 0
+WrittenByTwo at upto mine theirs written also_written joined =
+    Writes (λ i. bit_or (bit_or (slice_index mine i) (slice_index theirs i)) (bit_and (slice_index written i) (slice_index also_written i))) at upto mine joined
 
 -- each number is the lesser, or the greater, of two
-abbrev pub Lesser : (mine theirs joined : List ℕ) → Type 0
-Lesser mine theirs joined = Writes (λ i. min (slice_index mine i) (slice_index theirs i)) 0 (length mine) mine joined
+abbrev pub Lesser : (at upto : ℕ) (mine theirs joined : List ℕ) → Type 0
+Lesser at upto mine theirs joined = Writes (λ i. min (slice_index mine i) (slice_index theirs i)) (64 * at) (min (64 * upto) (length mine)) mine joined
 
-abbrev pub Greater : (mine theirs joined : List ℕ) → Type 0
-Greater mine theirs joined = Writes (λ i. max (slice_index mine i) (slice_index theirs i)) 0 (length mine) mine joined
+abbrev pub Greater : (at upto : ℕ) (mine theirs joined : List ℕ) → Type 0
+Greater at upto mine theirs joined = Writes (λ i. max (slice_index mine i) (slice_index theirs i)) (64 * at) (min (64 * upto) (length mine)) mine joined
 
 -- planes of one length each, so that they can be merged
 pub record SameLrpd (mine theirs : LrpdPlanes) : Type 0 where
@@ -49,41 +52,89 @@ SameTested (Lrpd mine) (Lrpd theirs) = SameLrpd mine theirs
 SameTested (Flow mine) (Flow theirs) = SameFlow mine theirs
 SameTested _ _ = ⊥
 
+-- planes that have the pages from one up to another
+pub record LrpdReach (planes : LrpdPlanes) (upto : ℕ) : Type 0 where
+  pub written : upto ≤ length planes.written.items
+  pub written_by_two : upto ≤ length planes.written_by_two.items
+  pub read_only : upto ≤ length planes.read_only.items
+  pub read_and_written : upto ≤ length planes.read_and_written.items
+
+pub record FlowReach (planes : FlowPlanes) (at upto : ℕ) : Type 0 where
+  pub first_at : 64 * at ≤ length planes.first.items
+  pub first : upto ≤ words_for (length planes.first.items)
+  pub last_at : 64 * at ≤ length planes.last.items
+  pub last : upto ≤ words_for (length planes.last.items)
+
+pub record OperatorsReach (planes : OperatorPlanes) (upto : ℕ) : Type 0 where
+  pub add : upto ≤ length planes.add.items
+  pub or : upto ≤ length planes.or.items
+  pub and : upto ≤ length planes.and.items
+  pub xor : upto ≤ length planes.xor.items
+  pub addh : upto ≤ length planes.addh.items
+
+abbrev pub TestedReach : Tested → (at upto : ℕ) → Type 0
+TestedReach (Lrpd planes) at upto = LrpdReach planes upto
+TestedReach (Flow planes) at upto = FlowReach planes at upto
+
 -- first writers are numbers of 32 bits
 abbrev pub FirstsFit : Tested → Type 0
 FirstsFit tested = (planes : FlowPlanes) → tested ≡ Flow planes → (e : ℕ) → slice_index planes.first.items e ≤ 4294967295
 
--- the planes of the operators
-pub record MergedOperators (mine theirs joined : OperatorPlanes) : Type 0 where
-  pub add : Ored mine.add.items theirs.add.items joined.add.items
-  pub or : Ored mine.or.items theirs.or.items joined.or.items
-  pub and : Ored mine.and.items theirs.and.items joined.and.items
-  pub xor : Ored mine.xor.items theirs.xor.items joined.xor.items
-  pub addh : Ored mine.addh.items theirs.addh.items joined.addh.items
+-- and words have 64 bits
+pub record LrpdWordsFit (planes : LrpdPlanes) : Type 0 where
+  pub written : (i : ℕ) → slice_index planes.written.items i < 2 ^ 64
+  pub written_by_two : (i : ℕ) → slice_index planes.written_by_two.items i < 2 ^ 64
+  pub read_only : (i : ℕ) → slice_index planes.read_only.items i < 2 ^ 64
+  pub read_and_written : (i : ℕ) → slice_index planes.read_and_written.items i < 2 ^ 64
+
+abbrev pub WordsFit : Tested → Type 0
+WordsFit tested = (planes : LrpdPlanes) → tested ≡ Lrpd planes → LrpdWordsFit planes
+
+-- in the pages from one up to another, the planes of the operators
+pub record MergedOperators (at upto : ℕ) (mine theirs joined : OperatorPlanes) : Type 0 where
+  pub add : Ored at upto mine.add.items theirs.add.items joined.add.items
+  pub or : Ored at upto mine.or.items theirs.or.items joined.or.items
+  pub and : Ored at upto mine.and.items theirs.and.items joined.and.items
+  pub xor : Ored at upto mine.xor.items theirs.xor.items joined.xor.items
+  pub addh : Ored at upto mine.addh.items theirs.addh.items joined.addh.items
 
 -- the planes of one test
-pub record MergedLrpd (mine theirs joined : LrpdPlanes) : Type 0 where
-  pub written : Ored mine.written.items theirs.written.items joined.written.items
-  pub written_by_two : WrittenByTwo mine.written_by_two.items theirs.written_by_two.items mine.written.items theirs.written.items joined.written_by_two.items
-  pub read_only : Ored mine.read_only.items theirs.read_only.items joined.read_only.items
-  pub read_and_written : Ored mine.read_and_written.items theirs.read_and_written.items joined.read_and_written.items
+pub record MergedLrpd (at upto : ℕ) (mine theirs joined : LrpdPlanes) : Type 0 where
+  pub written : Ored at upto mine.written.items theirs.written.items joined.written.items
+  pub written_by_two : WrittenByTwo at upto mine.written_by_two.items theirs.written_by_two.items mine.written.items theirs.written.items joined.written_by_two.items
+  pub read_only : Ored at upto mine.read_only.items theirs.read_only.items joined.read_only.items
+  pub read_and_written : Ored at upto mine.read_and_written.items theirs.read_and_written.items joined.read_and_written.items
 
-pub record MergedFlow (mine theirs joined : FlowPlanes) : Type 0 where
-  pub first : Lesser mine.first.items theirs.first.items joined.first.items
-  pub last : Greater mine.last.items theirs.last.items joined.last.items
+pub record MergedFlow (at upto : ℕ) (mine theirs joined : FlowPlanes) : Type 0 where
+  pub first : Lesser at upto mine.first.items theirs.first.items joined.first.items
+  pub last : Greater at upto mine.last.items theirs.last.items joined.last.items
 
-abbrev pub MergedTested : Tested → Tested → Tested → Type 0
-MergedTested (Lrpd mine) (Lrpd theirs) (Lrpd joined) = MergedLrpd mine theirs joined
-MergedTested (Flow mine) (Flow theirs) (Flow joined) = MergedFlow mine theirs joined
-MergedTested _ _ _ = ⊥
+abbrev pub MergedTested : (at upto : ℕ) → Tested → Tested → Tested → Type 0
+MergedTested at upto (Lrpd mine) (Lrpd theirs) (Lrpd joined) = MergedLrpd at upto mine theirs joined
+MergedTested at upto (Flow mine) (Flow theirs) (Flow joined) = MergedFlow at upto mine theirs joined
+MergedTested at upto _ _ _ = ⊥
 
--- all planes
-pub record MergedPlanes (mine theirs joined : Planes) : Type 0 where
+-- all planes, in the pages from one up to another; in the others they are as they were
+pub record MergedPages (at upto : ℕ) (mine theirs joined : Planes) : Type 0 where
   pub elements : joined.elements ≡ mine.elements
-  pub plain : Ored mine.plain.items theirs.plain.items joined.plain.items
-  pub operators : MergedOperators mine.operators theirs.operators joined.operators
-  pub tested : MergedTested mine.tested theirs.tested joined.tested
+  pub plain : Ored at upto mine.plain.items theirs.plain.items joined.plain.items
+  pub operators : MergedOperators at upto mine.operators theirs.operators joined.operators
+  pub tested : MergedTested at upto mine.tested theirs.tested joined.tested
+
+-- and in all pages
+abbrev pub MergedPlanes : (mine theirs joined : Planes) → Type 0
+MergedPlanes mine theirs joined = MergedPages 0 (words_for mine.elements) mine theirs joined
 
 -- at each element the visits of the one and then those of the other
 abbrev pub joined_visits : (mine theirs : ℕ → List Visit) → ℕ → List Visit
 joined_visits mine theirs e = mine e ++ theirs e
+
+-- planes stand for some iterations, whatever they are
+pub record StandForSome (planes : Planes) : Type 0 where
+  pub visits : ℕ → List Visit
+  pub stand : StandFor planes visits
+
+-- no bit says that an iteration accessed an element of a page: each access is plain or by an operator
+pub record IsUntouched (planes : Planes) (page : ℕ) : Type 0 where
+  pub plain : slice_index planes.plain.items page ≡ 0
+  pub by : (op : Op) → slice_index (plane_by planes.operators op) page ≡ 0

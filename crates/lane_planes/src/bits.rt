@@ -6,18 +6,20 @@ ghost use Rattle.lane_planes.specs.Writes.{Writes};
 use crate::loading::words_at;
 use std::simd::prelude::*;
 
-/// Ors words into others.
-pub(crate) fn or_into<const N: usize>(into: &mut [u64], from: &[u64])
+/// Ors words into others, from an index up to another.
+pub(crate) fn or_into<const N: usize>(into: &mut [u64], from: &[u64], first: usize, past: usize)
     requires lanes { (0 < N) × (N ≤ 64) }
     requires same { length into.old ≡ length from.now }
-    ensures { Writes (λ i. bit_or (slice_index into.old i) (slice_index from.now i)) 0 (length into.old) into.old into.new }
+    requires order { first ≤ past }
+    requires room { past ≤ length into.old }
+    ensures { Writes (λ i. bit_or (slice_index into.old i) (slice_index from.now i)) first past into.old into.new }
 {
-    let mut at = 0;
-    while at + N <= into.len() {
+    let mut at = first;
+    while at + N <= past {
         or_at::<N>(into, from, at);
         at += N;
     }
-    while at < into.len() {
+    while at < past {
         or_at::<1>(into, from, at);
         at += 1;
     }
@@ -34,25 +36,30 @@ fn or_at<const N: usize>(into: &mut [u64], from: &[u64], at: usize)
     (mine | theirs).copy_to_slice(&mut into[at..]);
 }
 
-/// Marks the elements that two different iterations write: where either set has two, or each has one.
+/// Marks the elements that two different iterations write: where either set has two, or each has one. Of the words
+/// from an index up to another.
 pub(crate) fn written_by_two_into<const N: usize>(
     into: &mut [u64],
     from: &[u64],
     written: &[u64],
     also_written: &[u64],
+    first: usize,
+    past: usize,
 )
     requires lanes { (0 < N) × (N ≤ 64) }
     requires same { length into.old ≡ length from.now }
     requires same_written { length into.old ≡ length written.now }
     requires same_also { length into.old ≡ length also_written.now }
-    ensures { Writes (λ i. bit_or (bit_or (slice_index into.old i) (slice_index from.now i)) (bit_and (slice_index written.now i) (slice_index also_written.now i))) 0 (length into.old) into.old into.new }
+    requires order { first ≤ past }
+    requires room { past ≤ length into.old }
+    ensures { Writes (λ i. bit_or (bit_or (slice_index into.old i) (slice_index from.now i)) (bit_and (slice_index written.now i) (slice_index also_written.now i))) first past into.old into.new }
 {
-    let mut at = 0;
-    while at + N <= into.len() {
+    let mut at = first;
+    while at + N <= past {
         written_by_two_at::<N>(into, from, written, also_written, at);
         at += N;
     }
-    while at < into.len() {
+    while at < past {
         written_by_two_at::<1>(into, from, written, also_written, at);
         at += 1;
     }

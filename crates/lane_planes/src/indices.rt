@@ -1,25 +1,27 @@
 //! First writers and last readers, joined.
 
-ghost use Rattle.std.specs.Prelude.{◌≡◌, ℕ, ◌+◌, ◌<◌, ◌≤◌, length, slice_index, min, max};
+ghost use Rattle.std.specs.Prelude.{◌≡◌, ℕ, ◌+◌, ◌*◌, ◌/◌, ◌<◌, ◌≤◌, length, slice_index, min, max};
 ghost use Rattle.lane_planes.specs.Writes.{Writes};
 
 use crate::loading::numbers_at;
 use std::simd::prelude::*;
 
-/// Keeps the lesser of two numbers.
-pub(crate) fn lesser_into<const N: usize>(into: &mut [u32], from: &[u32])
+/// Keeps the lesser of two numbers, in the pages of 64 from one up to another.
+pub(crate) fn lesser_into<const N: usize>(into: &mut [u32], from: &[u32], first: usize, past: usize)
     requires lanes { (0 < N) × (N ≤ 64) }
     requires same { length into.old ≡ length from.now }
-    ensures words { Writes (λ i. min (slice_index into.old i) (slice_index from.now i)) 0 (length into.old) into.old into.new }
-    ensures mine_fit { (i : ℕ) → slice_index into.old i ≤ 4294967295 }
-    ensures theirs_fit { (i : ℕ) → slice_index from.now i ≤ 4294967295 }
+    requires start { 64 * first ≤ length into.old }
+    requires order { first ≤ past }
+    requires room { past ≤ (length into.old + 63) / 64 }
+    ensures { Writes (λ i. min (slice_index into.old i) (slice_index from.now i)) (64 * first) (min (64 * past) (length into.old)) into.old into.new }
 {
-    let mut at = 0;
-    while at + N <= into.len() {
+    let end = (64 * past).min(into.len());
+    let mut at = 64 * first;
+    while at + N <= end {
         lesser_at::<N>(into, from, at);
         at += N;
     }
-    while at < into.len() {
+    while at < end {
         lesser_at::<1>(into, from, at);
         at += 1;
     }
@@ -36,18 +38,27 @@ fn lesser_at<const N: usize>(into: &mut [u32], from: &[u32], at: usize)
     mine.simd_min(theirs).copy_to_slice(&mut into[at..]);
 }
 
-/// Keeps the greater of two numbers.
-pub(crate) fn greater_into<const N: usize>(into: &mut [u32], from: &[u32])
+/// Keeps the greater of two numbers, in the pages of 64 from one up to another.
+pub(crate) fn greater_into<const N: usize>(
+    into: &mut [u32],
+    from: &[u32],
+    first: usize,
+    past: usize,
+)
     requires lanes { (0 < N) × (N ≤ 64) }
     requires same { length into.old ≡ length from.now }
-    ensures { Writes (λ i. max (slice_index into.old i) (slice_index from.now i)) 0 (length into.old) into.old into.new }
+    requires start { 64 * first ≤ length into.old }
+    requires order { first ≤ past }
+    requires room { past ≤ (length into.old + 63) / 64 }
+    ensures { Writes (λ i. max (slice_index into.old i) (slice_index from.now i)) (64 * first) (min (64 * past) (length into.old)) into.old into.new }
 {
-    let mut at = 0;
-    while at + N <= into.len() {
+    let end = (64 * past).min(into.len());
+    let mut at = 64 * first;
+    while at + N <= end {
         greater_at::<N>(into, from, at);
         at += N;
     }
-    while at < into.len() {
+    while at < end {
         greater_at::<1>(into, from, at);
         at += 1;
     }

@@ -10,7 +10,9 @@ mod indices;
 mod judging;
 mod loading;
 mod merging;
+mod touching;
 
 pub use counting::{count_bits, first_bit};
 pub use judging::conflicts;
 pub use merging::merge;
+pub use touching::merge_touched;

@@ -23,3 +23,13 @@ pub(crate) fn numbers_at<const N: usize>(numbers: &[u32], at: usize) -> Simd<u32
 {
     Simd::from_slice(&numbers[at..])
 }
+
+/// Tells that each number is below 2^32. Nothing is computed.
+pub(crate) fn are_numbers(numbers: &[u32])
+    ensures { (i : ℕ) → slice_index numbers.now i ≤ 4294967295 }
+{}
+
+/// Tells that each word is below 2^64. Nothing is computed.
+pub(crate) fn are_words(words: &[u64])
+    ensures { (i : ℕ) → slice_index words.now i < 2 ^ 64 }
+{}

@@ -11,6 +11,7 @@ use Rattle.loop_core_blocks.specs.Kept.{Kept, committed_of_kept}
 use Rattle.shadow_marks.specs.declared.planes.Planes.{Planes}
 use Rattle.shadow_marks.specs.Standing.{ArePlanes, words_for, plane_by, test_of}
 use Rattle.private_copy.specs.Reductions.{combination}
+use Rattle.lane_planes.specs.Merged.{StandForSome}
 use Rattle.loop_block.specs.Blocks.{BlockOf}
 use Rattle.loop_gather.specs.declared.summary.Summary.{Summary}
 
@@ -22,9 +23,9 @@ told_of b = record { number = b.number; first = b.first; past = b.past; broke = 
 abbrev pub chosen : List ℕ → List BlockOf → List BlockOf
 chosen places blocks = filter_map (λ place. slice_get blocks place) places
 
--- the planes of a block are for so many elements and this test
+-- the planes of a block stand for some iterations, for so many elements and this test
 pub record HavePlanes (elements : ℕ) (test : Test) (b : BlockOf) : Type 0 where
-  pub whole : ArePlanes b.planes
+  pub stand : StandForSome b.planes
   pub count : b.planes.elements ≡ elements
   pub test_is : test_of b.planes.tested ≡ test
 

@@ -13,7 +13,7 @@ ghost use Rattle.shadow_marks.specs.Standing.{StandFor, ArePlanes, test_of, plan
 ghost use Rattle.loop_gather.specs.Held.{chosen, visits_at, is_reduction as is_reduced, HavePlanes};
 
 use array_maps::are_words;
-use lane_planes::{conflicts, count_bits, first_bit, merge};
+use lane_planes::{conflicts, count_bits, first_bit, merge_touched};
 use loop_block::Block;
 use loop_core_law::{Test, Verdict};
 use shadow_marks::{OperatorPlanes, Planes};
@@ -39,7 +39,7 @@ pub(crate) fn merged_planes(
 {
     let mut planes = Planes::try_new(alloc, elements, test)?;
     for place in places {
-        merge::<LANES>(&mut planes, blocks[*place].planes());
+        merge_touched::<LANES>(&mut planes, blocks[*place].planes());
     }
     Ok(planes)
 }

@@ -1,21 +1,23 @@
-use Rattle.std.proofs.Common.{length, ◌-◌, ◌≤◌, slice_index, max}
+use Rattle.std.proofs.Common.{◌-◌, ◌*◌, ◌≤◌, slice_index, max}
 use Rattle.lane_planes.specs.Writes.{Writes}
 use Rattle.lane_planes.proofs.indices.greater_into.Given as goal
 
 abbrev pub invariant-loop-at : goal.invariant-loop-at
 invariant-loop-at g l = record {
-  within : l.at ≤ length l.into;
-  words : Writes (λ i. max (slice_index l.fn.into i) (slice_index l.from i)) 0 l.at l.fn.into l.into;
+  order : 64 * l.first ≤ l.at;
+  within : l.at ≤ l.end;
+  words : Writes (λ i. max (slice_index l.fn.into i) (slice_index l.from i)) (64 * l.first) l.at l.fn.into l.into;
 }
 
 abbrev pub decreases-loop-at : goal.decreases-loop-at
-decreases-loop-at g l = length l.initial.into - l.at
+decreases-loop-at g l = l.end - l.at
 
 abbrev pub invariant-loop-at-2 : goal.invariant-loop-at-2
 invariant-loop-at-2 g l = record {
-  within : l.at ≤ length l.into;
-  words : Writes (λ i. max (slice_index l.fn.into i) (slice_index l.from i)) 0 l.at l.fn.into l.into;
+  order : 64 * l.first ≤ l.at;
+  within : l.at ≤ l.end;
+  words : Writes (λ i. max (slice_index l.fn.into i) (slice_index l.from i)) (64 * l.first) l.at l.fn.into l.into;
 }
 
 abbrev pub decreases-loop-at-2 : goal.decreases-loop-at-2
-decreases-loop-at-2 g l = length l.initial.into - l.at
+decreases-loop-at-2 g l = l.end - l.at

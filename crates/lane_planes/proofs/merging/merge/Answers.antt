@@ -1,24 +1,22 @@
-use Rattle.std.proofs.Common.{refl, arith}
-use Rattle.std.proofs.lemmas.Grind.{common_steps}
-use Rattle.lane_planes.proofs.SamePlanes.{same_operators, same_tested}
+use Rattle.std.proofs.Common.{◌≡◌, rules, subst, arith}
+use Rattle.shadow_marks.specs.Standing.{words_for}
+use Rattle.lane_planes.specs.Merged.{MergedPages}
 use Rattle.lane_planes.proofs.MergeLaws.{merged_at, joined_stand}
 use Rattle.lane_planes.proofs.WholeLaws.{merge_keeps}
 use Rattle.lane_planes.proofs.merging.merge.Goals as goal
 
-pub merge_operators-requires-clause-same : goal.merge_operators-requires-clause-same
-merge_operators-requires-clause-same g c = same_operators c.args.into.now c.args.from.now c.requires.mine c.requires.theirs c.requires.elements
-
-pub merge_tested-requires-clause-same : goal.merge_tested-requires-clause-same
-merge_tested-requires-clause-same g c = same_tested c.args.into.now c.args.from.now c.requires.mine c.requires.theirs c.requires.elements c.requires.test
-
 pub returns-clause-words : goal.returns-clause-words
-returns-clause-words g c = record { elements = refl; plain = grind (arith, common_steps); operators = c.merge_operators.ensures; tested = c.merge_tested.ensures.words }
+returns-clause-words g c =
+    let count = c.requires.theirs.plain.count in
+    let long = c.args.from.now.plain.ok.0 in
+    let pages : c.len.result ≡ words_for c.args.into.now.elements = first_of (search rules, omega (arith, count, long, c.requires.elements, c.len.ensures)) in
+    subst (λ n. MergedPages 0 n c.args.into.now c.args.from.now c.merge_pages.new.into) pages c.merge_pages.ensures
 
 pub returns-clause-shape : goal.returns-clause-shape
-returns-clause-shape g c = merge_keeps _ _ _ c.requires.mine c.requires.theirs c.requires.elements (returns-clause-words g c)
+returns-clause-shape g c = merge_keeps _ _ _ _ _ c.requires.mine c.requires.theirs c.requires.elements (returns-clause-words g c)
 
 pub returns-clause-marks : goal.returns-clause-marks
-returns-clause-marks g c = merged_at _ _ _ c.requires.mine (returns-clause-words g c) c.merge_tested.ensures.mine_fit c.merge_tested.ensures.theirs_fit
+returns-clause-marks g c = merged_at _ _ _ c.requires.mine (returns-clause-words g c) c.are_firsts.ensures c.are_firsts-2.ensures
 
 pub returns-clause-visits : goal.returns-clause-visits
 returns-clause-visits g c = joined_stand _ _ _ c.requires.elements (returns-clause-shape g c) (returns-clause-marks g c)

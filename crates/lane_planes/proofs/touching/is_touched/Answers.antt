@@ -1,0 +1,54 @@
+use Rattle.std.proofs.Common.{◌∙◌, arith}
+use Rattle.std.proofs.lemmas.List.{get_or_default}
+use Rattle.array_maps.specs.declared.access.Op.TheVariants.{Add, Or, And, Xor, AddH}
+use Rattle.lane_planes.proofs.IdleLaws.{untouched_by_words}
+use Rattle.lane_planes.proofs.touching.is_touched.Goals as goal
+
+pub index-requires-2 : goal.index-requires-2
+index-requires-2 c =
+    let count = (c.requires.whole.by Add).count in
+    let long = c.args.planes.now.operators.add.ok.0 in
+    omega (arith, count, long, c.requires.within)
+
+pub index-requires-3 : goal.index-requires-3
+index-requires-3 c =
+    let count = (c.requires.whole.by Or).count in
+    let long = c.args.planes.now.operators.or.ok.0 in
+    omega (arith, count, long, c.requires.within)
+
+pub index-requires-4 : goal.index-requires-4
+index-requires-4 c =
+    let count = (c.requires.whole.by And).count in
+    let long = c.args.planes.now.operators.and.ok.0 in
+    omega (arith, count, long, c.requires.within)
+
+pub index-requires-5 : goal.index-requires-5
+index-requires-5 c =
+    let count = (c.requires.whole.by Xor).count in
+    let long = c.args.planes.now.operators.xor.ok.0 in
+    omega (arith, count, long, c.requires.within)
+
+pub index-requires-6 : goal.index-requires-6
+index-requires-6 c =
+    let count = (c.requires.whole.by AddH).count in
+    let long = c.args.planes.now.operators.addh.ok.0 in
+    omega (arith, count, long, c.requires.within)
+
+pub returns : goal.returns
+returns c unset =
+    let planes = c.args.planes.now in
+    let page = c.args.page in
+    let plain = c.requires.whole.plain.count in
+    let add = (c.requires.whole.by Add).count in
+    let or = (c.requires.whole.by Or).count in
+    let and = (c.requires.whole.by And).count in
+    let xor = (c.requires.whole.by Xor).count in
+    let addh = (c.requires.whole.by AddH).count in
+    let within = c.requires.within in
+    untouched_by_words planes page _ _ _ _ _ _ unset
+    (c.index.ensures ∙ get_or_default planes.plain.items page c.index.result.now 0 (omega (arith, plain, within)))
+    (c.index-2.ensures ∙ get_or_default planes.operators.add.items page c.index-2.result.now 0 (omega (arith, add, within)))
+    (c.index-3.ensures ∙ get_or_default planes.operators.or.items page c.index-3.result.now 0 (omega (arith, or, within)))
+    (c.index-4.ensures ∙ get_or_default planes.operators.and.items page c.index-4.result.now 0 (omega (arith, and, within)))
+    (c.index-5.ensures ∙ get_or_default planes.operators.xor.items page c.index-5.result.now 0 (omega (arith, xor, within)))
+    (c.index-6.ensures ∙ get_or_default planes.operators.addh.items page c.index-6.result.now 0 (omega (arith, addh, within)))
