@@ -1,11 +1,12 @@
 -- Where no access is marked, nothing is marked.
-use Rattle.std.proofs.Common.{◌≡◌, ℕ, zero, suc, ◌+◌, ◌*◌, ◌/◌, ◌%◌, ◌^◌, ◌<◌, ◌≤◌, max, Bool, true, false, List, [], ◌∷◌, Some, None, refl, sym, ◌∙◌, ap, subst, ⊎_elim, arith}
-use Rattle.std.specs.Prelude.{◌==◌, ◌||◌, ◌&&◌, not, slice_index, bit_or, if◌then◌else◌}
+use Rattle.std.proofs.Common.{◌≡◌, ℕ, zero, suc, ◌+◌, ◌-◌, ◌*◌, ◌/◌, ◌%◌, ◌^◌, ◌<◌, ◌≤◌, min, max, Bool, true, false, List, [], ◌∷◌, length, Some, None, refl, sym, ◌∙◌, ap, subst, ⊎_elim, arith}
+use Rattle.std.specs.Prelude.{◌==◌, ◌||◌, ◌&&◌, not, nat_lt, slice_index, slice_set, bit_or, if◌then◌else◌}
 use Rattle.std.specs.Int.{bit_at}
 use Rattle.std.specs.List.{list_any}
 use Rattle.std.proofs.lemmas.Bool.{cases_lt}
 use Rattle.std.proofs.lemmas.Bool.Decides.{nat_tests}
-use Rattle.std.proofs.lemmas.Nat.{le_or_l, le_or_r}
+use Rattle.std.proofs.lemmas.List.{get_or-set_same, get_or-set_other}
+use Rattle.std.proofs.lemmas.Nat.{le_or_l, le_or_r, pow_pos}
 use Rattle.std.proofs.lemmas.Nat.Bits.{bit_at-zero, bit_at-lt, same_from_bits_below}
 use Rattle.array_maps.specs.declared.access.Op.{Op}
 use Rattle.array_maps.specs.declared.access.Op.TheVariants.{Add, Or, And, Xor, AddH}
@@ -15,13 +16,15 @@ use Rattle.loop_core_law.specs.LeastBreak.{lesser}
 use Rattle.loop_core_marks.specs.Flags.{is_plain}
 use Rattle.loop_core_marks.specs.Marks.{Visit, actions_of, Marks, two_write, first_writer, last_reader, marks_of, first_number}
 use Rattle.loop_core_marks.specs.Planes.{bit_of}
+use Rattle.shadow_marks.specs.declared.planes.FlowPlanes.{FlowPlanes}
 use Rattle.shadow_marks.specs.declared.planes.Tested.{Tested}
 use Rattle.shadow_marks.specs.declared.planes.Tested.TheVariants.{Lrpd, Flow}
 use Rattle.shadow_marks.specs.declared.planes.Planes.{Planes}
 use Rattle.shadow_marks.specs.Standing.{IsBitPlane, AreTested, TestedStandAt, plane_by}
+use Rattle.lane_planes.specs.Words.{HasBits, stands_at}
 use Rattle.lane_planes.specs.Merged.{StandForSome, IsUntouched, WordsFit}
 use Rattle.lane_planes.proofs.BitMeaning.{bit}
-use Rattle.lane_planes.proofs.PageLaws.{TestedIdle, IsIdle}
+use Rattle.lane_planes.proofs.PageLaws.{FlowIdle, TestedIdle, IsIdle}
 
 never : (b : Bool) → b ≡ true → b ≡ false → ⊥
 never b t f = let both : true ≡ false = sym t ∙ f in cc
@@ -136,6 +139,42 @@ untouched_idle planes page some untouched fit =
       addh = untouched.by AddH;
       tested = idle_tested planes.elements page (λ e. marks_of (visits e)) idle planes.tested some.stand.whole.tested fit (λ e below. (some.stand.marks e below).tested);
     }
+
+-- so none of its elements has a first writer before a last reader
+flow_has_no_words : (planes : Planes) (flow : FlowPlanes) → planes.tested ≡ Flow flow → WordsFit planes.tested
+flow_has_no_words planes flow is others other = let bad : Flow flow ≡ Lrpd others = sym is ∙ other in absurd (cc)
+
+none_below : (first : ℕ) → nat_lt first (0 - 1) ≡ false
+none_below first = grind arith
+
+no_bits : (many : ℕ) (test : ℕ → Bool) → ((k : ℕ) → k < many → test k ≡ false) → HasBits many test 0
+no_bits many test none = record { below = pow_pos many; each = λ k small. ap (λ x. x == 1) (bit_at-zero k) ∙ sym (none k small) }
+
+pub untouched_word : (planes : Planes) (flow : FlowPlanes) (page : ℕ) → planes.tested ≡ Flow flow → StandForSome planes → IsUntouched planes page →
+    HasBits (min (length flow.first.items - 64 * page) 64) (λ k. stands_at flow.first.items flow.last.items (64 * page + k)) 0
+untouched_word planes flow page is some untouched =
+    let idle : FlowIdle flow page = subst (λ t. TestedIdle t page) is (untouched_idle planes page some untouched (flow_has_no_words planes flow is)).tested in
+    let whole : AreTested planes.elements (Flow flow) = subst (AreTested planes.elements) is some.stand.whole.tested in
+    let same : length flow.first.items ≡ length flow.last.items = whole.first ∙ sym whole.last in
+    no_bits (min (length flow.first.items - 64 * page) 64) (λ k. stands_at flow.first.items flow.last.items (64 * page + k))
+    (λ k small.
+    let here : (64 * page + k) / 64 ≡ page = omega arith in
+    let inside : 64 * page + k < length flow.last.items = omega arith in
+    ap (λ n. nat_lt (slice_index flow.first.items (64 * page + k)) (n - 1)) (idle.last (64 * page + k) here inside) ∙ none_below (slice_index flow.first.items (64 * page + k)))
+
+-- a page more
+abbrev page_word : (first last : List ℕ) (page word : ℕ) → Type 0
+page_word first last page word = HasBits (min (length first - 64 * page) 64) (λ k. stands_at first last (64 * page + k)) word
+
+pub page_more : (first last words : List ℕ) (page word : ℕ) → page < length words → ((i : ℕ) → i < page → page_word first last i (slice_index words i)) → page_word first last page word →
+    (i : ℕ) → i < page + 1 → page_word first last i (slice_index (slice_set words page word) i)
+page_more first last words page word room before here i small =
+    ⊎_elim
+    (λ (earlier : i < page). subst (page_word first last i) (sym (get_or-set_other words page i word 0 (λ e. omega arith))) (before i earlier))
+    (λ (late : page ≤ i).
+    let same : i ≡ page = omega arith in
+    subst (λ j. page_word first last j (slice_index (slice_set words page word) j)) (sym same) (subst (page_word first last page) (sym (get_or-set_same words page word 0 room)) here))
+    (cases_lt i page)
 
 -- words of which none has a bit
 none_of : (x : ℕ) → not (x == 0) ≡ false → x ≡ 0

@@ -23,7 +23,12 @@ pub(crate) fn flow_into<const N: usize>(into: &mut [u64], first: &[u32], last: &
 
 /// The word of up to 64 elements, from an element on.
 #[inline(always)]
-fn flow_word<const N: usize>(first: &[u32], last: &[u32], from: usize, many: usize) -> u64
+pub(crate) fn flow_word<const N: usize>(
+    first: &[u32],
+    last: &[u32],
+    from: usize,
+    many: usize,
+) -> u64
     requires lanes { (0 < N) × (N ≤ 64) }
     requires same { length first.now ≡ length last.now }
     requires few { many ≤ 64 }

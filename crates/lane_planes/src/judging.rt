@@ -23,12 +23,27 @@ pub fn conflicts<const N: usize>(planes: &Planes, into: &mut [u64])
     ensures elements { (visits : ℕ → List Visit) → StandFor planes.now visits → elements_of into.new ≡ filter (λ e. marked_conflict (test_of planes.now.tested) (marks_of (visits e))) (range_with_len 0 planes.now.elements) }
 {
     failing_into::<N>(&planes.tested, into);
+    leave_conflicts::<N>(planes, into);
+}
+
+/// Leaves which elements conflict, of those where the test of the planes fails.
+pub(crate) fn leave_conflicts<const N: usize>(planes: &Planes, into: &mut [u64])
+    requires lanes { (0 < N) × (N ≤ 64) }
+    requires whole { ArePlanes planes.now }
+    requires words { length into.old ≡ words_for planes.now.elements }
+    requires failing { FailingWords planes.now.tested (length into.old) into.old }
+    requires fit { LastsFit planes.now.tested }
+    ensures words { ConflictWords planes.now into.new }
+    ensures marks { (e : ℕ) (marks : Marks) → e < planes.now.elements → StandAt planes.now e marks → bit_of into.new e ≡ marked_conflict (test_of planes.now.tested) marks }
+    ensures plane { IsBitPlane planes.now.elements into.new }
+    ensures elements { (visits : ℕ → List Visit) → StandFor planes.now visits → elements_of into.new ≡ filter (λ e. marked_conflict (test_of planes.now.tested) (marks_of (visits e))) (range_with_len 0 planes.now.elements) }
+{
     let reductions = reduction_planes(planes);
     clear_reductions::<N>(into, reductions);
 }
 
 /// Writes where the test fails, whether or not elements are reduction-only.
-fn failing_into<const N: usize>(tested: &Tested, into: &mut [u64])
+pub(crate) fn failing_into<const N: usize>(tested: &Tested, into: &mut [u64])
     requires lanes { (0 < N) × (N ≤ 64) }
     requires fit { TestedFit tested.now (length into.old) }
     ensures words { FailingWords tested.now (length into.old) into.new }

@@ -15,4 +15,4 @@ mod touching;
 pub use counting::{count_bits, first_bit};
 pub use judging::conflicts;
 pub use merging::merge;
-pub use touching::merge_touched;
+pub use touching::{conflicts_touched, merge_touched};

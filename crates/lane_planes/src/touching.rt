@@ -1,14 +1,21 @@
-//! Planes merged where they were touched.
+//! Planes merged and judged where they were touched.
 
-ghost use Rattle.std.specs.Prelude.{◌≡◌, ◌<◌, ◌≤◌, ℕ, false, List};
-ghost use Rattle.loop_core_marks.specs.Marks.{Visit, Marks, merged};
-ghost use Rattle.shadow_marks.specs.Standing.{ArePlanes, test_of, StandAt, StandFor, words_for};
+ghost use Rattle.std.specs.Prelude.{◌≡◌, ◌+◌, ◌-◌, ◌*◌, ◌<◌, ◌≤◌, ℕ, false, min, List, length, slice_index};
+ghost use Rattle.std.specs.List.{filter, range_with_len};
+ghost use Rattle.loop_core_marks.specs.Marks.{Visit, Marks, marks_of, marked_conflict, merged};
+ghost use Rattle.loop_core_marks.specs.Planes.{bit_of, elements_of};
+ghost use Rattle.shadow_marks.specs.declared.planes.Tested.TheVariants.{Flow};
+ghost use Rattle.shadow_marks.specs.Standing.{ArePlanes, IsBitPlane, test_of, StandAt, StandFor, words_for};
 ghost use Rattle.shadow_marks.specs.Ending.{KeepsShape};
+ghost use Rattle.lane_planes.specs.Words.{FlowWords, HasBits, stands_at};
 ghost use Rattle.lane_planes.specs.Merged.{joined_visits, MergedPlanes, StandForSome, IsUntouched, WordsFit};
+ghost use Rattle.lane_planes.specs.Conflicts.{ConflictWords, FailingWords, LastsFit};
 
-use crate::loading::are_words;
+use crate::flow::flow_word;
+use crate::judging::{failing_into, leave_conflicts};
+use crate::loading::{are_numbers, are_words};
 use crate::merging::{are_firsts, merge_pages};
-use shadow_marks::{Planes, Tested};
+use shadow_marks::{FlowPlanes, Planes, Tested};
 
 /// Merges planes of other iterations into these as `merge` does, but goes only over the pages of 64 elements that
 /// those iterations touched: in any other page there is nothing to merge. Both are for the same number of elements
@@ -36,6 +43,57 @@ pub fn merge_touched<const N: usize>(into: &mut Planes, from: &Planes)
         } else {
             page += 1;
         }
+    }
+}
+
+/// Writes which elements conflict as `conflicts` does, but looks for a first writer before a last reader only in the
+/// pages of 64 elements that the planes' iterations touched: in any other page there is neither.
+pub fn conflicts_touched<const N: usize>(planes: &Planes, into: &mut [u64])
+    requires lanes { (0 < N) × (N ≤ 64) }
+    requires stand { StandForSome planes.now }
+    requires words { length into.old ≡ words_for planes.now.elements }
+    ensures words { ConflictWords planes.now into.new }
+    ensures marks { (e : ℕ) (marks : Marks) → e < planes.now.elements → StandAt planes.now e marks → bit_of into.new e ≡ marked_conflict (test_of planes.now.tested) marks }
+    ensures plane { IsBitPlane planes.now.elements into.new }
+    ensures elements { (visits : ℕ → List Visit) → StandFor planes.now visits → elements_of into.new ≡ filter (λ e. marked_conflict (test_of planes.now.tested) (marks_of (visits e))) (range_with_len 0 planes.now.elements) }
+{
+    match &planes.tested {
+        Tested::Lrpd(_) => failing_into::<N>(&planes.tested, into),
+        Tested::Flow(flow) => flow_where_touched::<N>(planes, flow, into),
+    }
+    leave_conflicts::<N>(planes, into);
+}
+
+/// Tells where the flow test of these planes fails, whether or not elements are reduction-only.
+fn flow_where_touched<const N: usize>(planes: &Planes, flow: &FlowPlanes, into: &mut [u64])
+    requires lanes { (0 < N) × (N ≤ 64) }
+    requires stand { StandForSome planes.now }
+    requires tested { planes.now.tested ≡ Flow flow.now }
+    requires words { length into.old ≡ words_for planes.now.elements }
+    ensures words { FlowWords (length into.old) flow.now.first.items flow.now.last.items into.new }
+    ensures fit { (e : ℕ) → slice_index flow.now.last.items e ≤ 4294967295 }
+{
+    are_numbers(flow.last.as_slice());
+    for page in 0..into.len() {
+        into[page] = touched_word::<N>(planes, flow, page);
+    }
+}
+
+/// The word of a page: a bit for each element, whether the flow test fails there.
+#[inline(always)]
+fn touched_word<const N: usize>(planes: &Planes, flow: &FlowPlanes, page: usize) -> u64
+    requires lanes { (0 < N) × (N ≤ 64) }
+    requires stand { StandForSome planes.now }
+    requires tested { planes.now.tested ≡ Flow flow.now }
+    requires within { page < words_for planes.now.elements }
+    ensures { HasBits (min (length flow.now.first.items - 64 * page) 64) (λ k. stands_at flow.now.first.items flow.now.last.items (64 * page + k)) result }
+{
+    if is_touched(planes, page) {
+        let from = 64 * page;
+        let many = (flow.first.len() - from).min(64);
+        flow_word::<N>(flow.first.as_slice(), flow.last.as_slice(), from, many)
+    } else {
+        0
     }
 }
 

@@ -8,7 +8,7 @@ use Rattle.loop_core_marks.specs.Marks.{Visit}
 use Rattle.shadow_marks.specs.declared.planes.Planes.{Planes}
 use Rattle.shadow_marks.specs.Standing.{ArePlanes, StandFor, test_of}
 use Rattle.shadow_marks.specs.Ending.{KeepsShape}
-use Rattle.lane_planes.specs.Merged.{joined_visits}
+use Rattle.lane_planes.specs.Merged.{joined_visits, StandForSome}
 use Rattle.loop_block.specs.Blocks.{BlockOf}
 use Rattle.loop_gather.specs.Held.{chosen, visits_at}
 use Rattle.loop_gather.proofs.ChoiceLaws.{visits_next}
@@ -24,17 +24,19 @@ pub record MergedSoFar (elements : ℕ) (test : Test) (blocks : List BlockOf) (p
   pub count : planes.elements ≡ elements
   pub test_is : test_of planes.tested ≡ test
   pub whole : ArePlanes planes
+  pub stand : StandForSome planes
   pub visits : (each : BlockOf → ℕ → List Visit) → All (λ b. StandFor b.planes (each b)) blocks → StandBefore each (chosen places blocks) (chosen (drop i places) blocks) planes
 
 pub merged_next : (elements : ℕ) (test : Test) (blocks : List BlockOf) (places : List ℕ) (planes new : Planes) (i : ℕ) (b : BlockOf) →
-    MergedSoFar elements test blocks places planes i → chosen (drop i places) blocks ≡ b ∷ chosen (drop (i + 1) places) blocks →
+    MergedSoFar elements test blocks places planes i → StandForSome b.planes → chosen (drop i places) blocks ≡ b ∷ chosen (drop (i + 1) places) blocks →
     ((each : BlockOf → ℕ → List Visit) → All (λ c. StandFor c.planes (each c)) blocks → StandFor b.planes (each b)) →
     KeepsShape planes new → ((mine theirs : ℕ → List Visit) → StandFor planes mine → StandFor b.planes theirs → StandFor new (joined_visits mine theirs)) →
     MergedSoFar elements test blocks places new (i + 1)
-merged_next elements test blocks places planes new i b so_far is own shape joins = record {
+merged_next elements test blocks places planes new i b so_far some is own shape joins = record {
   count = shape.elements ∙ so_far.count;
   test_is = shape.test ∙ so_far.test_is;
   whole = shape.whole;
+  stand = record { visits = joined_visits so_far.stand.visits some.visits; stand = joins so_far.stand.visits some.visits so_far.stand.stand some.stand };
   visits = λ each all. (let held = so_far.visits each all in record {
     before = joined_visits held.before (each b);
     stand = joins held.before (each b) held.stand (own each all);

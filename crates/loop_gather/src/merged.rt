@@ -10,10 +10,11 @@ ghost use Rattle.loop_block.specs.Shown.{shown};
 ghost use Rattle.loop_core_marks.specs.Marks.{Visit, marks_of, marked_conflict};
 ghost use Rattle.loop_core_marks.specs.Planes.{bit_of, elements_of, plane_verdict};
 ghost use Rattle.shadow_marks.specs.Standing.{StandFor, ArePlanes, test_of, plane_by};
+ghost use Rattle.lane_planes.specs.Merged.{StandForSome};
 ghost use Rattle.loop_gather.specs.Held.{chosen, visits_at, is_reduction as is_reduced, HavePlanes};
 
 use array_maps::are_words;
-use lane_planes::{conflicts, count_bits, first_bit, merge_touched};
+use lane_planes::{conflicts_touched, count_bits, first_bit, merge_touched};
 use loop_block::Block;
 use loop_core_law::{Test, Verdict};
 use shadow_marks::{OperatorPlanes, Planes};
@@ -35,6 +36,7 @@ pub(crate) fn merged_planes(
     ensures elements { IfOk result (λ planes. planes.elements ≡ elements) }
     ensures test { IfOk result (λ planes. test_of planes.tested ≡ test) }
     ensures whole { IfOk result ArePlanes }
+    ensures stand { IfOk result StandForSome }
     ensures visits { IfOk result (λ planes. (each : BlockOf → ℕ → List Visit) → All (λ b. StandFor b.planes (each b)) (map shown blocks.now) → StandFor planes (visits_at each (chosen places.now (map shown blocks.now)))) }
 {
     let mut planes = Planes::try_new(alloc, elements, test)?;
@@ -46,14 +48,14 @@ pub(crate) fn merged_planes(
 
 /// The plane of elements that conflict, of planes for at most 65,536 elements.
 pub(crate) fn conflicting_plane(alloc: Global, planes: &Planes) -> Result<Vec<u64>, AllocError>
-    requires whole { ArePlanes planes.now }
+    requires stand { StandForSome planes.now }
     requires few { planes.now.elements ≤ 65536 }
     ensures few { IfOk result (λ plane. length plane.items ≤ 1024) }
     ensures words { IfOk result (λ plane. AreWords plane.items) }
     ensures elements { IfOk result (λ plane. (visits : ℕ → List Visit) → StandFor planes.now visits → elements_of plane.items ≡ filter (λ e. marked_conflict (test_of planes.now.tested) (marks_of (visits e))) (range_with_len 0 planes.now.elements)) }
 {
     let mut plane = vec![in alloc; 0u64; (planes.elements as usize + 63) / 64]?;
-    conflicts::<LANES>(planes, plane.as_mut_slice());
+    conflicts_touched::<LANES>(planes, plane.as_mut_slice());
     are_words(plane.as_slice());
     Ok(plane)
 }

@@ -8,7 +8,7 @@ taken xs rest many is = ap (λ (n : ℕ). take n (xs ++ rest)) (sym is) ∙ take
 
 pub returns-clause-elements : goal.returns-clause-elements
 returns-clause-elements c visits stand =
-    let count = c.conflicts.ensures.plane.count in
+    let count = c.conflicts_touched.ensures.plane.count in
     let long = c.in_ok-plane.ensures.len in
-    ap elements_of (taken c.conflicts.new.into (drop (length c.conflicts.new.into) c.in_ok-plane.plane.items) c.in_ok-plane.plane.len (omega (arith, count, long)))
-    ∙ c.conflicts.ensures.elements visits stand
+    ap elements_of (taken c.conflicts_touched.new.into (drop (length c.conflicts_touched.new.into) c.in_ok-plane.plane.items) c.in_ok-plane.plane.len (omega (arith, count, long)))
+    ∙ c.conflicts_touched.ensures.elements visits stand

@@ -1,6 +1,8 @@
 use Rattle.std.proofs.Common.{◌<◌, ◌≤◌, map, length, get_or, sym, subst, arith}
 use Rattle.shadow_marks.specs.declared.planes.Planes.{Planes}
 use Rattle.shadow_marks.specs.Standing.{StandFor}
+use Rattle.lane_planes.specs.Merged.{StandForSome}
+use Rattle.loop_block.specs.declared.block.Block.{Block as Held}
 use Rattle.loop_block.specs.Shown.{shown}
 use Rattle.loop_gather.proofs.ChoiceLaws.{chosen_next, all_at}
 use Rattle.loop_gather.proofs.MergingLaws.{merged_next, merged_all}
@@ -14,7 +16,8 @@ loop-place-preserved c =
     let b = c.index-blocks-place.result in
     let inside : c.loop-place.place-index < length c.args.places.now = omega arith in
     let within = c.requires.places i 0 inside in
-    merged_next c.args.elements c.args.test (map shown blocks) places c.loop-place.planes c.merge_touched.new.into i (shown b) c.loop-place.invariant
+    let some : StandForSome (shown b).planes = subst (λ (held : Held). StandForSome (shown held).planes) (sym c.index-blocks-place.is) (c.requires.planes (get_or places i 0) b within).stand in
+    merged_next c.args.elements c.args.test (map shown blocks) places c.loop-place.planes c.merge_touched.new.into i (shown b) c.loop-place.invariant some
     (chosen_next blocks places i b inside within c.index-blocks-place.is)
     (λ each all. all_at (λ other. StandFor other.planes (each other)) blocks (get_or places i 0) b within c.index-blocks-place.is all)
     c.merge_touched.ensures.shape

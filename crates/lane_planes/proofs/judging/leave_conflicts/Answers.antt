@@ -1,55 +1,55 @@
-use Rattle.std.proofs.Common.{length, ap, arith}
+use Rattle.std.proofs.Common.{length, refl, ap, arith}
 use Rattle.array_maps.specs.declared.access.Op.TheVariants.{Add, Or, And, Xor, AddH}
 use Rattle.lane_planes.proofs.ConflictLaws.{AreSlices, conflict_at, conflict_past, conflict_elements, slices_fit, slices_cleared}
-use Rattle.lane_planes.proofs.judging.conflicts.Goals as goal
+use Rattle.lane_planes.proofs.judging.leave_conflicts.Goals as goal
 
 pub clear_reductions-requires-clause-same_add : goal.clear_reductions-requires-clause-same_add
 clear_reductions-requires-clause-same_add g c =
     let is = ap length c.reduction_planes-reductions.ensures.add in
     let words = (c.requires.whole.by Add).count in
-    omega (arith, is, words, c.requires.words, c.failing_into.auto.into)
+    omega (arith, is, words, c.requires.words)
 
 pub clear_reductions-requires-clause-same_or : goal.clear_reductions-requires-clause-same_or
 clear_reductions-requires-clause-same_or g c =
     let is = ap length c.reduction_planes-reductions.ensures.or in
     let words = (c.requires.whole.by Or).count in
-    omega (arith, is, words, c.requires.words, c.failing_into.auto.into)
+    omega (arith, is, words, c.requires.words)
 
 pub clear_reductions-requires-clause-same_and : goal.clear_reductions-requires-clause-same_and
 clear_reductions-requires-clause-same_and g c =
     let is = ap length c.reduction_planes-reductions.ensures.and in
     let words = (c.requires.whole.by And).count in
-    omega (arith, is, words, c.requires.words, c.failing_into.auto.into)
+    omega (arith, is, words, c.requires.words)
 
 pub clear_reductions-requires-clause-same_xor : goal.clear_reductions-requires-clause-same_xor
 clear_reductions-requires-clause-same_xor g c =
     let is = ap length c.reduction_planes-reductions.ensures.xor in
     let words = (c.requires.whole.by Xor).count in
-    omega (arith, is, words, c.requires.words, c.failing_into.auto.into)
+    omega (arith, is, words, c.requires.words)
 
 pub clear_reductions-requires-clause-same_addh : goal.clear_reductions-requires-clause-same_addh
 clear_reductions-requires-clause-same_addh g c =
     let is = ap length c.reduction_planes-reductions.ensures.addh in
     let words = (c.requires.whole.by AddH).count in
-    omega (arith, is, words, c.requires.words, c.failing_into.auto.into)
+    omega (arith, is, words, c.requires.words)
 
 pub returns-clause-words : goal.returns-clause-words
 returns-clause-words g c =
     let slices = c.reduction_planes-reductions.ensures in
     let are : AreSlices c.args.planes.now _ _ _ _ _ _ = record { plain_is = slices.plain; add_is = slices.add; or_is = slices.or; and_is = slices.and; xor_is = slices.xor; addh_is = slices.addh } in
-    slices_cleared c.args.planes.now _ _ _ _ _ _ c.args.into.now c.failing_into.new.into _ are c.failing_into.auto.into c.failing_into.ensures.words c.clear_reductions.ensures.words
+    slices_cleared c.args.planes.now _ _ _ _ _ _ c.args.into.now c.args.into.now _ are refl c.requires.failing c.clear_reductions.ensures.words
 
 pub returns-clause-marks : goal.returns-clause-marks
 returns-clause-marks g c =
     let slices = c.reduction_planes-reductions.ensures in
     let are : AreSlices c.args.planes.now _ _ _ _ _ _ = record { plain_is = slices.plain; add_is = slices.add; or_is = slices.or; and_is = slices.and; xor_is = slices.xor; addh_is = slices.addh } in
-    conflict_at c.args.planes.now _ c.requires.whole (omega (arith, c.requires.words, c.failing_into.auto.into, c.clear_reductions.auto.into))
-    (slices_fit c.args.planes.now _ _ _ _ _ _ _ _ are c.clear_reductions.auto.into c.clear_reductions.ensures.fit) c.failing_into.ensures.fit (returns-clause-words g c)
+    conflict_at c.args.planes.now _ c.requires.whole (omega (arith, c.requires.words, c.clear_reductions.auto.into))
+    (slices_fit c.args.planes.now _ _ _ _ _ _ _ _ are c.clear_reductions.auto.into c.clear_reductions.ensures.fit) c.requires.fit (returns-clause-words g c)
 
 pub returns-clause-plane : goal.returns-clause-plane
 returns-clause-plane g c = record {
-  count = omega (arith, c.requires.words, c.failing_into.auto.into, c.clear_reductions.auto.into);
-  past = conflict_past c.args.planes.now _ c.requires.whole (omega (arith, c.requires.words, c.failing_into.auto.into, c.clear_reductions.auto.into)) (returns-clause-words g c);
+  count = omega (arith, c.requires.words, c.clear_reductions.auto.into);
+  past = conflict_past c.args.planes.now _ c.requires.whole (omega (arith, c.requires.words, c.clear_reductions.auto.into)) (returns-clause-words g c);
 }
 
 pub returns-clause-elements : goal.returns-clause-elements
