@@ -5,7 +5,7 @@ use Rattle.bpf_insn_form.specs.declared.insn.Insn.{Insn}
 use Rattle.bpf_insn.specs.declared.codec_error.CodecError.{CodecError}
 use Rattle.bpf_insn.specs.declared.codec_error.CodecError.TheVariants.{Refused, Memory}
 use Rattle.bpf_insn_form.specs.Slots.{slots_of}
-use Rattle.bpf_insn.specs.Spelling.{spelling, bytes_at, joined, spelling_from, program_spelling, Appends}
+use Rattle.bpf_insn.specs.Spelling.{spelling, bytes_at, both_or_refusal, spelling_from, program_spelling, Appends}
 use Rattle.bpf_insn_form.specs.Outcome.{Refuses}
 use Rattle.bpf_insn.specs.CodecRefusal.{codec_refusal}
 use Rattle.bpf_insn.proofs.Lengths.{spelled_len}
@@ -13,11 +13,11 @@ use Rattle.bpf_insn.proofs.Lengths.{spelled_len}
 -- the first k instructions are spelled, and the rest is still to spell
 pub record IsBegun (is : List Insn) (k : ℕ) (bytes : List ℕ) : Type 0 where
   pub whole : length bytes % 8 ≡ 0
-  pub rest : joined (Ok bytes) (spelling_from (length bytes / 8) (drop k is)) ≡ program_spelling is
+  pub rest : both_or_refusal (Ok bytes) (spelling_from (length bytes / 8) (drop k is)) ≡ program_spelling is
 
-joined-joined : (a b : List ℕ) (r : Result (List ℕ) CodecError) → joined (Ok a) (joined (Ok b) r) ≡ joined (Ok (a ++ b)) r
-joined-joined a b (Ok c) = ap (λ (x : List ℕ). Ok x) (sym (append_assoc a b c))
-joined-joined a b (Err e) = refl
+both_or_refusal-both_or_refusal : (a b : List ℕ) (r : Result (List ℕ) CodecError) → both_or_refusal (Ok a) (both_or_refusal (Ok b) r) ≡ both_or_refusal (Ok (a ++ b)) r
+both_or_refusal-both_or_refusal a b (Ok c) = ap (λ (x : List ℕ). Ok x) (sym (append_assoc a b c))
+both_or_refusal-both_or_refusal a b (Err e) = refl
 
 pub goes_on : (is : List Insn) (k : ℕ) (i : Insn) (old new bytes : List ℕ) → k < length is → i ≡ get_or is k i → IsBegun is k old
     → bytes_at (length old / 8) (spelling i) ≡ Ok bytes → new ≡ old ++ bytes → IsBegun is (k + 1) new
@@ -27,11 +27,11 @@ goes_on is k i old new bytes lt e h given whole =
     let next : length new / 8 ≡ length old / 8 + slots_of i = omega (arith, total, h.whole) in
     let later = spelling_from (length old / 8 + slots_of i) (drop (k + 1) is) in
     let cut : drop k is ≡ i ∷ drop (k + 1) is = drop_more is k i lt ∙ ap (λ (x : Insn). x ∷ drop (k + 1) is) (sym e) in
-    let here : spelling_from (length old / 8) (drop k is) ≡ joined (Ok bytes) later = ap (spelling_from (length old / 8)) cut ∙ ap (λ (x : Result (List ℕ) CodecError). joined x later) given in
-    let there : joined (Ok new) (spelling_from (length new / 8) (drop (k + 1) is)) ≡ joined (Ok (old ++ bytes)) later = rw (next, whole) refl in
+    let here : spelling_from (length old / 8) (drop k is) ≡ both_or_refusal (Ok bytes) later = ap (spelling_from (length old / 8)) cut ∙ ap (λ (x : Result (List ℕ) CodecError). both_or_refusal x later) given in
+    let there : both_or_refusal (Ok new) (spelling_from (length new / 8) (drop (k + 1) is)) ≡ both_or_refusal (Ok (old ++ bytes)) later = rw (next, whole) refl in
     record {
       whole = omega (arith, total, h.whole);
-      rest = there ∙ sym (joined-joined old bytes later) ∙ ap (joined (Ok old)) (sym here) ∙ h.rest;
+      rest = there ∙ sym (both_or_refusal-both_or_refusal old bytes later) ∙ ap (both_or_refusal (Ok old)) (sym here) ∙ h.rest;
     }
 
 pub ends : (is : List Insn) (k : ℕ) (i : Insn) (old new : List ℕ) (e : CodecError) → k < length is → i ≡ get_or is k i → IsBegun is k old
@@ -40,5 +40,5 @@ ends is k i old new Memory lt at h given = tt
 ends is k i old new (Refused fault n) lt at h given =
     let later = spelling_from (length old / 8 + slots_of i) (drop (k + 1) is) in
     let cut : drop k is ≡ i ∷ drop (k + 1) is = drop_more is k i lt ∙ ap (λ (x : Insn). x ∷ drop (k + 1) is) (sym at) in
-    let here : spelling_from (length old / 8) (drop k is) ≡ Err (Refused fault n) = ap (spelling_from (length old / 8)) cut ∙ ap (λ (x : Result (List ℕ) CodecError). joined x later) given in
-    sym h.rest ∙ ap (joined (Ok old)) here
+    let here : spelling_from (length old / 8) (drop k is) ≡ Err (Refused fault n) = ap (spelling_from (length old / 8)) cut ∙ ap (λ (x : Result (List ℕ) CodecError). both_or_refusal x later) given in
+    sym h.rest ∙ ap (both_or_refusal (Ok old)) here

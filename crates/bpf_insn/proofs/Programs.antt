@@ -8,7 +8,7 @@ use Rattle.bpf_insn.specs.declared.codec_error.CodecFault.TheVariants as faults
 use Rattle.bpf_insn.specs.declared.codec_error.CodecError.{CodecError}
 use Rattle.bpf_insn_form.specs.Slots.{slots_of}
 use Rattle.bpf_insn.specs.SlotBytes.{slots_bytes}
-use Rattle.bpf_insn.specs.Spelling.{spelling, bytes_at, insn_bytes, joined, spelling_from, program_spelling}
+use Rattle.bpf_insn.specs.Spelling.{spelling, bytes_at, insn_bytes, both_or_refusal, spelling_from, program_spelling}
 use Rattle.bpf_insn_form.specs.Values.{InsnFits, AreInsns}
 use Rattle.bpf_insn.specs.Reading.{insn_of_slot, first, more_of, before, insns_in, slots_in, reading}
 use Rattle.bpf_insn.proofs.Lengths.{spelled_len}
@@ -57,7 +57,7 @@ spelled_then : (n m : ℕ) (i : Insn) (is : List Insn) (ss : List Slot) (bytes :
     → spelling_from n (i ∷ is) ≡ Ok (slots_bytes ss ++ bytes)
 spelled_then n m i is ss bytes here at later =
     let moved : spelling_from (n + slots_of i) is ≡ Ok bytes = rw (← at) later in
-    ap (λ (r : Result (List Slot) CodecFault). joined (bytes_at n r) (spelling_from (n + slots_of i) is)) here ∙ ap (joined (Ok (slots_bytes ss))) moved
+    ap (λ (r : Result (List Slot) CodecFault). both_or_refusal (bytes_at n r) (spelling_from (n + slots_of i) is)) here ∙ ap (both_or_refusal (Ok (slots_bytes ss))) moved
 
 pub taken_len : (i : Insn) (ss : List Slot) → spelling i ≡ Ok ss → length (slots_bytes ss) ≡ 8 * slots_of i
 taken_len i ss e = spelled_len 0 i (slots_bytes ss) (ap (bytes_at 0) e)
@@ -117,10 +117,10 @@ reading_found bytes p fits e =
 
 -- ---- what is spelled so is read
 
-pub joined_ok : (r later : Result (List ℕ) CodecError) (bytes : List ℕ) → joined r later ≡ Ok bytes → (a : List ℕ) × (b : List ℕ) × (r ≡ Ok a) × (later ≡ Ok b) × (bytes ≡ a ++ b)
-joined_ok (Err e) later bytes h = absurd cc
-joined_ok (Ok a) (Err e) bytes h = absurd cc
-joined_ok (Ok a) (Ok b) bytes h = (a, b, refl, refl, sym (ok_is (a ++ b) bytes h))
+pub both_ok : (r later : Result (List ℕ) CodecError) (bytes : List ℕ) → both_or_refusal r later ≡ Ok bytes → (a : List ℕ) × (b : List ℕ) × (r ≡ Ok a) × (later ≡ Ok b) × (bytes ≡ a ++ b)
+both_ok (Err e) later bytes h = absurd cc
+both_ok (Ok a) (Err e) bytes h = absurd cc
+both_ok (Ok a) (Ok b) bytes h = (a, b, refl, refl, sym (ok_is (a ++ b) bytes h))
 
 pub bytes_ok : (n : ℕ) (r : Result (List Slot) CodecFault) (a : List ℕ) → bytes_at n r ≡ Ok a → (ss : List Slot) × (r ≡ Ok ss) × (a ≡ slots_bytes ss)
 bytes_ok n (Err e) a h = absurd cc
@@ -152,7 +152,7 @@ again_in : (p : List Insn) (n : ℕ) (bytes : List ℕ) → AreInsns p → spell
 unfolding insns_in slots_in
 again_in [] n bytes h e = subst (λ (x : List ℕ). (insns_in 0 (slots_in x) 0 n ≡ Ok []) × (length x % 8 ≡ 0)) (ok_is [] bytes e) (refl, refl)
 again_in (i ∷ is) n bytes h e =
-    let cut = joined_ok (bytes_at n (spelling i)) (spelling_from (n + slots_of i) is) bytes e in
+    let cut = both_ok (bytes_at n (spelling i)) (spelling_from (n + slots_of i) is) bytes e in
     let here = bytes_ok n (spelling i) cut.0 cut.2 in
     let ss = here.0 in
     let back : ReadsBack i (Ok ss) = subst (ReadsBack i) here.1 (reads_back i h.0) in

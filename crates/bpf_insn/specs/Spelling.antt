@@ -164,15 +164,15 @@ abbrev pub insn_bytes : Insn → Result (List ℕ) CodecError
 insn_bytes i = bytes_at 0 (spelling i)
 
 -- one after the other, or the first refusal
-abbrev pub joined : Result (List ℕ) CodecError → Result (List ℕ) CodecError → Result (List ℕ) CodecError
-joined (Err e) later = Err e
-joined (Ok bytes) (Err e) = Err e
-joined (Ok bytes) (Ok later) = Ok (bytes ++ later)
+abbrev pub both_or_refusal : Result (List ℕ) CodecError → Result (List ℕ) CodecError → Result (List ℕ) CodecError
+both_or_refusal (Err e) later = Err e
+both_or_refusal (Ok bytes) (Err e) = Err e
+both_or_refusal (Ok bytes) (Ok later) = Ok (bytes ++ later)
 
 -- the bytes of instructions from slot n on, or the refusal at the first slot whose instruction has no spelling
 abbrev pub spelling_from : ℕ → List Insn → Result (List ℕ) CodecError
 spelling_from n [] = Ok []
-spelling_from n (i ∷ is) = joined (bytes_at n (spelling i)) (spelling_from (n + slots_of i) is)
+spelling_from n (i ∷ is) = both_or_refusal (bytes_at n (spelling i)) (spelling_from (n + slots_of i) is)
 
 -- the bytes of a program
 abbrev pub program_spelling : List Insn → Result (List ℕ) CodecError

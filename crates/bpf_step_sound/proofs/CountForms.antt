@@ -40,14 +40,6 @@ through-next f slot Exit k (inr e) = absurd cc
 through-next f slot insn k (inl next) = subst (λ (j : ℕ). suc (f j) ≤ 1 + f (slot + slots_of insn)) (sym next.1) (omega arith)
 through-next f slot insn k (inr e) = absurd cc
 
--- and at least one instruction long
-pub through-some : (f : ℕ → ℕ) (slot : ℕ) (insn : Insn) → 1 ≤ through f slot (Some insn)
-through-some f slot (Ja offset) = omega arith
-through-some f slot (Ja32 imm) = omega arith
-through-some f slot (Jump width compare dst operand offset) = omega arith
-through-some f slot Exit = omega arith
-through-some f slot insn = omega arith
-
 -- a machine that goes on to a slot, with the same caller's frame
 abbrev pub IsAt : ℕ → Option Bytes → Machine → Type 0
 IsAt k caller m = (m.slot ≡ k) × (m.caller ≡ caller)

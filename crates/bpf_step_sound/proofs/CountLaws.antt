@@ -11,6 +11,7 @@ use Rattle.bpf_insn_words.specs.WordBounds.{ResultsFit}
 use Rattle.bpf_verify_model.specs.Count.{JumpsForward, through}
 use Rattle.bpf_verify_model.proofs.JumpLaws.{jumps_forward}
 use Rattle.bpf_verify_model.proofs.LongestLaws.{longest-step}
+use Rattle.bpf_verify_model.proofs.PathLaws.{through-some}
 use Rattle.bpf_step_model.specs.State.{Bytes, Machine}
 use Rattle.bpf_step_model.specs.Step.{Request, Load, Store, StoreHalf, Update, Fetch, Move, NoStep, Next, Asks, Loops, Refuses, Exits, lands, acts, acts_if_any, step}
 use Rattle.bpf_step_model.specs.Run.{Ending, Ended, Stuck, Unfinished, Stretch, told, action_of, mapped, with_first, after_access, after_move, run}
@@ -19,7 +20,7 @@ use Rattle.bpf_step_sound.proofs.RuleLaws.{accepted-within}
 use Rattle.bpf_step_sound.proofs.EntryLaws.{accepted-some}
 use Rattle.bpf_step_sound.proofs.Moves.{told-slot}
 use Rattle.bpf_step_sound.proofs.RunLaws.{step-known, word-at, words-known}
-use Rattle.bpf_step_sound.proofs.CountForms.{IsNextSlot, through-next, through-some, MoveNext, IsReturn, acts-next}
+use Rattle.bpf_step_sound.proofs.CountForms.{IsNextSlot, through-next, MoveNext, IsReturn, acts-next}
 
 -- jumps of an accepted program lead forward
 forward : (program : Program) → IsSoundProgram program → JumpsForward program.insns

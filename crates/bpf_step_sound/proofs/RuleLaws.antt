@@ -1,19 +1,17 @@
 -- An accepted program keeps each rule at each slot.
-use Rattle.std.proofs.Common.{◌≡◌, ℕ, zero, suc, ◌-◌, ◌<◌, ◌≤◌, Bool, true, false, not, List, [], ◌∷◌, Option, Some, None, refl, sym, ap, ◌∙◌, subst, arith}
+use Rattle.std.proofs.Common.{◌≡◌, ℕ, zero, suc, ◌-◌, Bool, true, false, not, List, [], ◌∷◌, Some, None, refl, sym, ap, ◌∙◌, subst}
 use Rattle.std.specs.Prelude.{nat_lt, ◌==◌, if◌then◌else◌}
-use Rattle.std.proofs.lemmas.Bool.Decides.{nat_tests}
 use Rattle.bpf_insn_form.specs.Limits.{sizes_fit}
 use Rattle.bpf_insn_form.specs.Slots.{slots_of}
 use Rattle.bpf_insn_form.specs.Values.{InsnFits, AreInsns}
 use Rattle.bpf_insn_form.specs.declared.insn.Insn.{Insn}
 use Rattle.bpf_insn_form.specs.Program.{Program, insn_at, slot_count, function_of}
-use Rattle.bpf_insn_form.proofs.ProgramLaws.{insn_at-end}
 use Rattle.bpf_verify_model.specs.declared.state.State.{State}
-use Rattle.bpf_verify_model.specs.declared.rule.Rule.{Rule}
 use Rattle.bpf_verify_model.specs.Accesses.{memory_access_of}
 use Rattle.bpf_verify_model.specs.Rules.{jumps_astray, falls_off, names_none, calls_no_helper, calls_otherwise, loads_outer, loads_no_map, writes_r10, reads_unwritten, mistakes_arithmetic, mistakes_comparison, mistakes_stored, access_fault, call_fault, callback_fault, exit_fault, operand_fault, state_fault, insn_fault, slot_fault, or_else, fault_of}
 use Rattle.bpf_verify_model.specs.Inflow.{before}
-use Rattle.bpf_verify_model.specs.Accepted.{BrokenRule, unless_earlier, fault_at, fault_at_insn, fault_within, first_fault, is_too_large, Accepted}
+use Rattle.bpf_verify_model.specs.Accepted.{fault_at_insn, fault_within, first_fault, is_too_large, Accepted}
+use Rattle.bpf_verify_model.proofs.JumpLaws.{fault_at-none, within}
 use Rattle.bpf_step_sound.specs.KnownStates.{IsKnownState}
 use Rattle.bpf_step_sound.specs.Standing.{KeepsRules}
 use Rattle.bpf_step_sound.proofs.Tests.{not-not-true, or-right, or_else-one, or_else-two, test-fails, test-later}
@@ -124,39 +122,6 @@ fault_of-none program slot insn state e here sizes fits spans =
       callback = or_else-one by_callback by_end e4;
       end = or_else-two by_callback by_end e4;
     }
-
--- where no slot of the first has a fault, none of them has
-unless_earlier-first : (f : Option BrokenRule) (slot : ℕ) (r : Option Rule) → unless_earlier f slot r ≡ None → f ≡ None
-unless_earlier-first None slot r e = refl
-unless_earlier-first (Some f) slot r e = e
-
-unless_earlier-later : (f : Option BrokenRule) (slot : ℕ) (r : Option Rule) → unless_earlier f slot r ≡ None → r ≡ None
-unless_earlier-later (Some f) slot r e = absurd cc
-unless_earlier-later None slot None e = refl
-unless_earlier-later None slot (Some r) e = absurd cc
-
-fault_at-none : (program : Program) (n slot : ℕ) → fault_within program n ≡ None → slot < n → fault_at program slot ≡ None
-unfolding fault_within
-fault_at-none program zero slot e h = absurd (omega arith)
-fault_at-none program (suc n) slot e h =
-    by_place program n slot (unless_earlier-first (fault_within program n) n (fault_at program n) e) (unless_earlier-later (fault_within program n) n (fault_at program n) e) h
-    (fault_at-none program n slot) (nat_lt slot n) refl
-  where
-    by_place : (program : Program) (n slot : ℕ) → fault_within program n ≡ None → fault_at program n ≡ None → slot < suc n →
-        (fault_within program n ≡ None → slot < n → fault_at program slot ≡ None) → (b : Bool) → nat_lt slot n ≡ b → fault_at program slot ≡ None
-    by_place program n slot first later h go true e = go first (grind (arith, nat_tests))
-    by_place program n slot first later h go false e =
-        let past : n ≤ slot = grind (arith, nat_tests) in
-        let same : slot ≡ n = omega arith in
-        ap (fault_at program) same ∙ later
-
--- an instruction stands within the slots
-pub within : (insns : List Insn) (count slot : ℕ) (insn : Insn) (b : Bool) → nat_lt slot count ≡ b → slot_count insns ≡ count → insn_at insns slot ≡ Some insn → slot < count
-within insns count slot insn true e counted here = grind (arith, nat_tests)
-within insns count slot insn false e counted here =
-    let past : count ≤ slot = grind (arith, nat_tests) in
-    let none : insn_at insns slot ≡ None = insn_at-end insns slot (omega arith) in
-    absurd cc
 
 -- an accepted program has no fault at any slot, and its sizes are within the limits
 pub accepted-within : (program : Program) → Accepted program → fault_within program (slot_count program.insns) ≡ None

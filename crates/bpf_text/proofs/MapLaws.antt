@@ -5,27 +5,27 @@ use Rattle.bpf_text_lines.specs.declared.text_error.TextError.{TextError}
 use Rattle.bpf_insn_form.specs.Outcome.{Refuses}
 use Rattle.bpf_text_lines.specs.Refusals.{at_line, ◌>>=◌, text_refusal}
 use Rattle.bpf_text_lines.proofs.RefusalLaws.{bind_fails}
-use Rattle.bpf_text.specs.MapsText.{values_of, count_of, maps_behind}
+use Rattle.bpf_text.specs.MapsText.{values_of, values_held, maps_behind}
 
 -- one more map, with its values
-pub count_of-push : (maps : List (List ℕ)) (values : List ℕ) → count_of (maps ++ values ∷ []) ≡ count_of maps + length values
-count_of-push [] values = omega arith
-count_of-push (first ∷ maps) values = let h = count_of-push maps values in omega (arith, h)
+pub values_held-push : (maps : List (List ℕ)) (values : List ℕ) → values_held (maps ++ values ∷ []) ≡ values_held maps + length values
+values_held-push [] values = omega arith
+values_held-push (first ∷ maps) values = let h = values_held-push maps values in omega (arith, h)
 
-pub maps_behind-line : (before : List (List ℕ)) (number held : ℕ) (line : ℕ × List ℕ) (lines : List (ℕ × List ℕ)) (values : List ℕ) → number ≡ length before → held ≡ count_of before →
+pub maps_behind-line : (before : List (List ℕ)) (number held : ℕ) (line : ℕ × List ℕ) (lines : List (ℕ × List ℕ)) (values : List ℕ) → number ≡ length before → held ≡ values_held before →
     at_line line.0 (values_of number held (words_of line.1)) ≡ Ok values →
     maps_behind before (line ∷ lines) ≡ maps_behind (before ++ values ∷ []) lines
 unfolding maps_behind
 maps_behind-line before number held line lines values count sum read =
-    let here : at_line line.0 (values_of (length before) (count_of before) (words_of line.1)) ≡ Ok values = rw (← count, ← sum) read in
+    let here : at_line line.0 (values_of (length before) (values_held before) (words_of line.1)) ≡ Ok values = rw (← count, ← sum) read in
     ap (λ (r : Result (List ℕ) TextError). r >>= λ v. maps_behind (before ++ v ∷ []) lines) here
 
-pub maps_behind-fails : (e : TextError) (before : List (List ℕ)) (number held : ℕ) (line : ℕ × List ℕ) (lines : List (ℕ × List ℕ)) → number ≡ length before → held ≡ count_of before →
+pub maps_behind-fails : (e : TextError) (before : List (List ℕ)) (number held : ℕ) (line : ℕ × List ℕ) (lines : List (ℕ × List ℕ)) → number ≡ length before → held ≡ values_held before →
     Refuses (text_refusal e) (at_line line.0 (values_of number held (words_of line.1))) → Refuses (text_refusal e) (maps_behind before (line ∷ lines))
 unfolding maps_behind
 maps_behind-fails e before number held line lines count sum fails =
-    bind_fails e (at_line line.0 (values_of (length before) (count_of before) (words_of line.1))) (λ v. maps_behind (before ++ v ∷ []) lines)
-    (subst (λ n. Refuses (text_refusal e) (at_line line.0 (values_of n (count_of before) (words_of line.1)))) count
+    bind_fails e (at_line line.0 (values_of (length before) (values_held before) (words_of line.1))) (λ v. maps_behind (before ++ v ∷ []) lines)
+    (subst (λ n. Refuses (text_refusal e) (at_line line.0 (values_of n (values_held before) (words_of line.1)))) count
     (subst (λ h. Refuses (text_refusal e) (at_line line.0 (values_of number h (words_of line.1)))) sum fails))
 
 pub maps_behind-end : (before : List (List ℕ)) → maps_behind before [] ≡ Ok before

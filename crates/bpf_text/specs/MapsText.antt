@@ -55,15 +55,15 @@ values_of number held (word ∷ label ∷ words) =
     if is_map_head word label then as_values number held label (fields_of (2 ^ 64 - 1) words) else Err faults.Form
 
 -- how many values maps have together
-abbrev pub count_of : List (List ℕ) → ℕ
-count_of [] = 0
-count_of (values ∷ maps) = length values + count_of maps
+abbrev pub values_held : List (List ℕ) → ℕ
+values_held [] = 0
+values_held (values ∷ maps) = length values + values_held maps
 
 -- the maps of earlier lines, and those of these lines behind them
 unfoldable pub maps_behind : List (List ℕ) → List (ℕ × List ℕ) → Result (List (List ℕ)) TextError
 maps_behind before [] = Ok before
 maps_behind before (line ∷ lines) = do
-  values ← at_line line.0 (values_of (length before) (count_of before) (words_of line.1))
+  values ← at_line line.0 (values_of (length before) (values_held before) (words_of line.1))
   maps_behind (before ++ values ∷ []) lines
 
 -- maps, of which there has to be one

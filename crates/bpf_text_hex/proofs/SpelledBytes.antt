@@ -29,7 +29,7 @@ use Rattle.bpf_insn_form.specs.Values.{AreInsns}
 use Rattle.bpf_insn.proofs.Bytes.{HasBytes, HaveBytes}
 use Rattle.bpf_insn.proofs.HasBytes.{spelling_has}
 use Rattle.bpf_insn.proofs.Lengths.{spelled_len}
-use Rattle.bpf_insn.proofs.Programs.{of_ok, joined_ok, bytes_ok}
+use Rattle.bpf_insn.proofs.Programs.{of_ok, both_ok, bytes_ok}
 use Rattle.bpf_insn_form.specs.Program.{slot_count}
 
 -- ---- opcodes
@@ -182,7 +182,7 @@ pub record SlotBytes (n : ℕ) (bytes : List ℕ) : Type 0 where
 pub spelled_bytes : (n : ℕ) (insns : List Insn) (bytes : List ℕ) → AreInsns insns → spelling_from n insns ≡ Ok bytes → SlotBytes (slot_count insns) bytes
 spelled_bytes n [] bytes fit e = (let same : [] ≡ bytes = cc in subst (SlotBytes 0) same (record { are = tt; long = omega arith }))
 spelled_bytes n (i ∷ is) bytes fit e =
-    let cut = joined_ok (bytes_at n (spelling i)) (spelling_from (n + slots_of i) is) bytes e in
+    let cut = both_ok (bytes_at n (spelling i)) (spelling_from (n + slots_of i) is) bytes e in
     let here = at_are n (spelling i) cut.0 (spelling_small i) (spelling_has i fit.0) cut.2 in
     let len = spelled_len n i cut.0 cut.2 in
     let later = spelled_bytes (n + slots_of i) is cut.1 fit.1 cut.3 in

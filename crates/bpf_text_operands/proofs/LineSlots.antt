@@ -25,7 +25,7 @@ use Rattle.bpf_text_operands.specs.declared.kind.Kind.TheVariants as kind
 use Rattle.bpf_text_operands.specs.declared.kind.Kinds.{Kinds}
 use Rattle.bpf_text_operands.specs.declared.kind.Kinds.TheVariants as kinds
 use Rattle.bpf_text_operands.specs.SignedNumbers.{is_register, register_at, ahead, back, signed_at, is_ahead, is_offset, offset_at, to_label, distance_at}
-use Rattle.bpf_text_operands.specs.Operands.{kinds_of, pair, as_reg, as_imm, as_wide, as_distance, as_far_distance, as_address, is_bracketed, inside, base_of, offset_of, value_at, cut_comma, one, two, three, both_at, three_at, operands_at, stands, both_stand, three_stand, all_stand}
+use Rattle.bpf_text_operands.specs.Operands.{kinds_of, pair, as_reg, as_imm, as_wide, as_distance, as_far_distance, as_address, is_bracketed, inside, base_part, offset_part, value_at, cut_comma, one, two, three, both_at, three_at, operands_at, stands, both_stand, three_stand, all_stand}
 use Rattle.bpf_text_operands.specs.Statements.{statement_at, two_slots_of, insn_of_mnemonic, some_insn, built, with_operands, insn_of_line, mnemonic_slots, slots_where, slots_at}
 
 -- ---- what is read has its form
@@ -110,13 +110,13 @@ module _ (find : List ℕ → Option ℕ) (slot : ℕ) where
   value_stands kind.FarDistance word v e = (let z = far_read (distance_at find (2 ^ 31) slot word) v e in distance_read (2 ^ 31) word z.0 z.1)
   value_stands kind.Address word v e = by_brackets (is_bracketed word) e
     where
-      by_brackets : (b : Bool) → cond b (as_address (pair (register_at (base_of (inside word))) (offset_at (2 ^ 15) (offset_of (inside word))))) (Err faults.Form) ≡ Ok v →
-          (b && (is_ok (register_at (base_of (inside word))) && is_offset (offset_of (inside word)))) ≡ true
+      by_brackets : (b : Bool) → cond b (as_address (pair (register_at (base_part (inside word))) (offset_at (2 ^ 15) (offset_part (inside word))))) (Err faults.Form) ≡ Ok v →
+          (b && (is_ok (register_at (base_part (inside word))) && is_offset (offset_part (inside word)))) ≡ true
       by_brackets true h =
-          let x = address_read (pair (register_at (base_of (inside word))) (offset_at (2 ^ 15) (offset_of (inside word)))) v h in
-          let parts = both_read (register_at (base_of (inside word))) (offset_at (2 ^ 15) (offset_of (inside word))) x.0 x.1 in
-          and_from (is_ok (register_at (base_of (inside word)))) (is_offset (offset_of (inside word)))
-          (ok_is_ok (register_at (base_of (inside word))) parts.0.0 parts.0.1) (offset_read (2 ^ 15) (offset_of (inside word)) parts.1.0 parts.1.1)
+          let x = address_read (pair (register_at (base_part (inside word))) (offset_at (2 ^ 15) (offset_part (inside word)))) v h in
+          let parts = both_read (register_at (base_part (inside word))) (offset_at (2 ^ 15) (offset_part (inside word))) x.0 x.1 in
+          and_from (is_ok (register_at (base_part (inside word)))) (is_offset (offset_part (inside word)))
+          (ok_is_ok (register_at (base_part (inside word))) parts.0.0 parts.0.1) (offset_read (2 ^ 15) (offset_part (inside word)) parts.1.0 parts.1.1)
       by_brackets false h = absurd cc
 
   both_stands : (a b : Kind) (cut : Option (List ℕ × List ℕ)) (x : Value × Value) → both_at find slot a b cut ≡ Ok x → both_stand a b cut ≡ true

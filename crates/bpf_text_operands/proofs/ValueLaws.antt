@@ -18,7 +18,7 @@ use Rattle.bpf_text_insns.specs.declared.value.Value.{Value}
 use Rattle.bpf_text_insns.specs.declared.value.Value.TheVariants as value
 use Rattle.bpf_text_insns.specs.PrintedLines.{distance_spelling, value_spelling}
 use Rattle.bpf_text_operands.specs.SignedNumbers.{as_register, register_at, ahead, back, signed_at, offset_at, distance_at}
-use Rattle.bpf_text_operands.specs.Operands.{pair, as_address, is_sign, is_bracketed, inside, base_of, offset_of, address_at}
+use Rattle.bpf_text_operands.specs.Operands.{pair, as_address, is_sign, is_bracketed, inside, base_part, offset_part, address_at}
 use Rattle.bpf_text_insns.proofs.Bounds.{InBound}
 
 -- digits have no sign
@@ -103,15 +103,15 @@ inside_is text =
 
 -- what is read between brackets
 abbrev memory : List ℕ → Result Value TextFault
-memory text = as_address (pair (register_at (base_of text)) (offset_at (2 ^ 15) (offset_of text)))
+memory text = as_address (pair (register_at (base_part text)) (offset_at (2 ^ 15) (offset_part text)))
 
 memory_back : (digits rest : List ℕ) (s r : ℕ) (z : ℤ) → list_all is_ascii_digit digits ≡ true → is_sign s ≡ true → register_at (114 ∷ digits) ≡ Ok r → offset_at (2 ^ 15) (s ∷ rest) ≡ Ok z →
     memory ((114 ∷ digits) ++ s ∷ rest) ≡ Ok (value.Address r z)
 memory_back digits rest s r z e sign reg off =
     let at = sign_at digits rest s e sign in
-    let base : base_of ((114 ∷ digits) ++ s ∷ rest) ≡ 114 ∷ digits = ap (λ n. take n ((114 ∷ digits) ++ s ∷ rest)) at ∙ take-append_seam (114 ∷ digits) (s ∷ rest) in
-    let offset : offset_of ((114 ∷ digits) ++ s ∷ rest) ≡ s ∷ rest = ap (λ n. drop n ((114 ∷ digits) ++ s ∷ rest)) at ∙ drop-append_seam (114 ∷ digits) (s ∷ rest) in
-    ap (λ b. as_address (pair b (offset_at (2 ^ 15) (offset_of ((114 ∷ digits) ++ s ∷ rest))))) (ap register_at base ∙ reg)
+    let base : base_part ((114 ∷ digits) ++ s ∷ rest) ≡ 114 ∷ digits = ap (λ n. take n ((114 ∷ digits) ++ s ∷ rest)) at ∙ take-append_seam (114 ∷ digits) (s ∷ rest) in
+    let offset : offset_part ((114 ∷ digits) ++ s ∷ rest) ≡ s ∷ rest = ap (λ n. drop n ((114 ∷ digits) ++ s ∷ rest)) at ∙ drop-append_seam (114 ∷ digits) (s ∷ rest) in
+    ap (λ b. as_address (pair b (offset_at (2 ^ 15) (offset_part ((114 ∷ digits) ++ s ∷ rest))))) (ap register_at base ∙ reg)
     ∙ ap (λ o. as_address (pair (Ok r) o)) (ap (offset_at (2 ^ 15)) offset ∙ off)
 
 -- text between brackets, as it is printed

@@ -93,16 +93,16 @@ is_bracketed word = (slice_index word 0 == 91) && (nat_lt 1 (length word) && (sl
 abbrev pub inside : List ℕ → List ℕ
 inside word = take (length word - 2) (drop 1 word)
 
-abbrev pub base_of : List ℕ → List ℕ
-base_of text = take (position_or_len is_sign text) text
+abbrev pub base_part : List ℕ → List ℕ
+base_part text = take (position_or_len is_sign text) text
 
-abbrev pub offset_of : List ℕ → List ℕ
-offset_of text = drop (position_or_len is_sign text) text
+abbrev pub offset_part : List ℕ → List ℕ
+offset_part text = drop (position_or_len is_sign text) text
 
 -- the memory that a word names: a register and an offset with its sign, between brackets
 abbrev pub address_at : List ℕ → Result Value TextFault
 address_at word =
-    if is_bracketed word then as_address (pair (register_at (base_of (inside word))) (offset_at (2 ^ 15) (offset_of (inside word))))
+    if is_bracketed word then as_address (pair (register_at (base_part (inside word))) (offset_at (2 ^ 15) (offset_part (inside word))))
     else Err faults.Form
 
 -- the operand that a word of a kind is, at a slot, where labels are found by this function
@@ -162,7 +162,7 @@ stands kind.Imm word = is_number word
 stands kind.Wide word = is_number word
 stands kind.Distance word = is_name word || is_offset word
 stands kind.FarDistance word = is_name word || is_offset word
-stands kind.Address word = is_bracketed word && (is_ok (register_at (base_of (inside word))) && is_offset (offset_of (inside word)))
+stands kind.Address word = is_bracketed word && (is_ok (register_at (base_part (inside word))) && is_offset (offset_part (inside word)))
 
 abbrev pub both_stand : Kind → Kind → Option (List ℕ × List ℕ) → Bool
 both_stand a b None = false

@@ -4,7 +4,7 @@ ghost use Rattle.std.specs.Prelude.{◌≡◌, ◌<◌, ◌≤◌, ◌-◌, ◌^
 ghost use Rattle.std.specs.Int.{w16};
 ghost use Rattle.bpf_text_operands.specs.LabelTable.{label_slots};
 ghost use Rattle.bpf_text_operands.specs.SignedNumbers.{register_at, signed_at, offset_at, distance_at};
-ghost use Rattle.bpf_text_operands.specs.Operands.{pair, as_reg, as_imm, as_wide, as_distance, as_far_distance, is_sign, is_bracketed, inside, base_of, offset_of, address_at, value_at, cut_comma, both_at, three_at, operands_at, stands, both_stand, three_stand, all_stand};
+ghost use Rattle.bpf_text_operands.specs.Operands.{pair, as_reg, as_imm, as_wide, as_distance, as_far_distance, is_sign, is_bracketed, inside, base_part, offset_part, address_at, value_at, cut_comma, both_at, three_at, operands_at, stands, both_stand, three_stand, all_stand};
 ghost use Rattle.bpf_text_lines.specs.Fields.{field_of};
 
 use crate::kind::{Kind, Kinds};
@@ -39,8 +39,8 @@ fn sign_at(text: &[u8]) -> Option<usize>
 
 /// A text up to its first sign, and what stands there.
 fn split_sign(text: &[u8]) -> (&[u8], &[u8])
-    ensures base { result.0.now ≡ base_of text.now }
-    ensures offset { result.1.now ≡ offset_of text.now }
+    ensures base { result.0.now ≡ base_part text.now }
+    ensures offset { result.1.now ≡ offset_part text.now }
 {
     match sign_at(text) {
         Some(at) => text.split_at(at),
@@ -61,8 +61,8 @@ fn is_bracketed(word: &[u8]) -> bool
 /// What stands between the brackets: the base, and the offset from its sign on.
 fn split_address(word: &[u8]) -> (&[u8], &[u8])
     requires { 2 ≤ length word.now }
-    ensures base { result.0.now ≡ base_of (inside word.now) }
-    ensures offset { result.1.now ≡ offset_of (inside word.now) }
+    ensures base { result.0.now ≡ base_part (inside word.now) }
+    ensures offset { result.1.now ≡ offset_part (inside word.now) }
 {
     split_sign(&word[1..word.len() - 1])
 }
@@ -70,7 +70,7 @@ fn split_address(word: &[u8]) -> (&[u8], &[u8])
 /// The register and the offset that a word between brackets names.
 fn base_and_offset(word: &[u8]) -> Result<(Reg, i16), TextFault>
     requires { 2 ≤ length word.now }
-    ensures { result ≡ pair (register_at (base_of (inside word.now))) (offset_at (2 ^ 15) (offset_of (inside word.now))) }
+    ensures { result ≡ pair (register_at (base_part (inside word.now))) (offset_at (2 ^ 15) (offset_part (inside word.now))) }
 {
     let (base, offset) = split_address(word);
     pair(register_at(base), near(offset_at(offset, NEAR)))

@@ -8,7 +8,7 @@ use Rattle.bpf_insn.specs.declared.slot.Slot.{Slot}
 use Rattle.bpf_insn_form.specs.Slots.{slots_of}
 use Rattle.bpf_insn.specs.Spelling.{spelling, bytes_at, spelling_from, program_spelling}
 use Rattle.bpf_insn_form.specs.Values.{InsnFits, AreInsns}
-use Rattle.bpf_insn.proofs.Programs.{joined_ok, bytes_ok}
+use Rattle.bpf_insn.proofs.Programs.{both_ok, bytes_ok}
 use Rattle.bpf_text_lines.specs.Lines.{lines_of, contents_from, contents_of}
 use Rattle.bpf_text_lines.specs.declared.text_error.TextFault.TheVariants as faults
 use Rattle.bpf_text_lines.specs.declared.text_error.TextError.TheVariants as errors
@@ -40,7 +40,7 @@ Spelled (i ∷ is) = ((ss : List Slot) × (spelling i ≡ Ok ss)) × Spelled is
 spelled_from : (n : ℕ) (insns : List Insn) (bytes : List ℕ) → spelling_from n insns ≡ Ok bytes → Spelled insns
 spelled_from n [] bytes e = tt
 spelled_from n (i ∷ is) bytes e =
-    let cut = joined_ok (bytes_at n (spelling i)) (spelling_from (n + slots_of i) is) bytes e in
+    let cut = both_ok (bytes_at n (spelling i)) (spelling_from (n + slots_of i) is) bytes e in
     let here = bytes_ok n (spelling i) cut.0 cut.2 in
     ((here.0, here.1), spelled_from (n + slots_of i) is cut.1 cut.3)
 

@@ -1,5 +1,12 @@
 //! The verifier: which programs are safe to run, how many instructions each of their functions takes at
 //! most, and the operations that instructions are translated to.
+//!
+//! ```text
+//! let unit = parse_unit(alloc, "maps 1\nmov64 r0, 0\nexit\n")?;
+//! let program = verify(alloc, unit)?;     // program.callbacks() is 0, program.count(0) is 2
+//! let unit = parse_unit(alloc, "maps 1\nexit\n")?;
+//! let wrong = verify(alloc, unit);        // Rule::UnwrittenRegister (V12) at slot 0
+//! ```
 #![tactic(auto)]
 
 mod accepting;

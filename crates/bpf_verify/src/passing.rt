@@ -4,7 +4,7 @@ ghost use Rattle.std.specs.Prelude.{◌≡◌, ℕ, ◌+◌, ◌<◌, ◌≤◌,
 ghost use Rattle.std.specs.List.{list_any};
 ghost use Rattle.bpf_insn_form.specs.Limits.{AreSizes};
 ghost use Rattle.bpf_insn_form.specs.Program.{slot_count, insn_at, function_of, leads_to};
-ghost use Rattle.bpf_verify_model.specs.Rules.{leads_later, jumps_astray, falls_off, starts, names_none, targets_in, with_target, slot_fault, or_else, reached, state_fault, exit_fault, fault_of};
+ghost use Rattle.bpf_verify_model.specs.Rules.{leads_later, jumps_astray, falls_off, starts, names_none, targets_in, with_target, slot_fault, reached, state_fault, exit_fault, fault_of};
 ghost use Rattle.bpf_verify_model.specs.Accepted.{fault_within};
 ghost use Rattle.bpf_ops.specs.Translation.{op_at, AreOps};
 ghost use Rattle.bpf_verify.specs.Layout.{IsLayout, place_of};
@@ -18,7 +18,8 @@ use bpf_insn_form::{Insn, slots};
 use bpf_ops::PlainOp;
 use bpf_verify_model::{Rule, State};
 use bpf_verify_rules::{
-    callback_fault, exit_fault, goes_on, insn_fault, is_code_load, jump_distance, state_fault,
+    callback_fault, exit_fault, goes_on, insn_fault, is_code_load, jump_distance, or_else,
+    state_fault,
 };
 use bpf_verify_state::{named_by, slot_beyond};
 use std::alloc::Global;
@@ -133,16 +134,6 @@ fn slot_fault(code: &Code, slot: u32, insn: &Insn, targets: usize) -> Option<Rul
         Some(Rule::TooManyCallbacks)
     } else {
         None
-    }
-}
-
-/// The first of two.
-fn or_else(first: Option<Rule>, later: Option<Rule>) -> Option<Rule>
-    ensures { result ≡ or_else first later }
-{
-    match first {
-        Some(rule) => Some(rule),
-        None => later,
     }
 }
 

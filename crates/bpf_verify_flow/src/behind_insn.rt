@@ -9,7 +9,7 @@ ghost use Rattle.bpf_verify_model.specs.States.{known_register};
 ghost use Rattle.bpf_verify_model.specs.Values.{known_operand, known_of_number, known_result};
 ghost use Rattle.bpf_verify_model.specs.Flow.{with_known_result, number_of_size, with_written, with_store, with_fetched, known_code, known_wide, known_after_call, address_in, known_lookup, known_answer, known_behind};
 
-use bpf_insn_form::{AluOp, AtomicOp, ImmKind, Insn, Operand, Reg, Size, Width};
+use bpf_insn_form::{AluOp, AtomicOp, FRAME_BYTES, ImmKind, Insn, Operand, Reg, Size, Width};
 use bpf_verify_model::{AbstractValue, Helper, State, reg};
 use bpf_verify_state::{bytes_of, code_target, helper_of, on_number, operand_value, result_of};
 use value_range_model::{Operation, exact, norm, top};
@@ -41,7 +41,7 @@ fn with_written(state: &mut State, size: u32, position: u32, offset: i16)
     ensures { state.new ≡ with_written state.old size (pos position +ℤ offset) }
 {
     let place = position as i64 + offset as i64;
-    if place < 0 || 512 < place + size as i64 {
+    if place < 0 || (FRAME_BYTES as i64) < place + size as i64 {
         return;
     }
     state.own.write(place as usize, size as usize);

@@ -4,7 +4,7 @@ ghost use Rattle.std.specs.Prelude.{◌≡◌, ◌≤◌};
 ghost use Rattle.bpf_verify_model.specs.States.{known_main_entry};
 ghost use Rattle.bpf_verify_model.specs.Flow.{most_iterations, known_index, known_ctx, known_callback_entry};
 
-use bpf_insn_form::{AluOp, Width};
+use bpf_insn_form::{AluOp, MAX_ITERATIONS, Width};
 use bpf_verify_model::{AbstractValue, Registers, State, reg};
 use value_range_model::{Operation, Range, exact, norm, top};
 use value_range_rows::alu;
@@ -28,7 +28,7 @@ fn most_iterations(number: Range) -> u64
     ensures some { 1 ≤ result }
 {
     let words = alu(Operation::Alu(AluOp::Mov), Width::W32, number, number);
-    words.hi().min(8_388_608).max(1)
+    words.hi().min(u64::from(MAX_ITERATIONS)).max(1)
 }
 
 /// A callback's index.

@@ -23,7 +23,7 @@ unless_earlier-later None slot None e = refl
 unless_earlier-later None slot (Some r) e = cc
 
 -- where no slot of the first has a fault, none of them has
-fault_at-none : (program : Program) (n slot : ℕ) → fault_within program n ≡ None → slot < n → fault_at program slot ≡ None
+pub fault_at-none : (program : Program) (n slot : ℕ) → fault_within program n ≡ None → slot < n → fault_at program slot ≡ None
 unfolding fault_within
 fault_at-none program zero slot e h = absurd (omega arith)
 fault_at-none program (suc n) slot e h =
@@ -68,7 +68,7 @@ later_target insns slot target (Some d) e jump_outflow =
     leads false b e f = cc
 
 -- an instruction stands within the slots
-within : (insns : List Insn) (count slot : ℕ) (insn : Insn) (b : Bool) → nat_lt slot count ≡ b → slot_count insns ≡ count → insn_at insns slot ≡ Some insn → slot < count
+pub within : (insns : List Insn) (count slot : ℕ) (insn : Insn) (b : Bool) → nat_lt slot count ≡ b → slot_count insns ≡ count → insn_at insns slot ≡ Some insn → slot < count
 within insns count slot insn true e counted here = grind (arith, nat_tests)
 within insns count slot insn false e counted here =
     let past : count ≤ slot = grind (arith, nat_tests) in

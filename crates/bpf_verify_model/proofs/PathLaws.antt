@@ -128,7 +128,8 @@ way-below f slot s k (Jump width compare dst operand offset) among is =
 way-below f slot s k Exit among is = cc
 way-below f slot s k insn among is = one_below f s (slot + slots_of insn) k (nat_eq s (slot + slots_of insn)) refl among (omega (arith, is))
 
-through-some : (f : ℕ → ℕ) (slot : ℕ) (insn : Insn) → 1 ≤ through f slot (Some insn)
+-- a path through an instruction is at least one instruction long
+pub through-some : (f : ℕ → ℕ) (slot : ℕ) (insn : Insn) → 1 ≤ through f slot (Some insn)
 through-some f slot (Ja offset) = omega arith
 through-some f slot (Ja32 imm) = omega arith
 through-some f slot (Jump width compare dst operand offset) = omega arith

@@ -9,4 +9,4 @@ mod places;
 mod state_rules;
 
 pub use insn_rules::{callback_fault, goes_on, insn_fault, is_code_load, jump_distance};
-pub use state_rules::{exit_fault, state_fault};
+pub use state_rules::{exit_fault, or_else, state_fault};

@@ -3,6 +3,7 @@
 ghost use Rattle.std.specs.Prelude.{◌≡◌, ◌+ℤ◌, ◌*◌, ◌^◌, ◌≤◌, pos, slice_get};
 ghost use Rattle.bpf_verify_model.specs.Accesses.{is_memory, is_part_of_half, is_misaligned, is_spread, misses_alignment, is_outside_frame, is_outside_map, is_outside, lacks, caller_lacks, has_unwritten_byte, is_ctx};
 
+use bpf_insn_form::FRAME_BYTES;
 use bpf_verify_model::{AbstractValue, State};
 use value_range_model::Range;
 use written_bytes::WrittenBytes;
@@ -101,7 +102,7 @@ fn is_outside_frame(size: u32, position: u32, offset: i16) -> bool
     ensures { result ≡ is_outside_frame size (pos position +ℤ offset) }
 {
     let place = place(position, offset);
-    place < 0 || 512 < place + size as i64
+    place < 0 || (FRAME_BYTES as i64) < place + size as i64
 }
 
 /// Whether an access of so many bytes at an offset from this base isn't within its frame, or within
@@ -144,10 +145,10 @@ fn is_outside_map(count: Option<u32>, size: u32, offset: i16, range: Range) -> b
 fn lacks(written: &WrittenBytes, size: u32, position: u32, offset: i16) -> bool
     ensures { result ≡ lacks written.now size (pos position +ℤ offset) }
 {
-    let place = place(position, offset);
-    if place < 0 || 512 < place + size as i64 {
+    if is_outside_frame(size, position, offset) {
         return false;
     }
+    let place = place(position, offset);
     !written.all_written(place as usize, size as usize)
 }
 

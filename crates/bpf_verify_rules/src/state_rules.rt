@@ -214,8 +214,8 @@ fn bytes_fault(state: &State, access: &MemoryAccess, base: &AbstractValue) -> Op
     }
 }
 
-/// The first of two.
-fn or_else(first: Option<Rule>, later: Option<Rule>) -> Option<Rule>
+/// The first of two faults, where there is one; else the later.
+pub fn or_else(first: Option<Rule>, later: Option<Rule>) -> Option<Rule>
     ensures { result ≡ or_else first later }
 {
     match first {

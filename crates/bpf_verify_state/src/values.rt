@@ -1,12 +1,11 @@
 //! What operators give on what is known of registers.
 
 ghost use Rattle.std.specs.Prelude.{◌≡◌};
-ghost use Rattle.std.specs.Option.{option_map};
 ghost use Rattle.bpf_insn_form.specs.declared.insn.Width.TheVariants.{W64};
-ghost use Rattle.bpf_verify_model.specs.declared.abstract_value.AbstractValue.TheVariants.{Number, Frame, Ctx, Area};
+ghost use Rattle.bpf_verify_model.specs.declared.abstract_value.AbstractValue.TheVariants.{Number, Area};
 ghost use Rattle.bpf_verify_model.specs.Values.{known_operand, known_of_number, known_of_numbers, known_copy, known_position, known_area, known_moved, known_sum, known_result, is_number, is_unwritten, is_null_check, compares};
 
-use bpf_insn_form::{AluOp, Compare, Operand, Width};
+use bpf_insn_form::{AluOp, Compare, FRAME_BYTES, MAX_OFFSET, Operand, Width};
 use bpf_insn_words::alu_word;
 use bpf_verify_model::{AbstractValue, State};
 use value_range_model::{Operation, Range, exact};
@@ -104,28 +103,10 @@ fn moved_position(op: AluOp, position: u32, n: Range) -> Option<u32>
         return None;
     }
     let moved = alu_word(Width::W64, op, position as u64, n.lo());
-    if moved <= 512 {
+    if moved <= FRAME_BYTES as u64 {
         Some(moved as u32)
     } else {
         None
-    }
-}
-
-fn frame_address(position: Option<u32>) -> Option<AbstractValue>
-    ensures { result ≡ option_map Frame position }
-{
-    match position {
-        Some(position) => Some(AbstractValue::Frame(position)),
-        None => None,
-    }
-}
-
-fn ctx_address(position: Option<u32>) -> Option<AbstractValue>
-    ensures { result ≡ option_map Ctx position }
-{
-    match position {
-        Some(position) => Some(AbstractValue::Ctx(position)),
-        None => None,
     }
 }
 
@@ -133,7 +114,8 @@ fn ctx_address(position: Option<u32>) -> Option<AbstractValue>
 fn area_sum(map: u32, offset: Range, n: Range) -> Option<AbstractValue>
     ensures { result ≡ known_area map offset n }
 {
-    if offset.hi() <= 524_288 && n.hi() <= 524_288 - offset.hi() {
+    let most = u64::from(MAX_OFFSET);
+    if offset.hi() <= most && n.hi() <= most - offset.hi() {
         let range = alu(Operation::Alu(AluOp::Add), Width::W64, offset, n);
         Some(AbstractValue::Area(map, range))
     } else {
@@ -159,8 +141,10 @@ fn moved(op: AluOp, a: AbstractValue, n: Range) -> Option<AbstractValue>
             let range = alu(Operation::Alu(op), Width::W64, a, n);
             Some(AbstractValue::Number(range))
         }
-        AbstractValue::Frame(position) => frame_address(moved_position(op, position, n)),
-        AbstractValue::Ctx(position) => ctx_address(moved_position(op, position, n)),
+        AbstractValue::Frame(position) => {
+            Some(AbstractValue::Frame(moved_position(op, position, n)?))
+        }
+        AbstractValue::Ctx(position) => Some(AbstractValue::Ctx(moved_position(op, position, n)?)),
         AbstractValue::Area(map, offset) => area_moved(op, map, offset, n),
         _ => None,
     }

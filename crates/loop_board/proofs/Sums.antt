@@ -1,6 +1,6 @@
 -- Lemmas on sums over lists, and on how often a number stands in one.
-use Rattle.std.proofs.Common.{◌≡◌, ◌⊎◌, ℕ, zero, suc, ◌+◌, ◌*◌, ◌<◌, ◌≤◌, ◌==◌, if◌then◌else◌, List, [], ◌∷◌, ◌++◌, map, length, replicate, set, slice_index_or, All, ⊎_elim, refl, sym, ap, subst, arith}
-use Rattle.std.specs.List.{Contains, flat_map}
+use Rattle.std.proofs.Common.{◌≡◌, ◌⊎◌, ℕ, zero, suc, ◌+◌, ◌*◌, ◌<◌, ◌≤◌, ◌==◌, if◌then◌else◌, List, [], ◌∷◌, ◌++◌, map, length, replicate, set, slice_index_or, All, ⊎_elim, refl, sym, ap, arith}
+use Rattle.std.specs.List.{flat_map}
 use Rattle.std.proofs.lemmas.Bool.{cases_lt}
 use Rattle.std.proofs.lemmas.Bool.Decides.{nat_tests}
 use mathlib.Core.Option.{some, some-injective, some-ne-none}
@@ -131,8 +131,3 @@ module _ {A B : Type 0} where
   total-zip f g [] (y ∷ ys) long same = absurd (omega arith)
   total-zip f g (x ∷ xs) [] long same = absurd (omega arith)
   total-zip f g (x ∷ xs) (y ∷ ys) long same = let here = same 0 x y (omega arith) in let r = total-zip f g xs ys (omega arith) (λ k c d below. same (suc k) c d (omega arith)) in omega arith
-
--- what stands in the list is contained in it
-pub Contains_from_times : (xs : List ℕ) (x : ℕ) → 0 < times x xs → Contains xs x
-Contains_from_times [] x there = absurd (omega arith)
-Contains_from_times (y ∷ ys) x there = ⊎_elim (λ (is : x ≡ y). (0, (omega arith), sym is)) (λ (more : 0 < times x ys). let r = Contains_from_times ys x more in let below = r.1 in (suc r.0, (omega arith), r.2)) (times_more x y ys there)

@@ -15,7 +15,7 @@ pub record FlagsAgree (a b : Flags) : Type 0 where
   pub plain : a.plain ≡ b.plain
   pub by : (op : Op) → a.by op ≡ b.by op
 
-same_flags : (a b : Flags) → FlagsAgree a b → a ≡ b
+pub same_flags : (a b : Flags) → FlagsAgree a b → a ≡ b
 same_flags a b h = λ i. record { wrote = h.wrote i; looked = h.looked i; plain = h.plain i; by = λ op. h.by op i }
 
 -- a test over one item more

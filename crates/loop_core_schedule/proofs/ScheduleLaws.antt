@@ -191,7 +191,7 @@ first_stopped state (e ∷ events) some all =
 abbrev fault_by : (missing double foreign : Bool) → Option GatherFault
 fault_by missing double foreign = if missing then Some Missing else if double then Some Twice else if foreign then Some Foreign else None
 
-no_fault : (bounds : List ℕ) (blocks : List Block) → lacks_some bounds blocks ≡ false → twice blocks ≡ false → list_any (λ (b : Block). not (stands_in bounds b)) blocks ≡ false →
+pub no_fault : (bounds : List ℕ) (blocks : List Block) → lacks_some bounds blocks ≡ false → twice blocks ≡ false → list_any (λ (b : Block). not (stands_in bounds b)) blocks ≡ false →
     gather_fault bounds blocks ≡ None
 no_fault bounds blocks m t f =
     ap (λ (b : Bool). fault_by b (twice blocks) (list_any (λ (c : Block). not (stands_in bounds c)) blocks)) m

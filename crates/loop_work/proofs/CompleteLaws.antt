@@ -1,34 +1,32 @@
 -- The blocks of workers whose histories are legal are complete.
 use Rattle.std.proofs.Common.{◌≡◌, ℕ, zero, suc, ◌+◌, ◌-◌, ◌<◌, ◌≤◌, min, Bool, true, false, ◌||◌, IsTrue, ◌⊎◌, inl, inr, List, [], ◌∷◌, ◌++◌, Option, Some, None, map, length, refl, sym, ◌∙◌, ap, subst, arith}
-use Rattle.std.specs.Prelude.{nat_lt, not, ◌==◌, ◌&&◌, is_none, slice_get, slice_index, if◌then◌else◌}
+use Rattle.std.specs.Prelude.{nat_lt, ◌==◌, ◌&&◌, is_none, slice_get, slice_index, if◌then◌else◌}
 use Rattle.std.specs.Option.{option_to_list}
-use Rattle.std.specs.List.{AllByRecursion, flat_map, list_any}
-use Rattle.std.proofs.lemmas.Bool.{ltb-true, lt-ltb, eqb-true, eq-eqb, ne_eqb, cases_eq, cases_lt}
-use Rattle.std.proofs.lemmas.Bool.Decides.{nat_tests}
+use Rattle.std.specs.List.{AllByRecursion}
+use Rattle.std.proofs.lemmas.Bool.{ltb-true, lt-ltb, eq-eqb, ne_eqb, cases_eq, cases_lt}
 use Rattle.std.proofs.lemmas.Grind.{flat_map-append}
 use Rattle.std.proofs.lemmas.List.{map-append}
 use Rattle.bpf_insn_form.specs.Program.{Program}
 use Rattle.bpf_step_model.specs.State.{LoopCall}
-use Rattle.bpf_step_model.specs.Run.{Ending, Ended}
+use Rattle.bpf_step_model.specs.Run.{Ending}
 use Rattle.bpf_step_model.specs.Iteration.{Iterated}
 use Rattle.loop_core_law.specs.declared.loop_test.Test.{Test}
 use Rattle.loop_core_law.specs.LeastBreak.{lesser}
-use Rattle.loop_core_blocks.specs.declared.faults.GatherFault.{GatherFault}
-use Rattle.loop_core_blocks.specs.declared.faults.GatherFault.TheVariants.{Missing, Twice, Foreign}
-use Rattle.loop_core_blocks.specs.Block.{block, break_from}
+use Rattle.loop_core_blocks.specs.Block.{break_from}
 use Rattle.loop_core_blocks.specs.Split.{split_fault}
-use Rattle.loop_core_blocks.specs.Gather.{Block, starts_late, with_number, least_of, lacks_some, twice, is_bound, stands_in, gather_fault}
-use Rattle.loop_core_schedule.specs.Intervals.{blocks_of, start_of, end_of}
+use Rattle.loop_core_blocks.specs.Gather.{Block, starts_late, with_number, least_of, is_bound, stands_in, gather_fault}
+use Rattle.loop_core_schedule.specs.Intervals.{blocks_of, start_of}
 use Rattle.loop_core_schedule.proofs.SplitLaws.{faultless, rising}
+use Rattle.loop_core_schedule.proofs.ScheduleLaws.{no_fault}
 use Rattle.loop_core_schedule.proofs.Steps as steps
 use Rattle.loop_core_schedule.proofs.RunBlocks.{numbers, some_times, once_each, none_foreign, none_lacks}
-use Rattle.loop_board.specs.Sums.{total, times, once_below}
+use Rattle.loop_board.specs.Sums.{times, once_below}
 use Rattle.loop_board.specs.History.{History, Legal, no_post, times_drawn, times_posted, times_seen, some_found_none}
-use Rattle.loop_board.specs.Seats.{SeatRecord, new_seat, histories}
+use Rattle.loop_board.specs.Seats.{histories}
 use Rattle.loop_board.proofs.Sums.{times-append, times_first, times_more, once_below-below}
 use Rattle.loop_block.specs.Blocks.{BlockOf}
 use Rattle.loop_block.specs.Ran.{iterations_of, as_gathered, IsRunOf}
-use Rattle.loop_work.specs.Worked.{runs_of, numbers_of, breaks_of, StandsIn, Worked}
+use Rattle.loop_work.specs.Worked.{runs_of, numbers_of, breaks_of, StandsIn}
 use Rattle.loop_work.specs.CompleteLaw.{WorkerOf, seats_of, blocks_of_all, IsWorkerOf, WorkersComplete}
 use Rattle.loop_work.proofs.StillWorks.{all_append}
 
@@ -95,16 +93,6 @@ bound_there : (bounds : List ℕ) (k x : ℕ) → k < length bounds → x ≡ sl
 bound_there [] k x below same = absurd (omega arith)
 bound_there (bound ∷ bounds) zero x below same = eq-eqb bound x (sym same)
 bound_there (bound ∷ bounds) (suc k) x below same = bound_there bounds k x (omega arith) same
-
--- the fault by three tests
-abbrev fault_by : (missing double foreign : Bool) → Option GatherFault
-fault_by missing double foreign = if missing then Some Missing else if double then Some Twice else if foreign then Some Foreign else None
-
-no_fault : (bounds : List ℕ) (blocks : List Block) → lacks_some bounds blocks ≡ false → twice blocks ≡ false → list_any (λ (b : Block). not (stands_in bounds b)) blocks ≡ false →
-    gather_fault bounds blocks ≡ None
-no_fault bounds blocks m t f =
-    ap (λ (b : Bool). fault_by b (twice blocks) (list_any (λ (c : Block). not (stands_in bounds c)) blocks)) m
-    ∙ (ap (λ (b : Bool). fault_by false b (list_any (λ (c : Block). not (stands_in bounds c)) blocks)) t ∙ ap (λ (b : Bool). fault_by false false b) f)
 
 -- both ways to count
 same_bit : (k x : ℕ) → steps.bit (x == k) ≡ (if k == x then 1 else 0)

@@ -7,21 +7,12 @@ use Rattle.std.proofs.lemmas.Nat.Bits.{bit_at_and, bit_at-zero}
 use Rattle.array_maps.specs.declared.access.Op.{Op}
 use Rattle.array_maps.specs.declared.access.Op.TheVariants.{Add, Or, And, Xor, AddH}
 use Rattle.loop_core_marks.specs.Flags.{Flags}
+use Rattle.loop_core_marks.proofs.FlagLaws.{same_flags}
 use Rattle.shadow_marks.specs.declared.element_flags.Flag.{Flag}
 use Rattle.shadow_marks.specs.declared.element_flags.Flag.TheVariants.{Wrote, Looked, Plain, By}
 use Rattle.shadow_marks.specs.declared.element_flags.ElementFlags.{ElementFlags}
 use Rattle.shadow_marks.specs.Kept.{place_by, place_of, flags_in, with_flag, with_look}
 use Rattle.shadow_marks.proofs.BitLaws.{bit_ored, same_place}
-
--- flags that agree are the same
-pub record FlagsAgree (a b : Flags) : Type 0 where
-  pub wrote : a.wrote ≡ b.wrote
-  pub looked : a.looked ≡ b.looked
-  pub plain : a.plain ≡ b.plain
-  pub by : (op : Op) → a.by op ≡ b.by op
-
-pub same_flags : (a b : Flags) → FlagsAgree a b → a ≡ b
-same_flags a b h = λ i. record { wrote = h.wrote i; looked = h.looked i; plain = h.plain i; by = λ op. h.by op i }
 
 or_true : (b : Bool) → (b || true) ≡ true
 or_true true = refl

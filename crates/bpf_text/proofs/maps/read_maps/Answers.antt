@@ -2,7 +2,7 @@ use Rattle.std.proofs.Common.{◌≡◌, ◌++◌, ◌∷◌, [], length, sym, a
 use Rattle.std.proofs.lemmas.Result.{err_from_is_err_and}
 use Rattle.std.proofs.lemmas.List.{map_push, length-map}
 use Rattle.bpf_text.specs.MapsText.{lists, maps_behind}
-use Rattle.bpf_text.proofs.MapLaws.{count_of-push, maps_behind-line, maps_behind-fails, maps_behind-end}
+use Rattle.bpf_text.proofs.MapLaws.{values_held-push, maps_behind-line, maps_behind-fails, maps_behind-end}
 use Rattle.bpf_text.proofs.maps.read_maps.Goals as goal
 
 pub returns-in_err-values : goal.returns-in_err-values
@@ -28,7 +28,7 @@ loop-line-preserved c =
     let len : c.len-held.result ≡ length values = c.len-held.ensures ∙ c.in_ok-values.values.ok.0 in
     record {
       so_far = rw grown (sym step ∙ ap (maps_behind before) (sym c.in-Some.ensures.some) ∙ c.loop-line.invariant.so_far);
-      count = rw (grown, count_of-push before values) (omega (arith, c.loop-line.invariant.count, len));
+      count = rw (grown, values_held-push before values) (omega (arith, c.loop-line.invariant.count, len));
       room = omega (arith, c.in_ok-values.ensures.room, c.len-held.ensures);
     }
 
