@@ -24,33 +24,28 @@ const PLAN: Plan = Plan {
     test: Test::Flow,
 };
 
-fn program_of(alloc: Global) -> Result<Verified, Fail> {
-    let unit = parse_unit(alloc, TWO_LOOPS)?;
-    Ok(verify(alloc, unit)?)
+/// The program and its maps, unless there is no memory.
+fn try_making(alloc: Global) -> Option<(Verified, Maps)> {
+    let unit = parse_unit(alloc, TWO_LOOPS).ok()?;
+    let program = verify(alloc, unit).ok()?;
+    let values = vec![in alloc; 5, 6].ok()?;
+    let maps = Maps::of(alloc, &[values]).ok()?;
+    Some((program, maps))
 }
 
-fn maps_of(alloc: Global) -> Result<Maps, Fail> {
-    Ok(Maps::of(alloc, &[vec![in alloc; 5, 6]?])?)
-}
-
-/// The program and its maps, by a second try where there was no memory.
-fn program_and_maps(alloc: Global) -> Result<(Verified, Maps), Fail> {
-    let program = match program_of(alloc) {
-        Ok(program) => program,
-        Err(_) => program_of(alloc)?,
-    };
-    let maps = match maps_of(alloc) {
-        Ok(maps) => maps,
-        Err(_) => maps_of(alloc)?,
-    };
-    Ok((program, maps))
+/// The same, by a second try where there was no memory at the first.
+fn program_and_maps(alloc: Global) -> Option<(Verified, Maps)> {
+    match try_making(alloc) {
+        None => try_making(alloc),
+        made => made,
+    }
 }
 
 /// Whether memory ran out; the maps are as they were then.
 fn is_refused(rt: &impl Abort, told: &Result<Report, RunError>, maps: &Maps) -> bool {
     match told {
         Err(RunError::Memory) => {
-            assert_eq!(rt; maps.words(), [5, 6]);
+            assert_eq!(rt; maps.words(), [5, 6].as_slice());
             true
         }
         _ => false,
@@ -60,25 +55,25 @@ fn is_refused(rt: &impl Abort, told: &Result<Report, RunError>, maps: &Maps) -> 
 #[test]
 fn maps_stay_where_order_is_refused(rt: HostRuntime) -> Result<(), Fail> {
     let alloc = rt.alloc();
-    let (program, mut maps) = program_and_maps(alloc)?;
+    let (program, mut maps) = program_and_maps(alloc).ok_or("a program")?;
     let mut told = run_in_order(alloc, &program, &mut maps, 0);
     if is_refused(&rt, &told, &maps) {
         told = run_in_order(alloc, &program, &mut maps, 0);
     }
     assert_eq!(rt; told?.ret, 3);
-    assert_eq!(rt; maps.words(), [5, 12]);
+    assert_eq!(rt; maps.words(), [5, 12].as_slice());
     Ok(())
 }
 
 #[test]
 fn maps_stay_where_a_run_is_refused(rt: HostRuntime) -> Result<(), Fail> {
     let alloc = rt.alloc();
-    let (program, mut maps) = program_and_maps(alloc)?;
+    let (program, mut maps) = program_and_maps(alloc).ok_or("a program")?;
     let mut told = run(&rt, alloc, &program, &mut maps, 0, &PLAN, &OpenGate);
     if is_refused(&rt, &told, &maps) {
         told = run(&rt, alloc, &program, &mut maps, 0, &PLAN, &OpenGate);
     }
     assert_eq!(rt; told?.ret, 3);
-    assert_eq!(rt; maps.words(), [5, 12]);
+    assert_eq!(rt; maps.words(), [5, 12].as_slice());
     Ok(())
 }
