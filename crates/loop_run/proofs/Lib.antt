@@ -1,3 +1,4 @@
 pub mod CommitLaws
+pub mod EvenLaws
 pub mod WholeLaws
 pub mod WorkerLaws

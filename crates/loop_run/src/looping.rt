@@ -1,6 +1,6 @@
 //! Running a loop.
 
-ghost use Rattle.std.specs.Prelude.{◌≡◌, ◌≢◌, ◌↔◌, None, Err, IsTrue, All, map, IfOk, IfErr};
+ghost use Rattle.std.specs.Prelude.{◌≡◌, ◌≢◌, ◌<◌, ◌≤◌, ◌↔◌, None, Err, IsTrue, All, map, IfOk, IfErr};
 ghost use Rattle.bpf_step_sound.specs.Soundness.{IsKnownCall};
 ghost use Rattle.loop_core_blocks.specs.Split.{split_fault};
 ghost use Rattle.loop_core_blocks.specs.Gather.{gather_fault};
@@ -111,6 +111,43 @@ fn speculate<'a, R: Threads + Sync, G: Gate>(
     gather_all(alloc, program, call, start, split, blocks, test)
 }
 
+/// How many blocks are worth what each of them costs, which keeps marks of all elements: one for each worker, or one for
+/// as many iterations as there are elements, and no more than the split has.
+fn worthwhile_blocks(n: u32, start: &Maps, split: &Split, workers: u32) -> u32
+    requires { 0 < workers }
+    ensures some { 0 < result }
+    ensures few { result ≤ 64 }
+{
+    let elements = start.words().len() as u32;
+    (n / elements.max(1)).max(workers).min(split.blocks())
+}
+
+/// Runs a loop by its workers, over as many even blocks as are worth it, and gathers them.
+#[tactic(auto, using(crate::proofs::EvenLaws::even_is, crate::proofs::EvenLaws::even_plan))]
+fn speculate_evenly<'a, R: Threads + Sync, G: Gate>(
+    rt: &R,
+    alloc: Global,
+    program: &Verified,
+    call: &LoopCall,
+    start: &'a Maps,
+    split: &Split,
+    workers: u32,
+    test: Test,
+    gate: &G,
+) -> Result<Gathered<'a>, RunError>
+    requires known { IsKnownCall program.now call.now }
+    requires sizes { start.now.sizes ≡ program.now.sizes }
+    requires plan { IsLoopPlan workers split.now call.now.n }
+    ensures told { IfOk result (Tells test program.now call.now start.now.words) }
+    ensures refused { IfErr result (λ e. e ≡ RunError.Memory) }
+{
+    let blocks = worthwhile_blocks(call.n(), start, split, workers);
+    let Ok(even) = Split::even(call.n(), blocks) else {
+        unreachable!()
+    };
+    speculate(rt, alloc, program, call, start, &even, workers, test, gate)
+}
+
 /// What a loop comes to whose plan is within its limits. Only memory may be lacking.
 fn outcome_of<R: Threads + Sync, G: Gate>(
     rt: &R,
@@ -129,8 +166,10 @@ fn outcome_of<R: Threads + Sync, G: Gate>(
     ensures outcome { IfOk result (λ o. IsOutcome test program.now call.now start.now o.verdict o.answer o.maps) }
     ensures refused { IfErr result (λ e. e ≡ RunError.Memory) }
 {
-    let speculated = if is_worth_threads(call, gate) {
+    let speculated = if gate.may_hold() {
         speculate(rt, alloc, program, call, start, split, workers, test, gate)
+    } else if is_worth_threads(call, gate) {
+        speculate_evenly(rt, alloc, program, call, start, split, workers, test, gate)
     } else {
         speculate_alone(alloc, program, call, start, test, gate)
     };
@@ -146,8 +185,9 @@ fn outcome_of<R: Threads + Sync, G: Gate>(
 
 /// Runs a loop call that main of this program made, from these maps, by so many workers, each in a thread of its
 /// own, over the blocks of a split. A loop that passes the test is committed on a copy of the maps, by several threads
-/// where it has many elements; any other is run in order on one. It waits for its threads. Where one can't be started,
-/// the others do its share; where the gate holds nobody, a short loop is run by the calling thread alone, as one block.
+/// too; any other is run in order on one. It waits for its threads, and where one can't be started, the others do its
+/// share. Where the gate holds nobody, only what pays is done: a short loop is run by the calling thread alone, as one
+/// block, and a longer one over fewer, even blocks where each would have few iterations beside its elements.
 ///
 /// It fails with `Sizes` (P1) where the maps' sizes differ from the program's; else with `Plan` (P2) where the
 /// workers aren't 1 to 16 or the split isn't of the call's iterations; and with `Memory`.

@@ -5,6 +5,8 @@
 #[cfg(test)]
 mod gates;
 #[cfg(test)]
+mod growths;
+#[cfg(test)]
 mod loops;
 #[cfg(test)]
 mod meeting;
