@@ -6,7 +6,7 @@ use Rattle.array_maps.specs.Accesses.{Action, Read, Write, ReadWrite, Reduce}
 use Rattle.loop_core_marks.specs.declared.access.Access.{Access as Kind}
 use Rattle.loop_core_marks.specs.declared.access.Access.TheVariants.{Read as Reads, Write as Writes, Both, Reduce as Reduces}
 use Rattle.loop_core_marks.specs.Marks.{Visit}
-use Rattle.loop_core_marks.specs.Flags.{Flags, kind_of, flags_of, flagged, no_flags}
+use Rattle.loop_core_marks.specs.Flags.{kind_of, flags_of, flagged}
 use Rattle.loop_core_marks.proofs.FlagLaws.{flags_follow_kinds}
 use Rattle.shadow_marks.specs.declared.iter_flags.IterFlags.{IterFlags}
 use Rattle.shadow_marks.specs.declared.planes.Planes.{Planes}
