@@ -3,7 +3,7 @@
 ghost use Rattle.std.specs.Prelude.{◌<◌, ◌≤◌, length};
 
 use crate::marked_planes::planes_of;
-use lane_planes::{conflicts, count_bits, first_bit, merge};
+use lane_planes::{conflicts, conflicts_touched, count_bits, first_bit, merge, merge_touched};
 use loop_core_law::Test;
 use shadow_marks::{Planes, Tested};
 use std::alloc::{AllocError, Global};
@@ -102,35 +102,43 @@ fn are_told<const N: usize>(
     );
 }
 
-/// Merges planes of so many elements, and tells their conflicts.
+/// Merges planes of so many elements, and tells their conflicts: over all pages, and over those that were touched.
 fn kernels_agree<const N: usize>(
     rt: &impl Abort,
     alloc: Global,
     test: Test,
     elements: u32,
+    most: u32,
 ) -> Result<(), AllocError>
     requires lanes { (0 < N) × (N ≤ 64) }
     requires few { elements ≤ 65536 }
+    requires marks { most ≤ 4096 }
 {
     let mut plane = vec![in alloc; 0u64; (elements as usize + 63) / 64]?;
-    let mine = planes_of(alloc, elements, test, 0)?;
-    let theirs = planes_of(alloc, elements, test, 1)?;
-    let mut joined = planes_of(alloc, elements, test, 0)?;
+    let mine = planes_of(alloc, elements, test, 0, most)?;
+    let theirs = planes_of(alloc, elements, test, 1, most)?;
+    let mut joined = planes_of(alloc, elements, test, 0, most)?;
     merge::<N>(&mut joined, &theirs);
     conflicts::<N>(&joined, plane.as_mut_slice());
+    are_told::<N>(rt, &joined, &mine, &theirs, &plane);
+    let mut joined = planes_of(alloc, elements, test, 0, most)?;
+    merge_touched::<N>(&mut joined, &theirs);
+    plane.fill(u64::MAX);
+    conflicts_touched::<N>(&joined, plane.as_mut_slice());
     are_told::<N>(rt, &joined, &mine, &theirs, &plane);
     Ok(())
 }
 
-/// Planes of few and of all words, whole and with five elements in the last word.
+/// Planes of few and of all words, whole and with five elements in the last word, with few marks and with many.
 fn lanes_agree<const N: usize>(rt: &impl Abort, alloc: Global) -> Result<(), AllocError>
     requires lanes { (0 < N) × (N ≤ 64) }
 {
     for words in [0, 1, N - 1, N, N + 1, 1024] {
         let elements = 64 * words.min(1024) as u32;
         for test in [Test::Lrpd, Test::Flow] {
-            kernels_agree::<N>(rt, alloc, test, elements)?;
-            kernels_agree::<N>(rt, alloc, test, elements.saturating_sub(59))?;
+            kernels_agree::<N>(rt, alloc, test, elements, 4096)?;
+            kernels_agree::<N>(rt, alloc, test, elements.saturating_sub(59), 4096)?;
+            kernels_agree::<N>(rt, alloc, test, elements, 4)?;
         }
     }
     Ok(())
