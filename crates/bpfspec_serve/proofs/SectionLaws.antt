@@ -7,10 +7,10 @@ use Rattle.std.proofs.lemmas.Str.{IsCharBoundary-after_ascii}
 use Rattle.std.proofs.Math.ListN.{drop_of_length-le}
 use Rattle.std.proofs.Math.Seq.{take-add, take-length}
 use Rattle.std.specs.Prelude.{position}
-use Rattle.std.specs.List.{position_or_len}
+use Rattle.std.specs.List.{concat, position_or_len}
 use Rattle.bpf_text_lines.specs.Lines.{with_front}
 use Rattle.bpf_text_lines.proofs.LineLaws.{position_found, position_missing}
-use Rattle.bpfspec_serve.specs.Sections.{whole_lines, is_mark, before_mark, behind_mark, joined}
+use Rattle.bpfspec_serve.specs.Sections.{whole_lines, is_mark, before_mark, behind_mark}
 
 next_of : (k : ℕ) → 1 + k ≡ suc k
 next_of k = omega arith
@@ -52,22 +52,22 @@ line_missing text some e =
     let none : drop (length text) text ≡ [] = drop_of_length-le text (omega arith) in
     rw (none, take-length text) (whole_last text some (position_missing (λ b. b == 10) text e))
 
-front_joined : (b : ℕ) (lines : List (List ℕ)) → joined (with_front b lines) ≡ b ∷ joined lines
-front_joined b [] = refl
-front_joined b (line ∷ lines) = refl
+concat-front : (b : ℕ) (lines : List (List ℕ)) → concat (with_front b lines) ≡ b ∷ concat lines
+concat-front b [] = refl
+concat-front b (line ∷ lines) = refl
 
-byte_joined : (newline : Bool) (b : ℕ) (bs : List ℕ) → joined (whole_lines bs) ≡ bs → joined (if newline then (b ∷ []) ∷ whole_lines bs else with_front b (whole_lines bs)) ≡ b ∷ bs
-byte_joined true b bs rest = ap (λ (ls : List ℕ). b ∷ ls) rest
-byte_joined false b bs rest = front_joined b (whole_lines bs) ∙ ap (λ (ls : List ℕ). b ∷ ls) rest
+concat-byte : (newline : Bool) (b : ℕ) (bs : List ℕ) → concat (whole_lines bs) ≡ bs → concat (if newline then (b ∷ []) ∷ whole_lines bs else with_front b (whole_lines bs)) ≡ b ∷ bs
+concat-byte true b bs rest = ap (λ (ls : List ℕ). b ∷ ls) rest
+concat-byte false b bs rest = concat-front b (whole_lines bs) ∙ ap (λ (ls : List ℕ). b ∷ ls) rest
 
 -- the lines of a text on end are the text
-lines_joined : (text : List ℕ) → joined (whole_lines text) ≡ text
-lines_joined [] = refl
-lines_joined (b ∷ bs) = byte_joined (b == 10) b bs (lines_joined bs)
+concat-whole_lines : (text : List ℕ) → concat (whole_lines text) ≡ text
+concat-whole_lines [] = refl
+concat-whole_lines (b ∷ bs) = concat-byte (b == 10) b bs (concat-whole_lines bs)
 
 -- so a text of these lines is all of them on end
-pub text_of_lines : (text : List ℕ) (lines : List (List ℕ)) → whole_lines text ≡ lines → text ≡ joined lines
-text_of_lines text lines same = sym (lines_joined text) ∙ ap joined same
+pub text_of_lines : (text : List ℕ) (lines : List (List ℕ)) → whole_lines text ≡ lines → text ≡ concat lines
+text_of_lines text lines same = sym (concat-whole_lines text) ∙ ap concat same
 
 unmarked : (line : List ℕ) (lines : List (List ℕ)) → is_mark line ≡ false → (before_mark (line ∷ lines) ≡ line ++ before_mark lines) × (behind_mark (line ∷ lines) ≡ behind_mark lines)
 unmarked line lines other = (ap (λ (b : Bool). if b then [] else line ++ before_mark lines) other, ap (λ (b : Bool). if b then lines else behind_mark lines) other)

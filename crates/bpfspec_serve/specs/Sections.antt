@@ -1,5 +1,6 @@
 -- The sections of an input: lines that are exactly `%%` part them. A text is its bytes: 10 is a newline.
 use Rattle.std.specs.Prelude.{ℕ, ◌==◌, ◌||◌, Bool, if◌then◌else◌, List, [], ◌∷◌, ◌++◌, codes}
+use Rattle.std.specs.List.{concat}
 use Rattle.std.specs.Str.{bytes_eq}
 use Rattle.bpf_text_lines.specs.Lines.{with_front}
 
@@ -22,11 +23,6 @@ abbrev pub behind_mark : List (List ℕ) → List (List ℕ)
 behind_mark [] = []
 behind_mark (line ∷ lines) = if is_mark line then lines else behind_mark lines
 
--- the lines on end
-abbrev pub joined : List (List ℕ) → List ℕ
-joined [] = []
-joined (line ∷ lines) = line ++ joined lines
-
 -- the first section, the second, and all that stands behind it; each is empty where there is none
 abbrev pub unit_section : List ℕ → List ℕ
 unit_section input = before_mark (whole_lines input)
@@ -35,4 +31,4 @@ abbrev pub maps_section : List ℕ → List ℕ
 maps_section input = before_mark (behind_mark (whole_lines input))
 
 abbrev pub events_section : List ℕ → List ℕ
-events_section input = joined (behind_mark (behind_mark (whole_lines input)))
+events_section input = concat (behind_mark (behind_mark (whole_lines input)))

@@ -1,8 +1,9 @@
 //! The sections of an input.
 
 ghost use Rattle.std.specs.Prelude.{◌≡◌, ◌+◌, ◌-◌, ◌<◌, ◌≤◌, length, slice_index, take, drop, ◌∷◌};
+ghost use Rattle.std.specs.List.{concat};
 ghost use Rattle.std.specs.Str.{IsCharBoundary};
-ghost use Rattle.bpfspec_serve.specs.Sections.{whole_lines, is_mark, before_mark, behind_mark, joined};
+ghost use Rattle.bpfspec_serve.specs.Sections.{whole_lines, is_mark, before_mark, behind_mark};
 
 use bpf_text_lines::newline_at;
 
@@ -40,7 +41,7 @@ fn line_length(text: &[u8]) -> usize
 pub fn part(text: &str) -> Parted<'_>
     ensures section { result.section.now ≡ before_mark (whole_lines text.now) }
     ensures rest { whole_lines result.rest.now ≡ behind_mark (whole_lines text.now) }
-    ensures text { result.rest.now ≡ joined (behind_mark (whole_lines text.now)) }
+    ensures text { result.rest.now ≡ concat (behind_mark (whole_lines text.now)) }
 {
     let bytes = text.as_bytes();
     let mut at = 0;
