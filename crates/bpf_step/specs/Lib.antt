@@ -1,3 +1,4 @@
+pub mod Ahead
 pub mod Iterations
 pub mod Mains
 pub mod Turns
