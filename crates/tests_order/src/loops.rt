@@ -48,6 +48,33 @@ fn loops_run_in_order(rt: HostRuntime) -> Result<(), Fail> {
     are_answered(&rt, rt.alloc(), "..", "..", LOOPS)
 }
 
+/// Iterations that work on registers alone for so long that they go ahead together, as far as a row lets them.
+const AHEAD: &str =
+    "maps 2 | mov64 r1, 130 | LOOP | mov64 r5, r1 | add64 r5, 7 | mul64 r5, 3 | xor64 r5, r1 | mov64 r2, r5 | \
+    rsh64 r2, 2 | xor64 r5, r2 | lsh64 r5, 1 | add64 r5, r1 | sub64 r5, 5 | or64 r5, 8 | and64 r5, 1023 | .. | \
+    ldmapval r3, 0, 0 | atomic64 add [r3+0], r5 | END";
+
+/// With a jump of all of them, of none and of some, and with one that ends the loop.
+const WAYS_AHEAD: &str = "
+    add64 r5, 1 => return 130 | loop 0 at 5: answer 130, in order | map 0: 61207 0
+    jge64 r5, 0, on | add64 r5, 1000 | on: | add64 r5, 2 \
+        => return 130 | loop 0 at 5: answer 130, in order | map 0: 61337 0
+    jgt64 r5, 1023, on | add64 r5, 1000 | on: | add64 r5, 2 \
+        => return 130 | loop 0 at 5: answer 130, in order | map 0: 191337 0
+    jgt64 r1, 65, on | add64 r5, 1000 | on: => return 130 | loop 0 at 5: answer 130, in order | map 0: 127077 0
+    lddw r2, 4294967303 | add64 r5, r2 => return 130 | loop 0 at 5: answer 130, in order | map 0: 558345810467 0
+    ja on | add64 r5, 1000 | on: | add64 r5, 3 => return 130 | loop 0 at 5: answer 130, in order | map 0: 61467 0
+    mov64 r2, r5 | rsh64 r2, 3 | mov64 r4, r2 | and64 r4, 1 | lsh64 r4, 3 | ldmapval r3, 0, 0 | add64 r3, r4 | \
+        stx64 [r3+0], r1 => return 130 | loop 0 at 5: answer 130, in order | map 0: 61077 129
+    mov64 r0, 1 | jne64 r1, 70, on | exit | on: => return 71 | loop 0 at 5: answer 71, in order | map 0: 18979 0
+    lddw r2, 8589934593 | mul64 r5, r2 => return 130 | loop 0 at 5: answer 130, in order | map 0: 524647435136661 0
+";
+
+#[test]
+fn iterations_go_ahead_together(rt: HostRuntime) -> Result<(), Fail> {
+    are_answered(&rt, rt.alloc(), AHEAD, "..", WAYS_AHEAD)
+}
+
 /// A number of iterations, and flags.
 const CALL: &str =
     "maps 1 | lddw r1, <0> | ldcode r2, cb | mov64 r3, 0 | mov64 r4, <1> | call 181 | exit | cb: | END";
