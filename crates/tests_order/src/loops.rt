@@ -14,6 +14,12 @@ const LOOPS: &str = "
         => return 4 | loop 0 at 5: answer 4, in order | map 0: 9 9 9 9 9
     maps 5 | mov64 r1, 4 | LOOP | AT | ldx64 r4, [r3+8] | stx64 [r3+0], r4 | END | %% | map 0: 1 2 3 4 5 \
         => return 4 | loop 0 at 5: answer 4, in order | map 0: 2 3 4 5 5
+    maps 5 | mov64 r1, 4 | LOOP | AT | ldx64 r4, [r3+0] | ldx64 r5, [r3+8] | add64 r4, r5 | add64 r4, 1 | \
+        stx64 [r3+8], r4 | END | %% | map 0: 1 2 3 4 5 \
+        => return 4 | loop 0 at 5: answer 4, in order | map 0: 1 4 8 13 19
+    maps 5 | mov64 r1, 4 | LOOP | AT | ldx64 r4, [r3+0] | ldx64 r5, [r3+8] | add64 r4, r5 | add64 r5, 1 | \
+        xor64 r4, r5 | stx64 [r3+8], r4 | END | %% | map 0: 1 2 3 4 5 \
+        => return 4 | loop 0 at 5: answer 4, in order | map 0: 1 0 7 14 21
     maps 1 | mov64 r1, 5 | LOOP | ldmapval r3, 0, 0 | stx64 [r3+0], r1 | ldx64 r4, [r3+0] | END | %% | map 0: 3 \
         => return 5 | loop 0 at 5: answer 5, in order | map 0: 4
     maps 1 | mov64 r1, 4 | LOOP | ldmapval r3, 0, 0 | mov64 r0, 0 | mov64 r4, 8 | and64 r1, 1 | jne64 r1, 0, odd | \
