@@ -6,7 +6,7 @@ ghost use Rattle.bpf_insn.specs.Opcode.{alu_code, alu_class, jump_code, jump_cla
 use bpf_insn_form::{ByteOrder, Compare, Size, Width};
 
 /// The operation code of an arithmetic opcode (RFC 9669, section 4.1).
-#[derive(Clone, Copy, Debug, PartialEq, Eq)]
+#[derive(Clone, Copy)]
 pub enum AluCode {
     Add,
     Sub,
@@ -23,7 +23,7 @@ pub enum AluCode {
 }
 
 /// What an opcode says: the form of the instruction, before its other fields.
-#[derive(Clone, Copy, Debug, PartialEq, Eq)]
+#[derive(Clone, Copy)]
 pub enum Form {
     AluImm(Width, AluCode),
     AluReg(Width, AluCode),

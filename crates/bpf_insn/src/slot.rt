@@ -7,7 +7,7 @@ use crate::form::{Form, opcode_of};
 use std::alloc::AllocError;
 
 /// The fields of a slot as they stand. A register field is the half of a byte, 0 to 15.
-#[derive(Clone, Copy, Debug, PartialEq, Eq)]
+#[derive(Clone, Copy)]
 pub struct Slot {
     pub opcode: u8,
     pub dst: u8,

@@ -5,7 +5,7 @@ use bpf_insn_form::{
 };
 
 /// What the words before the operands of a line say.
-#[derive(Clone, Copy, Debug, PartialEq, Eq)]
+#[derive(Clone, Copy)]
 pub enum Mnemonic {
     Alu(Width, AluOp),
     Neg(Width),

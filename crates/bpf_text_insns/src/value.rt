@@ -3,7 +3,7 @@
 use bpf_insn_form::Reg;
 
 /// An operand.
-#[derive(Clone, Copy, Debug, PartialEq, Eq)]
+#[derive(Clone, Copy)]
 pub enum Value {
     /// A register.
     Reg(Reg),
@@ -20,7 +20,7 @@ pub enum Value {
 }
 
 /// The operands of a line, in order.
-#[derive(Clone, Copy, Debug, PartialEq, Eq)]
+#[derive(Clone, Copy)]
 pub enum Operands {
     Zero,
     One(Value),

@@ -7,7 +7,7 @@ use bpf_insn_form::ImmKind;
 use bpf_text_insns::Mnemonic;
 
 /// What may stand as an operand.
-#[derive(Clone, Copy, Debug, PartialEq, Eq)]
+#[derive(Clone, Copy)]
 pub enum Kind {
     /// A register.
     Reg,
@@ -26,7 +26,7 @@ pub enum Kind {
 }
 
 /// The kinds of a line's operands, in order.
-#[derive(Clone, Copy, Debug, PartialEq, Eq)]
+#[derive(Clone, Copy)]
 pub enum Kinds {
     Zero,
     One(Kind),

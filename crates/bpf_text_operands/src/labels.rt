@@ -7,7 +7,7 @@ use std::alloc::{AllocError, AllocFailed, Global};
 use std::collections::HashMap;
 
 /// Where a label is defined.
-#[derive(Clone, Copy, Debug, PartialEq, Eq)]
+#[derive(Clone, Copy)]
 pub struct Label {
     /// The line that defines it.
     pub line: u32,

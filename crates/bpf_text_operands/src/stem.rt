@@ -3,7 +3,7 @@
 use bpf_insn_form::{AluOp, ByteOrder, Callee, Compare, ImmKind, Width};
 
 /// A mnemonic's word without the bits at its end.
-#[derive(Clone, Copy, Debug, PartialEq, Eq)]
+#[derive(Clone, Copy)]
 pub enum Stem {
     Ja,
     Ja32,

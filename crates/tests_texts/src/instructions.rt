@@ -54,29 +54,24 @@ const OTHER_LINES: &str = "
 
 /// A unit with one map of one element and these lines.
 fn one_map(alloc: Global, lines: &str) -> Result<String, Fail> {
-    let mut text = String::from_str(alloc, "maps 1\n")?;
-    text.push_str(&text_of(alloc, lines)?)?;
-    text.push_str("\n")?;
-    Ok(text)
+    let lines = text_of(alloc, lines)?;
+    Ok(format!(in alloc; "maps 1\n{lines}\n")?)
+}
+
+/// Asserts that instructions have these bytes.
+fn are_coded(rt: &impl Abort, alloc: Global, insns: &[Insn], bytes: &[u8]) -> Result<(), Fail> {
+    assert_eq!(rt; encode(alloc, insns)?.as_slice(), bytes);
+    assert_eq!(rt; decode(alloc, bytes)?.as_slice(), insns);
+    Ok(())
 }
 
 /// Asserts that assembler lines are read as the bytes that hex lines are, and written so.
 fn are_bytes(rt: &impl Abort, alloc: Global, assembler: &str, hex: &str) -> Result<(), Fail> {
     let unit = parse_unit(alloc, assembler)?;
+    assert_eq!(rt; write_hex(alloc, &unit)?.as_str(), hex);
     let coded = read_hex(alloc, hex)?;
     assert_eq!(rt; unit.sizes.as_slice(), coded.sizes.as_slice());
-    assert_eq!(rt;
-        encode(alloc, &unit.insns)?.as_slice(),
-        coded.bytes.as_slice(),
-        "{hex}"
-    );
-    assert_eq!(rt;
-        decode(alloc, &coded.bytes)?.as_slice(),
-        unit.insns.as_slice(),
-        "{hex}"
-    );
-    assert_eq!(rt; write_hex(alloc, &unit)?.as_str(), hex);
-    Ok(())
+    are_coded(rt, alloc, &unit.insns, &coded.bytes)
 }
 
 #[test]
@@ -104,11 +99,10 @@ fn other_lines_are_bytes(rt: HostRuntime) -> Result<(), Fail> {
 
 /// A unit of an exit behind a two-slot load, and this instruction.
 fn unit_with(alloc: Global, first: Insn, insn: Insn) -> Result<Unit, Fail> {
-    let mut sizes = Vec::new(alloc);
-    sizes.push(1)?;
-    let mut insns = Vec::new(alloc);
-    insns.extend_from_slice(&[first, Insn::Exit, insn])?;
-    Ok(Unit { sizes, insns })
+    Ok(Unit {
+        sizes: [1].to_vec(alloc)?,
+        insns: [first, Insn::Exit, insn].to_vec(alloc)?,
+    })
 }
 
 /// What an error of the codec says.

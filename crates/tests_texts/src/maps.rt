@@ -14,9 +14,6 @@ fn maps_are_read_and_printed(rt: HostRuntime) -> Result<(), Fail> {
     let alloc = rt.alloc();
     let text = "; two\n\n map 0: 5\t0 ; a\nmap 1: 18446744073709551615";
     let maps = parse_maps(alloc, text)?;
-    assert_eq!(rt; maps.len(), 2);
-    assert_eq!(rt; maps[0].as_slice(), [5, 0].as_slice());
-    assert_eq!(rt; maps[1].as_slice(), [u64::MAX].as_slice());
     let printed = "map 0: 5 0\nmap 1: 18446744073709551615\n";
     assert_eq!(rt; print_maps(alloc, &maps)?.as_str(), printed);
     Ok(())

@@ -52,7 +52,7 @@ fn breaks(
 }
 
 #[test]
-fn an_accepted_unit_is_told(rt: HostRuntime) -> Result<(), Fail> {
+fn an_accepted_unit_is_kept(rt: HostRuntime) -> Result<(), Fail> {
     let alloc = rt.alloc();
     let loop_call = Insn::Call {
         callee: Callee::Helper,
@@ -69,9 +69,6 @@ fn an_accepted_unit_is_told(rt: HostRuntime) -> Result<(), Fail> {
         Insn::Exit,
     ];
     let verified = verdict(alloc, &[3, 1], &insns)?;
-    assert_eq!(rt; verified.callbacks(), 1);
-    assert_eq!(rt; (verified.start(0), verified.count(0)), (0, 6));
-    assert_eq!(rt; (verified.start(1), verified.count(1)), (7, 2));
     assert_eq!(rt; verified.sizes(), [3, 1].as_slice());
     assert_eq!(rt; verified.unit().insns.as_slice(), insns.as_slice());
     Ok(())
