@@ -78,19 +78,44 @@ fn wrong_plan(alloc: Global, matches: &ArgMatches<'_>) -> Result<String, AllocEr
     wrong_value(alloc, matches)
 }
 
+/// The fault of a value of the subcommand that has this name, told with its usage.
+fn subcommand_fault(
+    alloc: Global,
+    command: Command<'_>,
+    name: &str,
+    wrong: &str,
+) -> Result<LineFault, AllocError> {
+    let mut command = command.bin_name(name)?;
+    Ok(own_fault(alloc, &mut command, wrong))
+}
+
+fn run_fault(alloc: Global, run: &ArgMatches<'_>) -> Result<LineFault, AllocError> {
+    let wrong = wrong_plan(alloc, run)?;
+    subcommand_fault(alloc, run_command(alloc)?, "bpfspec run", &wrong)
+}
+
+fn replay_fault(alloc: Global, replay: &ArgMatches<'_>) -> Result<LineFault, AllocError> {
+    let wrong = wrong_value(alloc, replay)?;
+    subcommand_fault(alloc, replay_command(alloc)?, "bpfspec replay", &wrong)
+}
+
+fn order_fault(alloc: Global, order: &ArgMatches<'_>) -> Result<LineFault, AllocError> {
+    let wrong = wrong_value(alloc, order)?;
+    subcommand_fault(alloc, order_command(alloc)?, "bpfspec order", &wrong)
+}
+
 /// The fault of a value that clap takes and the program doesn't, with the usage of its subcommand.
 pub fn value_fault(alloc: Global, matches: &ArgMatches<'_>) -> Result<LineFault, AllocError> {
     if let Some(run) = matches.subcommand_matches("run") {
-        let mut command = run_command(alloc)?.bin_name("bpfspec run")?;
-        return Ok(own_fault(alloc, &mut command, &wrong_plan(alloc, run)?));
+        return run_fault(alloc, run);
     }
     if let Some(replay) = matches.subcommand_matches("replay") {
-        let mut command = replay_command(alloc)?.bin_name("bpfspec replay")?;
-        return Ok(own_fault(alloc, &mut command, &wrong_value(alloc, replay)?));
+        return replay_fault(alloc, replay);
     }
-    let order = matches.subcommand_matches("order").unwrap_or(matches);
-    let mut command = order_command(alloc)?.bin_name("bpfspec order")?;
-    Ok(own_fault(alloc, &mut command, &wrong_value(alloc, order)?))
+    order_fault(
+        alloc,
+        matches.subcommand_matches("order").unwrap_or(matches),
+    )
 }
 
 /// The fault of words that the system doesn't give.
