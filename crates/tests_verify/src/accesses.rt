@@ -62,32 +62,38 @@ fn values_of_maps_are_accessed_whole_or_by_halves(rt: HostRuntime) -> Result<(),
 
 /// A loop of 100 iterations whose callback accesses a half that its index chooses.
 const HALVES: &str =
-    "maps 4 | mov64 r1, 100 | ldcode r2, cb | mov64 r3, 0 | mov64 r4, 0 | call 181 | exit | cb: | \
-    and64 r1, 7 | ldmapval r3, 0, 0 | .. | mov64 r0, 0 | exit";
+    "mov64 r1, 100 | ldcode r2, cb | mov64 r3, 0 | mov64 r4, 0 | call 181 | exit | cb: | \
+    and64 r1, 7 | .. | mov64 r0, 0 | exit";
 
 const HALVES_BY_INDEX: &str = "
-    lsh64 r1, 2 | add64 r3, r1 | ldx32 r4, [r3+0] \
+    maps 4 | lsh64 r1, 2 | ldx32 r4, [r3+0] \
         => accepted | function 0 at 0 count 6 | function 1 at 7 count 7
-    lsh64 r1, 1 | add64 r3, r1 | ldx32 r4, [r3+0] => refused V18 at slot 12
-    lsh64 r1, 2 | add64 r3, r1 | ldx16 r4, [r3+0] => refused V17 at slot 12
-    lsh64 r1, 2 | add64 r3, r1 | ldx64 r4, [r3+0] => refused V18 at slot 12
-    lsh64 r1, 2 | add64 r3, r1 | atomic32 add [r3+0], r1 \
+    maps 3 | lsh64 r1, 2 | ldx32 r4, [r3+0] => refused V19 at slot 12
+    maps 4 | lsh64 r1, 1 | ldx32 r4, [r3+0] => refused V18 at slot 12
+    maps 4 | lsh64 r1, 2 | ldx16 r4, [r3+0] => refused V17 at slot 12
+    maps 4 | lsh64 r1, 2 | ldx64 r4, [r3+0] => refused V18 at slot 12
+    maps 4 | lsh64 r1, 2 | atomic32 add [r3+0], r1 \
         => accepted | function 0 at 0 count 6 | function 1 at 7 count 7
-    lsh64 r1, 2 | add64 r3, r1 | stx32 [r3+4], r1 => refused V19 at slot 12
-    lsh64 r1, 2 | add64 r3, r1 | stx32 [r3-4], r1 => refused V19 at slot 12
-    lsh64 r1, 2 | add64 r3, r1 | stx32 [r3+2], r1 => refused V18 at slot 12
+    maps 4 | lsh64 r1, 2 | stx32 [r3+4], r1 => refused V19 at slot 12
+    maps 4 | lsh64 r1, 2 | stx32 [r3-4], r1 => refused V19 at slot 12
+    maps 4 | lsh64 r1, 2 | stx32 [r3+2], r1 => refused V18 at slot 12
 ";
-
-/// The last half that is chosen is behind the map.
-const HALVES_OF_THREE: &str =
-    "maps 3 | mov64 r1, 100 | ldcode r2, cb | mov64 r3, 0 | mov64 r4, 0 | call 181 | exit | cb: | \
-    and64 r1, 7 | ldmapval r3, 0, 0 | lsh64 r1, 2 | add64 r3, r1 | ldx32 r4, [r3+0] | \
-    mov64 r0, 0 | exit";
 
 #[test]
 fn halves_are_chosen_by_an_index(rt: HostRuntime) -> Result<(), Fail> {
-    are_answered(&rt, rt.alloc(), HALVES, HALVES_BY_INDEX)?;
-    is_answered(&rt, rt.alloc(), HALVES_OF_THREE, "refused V19 at slot 12")
+    for row in HALVES_BY_INDEX.trim().lines() {
+        let (given, wanted) = row.split_once("=>").ok_or("a row has an answer")?;
+        let (maps, lines) = given.trim().split_once(" | ").ok_or("a row has maps")?;
+        let (shift, access) = lines.split_once(" | ").ok_or("a row has an access")?;
+        let alloc = rt.alloc();
+        let mut callback = String::from_str(alloc, shift)?;
+        write!(callback, " | ldmapval r3, 0, 0 | add64 r3, r1 | {access}")?;
+        let mut unit = String::from_str(alloc, maps)?;
+        unit.push_str(" | ")?;
+        unit.push_str(HALVES.replace(alloc, "..", &callback)?.as_str())?;
+        is_answered(&rt, alloc, &unit, wanted.trim())?;
+    }
+    Ok(())
 }
 
 const ALIGNMENT_IN_FRAMES: &str = "
