@@ -26,8 +26,8 @@ pub fn run_block<'a, G: Gate>(
     start: &'a Maps,
     split: &Split,
     number: u32,
-    test: Test,
     gate: &G,
+    test: Test,
 ) -> Result<Block<'a>, AllocError>
     requires known { IsKnownCall program.now call.now }
     requires sizes { start.now.sizes ≡ program.now.sizes }

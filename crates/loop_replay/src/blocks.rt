@@ -35,7 +35,7 @@ fn run<'a>(of: &Setting<'a>, number: u32) -> Result<Block<'a>, AllocError>
     ensures { IfOk result (λ b. IsBlockOf of.now number (shown b)) }
 {
     run_block(
-        of.alloc, of.program, of.call, of.start, of.split, number, of.test, &NoGate,
+        of.alloc, of.program, of.call, of.start, of.split, number, &NoGate, of.test,
     )
 }
 

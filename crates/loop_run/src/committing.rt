@@ -77,8 +77,8 @@ pub(crate) fn settle_in_threads<R: Threads + Sync, G: Gate>(
     call: &LoopCall,
     start: &Maps,
     gathered: &Gathered,
-    test: Test,
     gate: &G,
+    test: Test,
 ) -> Result<LoopOutcome, AllocError>
     requires known { IsKnownCall program.now call.now }
     requires sizes { start.now.sizes ≡ program.now.sizes }

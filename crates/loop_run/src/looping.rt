@@ -65,8 +65,8 @@ fn speculate_alone<'a, G: Gate>(
     program: &Verified,
     call: &LoopCall,
     start: &'a Maps,
-    test: Test,
     gate: &G,
+    test: Test,
 ) -> Result<Gathered<'a>, RunError>
     requires known { IsKnownCall program.now call.now }
     requires sizes { start.now.sizes ≡ program.now.sizes }
@@ -76,7 +76,7 @@ fn speculate_alone<'a, G: Gate>(
     let Ok(whole) = Split::even(call.n(), 1) else {
         unreachable!()
     };
-    let blocks = run_whole(alloc, program, call, start, &whole, test, gate)?;
+    let blocks = run_whole(alloc, program, call, start, &whole, gate, test)?;
     gather_all(alloc, program, call, start, &whole, blocks, test)
 }
 
@@ -89,8 +89,8 @@ fn speculate<'a, R: Threads + Sync, G: Gate>(
     start: &'a Maps,
     split: &Split,
     workers: u32,
-    test: Test,
     gate: &G,
+    test: Test,
 ) -> Result<Gathered<'a>, RunError>
     requires known { IsKnownCall program.now call.now }
     requires sizes { start.now.sizes ≡ program.now.sizes }
@@ -103,7 +103,7 @@ fn speculate<'a, R: Threads + Sync, G: Gate>(
         return Err(RunError::Memory);
     };
     let (seats, blocks) = run_workers(
-        rt, alloc, program, call, start, split, &board, seats, test, gate,
+        rt, alloc, program, call, start, split, &board, seats, gate, test,
     )?;
     let Ok(_tally) = board.gather(seats) else {
         unreachable!()
@@ -132,8 +132,8 @@ fn speculate_evenly<'a, R: Threads + Sync, G: Gate>(
     start: &'a Maps,
     split: &Split,
     workers: u32,
-    test: Test,
     gate: &G,
+    test: Test,
 ) -> Result<Gathered<'a>, RunError>
     requires known { IsKnownCall program.now call.now }
     requires sizes { start.now.sizes ≡ program.now.sizes }
@@ -145,7 +145,7 @@ fn speculate_evenly<'a, R: Threads + Sync, G: Gate>(
     let Ok(even) = Split::even(call.n(), blocks) else {
         unreachable!()
     };
-    speculate(rt, alloc, program, call, start, &even, workers, test, gate)
+    speculate(rt, alloc, program, call, start, &even, workers, gate, test)
 }
 
 /// What a loop comes to whose plan is within its limits. Only memory may be lacking.
@@ -157,8 +157,8 @@ fn outcome_of<R: Threads + Sync, G: Gate>(
     start: &Maps,
     split: &Split,
     workers: u32,
-    test: Test,
     gate: &G,
+    test: Test,
 ) -> Result<LoopOutcome, RunError>
     requires known { IsKnownCall program.now call.now }
     requires sizes { start.now.sizes ≡ program.now.sizes }
@@ -167,17 +167,17 @@ fn outcome_of<R: Threads + Sync, G: Gate>(
     ensures refused { IfErr result (λ e. e ≡ RunError.Memory) }
 {
     let speculated = if gate.may_hold() {
-        speculate(rt, alloc, program, call, start, split, workers, test, gate)
+        speculate(rt, alloc, program, call, start, split, workers, gate, test)
     } else if is_worth_threads(call, gate) {
-        speculate_evenly(rt, alloc, program, call, start, split, workers, test, gate)
+        speculate_evenly(rt, alloc, program, call, start, split, workers, gate, test)
     } else {
-        speculate_alone(alloc, program, call, start, test, gate)
+        speculate_alone(alloc, program, call, start, gate, test)
     };
     let gathered = match speculated {
         Err(refused) => return Err(refused),
         Ok(gathered) => gathered,
     };
-    match settle_in_threads(rt, alloc, program, call, start, &gathered, test, gate) {
+    match settle_in_threads(rt, alloc, program, call, start, &gathered, gate, test) {
         Err(_) => Err(RunError::Memory),
         Ok(outcome) => Ok(outcome),
     }
@@ -199,8 +199,8 @@ pub fn run_loop<R: Threads + Sync, G: Gate>(
     start: &Maps,
     split: &Split,
     workers: u32,
-    test: Test,
     gate: &G,
+    test: Test,
 ) -> Result<LoopOutcome, RunError>
     requires { IsKnownCall program.now call.now }
     ensures outcome { IfOk result (λ o. IsOutcome test program.now call.now start.now o.verdict o.answer o.maps) }
@@ -213,5 +213,5 @@ pub fn run_loop<R: Threads + Sync, G: Gate>(
     if !is_loop_plan(workers, split, call.n()) {
         return Err(RunError::Plan);
     }
-    outcome_of(rt, alloc, program, call, start, split, workers, test, gate)
+    outcome_of(rt, alloc, program, call, start, split, workers, gate, test)
 }

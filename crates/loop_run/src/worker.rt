@@ -45,8 +45,8 @@ fn one_worker<'a, G: Gate>(
     split: &Split,
     board: &Board,
     seat: BoardSeat,
-    test: Test,
     gate: &G,
+    test: Test,
 ) -> Result<Worker<'a>, AllocError>
     requires known { IsKnownCall program.now call.now }
     requires sizes { start.now.sizes ≡ program.now.sizes }
@@ -57,7 +57,7 @@ fn one_worker<'a, G: Gate>(
 {
     let mut seat = seat;
     let blocks = work(
-        alloc, program, call, start, split, board, &mut seat, test, gate,
+        alloc, program, call, start, split, board, &mut seat, gate, test,
     )?;
     Ok(Worker { seat, blocks })
 }
@@ -72,8 +72,8 @@ fn in_threads<'a, R: Threads + Sync, G: Gate>(
     split: &Split,
     board: &Board,
     seats: Vec<BoardSeat>,
-    test: Test,
     gate: &G,
+    test: Test,
 ) -> Result<Vec<Result<Worker<'a>, AllocError>>, AllocError>
     requires known { IsKnownCall program.now call.now }
     requires sizes { start.now.sizes ≡ program.now.sizes }
@@ -86,7 +86,7 @@ fn in_threads<'a, R: Threads + Sync, G: Gate>(
     let one = |seat: BoardSeat| -> Result<Worker, AllocError>
         requires { IsKnownCall program.now call.now × (start.now.sizes ≡ program.now.sizes) × (split_fault split.now call.now.n ≡ None) × (seat ≡ new_seat board.now) × (board.now.blocks ≡ blocks_of split.now) }
         ensures { IfOk result (λ w. IsWorkerAt test program.entry.now call.entry.now start.entry.now.words split.entry.now board.entry.now (worker_of w)) }
-    { one_worker(alloc, program, call, start, split, board, seat, test, gate) };
+    { one_worker(alloc, program, call, start, split, board, seat, gate, test) };
     thread::map_vec(rt, seats, &one)
 }
 
@@ -125,8 +125,8 @@ pub(crate) fn run_whole<'a, G: Gate>(
     call: &LoopCall,
     start: &'a Maps,
     whole: &Split,
-    test: Test,
     gate: &G,
+    test: Test,
 ) -> Result<Vec<Block<'a>>, AllocError>
     requires known { IsKnownCall program.now call.now }
     requires sizes { start.now.sizes ≡ program.now.sizes }
@@ -134,7 +134,7 @@ pub(crate) fn run_whole<'a, G: Gate>(
     ensures ran { IfOk result (λ blocks. All (λ b. IsRunOf test program.now call.now start.now.words (shown b)) blocks.items) }
     ensures faultless { IfOk result (λ blocks. gather_fault whole.now (all_gathered program.now call.now start.now.words (map shown blocks.items)) ≡ None) }
 {
-    let block = run_block(alloc, program, call, start, whole, 0, test, gate)?;
+    let block = run_block(alloc, program, call, start, whole, 0, gate, test)?;
     let mut blocks = Vec::new(alloc);
     blocks.push(block)?;
     Ok(blocks)
@@ -151,8 +151,8 @@ pub(crate) fn run_workers<'a, R: Threads + Sync, G: Gate>(
     split: &Split,
     board: &Board,
     seats: Vec<BoardSeat>,
-    test: Test,
     gate: &G,
+    test: Test,
 ) -> Result<(Vec<BoardSeat>, Vec<Block<'a>>), AllocError>
     requires known { IsKnownCall program.now call.now }
     requires sizes { start.now.sizes ≡ program.now.sizes }
@@ -162,7 +162,7 @@ pub(crate) fn run_workers<'a, R: Threads + Sync, G: Gate>(
     ensures { IfOk result (λ parts. AreOfWorkers test program.now call.now start.now.words split.now board.now (vec_len seats) parts.0.items (map shown parts.1.items)) }
 {
     let done = in_threads(
-        rt, alloc, program, call, start, split, board, seats, test, gate,
+        rt, alloc, program, call, start, split, board, seats, gate, test,
     )?;
     parted(alloc, done)
 }

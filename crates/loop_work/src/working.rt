@@ -29,8 +29,8 @@ fn take<'a, G: Gate>(
     board: &Board,
     seat: &mut BoardSeat,
     number: u32,
-    test: Test,
     gate: &G,
+    test: Test,
 ) -> Result<Option<Block<'a>>, AllocError>
     requires known { IsKnownCall program.now call.now }
     requires sizes { start.now.sizes ≡ program.now.sizes }
@@ -43,7 +43,7 @@ fn take<'a, G: Gate>(
     if board.look(seat) < split.start(number) {
         return Ok(None);
     }
-    let block = run_block(alloc, program, call, start, split, number, test, gate)?;
+    let block = run_block(alloc, program, call, start, split, number, gate, test)?;
     if let Some(index) = block.broke() {
         board.post(seat, index);
     }
@@ -66,8 +66,8 @@ pub fn work<'a, G: Gate>(
     split: &Split,
     board: &Board,
     seat: &mut BoardSeat,
-    test: Test,
     gate: &G,
+    test: Test,
 ) -> Result<Vec<Block<'a>>, AllocError>
     requires known { IsKnownCall program.now call.now }
     requires sizes { start.now.sizes ≡ program.now.sizes }
@@ -82,7 +82,7 @@ pub fn work<'a, G: Gate>(
     while let Some(number) = board.claim(seat) {
         gate.begin(number);
         let taken = take(
-            alloc, program, call, start, split, board, seat, number, test, gate,
+            alloc, program, call, start, split, board, seat, number, gate, test,
         )?;
         if let Some(block) = taken {
             blocks.push(block)?;

@@ -46,8 +46,8 @@ fn run_call<R: Threads + Sync, G: Gate>(
         maps,
         &split,
         plan.workers,
-        plan.test,
         gate,
+        plan.test,
     ) {
         Ok(outcome) => Ok(outcome),
         Err(RunError::Memory) => Err(AllocError),

@@ -122,8 +122,8 @@ pub fn comes_to<R: Threads + Sync + Abort, G: Gate>(
         &row.maps,
         &split,
         workers,
-        test,
         gate,
+        test,
     )?;
     let told = LoopReport {
         slot: row.call.slot(),
