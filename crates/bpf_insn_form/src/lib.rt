@@ -2,11 +2,13 @@
 //! that it declares; and the limits of both.
 #![tactic(auto)]
 
+pub mod extension;
 pub mod insn;
 pub mod limits;
 pub mod reg;
 pub mod unit;
 
+pub use extension::Extension;
 pub use insn::{
     AluOp, AtomicOp, ByteOrder, Callee, Compare, EndianBits, ImmKind, Insn, MovsxBits, Operand,
     SimpleOp, Size, Width, slots,

@@ -13,6 +13,8 @@ use Rattle.bpf_insn_form.specs.declared.insn.Callee.{Callee}
 use Rattle.bpf_insn_form.specs.declared.insn.Callee.TheVariants as callee
 use Rattle.bpf_insn_form.specs.declared.insn.Insn.{Insn}
 use Rattle.bpf_insn_form.specs.declared.insn.Insn.TheVariants.{Alu, Neg, Movsx, Endian, Ja, Ja32, Jump, Call, Exit, Load as LoadInsn, LoadSx, StoreImm, Store as StoreInsn, Atomic, LoadImm}
+use Rattle.bpf_insn_form.specs.declared.extension.Extension.{Extension}
+use Rattle.bpf_insn_form.specs.declared.extension.Extension.TheVariants.{Zeros, Signs}
 use Rattle.bpf_insn_form.specs.Program.{Program, moved}
 use Rattle.bpf_insn_words.specs.Words.{word_of, negated, moved_signed, in_order}
 use Rattle.bpf_verify_model.specs.Rules.{jump_distance, jump_target, goes_on}
@@ -20,7 +22,7 @@ use Rattle.bpf_verify_model.specs.Count.{behind_jump, through}
 use Rattle.bpf_step_model.specs.State.{Value, Unwritten, Word, Frame, Map, Code, Bytes, Machine, register, advanced, with_register, with_frame, after_call}
 use Rattle.bpf_step_model.specs.Memory.{Place, InFrame, InCaller, InMap, number_at, written_at, place}
 use Rattle.bpf_step_model.specs.Values.{operand_value, on_word, result_of, test_of}
-use Rattle.bpf_step_model.specs.Step.{Extension, Zeros, Signs, Load, Move, NoStep, Next, Asks, Loops, Refuses, Exits, sets, jumps, branches, loaded, caller_number, loads, stores_at, stores, tells, atomic_left, changes_frame, changes_at, compared_value, may_tell, changes, wide_value, key_at, found, answers, looks_up, counts_loop, calls_loop, takes_ctx, takes_flags, takes_arguments, loops, calls, ends_with, ends, acts}
+use Rattle.bpf_step_model.specs.Step.{Load, Move, NoStep, Next, Asks, Loops, Refuses, Exits, sets, jumps, branches, loaded, caller_number, loads, stores_at, stores, tells, atomic_left, changes_frame, changes_at, compared_value, may_tell, changes, wide_value, key_at, found, answers, looks_up, counts_loop, calls_loop, takes_ctx, takes_flags, takes_arguments, loops, calls, ends_with, ends, acts}
 
 -- a slot to which an instruction leads
 abbrev pub IsNextSlot : ℕ → Insn → ℕ → Type 0

@@ -8,6 +8,8 @@ use Rattle.bpf_insn_form.specs.declared.insn.Size.{Size}
 use Rattle.bpf_insn_form.specs.declared.insn.Size.TheVariants.{B, H, W, Dw}
 use Rattle.bpf_insn_form.specs.declared.insn.Width.TheVariants.{W64}
 use Rattle.bpf_insn_form.specs.declared.insn.Insn.TheVariants.{Load as LoadInsn, LoadSx}
+use Rattle.bpf_insn_form.specs.declared.extension.Extension.{Extension}
+use Rattle.bpf_insn_form.specs.declared.extension.Extension.TheVariants.{Zeros, Signs}
 use Rattle.bpf_insn_form.specs.Program.{Program, leads_to}
 use Rattle.array_maps.specs.declared.access.Half.TheVariants.{Low, High}
 use Rattle.array_maps.specs.declared.access.Part.{Part}
@@ -29,7 +31,7 @@ use Rattle.bpf_verify_model.specs.Flow.{number_of_size, ahead_outflow, flow, kno
 use Rattle.bpf_step_model.specs.State.{Word, Bytes, Machine, register, advanced, with_register}
 use Rattle.bpf_step_model.specs.Memory.{Place, InFrame, InCaller, InMap, number_at, place}
 use Rattle.bpf_step_model.specs.SoundMachine.{SoundMachine, SoundCaller}
-use Rattle.bpf_step_model.specs.Step.{Extension, Zeros, Signs, NoStep, Asks, Load, loads, loaded, extended, caller_number, acts}
+use Rattle.bpf_step_model.specs.Step.{NoStep, Asks, Load, loads, loaded, extended, caller_number, acts}
 use Rattle.bpf_step_model.specs.Run.{part_bytes}
 use Rattle.bpf_step_sound.specs.Containment.{ContainsValue, AreWrittenByCaller, Contained}
 use Rattle.bpf_step_sound.specs.KnownStates.{HasCallerCount, IsKnownState}

@@ -21,6 +21,8 @@ use Rattle.bpf_insn_form.specs.declared.insn.ImmKind.{ImmKind}
 use Rattle.bpf_insn_form.specs.declared.insn.ImmKind.TheVariants.{Number, Code as CodeKind, Map as MapKind, MapValue}
 use Rattle.bpf_insn_form.specs.declared.insn.Insn.{Insn}
 use Rattle.bpf_insn_form.specs.declared.insn.Insn.TheVariants.{Alu, Neg, Movsx, Endian, Ja, Ja32, Jump, Call, Exit, Load as LoadInsn, LoadSx, StoreImm, Store as StoreInsn, Atomic, LoadImm}
+use Rattle.bpf_insn_form.specs.declared.extension.Extension.{Extension}
+use Rattle.bpf_insn_form.specs.declared.extension.Extension.TheVariants.{Zeros, Signs}
 use Rattle.bpf_insn_form.specs.Program.{Program, moved, code_target, callback_starts}
 use Rattle.bpf_insn_words.specs.Words.{word_of, negated, moved_signed, in_order}
 use Rattle.bpf_insn_words.specs.WordBounds.{ResultsFit}
@@ -36,7 +38,7 @@ use Rattle.bpf_step_model.specs.State.{Value, Unwritten, Word, Frame, Ctx, Map, 
 use Rattle.bpf_step_model.specs.Memory.{Place, InFrame, InCaller, InMap, number_at, written_at, frame_position, in_frame, in_caller, part_at, in_element, in_map, place}
 use Rattle.bpf_step_model.specs.Values.{area_address, operand_value, on_word, result_of, test_of}
 use Rattle.bpf_step_model.specs.SoundMachine.{IsStart, SoundValue, SoundFrame, SoundCaller, SoundCtx, SoundCall}
-use Rattle.bpf_step_model.specs.Step.{Extension, Zeros, Signs, Load, Move, NoStep, Next, Asks, Loops, Refuses, Exits, sets, jumps, branches, extended, loaded, caller_number, loads, store_of, stores_at, stores, map_operator, half_operator, idle_operand, tells, atomic_left, changes_frame, request_of, changes_at, compared_value, may_tell, changes, map_named, area_named, code_named, wide_value, key_at, found, answers, looks_up, counts_loop, calls_loop, takes_ctx, takes_flags, takes_arguments, loops, calls, ends_with, ends, acts}
+use Rattle.bpf_step_model.specs.Step.{Load, Move, NoStep, Next, Asks, Loops, Refuses, Exits, sets, jumps, branches, extended, loaded, caller_number, loads, store_of, stores_at, stores, map_operator, half_operator, idle_operand, tells, atomic_left, changes_frame, request_of, changes_at, compared_value, may_tell, changes, map_named, area_named, code_named, wide_value, key_at, found, answers, looks_up, counts_loop, calls_loop, takes_ctx, takes_flags, takes_arguments, loops, calls, ends_with, ends, acts}
 use Rattle.bpf_step_model.specs.Run.{part_bytes, told, action_of}
 use Rattle.bpf_step_model.specs.ProgramInOrder.{resumed}
 use Rattle.bpf_step_sound.proofs.RegisterLaws.{all-set, all-at}
