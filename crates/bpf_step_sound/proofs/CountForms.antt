@@ -1,6 +1,6 @@
 -- Where each instruction goes on, and that a caller's frame stays: the machine by itself.
 use Rattle.std.proofs.Common.{◌≡◌, ℕ, suc, ◌+◌, ◌≤◌, max, ◌⊎◌, inl, inr, Bool, true, false, Option, Some, None, refl, sym, subst, arith}
-use Rattle.std.specs.Prelude.{ℤ, pos, negsuc, nat_lt, nat_le, ◌%◌, ◌^◌, ◌==◌, if◌then◌else◌, slice_get}
+use Rattle.std.specs.Prelude.{ℤ, pos, nat_le, ◌==◌, if◌then◌else◌, slice_get}
 use Rattle.std.proofs.lemmas.Bool.Decides.{nat_tests}
 use Rattle.bpf_insn_form.specs.Sizes.{bytes_of, atomic_bytes}
 use Rattle.bpf_insn_form.specs.Slots.{slots_of}
@@ -19,10 +19,11 @@ use Rattle.bpf_insn_form.specs.Program.{Program, moved}
 use Rattle.bpf_insn_words.specs.Words.{word_of, negated, moved_signed, in_order}
 use Rattle.bpf_verify_model.specs.Rules.{jump_distance, jump_target, goes_on}
 use Rattle.bpf_verify_model.specs.Count.{behind_jump, through}
-use Rattle.bpf_step_model.specs.State.{Value, Unwritten, Word, Frame, Map, Code, Bytes, Machine, register, advanced, with_register, with_frame, after_call}
+use Rattle.bpf_step_model.specs.State.{Value, Word, Frame, Map, Code, Bytes, Machine, register, advanced, with_register, with_frame}
 use Rattle.bpf_step_model.specs.Memory.{Place, InFrame, InCaller, InMap, number_at, written_at, place}
 use Rattle.bpf_step_model.specs.Values.{operand_value, on_word, result_of, test_of}
-use Rattle.bpf_step_model.specs.Step.{Load, Move, NoStep, Next, Asks, Loops, Refuses, Exits, sets, jumps, branches, loaded, caller_number, loads, stores_at, stores, tells, atomic_left, changes_frame, changes_at, compared_value, may_tell, changes, wide_value, key_at, found, answers, looks_up, counts_loop, calls_loop, takes_ctx, takes_flags, takes_arguments, loops, calls, ends_with, ends, acts}
+use Rattle.bpf_step_model.specs.LoopCalls.{Validity, RefusedBy, Valid, call_validity}
+use Rattle.bpf_step_model.specs.Step.{Load, Move, NoStep, Next, Asks, Loops, Refuses, Exits, sets, jumps, branches, loaded, caller_number, loads, stores_at, stores, tells, atomic_left, changes_frame, changes_at, compared_value, may_tell, changes, wide_value, key_at, found, answers, looks_up, loop_move, calls_loop, takes_ctx, takes_flags, takes_arguments, loops, calls, ends_with, ends, acts}
 
 -- a slot to which an instruction leads
 abbrev pub IsNextSlot : ℕ → Insn → ℕ → Type 0
@@ -109,14 +110,12 @@ looks-to : (program : Program) (m : Machine) (v : Value) (key : Option ℕ) → 
 looks-to program m (Map k) key = answers-to m (found k (slice_get program.sizes k) key)
 looks-to program m v key = tt
 
-counts-to : (m : Machine) (start n : ℕ) (ctx : Option ℕ) → m.caller ≡ None → GoesTo (m.slot + 1) m.caller (counts_loop m start n ctx)
-counts-to m start n ctx main =
-    go-if (m.slot + 1) m.caller (nat_lt 8388608 n) (Refuses (negsuc 6) (after_call (Word (word_of (negsuc 6))) (advanced 1 m)))
-    (Loops (record { slot = m.slot; callback = start; n = n; ctx = ctx; frame = m.frame }) (after_call Unwritten (advanced 1 m))) (main, (refl, refl)) (main, (refl, refl))
+move-to : (m : Machine) (start : ℕ) (ctx : Option ℕ) (validity : Validity) → m.caller ≡ None → GoesTo (m.slot + 1) m.caller (loop_move m start ctx validity)
+move-to m start ctx (RefusedBy answer) main = (main, (refl, refl))
+move-to m start ctx (Valid n) main = (main, (refl, refl))
 
 loop-to : (m : Machine) (count start flags : ℕ) (ctx : Option ℕ) → m.caller ≡ None → GoesTo (m.slot + 1) m.caller (calls_loop m count start flags ctx)
-loop-to m count start flags ctx main =
-    go-if (m.slot + 1) m.caller (flags == 0) (counts_loop m start (count % 2 ^ 32) ctx) (Refuses (negsuc 21) (after_call (Word (word_of (negsuc 21))) (advanced 1 m))) (counts-to m start (count % 2 ^ 32) ctx main) (main, (refl, refl))
+loop-to m count start flags ctx main = move-to m start ctx (call_validity count flags) main
 
 ctx-to : (m : Machine) (count start flags : ℕ) (v : Value) → m.caller ≡ None → GoesTo (m.slot + 1) m.caller (takes_ctx m count start flags v)
 ctx-to m count start flags (Frame p) main = loop-to m count start flags (Some p) main

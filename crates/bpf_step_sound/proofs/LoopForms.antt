@@ -24,7 +24,8 @@ use Rattle.bpf_verify_model.specs.Rules.{is_code, is_ctx_argument, mistakes_loop
 use Rattle.bpf_verify_model.specs.Flow.{known_after_call, most_iterations, known_index, known_ctx, known_callback_entry, enters, way}
 use Rattle.bpf_step_model.specs.State.{Value, Unwritten, Word, Frame, Code, Bytes, Machine, register, advanced, after_call, ctx_value, fresh_frame, callback_entry}
 use Rattle.bpf_step_model.specs.SoundMachine.{SoundValue, SoundMachine}
-use Rattle.bpf_step_model.specs.Step.{NoStep, Loops, Refuses, counts_loop, calls_loop, takes_ctx, takes_flags, takes_arguments, loops}
+use Rattle.bpf_step_model.specs.LoopCalls.{RefusedBy, Valid, count_validity}
+use Rattle.bpf_step_model.specs.Step.{NoStep, Refuses, loop_move, calls_loop, takes_ctx, takes_flags, takes_arguments, loops}
 use Rattle.bpf_step_sound.specs.Containment.{ContainsValue, AreWritten, Contained}
 use Rattle.bpf_step_sound.specs.KnownStates.{HasSpan, IsKnownState}
 use Rattle.bpf_step_sound.specs.Ways.{MoveFlows}
@@ -95,8 +96,7 @@ refused-goes program m state y answer leads c h =
 counts-flow : ResultsFit → (program : Program) (m : Machine) (state : State) (start count : ℕ) (ctx : Option ℕ) → leads_to program.insns m.slot (m.slot + 1) ≡ true → Contained state m → IsKnownState state →
     BehindMain program m.slot start → register m 1 ≡ Word count → is_number (known_register state 1) ≡ true → IsCtxOf (known_register state 3) ctx → (many : Bool) → nat_lt 8388608 (count % 2 ^ 32) ≡ many →
     MoveFlows program m.slot (loop_out m.slot state (known.Code start))
-    (if many then Refuses (negsuc 6) (after_call (Word (word_of (negsuc 6))) (advanced 1 m))
-    else Loops (record { slot = m.slot; callback = start; n = count % 2 ^ 32; ctx = ctx; frame = m.frame }) (after_call Unwritten (advanced 1 m)))
+    (loop_move m start ctx (if many then RefusedBy (negsuc 6) else Valid (count % 2 ^ 32)))
 counts-flow fit program m state start count ctx leads c spans later at some is true e = refused-goes program m state (known.Code start) (negsuc 6) leads c (omega arith)
 counts-flow fit program m state start count ctx leads c spans later at some is false e =
     let few : count % 2 ^ 32 ≤ 8388608 = grind (arith, nat_tests) in (
@@ -107,7 +107,7 @@ counts-flow fit program m state start count ctx leads c spans later at some is f
 flags-flow : ResultsFit → (program : Program) (m : Machine) (state : State) (start count flags : ℕ) (ctx : Option ℕ) → leads_to program.insns m.slot (m.slot + 1) ≡ true → Contained state m → IsKnownState state →
     BehindMain program m.slot start → register m 1 ≡ Word count → is_number (known_register state 1) ≡ true → IsCtxOf (known_register state 3) ctx → (none_set : Bool) →
     MoveFlows program m.slot (loop_out m.slot state (known.Code start))
-    (if none_set then counts_loop m start (count % 2 ^ 32) ctx else Refuses (negsuc 21) (after_call (Word (word_of (negsuc 21))) (advanced 1 m)))
+    (loop_move m start ctx (if none_set then count_validity (count % 2 ^ 32) else RefusedBy (negsuc 21)))
 flags-flow fit program m state start count flags ctx leads c spans later at some is true =
     counts-flow fit program m state start count ctx leads c spans later at some is (nat_lt 8388608 (count % 2 ^ 32)) refl
 flags-flow fit program m state start count flags ctx leads c spans later at some is false = refused-goes program m state (known.Code start) (negsuc 21) leads c (omega arith)

@@ -38,7 +38,8 @@ use Rattle.bpf_step_model.specs.State.{Value, Unwritten, Word, Frame, Ctx, Map, 
 use Rattle.bpf_step_model.specs.Memory.{Place, InFrame, InCaller, InMap, number_at, written_at, frame_position, in_frame, in_caller, part_at, in_element, in_map, place}
 use Rattle.bpf_step_model.specs.Values.{area_address, operand_value, on_word, result_of, test_of}
 use Rattle.bpf_step_model.specs.SoundMachine.{IsStart, SoundValue, SoundFrame, SoundCaller, SoundCtx, SoundCall}
-use Rattle.bpf_step_model.specs.Step.{Load, Move, NoStep, Next, Asks, Loops, Refuses, Exits, sets, jumps, branches, extended, loaded, caller_number, loads, store_of, stores_at, stores, map_operator, half_operator, idle_operand, tells, atomic_left, changes_frame, request_of, changes_at, compared_value, may_tell, changes, map_named, area_named, code_named, wide_value, key_at, found, answers, looks_up, counts_loop, calls_loop, takes_ctx, takes_flags, takes_arguments, loops, calls, ends_with, ends, acts}
+use Rattle.bpf_step_model.specs.LoopCalls.{RefusedBy, Valid, count_validity}
+use Rattle.bpf_step_model.specs.Step.{Load, Move, NoStep, Next, Asks, Loops, Refuses, Exits, sets, jumps, branches, extended, loaded, caller_number, loads, store_of, stores_at, stores, map_operator, half_operator, idle_operand, tells, atomic_left, changes_frame, request_of, changes_at, compared_value, may_tell, changes, map_named, area_named, code_named, wide_value, key_at, found, answers, looks_up, loop_move, calls_loop, takes_ctx, takes_flags, takes_arguments, loops, calls, ends_with, ends, acts}
 use Rattle.bpf_step_model.specs.Run.{part_bytes, told, action_of}
 use Rattle.bpf_step_model.specs.ProgramInOrder.{resumed}
 use Rattle.bpf_step_sound.proofs.RegisterLaws.{all-set, all-at}
@@ -304,8 +305,7 @@ looks-sound program f m (Map k) key s i = answers-sound program f m (found k (sl
 looks-sound program f m v key s i = tt
 
 counts-sound : (program : Program) (f : ℕ) (m : Machine) (start n : ℕ) (ctx : Option ℕ) → SoundParts program f m → IsStart program start → SoundCtx ctx → (many : Bool) → nat_lt 8388608 n ≡ many →
-    MoveSound program f (if many then Refuses (negsuc 6) (after_call (Word (word_of (negsuc 6))) (advanced 1 m))
-    else Loops (record { slot = m.slot; callback = start; n = n; ctx = ctx; frame = m.frame }) (after_call Unwritten (advanced 1 m)))
+    MoveSound program f (loop_move m start ctx (if many then RefusedBy (negsuc 6) else Valid n))
 counts-sound program f m start n ctx s i c true e = after program f m (Word (word_of (negsuc 6))) s (omega arith)
 counts-sound program f m start n ctx s i c false e =
     (record { callback = i; iterations = (let few : n ≤ 8388608 = grind (arith, nat_tests) in few); ctx = c; frame = s.frame }, λ answer h. after program f m (Word answer) s h)
@@ -314,7 +314,7 @@ loop-sound : (program : Program) (f : ℕ) (m : Machine) (count start flags : �
 loop-sound program f m count start flags ctx s i c = by_test program f m count start ctx s i c (flags == 0)
   where
     by_test : (program : Program) (f : ℕ) (m : Machine) (count start : ℕ) (ctx : Option ℕ) → SoundParts program f m → IsStart program start → SoundCtx ctx → (test : Bool) →
-        MoveSound program f (if test then counts_loop m start (count % 2 ^ 32) ctx else Refuses (negsuc 21) (after_call (Word (word_of (negsuc 21))) (advanced 1 m)))
+        MoveSound program f (loop_move m start ctx (if test then count_validity (count % 2 ^ 32) else RefusedBy (negsuc 21)))
     by_test program f m count start ctx s i c true = counts-sound program f m start (count % 2 ^ 32) ctx s i c (nat_lt 8388608 (count % 2 ^ 32)) refl
     by_test program f m count start ctx s i c false = after program f m (Word (word_of (negsuc 21))) s (omega arith)
 
