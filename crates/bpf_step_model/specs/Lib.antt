@@ -2,6 +2,7 @@ pub mod State
 pub mod Memory
 pub mod Values
 pub mod LoopCalls
+pub mod AtomicRegisters
 pub mod Step
 pub mod Run
 pub mod Iteration
