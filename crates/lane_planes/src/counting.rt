@@ -1,10 +1,8 @@
 //! How many bits of a plane are set, and which is the least.
 
-ghost use Rattle.std.specs.Prelude.{◌≡◌, ℕ, ◌+◌, ◌<◌, ◌≤◌, true, length, slice_index};
-ghost use Rattle.std.specs.Simd.Lanes.{chunk};
+ghost use Rattle.std.specs.Prelude.{◌≡◌, ℕ, ◌^◌, ◌<◌, ◌≤◌, true, length, slice_index};
 ghost use Rattle.loop_core_marks.specs.Planes.{set_bits, least_bit};
 
-use crate::loading::words_at;
 use std::simd::prelude::*;
 
 /// How many elements have their bit set in a plane of at most 1,024 words.
@@ -13,27 +11,25 @@ pub fn count_bits<const N: usize>(words: &[u64]) -> u32
     requires few { length words.now ≤ 1024 }
     ensures { result ≡ set_bits words.now }
 {
+    let (vectors, rest) = words.as_chunks::<N>();
     let mut count = 0;
-    let mut at = 0;
-    while at + N <= words.len() {
-        count += ones_at::<N>(words, at);
-        at += N;
+    for vector in vectors {
+        count += ones_in(vector);
     }
-    while at < words.len() {
-        count += ones_at::<1>(words, at);
-        at += 1;
+    for word in rest {
+        count += word.count_ones();
     }
     count
 }
 
-/// How many bits are set in the words from an index on.
+/// How many bits are set in a vector.
 #[inline(always)]
-fn ones_at<const N: usize>(words: &[u64], at: usize) -> u32
+fn ones_in<const N: usize>(vector: &[u64; N]) -> u32
     requires lanes { N ≤ 64 }
-    requires room { at + N ≤ length words.now }
-    ensures { result ≡ set_bits (chunk at N words.now) }
+    requires fit { (k : ℕ) → slice_index vector.now k < 2 ^ 64 }
+    ensures { result ≡ set_bits vector.now }
 {
-    Simd::<u64, N>::from_slice(&words[at..])
+    Simd::<u64, N>::from_array(*vector)
         .count_ones()
         .reduce_sum() as u32
 }
@@ -44,24 +40,23 @@ pub fn first_bit<const N: usize>(words: &[u64]) -> Option<u32>
     requires few { length words.now ≤ 1024 }
     ensures { result ≡ least_bit 0 words.now }
 {
-    let mut at = 0;
-    while at + N <= words.len() && is_clear_at::<N>(words, at) {
-        at += N;
+    let (vectors, _) = words.as_chunks::<N>();
+    let mut clear = 0;
+    while clear < vectors.len() && is_clear(&vectors[clear]) {
+        clear += 1;
     }
-    while at < words.len() {
+    for at in clear * N..words.len() {
         if words[at] != 0 {
             return Some(64 * at as u32 + words[at].trailing_zeros());
         }
-        at += 1;
     }
     None
 }
 
-/// Whether no bit is set in the words from an index on.
+/// Whether no bit is set in a vector.
 #[inline(always)]
-fn is_clear_at<const N: usize>(words: &[u64], at: usize) -> bool
-    requires { at + N ≤ length words.now }
-    ensures { result ≡ true → (k : ℕ) → k < N → slice_index words.now (at + k) ≡ 0 }
+fn is_clear<const N: usize>(vector: &[u64; N]) -> bool
+    ensures { result ≡ true → (k : ℕ) → k < N → slice_index vector.now k ≡ 0 }
 {
-    words_at::<N>(words, at).reduce_or() == 0
+    Simd::<u64, N>::from_array(*vector).reduce_or() == 0
 }

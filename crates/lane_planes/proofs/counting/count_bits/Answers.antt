@@ -1,25 +1,27 @@
 use Rattle.std.proofs.Common.{arith}
-use Rattle.lane_planes.proofs.Counts.{run_counted, all_few}
+use Rattle.lane_planes.proofs.Counts.{vector_at, vector_fits, vector_counted, word_counted, all_few}
 use Rattle.lane_planes.proofs.counting.count_bits.Goals as goal
+
+pub ones_in-count-requires : goal.ones_in-count-requires
+ones_in-count-requires g c =
+    let here = vector_at g.row.N _ _ _ _ c.as_chunks.ensures.front c.as_chunks.ensures.front_len c.loop-vector-test.true c.vector-item.is in
+    (omega (arith, c.requires.lanes), (c.requires.lanes.1, vector_fits _ _ _ _ c.type_inv.words here))
 
 pub overflow_add-count : goal.overflow_add-count
 overflow_add-count g c =
-    let parts = run_counted c.loop-at.at g.row.N c.args.words.now in
+    let here = vector_at g.row.N _ _ _ _ c.as_chunks.ensures.front c.as_chunks.ensures.front_len c.loop-vector-test.true c.vector-item.is in
+    let parts = vector_counted _ _ _ _ here in
     let few = all_few c.args.words.now c.type_inv.words in
-    record { fits = omega (arith, c.loop-at.invariant.counted, c.ones_at-count.ensures, c.requires.few) }
+    record { fits = omega (arith, c.loop-vector.invariant, c.ones_in-count.ensures, c.requires.few) }
 
-pub loop-at-preserved : goal.loop-at-preserved
-loop-at-preserved g c =
-    let parts = run_counted c.loop-at.at g.row.N c.args.words.now in
-    record { within = c.loop-at-test.true; counted = omega (arith, c.loop-at.invariant.counted, c.ones_at-count.ensures) }
+pub loop-vector-preserved : goal.loop-vector-preserved
+loop-vector-preserved g c =
+    let here = vector_at g.row.N _ _ _ _ c.as_chunks.ensures.front c.as_chunks.ensures.front_len c.loop-vector-test.true c.vector-item.is in
+    let parts = vector_counted _ _ _ _ here in
+    omega (arith, c.loop-vector.invariant, c.ones_in-count.ensures)
 
-pub overflow_add-count-in-loop-at-2 : goal.overflow_add-count-in-loop-at-2
-overflow_add-count-in-loop-at-2 g c =
-    let parts = run_counted c.loop-at-2.at 1 c.args.words.now in
+pub overflow_add-count-in-loop-word : goal.overflow_add-count-in-loop-word
+overflow_add-count-in-loop-word g c =
+    let parts = word_counted c.loop-word.word-index c.as_chunks.result.1.now c.loop-word-test.true in
     let few = all_few c.args.words.now c.type_inv.words in
-    record { fits = omega (arith, c.loop-at-2.invariant.counted, c.ones_at-count-in-loop-at-2.ensures, c.requires.few) }
-
-pub loop-at-2-preserved : goal.loop-at-2-preserved
-loop-at-2-preserved g c =
-    let parts = run_counted c.loop-at-2.at 1 c.args.words.now in
-    record { within = omega arith; counted = omega (arith, c.loop-at-2.invariant.counted, c.ones_at-count-in-loop-at-2.ensures) }
+    record { fits = omega (arith, c.loop-word.invariant, c.requires.few) }

@@ -1,21 +1,10 @@
-use Rattle.std.proofs.Common.{◌≡◌, ◌+◌, ◌-◌, ◌≤◌, length, drop}
+use Rattle.std.proofs.Common.{◌≡◌, ◌+◌, ◌*◌, drop}
 use Rattle.loop_core_marks.specs.Planes.{set_bits}
 use Rattle.lane_planes.proofs.counting.count_bits.Given as goal
 
-abbrev pub invariant-loop-at : goal.invariant-loop-at
-invariant-loop-at g l = record {
-  within : l.at ≤ length l.words;
-  counted : l.count + set_bits (drop l.at l.words) ≡ set_bits l.words;
-}
+-- what is counted, and what is left
+abbrev pub invariant-loop-vector : goal.invariant-loop-vector
+invariant-loop-vector g l = l.count + set_bits (drop (l.vector-index * g.row.N) l.words) ≡ set_bits l.words
 
-abbrev pub decreases-loop-at : goal.decreases-loop-at
-decreases-loop-at g l = length l.words - l.at
-
-abbrev pub invariant-loop-at-2 : goal.invariant-loop-at-2
-invariant-loop-at-2 g l = record {
-  within : l.at ≤ length l.words;
-  counted : l.count + set_bits (drop l.at l.words) ≡ set_bits l.words;
-}
-
-abbrev pub decreases-loop-at-2 : goal.decreases-loop-at-2
-decreases-loop-at-2 g l = length l.words - l.at
+abbrev pub invariant-loop-word : goal.invariant-loop-word
+invariant-loop-word g l = l.count + set_bits (drop l.word-index l.rest) ≡ set_bits l.words
