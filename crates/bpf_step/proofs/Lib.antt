@@ -5,3 +5,4 @@ pub mod AheadRuns
 pub mod LaneRuns
 pub mod Filled
 pub mod MainRuns
+pub mod Serving

@@ -59,8 +59,16 @@ impl LoopCall {
         self.n
     }
 
-    /// Main's frame at the call.
-    pub(crate) fn frame(&self) -> &[u8; 512]
+    /// Where its ctx is: the position in main's frame that R3 named, in bytes from the frame's lowest, 0 to 512. None
+    /// where R3 was 0.
+    pub fn ctx(&self) -> Option<u32>
+        ensures { result ≡ self.now.ctx }
+    {
+        self.ctx
+    }
+
+    /// Main's 512 bytes at the call, the lowest first. Those that main hasn't written may be any.
+    pub fn frame(&self) -> &[u8; 512]
         ensures { map Some result.now ≡ self.now.frame }
     {
         &self.frame
