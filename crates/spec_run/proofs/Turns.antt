@@ -1,6 +1,6 @@
 -- Main's turns, one after another. `line_of` tells the line of a loop call that main made, and `whole` is the report of the
 -- whole program.
-use Rattle.std.proofs.Common.{◌≡◌, ℕ, ℤ, pos, zero, suc, ◌+◌, ◌<◌, ◌≤◌, List, [], ◌∷◌, ◌++◌, length, Some, None, refl, sym, ap, subst, ◌∙◌, arith}
+use Rattle.std.proofs.Common.{◌≡◌, ℕ, ℤ, pos, zero, suc, ◌+◌, ◌<◌, ◌≤◌, ◌^◌, List, [], ◌∷◌, ◌++◌, length, Some, None, refl, sym, ap, subst, ◌∙◌, arith}
 use Rattle.std.specs.List.{sum}
 use Rattle.array_maps.specs.MapList.{MapList, AreWords}
 use Rattle.bpf_insn_form.specs.Program.{Program}
@@ -8,12 +8,12 @@ use Rattle.bpf_step_model.specs.State.{Machine, LoopCall, main_entry}
 use Rattle.bpf_step_model.specs.Run.{Ending, Ended, followed, Turn, Exit, Loop, Refused, Stretch, run}
 use Rattle.bpf_step_model.specs.LoopInOrder.{Looped, loop_in_order}
 use Rattle.bpf_step_model.specs.ProgramInOrder.{LoopMade, resumed, after_loop, after_turn, after_stretch, main_from, program_in_order}
-use Rattle.bpf_step_sound.specs.Soundness.{IsSoundProgram, AreMapWords, IsKnown, IsKnownCall, EachProgramEnds, EachRunEnds, EndsWithin, LoopEnds, EachCountIsSmall, most_from, most_after}
+use Rattle.bpf_step_sound.specs.Soundness.{IsSoundProgram, AreMapWords, IsKnownCall, EachProgramEnds, LoopEnds, ProgramEnds, EachCountIsSmall, most_from, most_after}
 use Rattle.bpf_step.specs.declared.main_function.Turned.{Turned}
 use Rattle.bpf_step.specs.declared.main_function.Turned.TheVariants as turned
 use Rattle.bpf_step.specs.Mains.{MainOf, IsAt, Waits}
 use Rattle.bpf_step.specs.Turns.{IsFilled, TurnsTo, RanMain}
-use Rattle.bpf_step.proofs.Limits.{few_steps, few_counts, map_words}
+use Rattle.bpf_step.proofs.Limits.{few_slots, few_steps, few_counts, map_words}
 use Rattle.loop_core_law.specs.declared.verdict.LoopReport.{LoopReport}
 use Rattle.loop_core_law.specs.declared.verdict.Verdict.{Verdict}
 use Rattle.loop_core_law.specs.declared.verdict.Verdict.TheVariants as verdicts
@@ -30,10 +30,16 @@ words_of maps = maps.words
 
 -- what is known of an accepted program
 pub record Laws (program : Program) : Type 0 where
-  pub ends : EachRunEnds
   pub loops : EachProgramEnds
   pub counts : EachCountIsSmall
   pub sound : IsSoundProgram program
+
+-- the program ends over maps of its sizes
+pub program_ends : {program : Program} → Laws program → (argument : ℕ) → argument < 2 ^ 64 → (maps : MapList) → maps.sizes ≡ program.sizes → length maps.words ≡ sum maps.sizes → AreWords maps.words
+    → ProgramEnds program (program_in_order program 4096 argument maps.words)
+program_ends {program} laws argument small maps sizes count fit =
+    laws.loops.programs program laws.sound 4096 (few_slots program laws.sound.accepted) argument small maps.words
+    (map_words program maps.words (count ∙ ap (λ (sizes : List ℕ). sum sizes) sizes) fit)
 
 -- before a turn the report is what main still does, behind the lines so far
 pub record StillRuns (line_of : LoopMade → Ending LoopReport) (whole : Ending Reported) (program : Program) (main : MainOf) (first now : MapList) (lines : List LoopReport) : Type 0 where
@@ -73,10 +79,6 @@ pub record Came (line_of : LoopMade → Ending LoopReport) (whole : Ending Repor
   pub few : most_after program turn ≤ turns
   pub fewer : most_after program turn < most_from program slot
   pub rest : whole ≡ told_behind line_of lines (after_turn program 4096 (main_from program 4096 turns) turn words)
-
--- a run that ended within a number
-within : (program : Program) (most : ℕ) (e : Ending Stretch) (s : Stretch) → e ≡ Ended s → EndsWithin program most e → (0 < s.steps) × (s.steps + most_after program s.turn ≤ most)
-within program most e s told ends = subst (λ (f : Ending Stretch). EndsWithin program most f) told ends
 
 came_with : (line_of : LoopMade → Ending LoopReport) (whole : Ending Reported) (program : Program) (at : ℕ) (words : List ℕ) (lines : List LoopReport) (m : Machine) (turns : ℕ) (s : Stretch)
     → m.slot ≡ at → most_from program m.slot ≤ turns → run program 4096 m words ≡ Ended s
@@ -153,12 +155,10 @@ module _ {line_of : LoopMade → Ending LoopReport} {whole : Ending Reported} {p
   came after new turn same ran =
       let is = same ∙ still.same in
       let told = subst (λ (p : Program). run p 4096 still.m now.words ≡ Ended ran.stretch) is ran.told in
-      let known = subst (λ (p : Program). IsKnown p still.m) still.same still.at.known in
       let slot = still.at.stands.slot in
-      let few = within program (most_from program still.m.slot) (run program 4096 still.m now.words) ran.stretch told
-      (still.laws.ends program still.laws.sound 4096 still.m known now.words still.fit (few_steps program still.m.slot still.laws.sound.accepted)) in
+      let few = subst (λ (p : Program). ran.stretch.steps + most_after p ran.stretch.turn ≤ most_from p still.m.slot) is ran.few in
       subst (λ (words : List ℕ). Came line_of whole program main.slot ran.stretch.turn words lines) (sym ran.words_are)
-      (came_with line_of whole program main.slot now.words lines still.m still.turns ran.stretch (sym slot) (subst (λ (at : ℕ). most_from program at ≤ still.turns) slot still.enough) told few still.rest)
+      (came_with line_of whole program main.slot now.words lines still.m still.turns ran.stretch (sym slot) (subst (λ (at : ℕ). most_from program at ≤ still.turns) slot still.enough) told (ran.moves, few) still.rest)
 
   -- a turn keeps the sizes
   turn_keeps : (after : MainOf) (new : MapList) (turn : Turned) → RanMain words_of map_effect still.m now turn after new → new.sizes ≡ first.sizes

@@ -3,13 +3,23 @@ use Rattle.std.specs.Prelude.{◌≡◌, ℕ}
 use Rattle.array_maps.specs.MapList.{MapList}
 use Rattle.bpf_insn_form.specs.Program.{Program}
 use Rattle.bpf_step_model.specs.Run.{Ended}
+use Rattle.bpf_step_model.specs.ProgramInOrder.{program_in_order}
+use Rattle.bpf_step_sound.specs.Soundness.{ProgramEnds}
+use Rattle.bpf_step.specs.Iterations.{EachIterationEnds}
 use Rattle.loop_core_law.specs.Report.{report_in_order}
 use Rattle.spec_run.specs.declared.running.Report.{Report}
 
--- the program in order ends on the old maps with what is reported and leaves the new ones, which are of the old sizes;
--- it takes at most 4,096 instructions up to each turn of main and in each iteration
+-- what a run in order gives is what the program in order gives, from the old maps
 pub record RanInOrder (program : Program) (argument : ℕ) (old new : MapList) (report : Report) : Type 0 where
+  -- the old maps are of the program's sizes, and the new ones too
   pub sizes : old.sizes ≡ program.sizes
+  pub kept : new.sizes ≡ old.sizes
+  -- the return value, each loop call's slot and answer, and the new maps' words are the program's, where main takes at most
+  -- 4,096 instructions up to each turn, and an iteration at most as many
   pub told : report_in_order program 4096 argument old.words
       ≡ Ended (record { ret = report.ret; loops = report.loops.items; words = new.words })
-  pub kept : new.sizes ≡ old.sizes
+  -- that program ends, and each valid loop call that it makes is as is known
+  pub calls : ProgramEnds program (program_in_order program 4096 argument old.words)
+  -- each iteration of a call that is as is known, on any words of the maps, isn't stuck: it ends within its callback's count
+  -- with 0 or 1
+  pub ends : EachIterationEnds program

@@ -1,14 +1,14 @@
 use Rattle.std.proofs.Common.{rules, w64, ◌∙◌, refl}
 use Rattle.std.proofs.lemmas.Int.{to_z-of_z}
+use Rattle.bpf_step.proofs.Limits.{iterations_end}
 use Rattle.loop_core_law.specs.Report.{loop_report}
 use Rattle.spec_run.proofs.CallLaws.{call_by_test}
-use Rattle.spec_run.proofs.Turns.{Laws, starts, few_left, exits, refuses, refusal_lessens, call_sizes, loops, loop_lessens}
+use Rattle.spec_run.proofs.Turns.{Laws, program_ends, starts, few_left, exits, refuses, refusal_lessens, call_sizes, loops, loop_lessens}
 use Rattle.spec_run.proofs.speculating.run_with.Goals as goal
 
 pub loop-call-init : goal.loop-call-init
 loop-call-init g c =
     let laws : Laws c.args.program.now = record {
-      ends = c.law_of_accepted_runs.ensures.ends;
       loops = c.law_of_accepted_programs.ensures;
       counts = c.law_of_accepted_runs.ensures.counts;
       sound = record { accepted = c.unit-unit.ensures.accepted; fits = c.unit-unit.ensures.fit };
@@ -43,4 +43,11 @@ loop-call-smaller g c = refusal_lessens c.loop-call.invariant c.next.ensures.pro
 pub returns-in-Exit : goal.returns-in-Exit
 returns-in-Exit g c =
     let end = exits c.loop-call.invariant c.next.ensures.program c.in-Exit.ensures.ran (record { ret = c.in-Exit.ret; loops = c.loop-call.loops }) refl refl in
-    record { sizes = end.sizes; told = end.told; kept = end.kept }
+    let laws = c.loop-call.invariant.laws in
+    record {
+      sizes = end.sizes;
+      kept = end.kept;
+      told = end.told;
+      calls = program_ends laws c.args.argument (search rules) c.args.maps.now c.requires.sizes c.sizes-sizes.ensures.words c.words_fit.ensures;
+      ends = iterations_end laws.loops laws.counts c.args.program.now laws.sound;
+    }
