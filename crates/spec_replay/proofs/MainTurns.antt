@@ -6,7 +6,7 @@ use Rattle.bpf_step_model.specs.State.{Machine, LoopCall, main_entry}
 use Rattle.bpf_step_model.specs.Run.{Ending, Ended, Stuck, Unfinished, mapped, followed, Turn, Exit, Loop, Refused, Stretch, run}
 use Rattle.bpf_step_model.specs.LoopInOrder.{Looped, loop_in_order}
 use Rattle.bpf_step_model.specs.ProgramInOrder.{LoopMade, Finished, with_loop, after_loop, after_turn, after_stretch, main_from, program_in_order}
-use Rattle.bpf_step_sound.specs.Soundness.{IsSoundProgram, AreMapWords, IsKnown, IsKnownCall, EachProgramEnds, EachRunEnds, EndsWithin, ProgramEnds, most_from, most_after}
+use Rattle.bpf_step_sound.specs.Soundness.{IsSoundProgram, AreMapWords, IsKnownCall, EachProgramEnds, ProgramEnds, most_from, most_after}
 use Rattle.bpf_step.specs.declared.main_function.Turned.{Turned}
 use Rattle.bpf_step.specs.declared.main_function.Turned.TheVariants as turned
 use Rattle.bpf_step.specs.Mains.{MainOf, IsAt}
@@ -91,10 +91,6 @@ record Came (program : Program) (argument : ℕ) (slot : ℕ) (first : MapList) 
   rest : first_loop program 4096 argument first.words
       ≡ mapped (first_of number) (after_turn program 4096 (main_from program 4096 turns) turn words)
 
--- a run that ended within a number
-within : (program : Program) (most : ℕ) (e : Ending Stretch) (s : Stretch) → e ≡ Ended s → EndsWithin program most e → (0 < s.steps) × (s.steps + most_after program s.turn ≤ most)
-within program most e s told ends = subst (λ (f : Ending Stretch). EndsWithin program most f) told ends
-
 -- a turn that was told is a loop, with its call
 record IsLoop (main : MainOf) (turn : Turn) (call : LoopCall) : Type 0 where
   made : LoopCall
@@ -131,7 +127,7 @@ is_end main (Exit ret) n turns = record { ret = ret; turn_is = refl }
 is_end main (Loop made next) n turns = absurd turns
 is_end main (Refused slot answer next) n turns = absurd turns
 
-module _ (ends : EachRunEnds) (program : Program) (sound : IsSoundProgram program) (argument : ℕ) (main after : MainOf) (first now : MapList) (number : ℕ)
+module _ (program : Program) (argument : ℕ) (main after : MainOf) (first now : MapList) (number : ℕ)
     (still : StillSeeks program argument main first now number) (same : after.program ≡ main.program) where
   came_with : (m : Machine) (turns : ℕ) (s : Stretch) → m.slot ≡ main.slot → most_from program m.slot ≤ turns → run program 4096 m now.words ≡ Ended s
       → (0 < s.steps) × (s.steps + most_after program s.turn ≤ most_from program m.slot)
@@ -155,12 +151,10 @@ module _ (ends : EachRunEnds) (program : Program) (sound : IsSoundProgram progra
   came new turn ran =
       let is = same ∙ still.same in
       let told = subst (λ (p : Program). run p 4096 still.m now.words ≡ Ended ran.stretch) is ran.told in
-      let known = subst (λ (p : Program). IsKnown p still.m) still.same still.at.known in
       let slot = still.at.stands.slot in
-      let few = within program (most_from program still.m.slot) (run program 4096 still.m now.words) ran.stretch told
-      (ends program sound 4096 still.m known now.words still.fit (few_steps program still.m.slot sound.accepted)) in
+      let few = subst (λ (p : Program). ran.stretch.steps + most_after p ran.stretch.turn ≤ most_from p still.m.slot) is ran.few in
       subst (λ (words : List ℕ). Came program argument main.slot first ran.stretch.turn words number) (sym ran.words_are)
-      (came_with still.m still.turns ran.stretch (sym slot) (subst (λ (at : ℕ). most_from program at ≤ still.turns) slot still.enough) told few still.rest)
+      (came_with still.m still.turns ran.stretch (sym slot) (subst (λ (at : ℕ). most_from program at ≤ still.turns) slot still.enough) told (ran.moves, few) still.rest)
 
   fits : (new : MapList) (turn : Turned) → (ran : RanMain words_of map_effect still.m now turn after new) → AreMapWords program new.words
   fits new turn ran = subst (λ (ws : List ℕ). AreMapWords program ws) (sym ran.words_are) (subst (λ (p : Program). AreMapWords p ran.stretch.words) (same ∙ still.same) ran.fit)

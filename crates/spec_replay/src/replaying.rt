@@ -1,10 +1,12 @@
 //! Replaying the first valid loop call of a program.
 
 ghost use Rattle.std.specs.Prelude.{◌≡◌, IfOk};
+ghost use Rattle.bpf_step.specs.Iterations.{EachIterationEnds};
 ghost use Rattle.spec_replay.specs.ProgramReplay.{ComesTo, Gives};
 
 use crate::first_loop::first_loop;
 use array_maps::Maps;
+use bpf_step_sound::{law_of_accepted_programs, law_of_accepted_runs};
 use bpf_verify::Verified;
 use loop_core_law::{LoopReport, Test};
 use loop_core_order::law_of_filled_calls;
@@ -51,13 +53,23 @@ pub enum NoReplay {
     Memory,
 }
 
+/// Tells that each iteration ends within its callback's count.
+fn iterations_end(program: &Verified)
+    ensures { EachIterationEnds program.now }
+{
+    law_of_accepted_runs();
+    law_of_accepted_programs();
+    // This tells the proof that the program is accepted.
+    let _unit = program.unit();
+}
+
 /// Runs the program in order on the maps, its argument in R1, up to its first valid loop call; and replays
 /// that loop with these bounds of blocks and these events, judged by the test. The maps are of the
 /// program's sizes.
 ///
 /// It is refused with `NoLoop` where there is no such call, with `Split` where the bounds don't split its
 /// iterations, and with `Schedule` where the events are no schedule of it: the first of them that stands. It
-/// fails with `Memory` too.
+/// fails with `Memory` too. No iteration is stuck, and each ends within the count that the verifier tells.
 pub fn replay(
     alloc: Global,
     program: &Verified,
@@ -70,7 +82,9 @@ pub fn replay(
     requires sizes { maps.sizes ≡ program.now.sizes }
     ensures replayed { Gives (ComesTo test program.now argument maps.words bounds.items events.now) result }
     ensures sizes { IfOk result (λ r. r.maps.sizes ≡ program.now.sizes) }
+    ensures ends { EachIterationEnds program.now }
 {
+    iterations_end(program);
     let mut maps = maps;
     let Some(first) = first_loop(program, &mut maps, argument) else {
         return Err(NoReplay::Refused(ReplayRefusal::NoLoop));
