@@ -16,7 +16,7 @@ use Rattle.spec_replay.specs.declared.first_loop.NumberedCall.{NumberedCall}
 use Rattle.spec_replay.specs.declared.replaying.ReplayRefusal.TheVariants.{NoLoop, Split, Schedule}
 use Rattle.spec_replay.specs.FirstLoop.{ValidLoop, first_loop}
 use Rattle.spec_replay.specs.FoundLoop.{IsAtCall, IsFirst, CameToLoop}
-use Rattle.spec_replay.specs.ProgramReplay.{LoopReplay, of_schedule, of_split, of_loop, ComesTo}
+use Rattle.spec_replay.specs.ProgramReplay.{of_schedule, of_split, of_loop, ComesTo}
 
 module _ (test : Test) (program : Program) (argument : ℕ) (old new : MapList) (bounds : List ℕ) (events : List Event) where
   no_loop_of : (valid : Option ValidLoop) → first_loop program 4096 argument old.words ≡ Ended valid → IsFirst program new valid None
