@@ -1,67 +1,76 @@
--- The faults of blocks, and those that count, by what is told of them.
+-- The faults of blocks that were run, and those that count, are what follows from what is told of them.
 use Rattle.std.proofs.Common.{◌≡◌, ℕ, Bool, true, false, List, [], ◌∷◌, map, Some, None, Option, refl, sym, ◌∙◌, ap, subst}
-use Rattle.std.specs.Prelude.{not, if◌then◌else◌, slice_get}
+use Rattle.std.specs.Prelude.{not, is_none, if◌then◌else◌, slice_get}
 use Rattle.std.specs.List.{list_any}
 use Rattle.loop_core_blocks.specs.declared.faults.GatherFault.TheVariants.{Missing, Twice, Foreign}
-use Rattle.loop_core_blocks.specs.Gather.{Block, least_of, lacks_some, twice, stands_in, gather_fault}
+use Rattle.loop_core_blocks.specs.declared.faults.GatherFault.{GatherFault}
+use Rattle.loop_core_blocks.specs.Gather.{Block, least_of, lacks, lacks_some, twice, stands_in, gather_fault}
 use Rattle.loop_gather.specs.declared.summary.Summary.{Summary}
-use Rattle.loop_gather.specs.Told.{summary_of, least_told, twice_told, stands_told, order_told}
-use Rattle.loop_gather.specs.Counting.{Counts, counting_of}
+use Rattle.loop_gather.specs.Told.{least_told, twice_told, stands_told, order_told}
+use Rattle.loop_gather.specs.Counting.{places_told, told_fault, Counts}
+use Rattle.loop_gather.proofs.BlocksCount.{summary_of, counting_of, BlocksCount}
 use Rattle.loop_gather.proofs.ToldLaws.{least_same, twice_same, foreign_same, IsOrder, OrderBy, order_is}
 
-by_tests : (bounds : List ℕ) (blocks : List Block) (missing double foreign : Bool) → lacks_some bounds blocks ≡ missing → twice blocks ≡ double →
-    list_any (λ (b : Block). not (stands_in bounds b)) blocks ≡ foreign →
-    gather_fault bounds blocks ≡ (if missing then Some Missing else if double then Some Twice else if foreign then Some Foreign else None)
-by_tests bounds blocks missing double foreign m d f = rw (m, d, f) refl
+-- a fault by its three tests
+abbrev pub fault_by : (missing double foreign : Bool) → Option GatherFault
+fault_by missing double foreign = if missing then Some Missing else if double then Some Twice else if foreign then Some Foreign else None
 
--- what is known of blocks of which this is told
-module _ (bounds : List ℕ) (summaries : List Summary) (blocks : List Block) (told : map summary_of blocks ≡ summaries) (least : Option ℕ) (least_is : least ≡ least_told summaries) where
-  pub least_of_all : least ≡ least_of blocks
-  least_of_all = least_is ∙ (ap least_told (sym told) ∙ least_same blocks)
+-- the least break is taken of what is told
+pub missing : (bounds : List ℕ) (summaries : List Summary) (least : Option ℕ) → least ≡ least_told summaries → order_told least summaries bounds ≡ None →
+    told_fault bounds summaries ≡ Some Missing
+missing bounds summaries least least_is none = ap (λ (o : Option (List ℕ)). fault_by (is_none o) (twice_told summaries) (list_any (λ (s : Summary). not (stands_told bounds s)) summaries))
+    (ap (λ (l : Option ℕ). order_told l summaries bounds) (sym least_is) ∙ none)
 
-  order_same : order_told least summaries bounds ≡ order_told (least_of blocks) (map summary_of blocks) bounds
-  order_same = ap (λ (o : Option ℕ). order_told o summaries bounds) least_of_all ∙ ap (λ (xs : List Summary). order_told (least_of blocks) xs bounds) (sym told)
+module _ (bounds : List ℕ) (summaries : List Summary) (least : Option ℕ) (least_is : least ≡ least_told summaries) (places : List ℕ) (some : order_told least summaries bounds ≡ Some places) where
+  some_told : places_told bounds summaries ≡ Some places
+  some_told = ap (λ (l : Option ℕ). order_told l summaries bounds) (sym least_is) ∙ some
 
-  pub missing : order_told least summaries bounds ≡ None → gather_fault bounds blocks ≡ Some Missing
-  missing none = by_tests bounds blocks true (twice blocks) (list_any (λ (b : Block). not (stands_in bounds b)) blocks) (go bounds (sym order_same ∙ none)) refl refl
-    where
-      go : (bs : List ℕ) → order_told (least_of blocks) (map summary_of blocks) bs ≡ None → lacks_some bs blocks ≡ true
-      go [] h = absurd (cc)
-      go (first ∷ rest) h = subst (λ (o : Option (List ℕ)). OrderBy (least_of blocks) blocks 0 first rest o) h (order_is (least_of blocks) blocks 0 first rest)
+  by_others : (double foreign : Bool) → twice_told summaries ≡ double → list_any (λ (s : Summary). not (stands_told bounds s)) summaries ≡ foreign →
+      told_fault bounds summaries ≡ fault_by false double foreign
+  by_others double foreign d f = rw (some_told, d, f) refl
 
-  all_there : (places : List ℕ) → order_told least summaries bounds ≡ Some places → lacks_some bounds blocks ≡ false
-  all_there places some = go bounds (sym order_same ∙ some)
-    where
-      go : (bs : List ℕ) → order_told (least_of blocks) (map summary_of blocks) bs ≡ Some places → lacks_some bs blocks ≡ false
-      go [] h = refl
-      go (first ∷ rest) h =
-          let is : IsOrder (least_of blocks) blocks 0 first rest places = subst (λ (o : Option (List ℕ)). OrderBy (least_of blocks) blocks 0 first rest o) h (order_is (least_of blocks) blocks 0 first rest) in
-          is.all_there
+  pub doubled : twice_told summaries ≡ true → told_fault bounds summaries ≡ Some Twice
+  doubled double = by_others true (list_any (λ (s : Summary). not (stands_told bounds s)) summaries) double refl
 
-  double_is : (b : Bool) → twice_told summaries ≡ b → twice blocks ≡ b
-  double_is b h = sym (twice_same blocks) ∙ (ap twice_told told ∙ h)
+  pub strange : twice_told summaries ≡ false → list_any (λ (s : Summary). not (stands_told bounds s)) summaries ≡ true → told_fault bounds summaries ≡ Some Foreign
+  strange double foreign = by_others false true double foreign
 
-  foreign_is : (b : Bool) → list_any (λ (s : Summary). not (stands_told bounds s)) summaries ≡ b → list_any (λ (c : Block). not (stands_in bounds c)) blocks ≡ b
-  foreign_is b h = sym (foreign_same bounds blocks) ∙ (ap (λ (xs : List Summary). list_any (λ (s : Summary). not (stands_told bounds s)) xs) told ∙ h)
+  pub counts : twice_told summaries ≡ false → list_any (λ (s : Summary). not (stands_told bounds s)) summaries ≡ false → Counts bounds summaries least places
+  counts double foreign = record { faultless = by_others false false double foreign; least_is = least_is; in_order = some_told }
 
-  pub doubled : (places : List ℕ) → order_told least summaries bounds ≡ Some places → twice_told summaries ≡ true → gather_fault bounds blocks ≡ Some Twice
-  doubled places some double = by_tests bounds blocks false true (list_any (λ (b : Block). not (stands_in bounds b)) blocks) (all_there places some) (double_is true double) refl
+module _ (bounds : List ℕ) (blocks : List Block) where
+  by_tests : (missing double foreign : Bool) → lacks_some bounds blocks ≡ missing → twice blocks ≡ double → list_any (λ (b : Block). not (stands_in bounds b)) blocks ≡ foreign →
+      gather_fault bounds blocks ≡ fault_by missing double foreign
+  by_tests missing double foreign m d f = rw (m, d, f) refl
 
-  pub strange : (places : List ℕ) → order_told least summaries bounds ≡ Some places → twice_told summaries ≡ false →
-      list_any (λ (s : Summary). not (stands_told bounds s)) summaries ≡ true → gather_fault bounds blocks ≡ Some Foreign
-  strange places some double foreign = by_tests bounds blocks false false true (all_there places some) (double_is false double) (foreign_is true foreign)
+  told_as : (bs : List ℕ) → places_told bs (map summary_of blocks) ≡ order_told (least_of blocks) (map summary_of blocks) bs
+  told_as bs = ap (λ (l : Option ℕ). order_told l (map summary_of blocks) bs) (least_same blocks)
 
-  pub counts : (places : List ℕ) → order_told least summaries bounds ≡ Some places → twice_told summaries ≡ false →
-      list_any (λ (s : Summary). not (stands_told bounds s)) summaries ≡ false → Counts bounds blocks least places
-  counts places some double foreign = record {
-    faultless = by_tests bounds blocks false false false (all_there places some) (double_is false double) (foreign_is false foreign);
-    least_is = least_of_all;
-    in_order = go bounds (sym order_same ∙ some);
+  by_order : (least : Option ℕ) (number first : ℕ) (rest : List ℕ) (o : Option (List ℕ)) → OrderBy least blocks number first rest o → lacks least blocks number first rest ≡ is_none o
+  by_order least number first rest None lacking = lacking
+  by_order least number first rest (Some places) is = is.all_there
+
+  lacks_same : (bs : List ℕ) → lacks_some bs blocks ≡ is_none (order_told (least_of blocks) (map summary_of blocks) bs)
+  lacks_same [] = refl
+  lacks_same (first ∷ rest) =
+      by_order (least_of blocks) 0 first rest (order_told (least_of blocks) (map summary_of blocks) (first ∷ rest)) (order_is (least_of blocks) blocks 0 first rest)
+
+  -- what is told of them tells their fault
+  pub same_fault : told_fault bounds (map summary_of blocks) ≡ gather_fault bounds blocks
+  same_fault = sym (by_tests (is_none (places_told bounds (map summary_of blocks))) (twice_told (map summary_of blocks)) (list_any (λ (s : Summary). not (stands_told bounds s)) (map summary_of blocks))
+      (lacks_same bounds ∙ ap is_none (sym (told_as bounds))) (sym (twice_same blocks)) (sym (foreign_same bounds blocks)))
+
+  in_order_by : (bs : List ℕ) (places : List ℕ) → order_told (least_of blocks) (map summary_of blocks) bs ≡ Some places →
+      map (λ (place : ℕ). slice_get blocks place) places ≡ map Some (counting_of bs blocks)
+  in_order_by [] places h = (let none : [] ≡ places = cc in subst (λ (ps : List ℕ). map (λ (place : ℕ). slice_get blocks place) ps ≡ []) none refl)
+  in_order_by (first ∷ rest) places h =
+      let is : IsOrder (least_of blocks) blocks 0 first rest places = subst (λ (o : Option (List ℕ)). OrderBy (least_of blocks) blocks 0 first rest o) h (order_is (least_of blocks) blocks 0 first rest) in
+      is.in_order
+
+  -- and which of them count
+  pub all_count : (least : Option ℕ) (places : List ℕ) → Counts bounds (map summary_of blocks) least places → BlocksCount bounds blocks least places
+  all_count least places told = record {
+    faultless = sym same_fault ∙ told.faultless;
+    least_is = told.least_is ∙ least_same blocks;
+    in_order = in_order_by bounds places (sym (told_as bounds) ∙ told.in_order);
   }
-    where
-      go : (bs : List ℕ) → order_told (least_of blocks) (map summary_of blocks) bs ≡ Some places →
-          map (λ (place : ℕ). slice_get blocks place) places ≡ map Some (counting_of bs blocks)
-      go [] h = (let none : [] ≡ places = cc in subst (λ (ps : List ℕ). map (λ (place : ℕ). slice_get blocks place) ps ≡ []) none refl)
-      go (first ∷ rest) h =
-          let is : IsOrder (least_of blocks) blocks 0 first rest places = subst (λ (o : Option (List ℕ)). OrderBy (least_of blocks) blocks 0 first rest o) h (order_is (least_of blocks) blocks 0 first rest) in
-          is.in_order

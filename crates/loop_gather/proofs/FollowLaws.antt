@@ -16,7 +16,7 @@ use Rattle.loop_core_blocks.specs.Split.{falls, ends_amiss, split_fault}
 use Rattle.loop_core_blocks.specs.Gather.{Block, IsRunOf, least_of, starts_late, with_number, lacks, lacks_some, in_front, counting, twice, stands_in, gather_fault}
 use Rattle.loop_core_blocks.proofs.FirstBreak.{FirstIs, breaking, scan_first}
 use Rattle.loop_core_blocks.proofs.GatherLaws.{AtMost, Stands, rising, if_none, not_false, found, none_counts, some_there}
-use Rattle.loop_gather.specs.Counting.{counting_of}
+use Rattle.loop_gather.proofs.BlocksCount.{counting_of}
 
 -- from an index on, each block begins where the iterations of those before it end
 abbrev pub Follow : ℕ → List Block → Type 0

@@ -15,7 +15,7 @@ use Rattle.loop_core_marks.specs.Marks.{Visit, marks_of, marked_conflict}
 use Rattle.loop_core_marks.specs.Planes.{elements_of, plane_verdict}
 use Rattle.loop_core_blocks.specs.declared.faults.GatherFault.{GatherFault}
 use Rattle.loop_core_blocks.specs.Split.{split_fault}
-use Rattle.loop_core_blocks.specs.Gather.{Block, gather_fault}
+use Rattle.loop_core_blocks.specs.Gather.{gather_fault}
 use Rattle.loop_core_schedule.specs.Outcome.{Outcome}
 use Rattle.shadow_marks.specs.declared.planes.Planes.{Planes}
 use Rattle.shadow_marks.specs.Standing.{ArePlanes, StandFor, words_for, test_of}
@@ -25,11 +25,12 @@ use Rattle.loop_block.specs.Blocks.{BlockOf}
 use Rattle.loop_block.specs.Ran.{IsRunOf}
 use Rattle.loop_block.specs.Shown.{shown}
 use Rattle.loop_gather.specs.declared.summary.Summary.{Summary}
-use Rattle.loop_gather.specs.Told.{summary_of}
-use Rattle.loop_gather.specs.Counting.{Counts}
+use Rattle.loop_gather.specs.Counting.{told_fault, Counts}
 use Rattle.loop_gather.specs.Held.{told_of, chosen, visits_at, left_words, IsUntouched, TellsUntouched, AreHeld}
 use Rattle.loop_gather.specs.Touched.{is_marked, AreMarked}
 use Rattle.loop_gather.specs.Gathered.{all_gathered, Tells}
+use Rattle.loop_gather.proofs.BlocksCount.{summary_of, BlocksCount}
+use Rattle.loop_gather.proofs.FaultLaws.{same_fault, all_count}
 use Rattle.loop_gather.proofs.JoiningLaws.{visits_in, stands_in_planes}
 use Rattle.loop_gather.proofs.UntouchedLaws.{not_both, untouched}
 use Rattle.loop_gather.proofs.TellingLaws.{are_told, have_starts, within, answer_within, tells}
@@ -45,13 +46,14 @@ module _ (test : Test) (program : Program) (call : LoopCall) (words : List ℕ) 
   named : map summary_of (all_gathered program call words blocks) ≡ summaries
   named = are_told test program call words blocks all_ran ∙ sym made
 
-  pub faulty : (fault : GatherFault) → ((rs : List Block) → map summary_of rs ≡ summaries → gather_fault bounds rs ≡ Some fault) →
-      gather_fault bounds (all_gathered program call words blocks) ≡ Some fault
-  faulty fault h = h (all_gathered program call words blocks) named
+  pub faulty : (fault : GatherFault) → told_fault bounds summaries ≡ Some fault → gather_fault bounds (all_gathered program call words blocks) ≡ Some fault
+  faulty fault h = sym (same_fault bounds (all_gathered program call words blocks)) ∙ ap (told_fault bounds) named ∙ h
 
-  module _ (least : Option ℕ) (places : List ℕ) (split : split_fault bounds call.n ≡ None) (counts : (rs : List Block) → map summary_of rs ≡ summaries → Counts bounds rs least places) where
-    counted : Counts bounds (all_gathered program call words blocks) least places
-    counted = counts (all_gathered program call words blocks) named
+  module _ (least : Option ℕ) (places : List ℕ) (split : split_fault bounds call.n ≡ None) (counts : Counts bounds summaries least places) where
+    counted : BlocksCount bounds (all_gathered program call words blocks) least places
+    counted =
+        all_count bounds (all_gathered program call words blocks) least places
+        (subst (λ (ss : List Summary). Counts bounds ss least places) (sym named) counts)
 
     pub faultless : gather_fault bounds (all_gathered program call words blocks) ≡ None
     faultless = counted.faultless

@@ -1,3 +1,4 @@
+pub mod BlocksCount
 pub mod ToldLaws
 pub mod FaultLaws
 pub mod FollowLaws

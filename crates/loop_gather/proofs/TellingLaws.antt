@@ -37,10 +37,9 @@ use Rattle.private_copy.proofs.AccessLaws.{shown_at, shown_length}
 use Rattle.loop_block.specs.Blocks.{BlockOf}
 use Rattle.loop_block.specs.Ran.{IsRunOf}
 use Rattle.loop_gather.specs.declared.summary.Summary.{Summary}
-use Rattle.loop_gather.specs.Told.{summary_of}
-use Rattle.loop_gather.specs.Counting.{Counts, counting_of}
 use Rattle.loop_gather.specs.Held.{told_of, chosen, visits_at, kept_of, left_at, left_words}
 use Rattle.loop_gather.specs.Gathered.{all_gathered, Tells}
+use Rattle.loop_gather.proofs.BlocksCount.{summary_of, BlocksCount, counting_of}
 use Rattle.loop_gather.proofs.FollowLaws.{Follow, counting_follow}
 use Rattle.loop_gather.proofs.ChoiceLaws.{AreAt, are_at, all_chosen}
 use Rattle.loop_gather.proofs.JoiningLaws.{at_blocks, runs_of, joined_at, told, visits_in, marks_follow, runs_all, ran_is, all_kept, tells_reduction}
@@ -77,7 +76,7 @@ passes_alone [] h = refl
 passes_alone (least ∷ others) h = absurd (cc)
 
 module _ (test : Test) (program : Program) (call : LoopCall) (words : List ℕ) (bounds : List ℕ) (blocks : List BlockOf) (least : Option ℕ) (places : List ℕ)
-    (split : split_fault bounds call.n ≡ None) (ran : All (IsRunOf test program call words) blocks) (counts : Counts bounds (all_gathered program call words blocks) least places) where
+    (split : split_fault bounds call.n ≡ None) (ran : All (IsRunOf test program call words) blocks) (counts : BlocksCount bounds (all_gathered program call words blocks) least places) where
   abbrev counting : List BlockOf
   counting = chosen places blocks
 

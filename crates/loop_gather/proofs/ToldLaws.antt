@@ -9,7 +9,8 @@ use Rattle.loop_core_law.specs.LeastBreak.{lesser}
 use Rattle.loop_core_blocks.specs.Block.{break_from}
 use Rattle.loop_core_blocks.specs.Gather.{Block, least_of, starts_late, with_number, lacks, counting, twice, stands_in}
 use Rattle.loop_gather.specs.declared.summary.Summary.{Summary}
-use Rattle.loop_gather.specs.Told.{summary_of, least_told, twice_told, stands_told, with_place, order_from, order_told}
+use Rattle.loop_gather.specs.Told.{least_told, twice_told, stands_told, with_place, order_from, order_told}
+use Rattle.loop_gather.proofs.BlocksCount.{summary_of}
 
 pub lesser_assoc : (a b c : Option ℕ) → lesser (lesser a b) c ≡ lesser a (lesser b c)
 lesser_assoc None b c = refl

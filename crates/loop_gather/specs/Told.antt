@@ -2,13 +2,8 @@
 use Rattle.std.specs.Prelude.{ℕ, ◌+◌, Bool, false, ◌&&◌, ◌||◌, ◌==◌, if◌then◌else◌, List, [], ◌∷◌, slice_get, Option, Some, None}
 use Rattle.std.specs.List.{list_any, position_from}
 use Rattle.loop_core_law.specs.LeastBreak.{lesser}
-use Rattle.loop_core_blocks.specs.Block.{break_from}
-use Rattle.loop_core_blocks.specs.Gather.{Block, starts_late, is_bound}
+use Rattle.loop_core_blocks.specs.Gather.{starts_late, is_bound}
 use Rattle.loop_gather.specs.declared.summary.Summary.{Summary}
-
--- what is told of a block
-abbrev pub summary_of : Block → Summary
-summary_of b = record { number = b.number; first = b.first; past = b.past; broke = break_from b.first b.ran }
 
 -- the least break
 abbrev pub least_told : List Summary → Option ℕ

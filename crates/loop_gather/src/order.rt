@@ -1,10 +1,9 @@
 //! The blocks that count, in order.
 
-ghost use Rattle.std.specs.Prelude.{◌≡◌, ◌==◌, not, List, map, length, Some, None, IfOk, IfErr, IfSome, IfNone};
+ghost use Rattle.std.specs.Prelude.{◌≡◌, ◌==◌, not, length, Some, None, IfOk, IfErr, IfSome, IfNone};
 ghost use Rattle.std.specs.List.{list_any, position_from};
-ghost use Rattle.loop_core_blocks.specs.Gather.{Block, gather_fault};
-ghost use Rattle.loop_gather.specs.Told.{summary_of, least_told, twice_told, stands_told, order_told};
-ghost use Rattle.loop_gather.specs.Counting.{Counts};
+ghost use Rattle.loop_gather.specs.Told.{least_told, twice_told, stands_told, order_told};
+ghost use Rattle.loop_gather.specs.Counting.{told_fault, Counts};
 
 use crate::summary::Summary;
 use arrayvec::ArrayVec;
@@ -110,13 +109,13 @@ fn has_foreign(split: &Split, blocks: &[Summary]) -> bool
     false
 }
 
-/// The blocks that count, of blocks that were run of this split. It takes no memory.
+/// The blocks that count, of blocks of this split of which this is told. It takes no memory.
 ///
 /// G1 (`Missing`) a block of the split isn't there that starts at or before the least break of those that are, G2
 /// (`Twice`) a number stands twice, G3 (`Foreign`) an interval isn't the split's: the least of them.
 pub fn counting_blocks(split: &Split, blocks: &[Summary]) -> Result<Counting, GatherFault>
-    ensures fault { IfErr result (λ fault. (ran : List Block) → map summary_of ran ≡ blocks.now → gather_fault split.now ran ≡ Some fault) }
-    ensures counts { IfOk result (λ counting. (ran : List Block) → map summary_of ran ≡ blocks.now → Counts split.now ran counting.least counting.places.items) }
+    ensures fault { IfErr result (λ fault. told_fault split.now blocks.now ≡ Some fault) }
+    ensures counts { IfOk result (λ counting. Counts split.now blocks.now counting.least counting.places.items) }
 {
     let least = least_break(blocks);
     let Some(places) = places_of(split, blocks, least) else {
