@@ -5,7 +5,7 @@ use Rattle.std.proofs.lemmas.Bool.{ltb-true}
 use Rattle.std.specs.Option.{option_to_list}
 use Rattle.std.specs.List.{AllByRecursion, flat_map}
 use Rattle.std.proofs.lemmas.Grind.{flat_map-append}
-use Rattle.std.proofs.lemmas.List.{map-append}
+use Rattle.std.proofs.lemmas.List.{map-append, length-map}
 use Rattle.bpf_insn_form.specs.Program.{Program}
 use Rattle.bpf_step_model.specs.State.{LoopCall}
 use Rattle.bpf_step_model.specs.Iteration.{iteration}
@@ -17,7 +17,7 @@ use Rattle.loop_core_schedule.proofs.SplitLaws.{faultless, rising}
 use Rattle.loop_board.specs.Seats.{SeatRecord, after_draw, after_none, after_look, after_post}
 use Rattle.loop_block.specs.Blocks.{BlockOf}
 use Rattle.loop_block.specs.Ran.{IsRunOf}
-use Rattle.loop_work.specs.Worked.{runs_of, numbers_of, breaks_of, StandsIn, DidMore, Worked, Stopped, Took}
+use Rattle.loop_work.specs.Worked.{runs_of, numbers_of, breaks_of, StandsIn, DidMore, Worked, Stopped, Took, NotRun}
 
 -- one more than the greatest number drawn
 abbrev pub above : List ℕ → ℕ
@@ -126,51 +126,87 @@ module _ (test : Test) (program : Program) (call : LoopCall) (words : List ℕ) 
     found_none_kept : drawn.history.found_none ≡ old.history.found_none
     found_none_kept = ap (λ (s : SeatRecord). s.history.found_none) draws ∙ still.kept
 
-    -- a want of memory while it runs the block
-    pub stops : Stopped drawn new → Stopped old new
-    stops stopped = record {
-      draws = (still.draws ++ number ∷ []) ++ stopped.draws;
-      looks = still.looks ++ stopped.looks;
-      posts = breaks_of blocks ++ stopped.posts;
-      did = did_both old drawn new (still.draws ++ number ∷ []) still.looks (breaks_of blocks) stopped.draws stopped.looks stopped.posts did_draw stopped.did;
-      kept = stopped.kept ∙ found_none_kept;
+    -- it looked, and posted this
+    did_look : (answer : ℕ) (posts : List ℕ) → DidMore drawn new [] (answer ∷ []) posts →
+        DidMore old new (still.draws ++ number ∷ []) (still.looks ++ answer ∷ []) (breaks_of blocks ++ posts)
+    did_look answer posts did =
+        subst (λ (ds : List ℕ). DidMore old new ds (still.looks ++ answer ∷ []) (breaks_of blocks ++ posts)) (append-nil (still.draws ++ number ∷ []))
+        (did_both old drawn new (still.draws ++ number ∷ []) still.looks (breaks_of blocks) [] (answer ∷ []) posts did_draw did)
+
+    -- a want of memory to run the block
+    pub stops : NotRun bounds number drawn new → Stopped test program call words bounds old new
+    stops not_run = record {
+      earlier = still.draws;
+      seen = still.looks;
+      last = number;
+      answer = not_run.answer;
+      blocks = blocks;
+      did = subst (λ (ps : List ℕ). DidMore old new (still.draws ++ number ∷ []) (still.looks ++ not_run.answer ∷ []) ps) (append-nil (breaks_of blocks))
+          (did_look not_run.answer [] not_run.did);
+      each_look = still.each_look;
+      on_time = not_run.on_time;
+      numbers = inl still.numbers;
+      intervals = still.intervals;
+      ran = still.ran;
+      kept = not_run.kept ∙ found_none_kept;
     }
 
     module _ (taken : List BlockOf) (took : Took test program call words bounds number drawn new taken) where
-      did_take : DidMore old new (still.draws ++ number ∷ []) (still.looks ++ took.answer ∷ []) (breaks_of blocks ++ breaks_of taken)
-      did_take =
-          subst (λ (ds : List ℕ). DidMore old new ds (still.looks ++ took.answer ∷ []) (breaks_of blocks ++ breaks_of taken)) (append-nil (still.draws ++ number ∷ []))
-          (did_both old drawn new (still.draws ++ number ∷ []) still.looks (breaks_of blocks) [] (took.answer ∷ []) (breaks_of taken) did_draw took.did)
+      did_take : DidMore old new (still.draws ++ number ∷ []) (still.looks ++ took.answer ∷ []) (breaks_of (blocks ++ taken))
+      did_take = subst (λ (ps : List ℕ). DidMore old new (still.draws ++ number ∷ []) (still.looks ++ took.answer ∷ []) ps)
+          (sym (flat_map-append (λ (b : BlockOf). option_to_list b.broke) blocks taken)) (did_look took.answer (breaks_of taken) took.did)
+
+      numbers_taken : numbers_of (blocks ++ taken) ≡ runs_of bounds still.draws still.looks ++ runs_of bounds (number ∷ []) (took.answer ∷ [])
+      numbers_taken =
+          map-append (λ (b : BlockOf). b.number) blocks taken
+          ∙ ap (λ (ks : List ℕ). ks ++ numbers_of taken) still.numbers
+          ∙ ap (λ (ks : List ℕ). runs_of bounds still.draws still.looks ++ ks) took.numbers
+
+      intervals_taken : AllByRecursion (StandsIn bounds) (blocks ++ taken)
+      intervals_taken = all_append (StandsIn bounds) blocks taken still.intervals took.intervals
+
+      ran_taken : AllByRecursion (IsRunOf test program call words) (blocks ++ taken)
+      ran_taken = all_append (IsRunOf test program call words) blocks taken still.ran took.ran
 
       -- it drew that number alone
       pub drew_one : new.history.draws ≡ now.history.draws ++ number ∷ []
       drew_one = took.did.drew ∙ append-nil drawn.history.draws ∙ ap (λ (s : SeatRecord). s.history.draws) draws
 
       -- a want of memory to keep the block
-      pub stops_behind : Stopped old new
-      stops_behind = record {
-        draws = still.draws ++ number ∷ [];
-        looks = still.looks ++ took.answer ∷ [];
-        posts = breaks_of blocks ++ breaks_of taken;
+      pub stops_behind : 0 < length taken → Stopped test program call words bounds old new
+      stops_behind some = record {
+        earlier = still.draws;
+        seen = still.looks;
+        last = number;
+        answer = took.answer;
+        blocks = blocks ++ taken;
         did = did_take;
+        each_look = still.each_look;
+        on_time = on_time;
+        numbers = inr (numbers_taken ∙ ap (λ (late : Bool). runs_of bounds still.draws still.looks ++ (if late then [] else number ∷ [])) on_time);
+        intervals = intervals_taken;
+        ran = ran_taken;
         kept = took.kept ∙ found_none_kept;
       }
+        where
+          go : (late : Bool) → nat_lt took.answer (start_of bounds number) ≡ late → numbers_of taken ≡ (if late then [] else number ∷ []) → late ≡ false
+          go false is same = refl
+          go true is same = absurd (let none_there = ap length same in let each = length-map taken (λ (b : BlockOf). b.number) in omega (arith, some, none_there, each))
+
+          on_time : nat_lt took.answer (start_of bounds number) ≡ false
+          on_time = go (nat_lt took.answer (start_of bounds number)) refl took.numbers
 
       -- a block more
       pub goes_on : (all : List BlockOf) → all ≡ blocks ++ taken → StillWorks test program call words bounds old new all
       goes_on all is_all = subst (λ (bs : List BlockOf). StillWorks test program call words bounds old new bs) (sym is_all) (record {
         draws = still.draws ++ number ∷ [];
         looks = still.looks ++ took.answer ∷ [];
-        did = subst (λ (ps : List ℕ). DidMore old new (still.draws ++ number ∷ []) (still.looks ++ took.answer ∷ []) ps)
-            (sym (flat_map-append (λ (b : BlockOf). option_to_list b.broke) blocks taken)) did_take;
+        did = did_take;
         kept = took.kept ∙ found_none_kept;
         each_look = length-append still.looks (took.answer ∷ []) ∙ ap (λ (n : ℕ). n + 1) still.each_look ∙ sym (length-append still.draws (number ∷ []));
-        numbers = map-append (λ (b : BlockOf). b.number) blocks taken
-            ∙ ap (λ (ks : List ℕ). ks ++ numbers_of taken) still.numbers
-            ∙ ap (λ (ks : List ℕ). runs_of bounds still.draws still.looks ++ ks) took.numbers
-            ∙ sym (runs-append bounds still.draws still.looks (number ∷ []) (took.answer ∷ []) still.each_look);
-        intervals = all_append (StandsIn bounds) blocks taken still.intervals took.intervals;
-        ran = all_append (IsRunOf test program call words) blocks taken still.ran took.ran;
+        numbers = numbers_taken ∙ sym (runs-append bounds still.draws still.looks (number ∷ []) (took.answer ∷ []) still.each_look);
+        intervals = intervals_taken;
+        ran = ran_taken;
       })
 
   -- no block is left
@@ -197,14 +233,13 @@ module _ (test : Test) (program : Program) (call : LoopCall) (words : List ℕ) 
     ran = tt;
   })
 
-  -- a want of memory behind a look
-  pub stops_looking : (seat new : SeatRecord) (answer : ℕ) → new ≡ after_look seat answer → Stopped seat new
-  stops_looking seat new answer looked = subst (λ (s : SeatRecord). Stopped seat s) (sym looked) (record {
-    draws = [];
-    looks = answer ∷ [];
-    posts = [];
+  -- of one that doesn't start past the answer, where there is no memory to run it
+  pub stops_looking : (seat new : SeatRecord) (number answer : ℕ) → new ≡ after_look seat answer → start_of bounds number ≤ answer → NotRun bounds number seat new
+  stops_looking seat new number answer looked early = subst (λ (s : SeatRecord). NotRun bounds number seat s) (sym looked) (record {
+    answer = answer;
     did = record { board = refl; drew = sym (append-nil seat.history.draws); saw = refl; posted = sym (append-nil seat.history.posts) };
     kept = refl;
+    on_time = not_late answer (start_of bounds number) early;
   })
 
   -- one that doesn't is run, and its break is posted

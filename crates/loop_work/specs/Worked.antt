@@ -1,5 +1,5 @@
 -- What one worker does at its seat, and which blocks it runs.
-use Rattle.std.specs.Prelude.{◌≡◌, ℕ, ◌<◌, nat_lt, true, if◌then◌else◌, List, [], ◌∷◌, ◌++◌, map, length}
+use Rattle.std.specs.Prelude.{◌≡◌, ℕ, ◌<◌, ◌⊎◌, nat_lt, true, false, if◌then◌else◌, List, [], ◌∷◌, ◌++◌, map, length}
 use Rattle.std.specs.Option.{option_to_list}
 use Rattle.std.specs.List.{AllByRecursion, flat_map}
 use Rattle.bpf_insn_form.specs.Program.{Program}
@@ -51,12 +51,21 @@ pub record Worked (bounds : List ℕ) (old new : SeatRecord) (blocks : List Bloc
   pub intervals : AllByRecursion (StandsIn bounds) blocks
   pub drained : new.history.found_none ≡ true
 
--- a worker that met a want of memory: its seat keeps what it drew, saw and posted
-pub record Stopped (old new : SeatRecord) : Type 0 where
-  pub draws : List ℕ
-  pub looks : List ℕ
-  pub posts : List ℕ
-  pub did : DidMore old new draws looks posts
+-- a worker that met a want of memory at the last block that it drew: it looked once behind each block; of those before the
+-- last it ran those that don't start past the answer, in order; the last doesn't start past its answer, and either it
+-- wasn't run, or it was run and couldn't be kept; what was posted is the breaks of those that were run
+pub record Stopped (test : Test) (program : Program) (call : LoopCall) (words : List ℕ) (bounds : List ℕ) (old new : SeatRecord) : Type 0 where
+  pub earlier : List ℕ
+  pub seen : List ℕ
+  pub last : ℕ
+  pub answer : ℕ
+  pub blocks : List BlockOf
+  pub did : DidMore old new (earlier ++ last ∷ []) (seen ++ answer ∷ []) (breaks_of blocks)
+  pub each_look : length seen ≡ length earlier
+  pub on_time : nat_lt answer (start_of bounds last) ≡ false
+  pub numbers : (numbers_of blocks ≡ runs_of bounds earlier seen) ⊎ (numbers_of blocks ≡ runs_of bounds earlier seen ++ last ∷ [])
+  pub intervals : AllByRecursion (StandsIn bounds) blocks
+  pub ran : AllByRecursion (IsRunOf test program call words) blocks
   pub kept : new.history.found_none ≡ old.history.found_none
 
 -- what a worker does with one block that it drew: it looks once, runs the block unless it starts past the answer, and
@@ -68,3 +77,11 @@ pub record Took (test : Test) (program : Program) (call : LoopCall) (words : Lis
   pub numbers : numbers_of taken ≡ runs_of bounds (number ∷ []) (answer ∷ [])
   pub intervals : AllByRecursion (StandsIn bounds) taken
   pub ran : AllByRecursion (IsRunOf test program call words) taken
+
+-- what a worker does with one block that it drew, where there is no memory to run it: it looks once, the block doesn't
+-- start past the answer, and nothing is posted
+pub record NotRun (bounds : List ℕ) (number : ℕ) (old new : SeatRecord) : Type 0 where
+  pub answer : ℕ
+  pub did : DidMore old new [] (answer ∷ []) []
+  pub kept : new.history.found_none ≡ old.history.found_none
+  pub on_time : nat_lt answer (start_of bounds number) ≡ false

@@ -7,7 +7,7 @@ ghost use Rattle.loop_core_blocks.specs.Split.{split_fault};
 ghost use Rattle.loop_core_schedule.specs.Intervals.{blocks_of};
 ghost use Rattle.loop_block.specs.Ran.{IsRunOf};
 ghost use Rattle.loop_block.specs.Shown.{shown};
-ghost use Rattle.loop_work.specs.Worked.{Worked, Stopped, Took};
+ghost use Rattle.loop_work.specs.Worked.{Worked, Stopped, Took, NotRun};
 
 use array_maps::Maps;
 use bpf_step::LoopCall;
@@ -19,7 +19,8 @@ use loop_split::{Gate, Split};
 use std::alloc::{AllocError, Global};
 
 /// What a worker does with a block that it drew: it looks, and unless the block starts past the least break
-/// that it sees, runs the block and posts its break. `None` where it skips the block.
+/// that it sees, runs the block and posts its break. `None` where it skips the block. Where there is no memory to
+/// run the block, it posts nothing.
 fn take<'a, G: Gate>(
     alloc: Global,
     program: &Verified,
@@ -38,7 +39,7 @@ fn take<'a, G: Gate>(
     requires board { seat.old.board ≡ board.now }
     requires within { number < blocks_of split.now }
     ensures took { IfOk result (λ taken. Took test program.now call.now start.now.words split.now number seat.old seat.new (map shown (option_to_list taken))) }
-    ensures stopped { OnErr result (Stopped seat.old seat.new) }
+    ensures not_run { OnErr result (NotRun split.now number seat.old seat.new) }
 {
     if board.look(seat) < split.start(number) {
         return Ok(None);
@@ -55,9 +56,9 @@ fn take<'a, G: Gate>(
 /// posts its break; and so on until no block is left. It gives the blocks that it ran, in order, and waits for
 /// nobody.
 ///
-/// Where a growth is refused it draws no more; the seat and the board keep what was drawn, seen and posted. The
-/// maps are of the program's sizes, the split is of the call's iterations, the board has as many blocks as the
-/// split, and the seat is one of it.
+/// Where a growth is refused, as it runs a block or keeps it, it draws no more; the seat and the board keep what was
+/// drawn, seen and posted, which is the breaks of the blocks that were run. The maps are of the program's sizes, the
+/// split is of the call's iterations, the board has as many blocks as the split, and the seat is one of it.
 pub fn work<'a, G: Gate>(
     alloc: Global,
     program: &Verified,
@@ -76,7 +77,7 @@ pub fn work<'a, G: Gate>(
     requires blocks { board.now.blocks ≡ blocks_of split.now }
     ensures worked { IfOk result (λ blocks. Worked split.now seat.old seat.new (map shown blocks.items)) }
     ensures ran { IfOk result (λ blocks. All (λ b. IsRunOf test program.now call.now start.now.words (shown b)) blocks.items) }
-    ensures stopped { OnErr result (Stopped seat.old seat.new) }
+    ensures stopped { OnErr result (Stopped test program.now call.now start.now.words split.now seat.old seat.new) }
 {
     let mut blocks = Vec::new(alloc);
     while let Some(number) = board.claim(seat) {

@@ -1,14 +1,15 @@
 use Rattle.std.proofs.Common.{◌≡◌, ◌≤◌, ℕ, sym, ◌∙◌, subst}
 use Rattle.loop_block.specs.Shown.{shown}
-use Rattle.loop_work.specs.Worked.{Stopped}
+use Rattle.loop_work.specs.Worked.{NotRun}
 use Rattle.loop_work.proofs.StillWorks.{on_err, stops_looking, runs_on, breaks, break_small}
 use Rattle.loop_work.proofs.working.take.Goals as goal
 use Rattle.loop_work.proofs.working.take.Goals.{in-Some, in_default}
 
-pub returns-in_err-block-clause-stopped : goal.returns-in_err-block-clause-stopped
-returns-in_err-block-clause-stopped g c =
-    on_err (Stopped c.args.seat.now c.look.new.seat) c.from_residual.result
-    (stops_looking c.args.test c.args.program.now c.args.call.now c.args.start.now.words c.args.split.now c.args.seat.now c.look.new.seat c.look.result c.look.ensures.seen)
+pub returns-in_err-block-clause-not_run : goal.returns-in_err-block-clause-not_run
+returns-in_err-block-clause-not_run g c =
+    on_err (NotRun c.args.split.now c.args.number c.args.seat.now c.look.new.seat) c.from_residual.result
+    (stops_looking c.args.test c.args.program.now c.args.call.now c.args.start.now.words c.args.split.now c.args.seat.now c.look.new.seat c.args.number c.look.result c.look.ensures.seen
+    (subst (λ (n : ℕ). n ≤ c.look.result) c.start.ensures.start c.if-look-start.false))
 
 pub post-requires-clause-index : goal.post-requires-clause-index
 post-requires-clause-index g c =
