@@ -115,9 +115,9 @@ class Program:
         if section.index in self._starts:
             return replace(insn, src=KIND_CODE, imm=self._code_slot(symbol, place) - slot - 1)
         for number, array in enumerate(self._maps):
-            if array.section == section and array.is_declared and array.offset == place:
+            if array.section is section and array.is_declared and array.offset == place:
                 return replace(insn, src=KIND_MAP, imm=number)
-            if array.section == section and not array.is_declared:
+            if array.section is section and not array.is_declared:
                 if not 0 <= place < section.size:
                     raise Refused(f"the address of byte {place} of {section.name}, which has {section.size}")
                 return replace(insn, src=KIND_MAP_VALUE, imm=number, next_imm=place)
