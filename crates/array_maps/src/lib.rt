@@ -2,10 +2,10 @@
 //! `specs/Accesses.antt` says what an access is, and what a list of accesses leaves of each element.
 //!
 //! ```text
-//! let mut maps = Maps::of(alloc, &[vec![in alloc; 5, 6]?, vec![in alloc; 7]?])?;
-//! maps.set(1, 0, 8);      // element 0 of map 1
-//! maps.get(0, 1)          // 6
-//! maps.sizes()            // 2 and 1
+//! let mut maps = Maps::new(alloc, &[2, 1])?;      // all zero
+//! maps.set(1, 0, 8);
+//! let seen = maps.load(2);                        // 8: element 0 of map 1, behind the two of map 0
+//! maps.store(0, 5);                               // maps.get(0, 0) is 5
 //! ```
 #![tactic(auto)]
 

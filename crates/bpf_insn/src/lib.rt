@@ -4,9 +4,8 @@
 //! ```text
 //! let insns = decode(alloc, b"\x95\0\0\0\0\0\0\0")?;    // [Insn::Exit]
 //! let bytes = encode(alloc, &insns)?;                   // the same 8 bytes
-//! let cut = decode(alloc, &bytes[..7]);                 // CodecFault::Incomplete at slot 0
-//! let none = decode(alloc, b"\x8d\0\0\0\0\0\0\0");      // CodecFault::UnknownOpcode at slot 0
-//! let number = CodecFault::UnknownOpcode.number();      // 2, of which I2 is printed
+//! let cut = decode(alloc, b"\x95\0\0\0\0\0\0");        // CodecFault::Incomplete at slot 0
+//! let unknown = decode(alloc, b"\x8d\0\0\0\0\0\0\0");   // CodecFault::UnknownOpcode at slot 0, printed as I2
 //! ```
 #![tactic(auto)]
 

@@ -3,6 +3,17 @@
 //! The workers share two words of one `atomic_table`. A claim is one `fetch_add` on the next block, a look one load
 //! of the least break, and a post one `fetch_min` on it: no lock, no loop that tries again, and nobody waits.
 //! Each worker has a seat, whose history (draws, posts, answers of looks) contracts see; it takes no memory.
+//!
+//! ```text
+//! let (board, mut seats) = Board::new(alloc, 2, 1)?;      // two blocks, one worker
+//! let seat = &mut seats[0];
+//! let first = board.claim(seat);                          // Some(0)
+//! board.post(seat, 5);                                    // an iteration of that block broke
+//! let least = board.look(seat);                           // 5
+//! let second = board.claim(seat);                         // Some(1)
+//! let drained = board.claim(seat);                        // None
+//! let tally = board.gather(seats)?;                       // 2 blocks were claimed, and the least break is 5
+//! ```
 #![tactic(auto)]
 
 mod board;

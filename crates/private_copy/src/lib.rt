@@ -1,5 +1,17 @@
 //! Private copies of maps, for the iterations of a loop that run ahead: each iteration sees the start
 //! words changed by its own accesses alone, and what it did is remembered element by element.
+//!
+//! ```text
+//! let mut copy = Private::try_new(alloc, &maps)?;     // of maps that are all zero
+//! copy.begin(alloc, 2)?;                              // an iteration of at most two accesses
+//! copy.store(1, 7);
+//! let seen = copy.load(1);                            // 7
+//! copy.end(&mut planes, 0);
+//! copy.begin(alloc, 1)?;
+//! let next = copy.load(1);                            // 0: it sees no other iteration
+//! copy.end(&mut planes, 1);
+//! let last = copy.last_value(1);                      // Some(7)
+//! ```
 #![tactic(auto)]
 
 mod page;

@@ -1,4 +1,5 @@
-//! Runs accepted programs over array maps, and tells what came of their loops.
+//! Runs accepted programs over array maps, and tells what came of their loops. Of the crates below all that a caller
+//! needs is offered here.
 //!
 //! ```text
 //! let program = verify(alloc, unit)?;                     // a loop of 8 iterations that adds its index
@@ -12,7 +13,10 @@
 mod running;
 mod speculating;
 
+pub use loop_core_law::{LoopReport, Test, Verdict};
 pub use loop_run::{LoopOutcome, RunError, run_loop};
+pub use loop_split::{Gate, NoGate};
+pub use loop_work::work;
 pub use running::{Report, run_in_order};
 pub use spec_plan::Plan;
 pub use speculating::run;

@@ -4,3 +4,5 @@
 
 #[cfg(test)]
 mod board;
+#[cfg(test)]
+mod examples;

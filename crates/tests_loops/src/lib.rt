@@ -5,6 +5,8 @@
 #[cfg(test)]
 mod accesses;
 #[cfg(test)]
+mod examples;
+#[cfg(test)]
 mod iterations;
 #[cfg(test)]
 mod kernels;

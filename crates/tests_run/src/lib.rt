@@ -7,6 +7,8 @@ mod command_lines;
 #[cfg(test)]
 mod commands;
 #[cfg(test)]
+mod examples;
+#[cfg(test)]
 mod loops;
 #[cfg(test)]
 mod program;

@@ -7,6 +7,8 @@ mod bytes;
 #[cfg(test)]
 mod events;
 #[cfg(test)]
+mod examples;
+#[cfg(test)]
 mod growths;
 #[cfg(test)]
 mod hex_form;

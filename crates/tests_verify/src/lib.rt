@@ -11,6 +11,8 @@ mod built;
 #[cfg(test)]
 mod comparisons;
 #[cfg(test)]
+mod examples;
+#[cfg(test)]
 mod joins;
 #[cfg(test)]
 mod loops;

@@ -1,0 +1,21 @@
+//! Loops of accepted programs: split into blocks, run block by block on the start maps, gathered, replayed from a list
+//! of events, and run in order. The crates below, of which all calls are offered here, have the definitions and the code.
+//!
+//! ```text
+//! let split = Split::of(vec![in alloc; 0, 4, 8]?, call.n())?;             // a loop of 8 iterations that adds its index
+//! let first = run_block(alloc, &program, &call, &maps, &split, 0, &NoGate, Test::Flow)?;
+//! let second = run_block(alloc, &program, &call, &maps, &split, 1, &NoGate, Test::Flow)?;
+//! let blocks = vec![in alloc; first, second]?;
+//! let gathered = gather(alloc, &program, &call, &maps, &split, blocks, Test::Flow)?;
+//! // gathered.verdict() is Verdict::Parallel, gathered.answer() 8, and gathered.element(0) what the loop leaves there
+//! let answer = in_order(&program, &call, &mut maps);                      // 8 too, and the maps have it
+//! ```
+#![tactic(auto)]
+
+pub use loop_block::{Block, run_block};
+pub use loop_core_law::{Test, Verdict};
+pub use loop_core_order::in_order;
+pub use loop_event::{Event, EventKind};
+pub use loop_gather::{GatherError, GatherFault, Gathered, LoopOutcome, gather, settle};
+pub use loop_replay::{ReplayError, ReplayFault, replay_loop};
+pub use loop_split::{Gate, NoGate, Split, SplitError};
