@@ -3,12 +3,14 @@
 ghost use Rattle.std.specs.Prelude.{◌≡◌, ◌+◌, ◌-◌, ◌^◌, ◌<◌, length, Ok, IsErr, IfOk, OnOk, OnErr};
 ghost use Rattle.bpfspec_streams.specs.Counting.{inner_of, failures_of};
 
+use crate::retrying::{read_again, write_again};
 use crate::streams::{DeviceFault, Sink, Source};
 use std::io;
 use std::io::{Read, Write};
 
 /// A reader or a writer with the number of its failed calls. A call fails where the reader or the
-/// writer fails, or where the writer took nothing of a piece that isn't empty.
+/// writer fails, or where the writer took nothing of a piece that isn't empty. One that a signal
+/// interrupts is made again.
 #[derive(Drop)]
 pub struct Counted<T> {
     inner: T,
@@ -75,7 +77,7 @@ impl<T: Read> Source for Counted<T> {
     ghost failed = { failures_of };
 
     fn read(&mut self, buffer: &mut [u8]) -> Result<usize, DeviceFault> {
-        let outcome = read_outcome(self.inner.read(buffer));
+        let outcome = read_outcome(read_again(&mut self.inner, buffer));
         count_failure(outcome, &mut self.failures)
     }
 
@@ -90,7 +92,7 @@ impl<T: Write> Sink for Counted<T> {
     ghost failed = { failures_of };
 
     fn write(&mut self, piece: &[u8]) -> Result<usize, DeviceFault> {
-        let outcome = write_outcome(self.inner.write(piece), piece);
+        let outcome = write_outcome(write_again(&mut self.inner, piece), piece);
         count_failure(outcome, &mut self.failures)
     }
 

@@ -3,6 +3,7 @@
 
 mod counting;
 mod reading;
+mod retrying;
 mod streams;
 mod writing;
 

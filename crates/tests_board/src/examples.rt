@@ -16,6 +16,12 @@ fn one_worker_empties_a_board(rt: HostRuntime) -> Result<(), Fail> {
     let tally = board.gather(seats)?;
     assert_eq!(rt; [first, second, drained], [Some(0), Some(1), None]);
     assert_eq!(rt; least, 5);
-    assert_eq!(rt; tally, Tally { claimed: 2, least: 5 });
+    assert_eq!(rt;
+        tally,
+        Tally {
+            claimed: 2,
+            least: 5
+        }
+    );
     Ok(())
 }

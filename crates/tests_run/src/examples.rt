@@ -13,6 +13,9 @@ fn a_text_is_judged(rt: HostRuntime) -> Result<(), Fail> {
     };
     let served = serve(alloc, &mode, &mut input, &mut output);
     assert!(rt; matches!(served, Served::Done));
-    assert_eq!(rt; output.into_inner().as_slice(), b"accepted\nfunction 0 at 0 count 2\n".as_slice());
+    assert_eq!(rt;
+        output.into_inner().as_slice(),
+        b"accepted\nfunction 0 at 0 count 2\n".as_slice()
+    );
     Ok(())
 }

@@ -29,15 +29,28 @@ fn next_turn(script: &mut &[Turn]) -> Turn {
     }
 }
 
+/// Whether a signal interrupts this call, as it does so many.
+fn interrupted(times: &mut u32) -> bool {
+    if *times == 0 {
+        return false;
+    }
+    *times -= 1;
+    true
+}
+
 /// A reader of std over these bytes.
 #[derive(Drop)]
 struct ScriptedReader<'a> {
+    interruptions: u32,
     script: &'a [Turn],
     rest: &'a [u8],
 }
 
 impl Read for ScriptedReader<'_> {
     fn read(&mut self, buffer: &mut [u8]) -> io::Result<usize> {
+        if interrupted(&mut self.interruptions) {
+            return Err(io::Error::from(ErrorKind::Interrupted));
+        }
         match next_turn(&mut self.script) {
             Turn::Fails => Err(io::Error::from(ErrorKind::BrokenPipe)),
             Turn::Moves(most) => {
@@ -51,12 +64,16 @@ impl Read for ScriptedReader<'_> {
 /// A writer of std.
 #[derive(Drop)]
 struct ScriptedWriter<'a> {
+    interruptions: u32,
     script: &'a [Turn],
     taken: Vec<u8>,
 }
 
 impl Write for ScriptedWriter<'_> {
     fn write(&mut self, piece: &[u8]) -> io::Result<usize> {
+        if interrupted(&mut self.interruptions) {
+            return Err(io::Error::from(ErrorKind::Interrupted));
+        }
         match next_turn(&mut self.script) {
             Turn::Fails => Err(io::Error::from(ErrorKind::BrokenPipe)),
             Turn::Moves(most) => {
@@ -76,6 +93,7 @@ fn reader<'a>(script: &'a [Turn], bytes: &'a [u8]) -> Counted<ScriptedReader<'a>
     ensures { failures_of result ≡ 0 }
 {
     Counted::new(ScriptedReader {
+        interruptions: 0,
         script,
         rest: bytes,
     })
@@ -85,6 +103,7 @@ fn writer<'a>(alloc: Global, script: &'a [Turn]) -> Counted<ScriptedWriter<'a>>
     ensures { failures_of result ≡ 0 }
 {
     Counted::new(ScriptedWriter {
+        interruptions: 0,
         script,
         taken: Vec::new(alloc),
     })
@@ -219,5 +238,26 @@ fn writes_all_a_few_bytes_at_a_time(rt: HostRuntime) -> Result<(), Fail> {
     );
     write_all(&mut sink, b"eightish")?;
     assert_eq!(rt; sink.into_inner().taken.as_slice(), b"eightish".as_slice());
+    Ok(())
+}
+
+#[test]
+fn an_interrupted_call_is_made_again(rt: HostRuntime) -> Result<(), Fail> {
+    let mut source = Counted::new(ScriptedReader {
+        interruptions: 3,
+        script: &[],
+        rest: b"input",
+    });
+    let input = read_all(rt.alloc(), &mut source, 100)?;
+    assert_eq!(rt; input.as_slice(), b"input".as_slice());
+    assert_eq!(rt; source.failures(), 0);
+    let mut sink = Counted::new(ScriptedWriter {
+        interruptions: 3,
+        script: &[Turn::Moves(2)],
+        taken: Vec::new(rt.alloc()),
+    });
+    write_all(&mut sink, b"output")?;
+    assert_eq!(rt; sink.failures(), 0);
+    assert_eq!(rt; sink.into_inner().taken.as_slice(), b"output".as_slice());
     Ok(())
 }

@@ -8,7 +8,12 @@ use value_range::{Condition, Operation, alu, exact, refine, top};
 
 #[test]
 fn an_index_is_masked(rt: HostRuntime) -> Result<(), Fail> {
-    let index = alu(Operation::Alu(AluOp::And), Width::W64, top(Width::W64), exact(7));
+    let index = alu(
+        Operation::Alu(AluOp::And),
+        Width::W64,
+        top(Width::W64),
+        exact(7),
+    );
     let byte = alu(Operation::Alu(AluOp::Lsh), Width::W64, index, exact(3));
     let taken = refine(Condition::taken(Compare::Lt), Width::W64, index, exact(0));
     assert_eq!(rt; [index.lo(), index.hi()], [0, 7]);
@@ -26,6 +31,14 @@ fn a_program_is_accepted(rt: HostRuntime) -> Result<(), Fail> {
     let unit = parse_unit(alloc, "maps 1\nexit\n")?;
     let wrong = verify(alloc, unit);
     assert_eq!(rt; [program.callbacks(), program.count(0)], [0, 2]);
-    assert!(rt; matches!(wrong, Err(VerifyError::Refused { rule: Rule::UnwrittenRegister, slot: 0 })));
+    assert!(rt;
+        matches!(
+            wrong,
+            Err(VerifyError::Refused {
+                rule: Rule::UnwrittenRegister,
+                slot: 0
+            })
+        )
+    );
     Ok(())
 }
