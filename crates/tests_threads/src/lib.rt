@@ -1,4 +1,4 @@
-//! Tests of loops on threads, from a row of text to what a loop comes to. They stand in a crate of their own, since a crate
+//! Tests of loops on threads, from a row of text to what is told of it. They stand in a crate of their own, since a crate
 //! with tests is proved twice.
 #![tactic(auto)]
 
@@ -9,6 +9,4 @@ mod growths;
 #[cfg(test)]
 mod loops;
 #[cfg(test)]
-mod meeting;
-#[cfg(test)]
-mod rows;
+mod reports;

@@ -16,6 +16,7 @@ pub struct Meeting {
 }
 
 impl Meeting {
+    /// Before any number has come.
     pub fn new(holds: &'static [(u32, u32)]) -> Self {
         Meeting {
             holds,
@@ -29,14 +30,23 @@ impl Meeting {
         self.came.load(Ordering::SeqCst)
     }
 
-    /// Whether one was held for too many rounds.
-    pub fn gave_up(&self) -> bool {
-        self.gave_up.load(Ordering::SeqCst)
+    fn has_come(&self, number: u32) -> bool {
+        self.came() >> (number % 64) & 1 == 1
+    }
+
+    /// Whether both of each pair have come, and none was held for too many rounds.
+    pub fn has_met(&self) -> bool {
+        for hold in self.holds {
+            if !self.has_come(hold.0) || !self.has_come(hold.1) {
+                return false;
+            }
+        }
+        !self.gave_up.load(Ordering::SeqCst)
     }
 
     fn wait_for(&self, number: u32) {
         for _ in 0..MOST_ROUNDS {
-            if self.came() >> (number % 64) & 1 == 1 {
+            if self.has_come(number) {
                 return;
             }
             spin_loop();
@@ -56,11 +66,33 @@ impl Meeting {
     }
 }
 
+/// Which blocks are held as they begin, and which iterations: of each pair the first, until the second has come.
+#[derive(Clone, Copy)]
+pub struct Holds {
+    pub blocks: &'static [(u32, u32)],
+    pub turns: &'static [(u32, u32)],
+}
+
 /// A gate at which blocks meet as they begin, and iterations.
 #[derive(Drop)]
 pub struct MeetingGate {
     pub blocks: Meeting,
     pub turns: Meeting,
+}
+
+impl MeetingGate {
+    /// Before any block has begun.
+    pub fn new(holds: Holds) -> Self {
+        MeetingGate {
+            blocks: Meeting::new(holds.blocks),
+            turns: Meeting::new(holds.turns),
+        }
+    }
+
+    /// Whether all who are held met those for whom they waited.
+    pub fn has_met(&self) -> bool {
+        self.blocks.has_met() && self.turns.has_met()
+    }
 }
 
 impl Gate for MeetingGate {
