@@ -8,7 +8,6 @@ mod examples;
 mod growths;
 #[cfg(test)]
 mod marks;
-#[cfg(test)]
-mod stage;
+pub mod stage;
 #[cfg(test)]
 mod workers;

@@ -1,5 +1,9 @@
 //! The examples at the heads of `shadow_marks`, `lane_planes` and `private_copy`.
 
+ghost use Rattle.std.specs.Prelude.{◌≡◌, ◌<◌, IfOk};
+ghost use Rattle.loop_core_law.specs.declared.loop_test.Test.TheVariants.{Flow};
+ghost use Rattle.shadow_marks.specs.Standing.{ArePlanes, test_of, words_for};
+
 use array_maps::{Maps, Store};
 use lane_planes::{conflicts, count_bits, first_bit, merge};
 use private_copy::Private;
@@ -8,7 +12,13 @@ use std::alloc::{AllocError, Global};
 use std::test::Fail;
 
 /// Planes of one iteration that made one access of element 1, of two.
-fn planes_of(alloc: Global, access: Access, index: u32) -> Result<Planes, AllocError> {
+fn planes_of(alloc: Global, access: Access, index: u32) -> Result<Planes, AllocError>
+    requires { index < 4294967295 }
+    ensures whole { IfOk result ArePlanes }
+    ensures elements { IfOk result (λ planes. planes.elements ≡ 2) }
+    ensures words { IfOk result (λ planes. words_for planes.elements ≡ 1) }
+    ensures test { IfOk result (λ planes. test_of planes.tested ≡ Flow) }
+{
     let mut flags = IterFlags::try_new(alloc, 2)?;
     let mut planes = Planes::try_new(alloc, 2, Test::Flow)?;
     flags.mark(1, access);
