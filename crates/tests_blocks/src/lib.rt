@@ -3,8 +3,6 @@
 #![tactic(auto)]
 
 #[cfg(test)]
-mod examples;
-#[cfg(test)]
 mod growths;
 #[cfg(test)]
 mod marks;
