@@ -8,7 +8,8 @@
 //! let blocks = vec![in alloc; first, second]?;
 //! let gathered = gather(alloc, &program, &call, &maps, &split, blocks, Test::Flow)?;
 //! // gathered.verdict() is Verdict::Parallel, gathered.answer() 8, and gathered.element(0) what the loop leaves there
-//! let answer = in_order(&program, &call, &mut copy);                      // 8 too, and the copy of the maps has it
+//! drop(gathered);                                                         // the maps were lent to it
+//! let answer = in_order(&program, &call, &mut maps);                      // 8 too, and the maps have it
 //! ```
 #![tactic(auto)]
 
