@@ -1,0 +1,60 @@
+"""The faults, and what has to come of a run that has one."""
+
+from __future__ import annotations
+
+from dataclasses import dataclass
+
+DONE, NO_MEMORY, NO_DEVICE = 0, 4, 5  # statuses of bpfspec
+REFUSED = b"refused memory\n"
+TOLD = b"!"  # on standard error, by fail.c, where a call was made to fail
+NO_END = -1000  # in place of a status, of a run that had to be killed
+
+
+@dataclass(frozen=True)
+class Ran:
+    """How a run ended, and all that it wrote."""
+
+    status: int
+    output: bytes
+    errors: bytes = b""
+
+
+@dataclass(frozen=True)
+class Fault:
+    """A call of the C library that fails, and how; `tools/faults/fail.c` says what the words mean."""
+
+    call: str
+    kind: str
+    name: str
+
+    def environment(self, at: int) -> dict[str, str]:
+        """The variables that `fail.c` reads, where call number `at` is to fail."""
+        return {"FAULT_CALL": self.call, "FAULT_KIND": self.kind, "FAULT_AT": str(at)}
+
+    def is_right(self, ran: Ran, own: Ran) -> bool:
+        """Whether a run with this fault gave what it may: `own` is what the same run gives without."""
+        answer = Ran(ran.status, ran.output)
+        if ran.errors != TOLD:
+            return ran.errors == b"" and answer == own
+        if self.call == "growth":
+            return answer in (own, Ran(NO_MEMORY, REFUSED))
+        if self.call == "thread" or self.kind in ("short", "interrupted"):
+            return answer == own
+        is_beginning = ran.status == NO_DEVICE and own.output.startswith(ran.output)
+        return is_beginning or self.kind == "breaks" and answer == own  # a last short read is a whole one
+
+
+FAULTS = (
+    Fault("growth", "fails", "growth"),
+    Fault("growth", "stays_failed", "all growths from one on"),
+    Fault("thread", "fails", "thread"),
+    Fault("thread", "stays_failed", "all threads from one on"),
+    Fault("read", "fails", "failed read"),
+    Fault("read", "short", "short read"),
+    Fault("read", "breaks", "broken read"),
+    Fault("read", "interrupted", "interrupted read"),
+    Fault("write", "fails", "failed write"),
+    Fault("write", "short", "short write"),
+    Fault("write", "breaks", "broken write"),
+    Fault("write", "interrupted", "interrupted write"),
+)
