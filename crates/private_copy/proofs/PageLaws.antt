@@ -5,14 +5,13 @@ use Rattle.std.proofs.lemmas.Bool.{eqb-true, cases_eq, cases_lt}
 use Rattle.std.proofs.lemmas.List.{take_all, take-set-le, take_more, get_or-take, length-take, get_or_default}
 use Rattle.std.proofs.lemmas.List.Folds.{list_any-append, list_any_at}
 use Rattle.std.proofs.lemmas.List.Quantifiers.{position-Some}
-use Rattle.std.specs.Prelude.{Box, slice_get, if◌then◌else◌}
+use Rattle.std.specs.Prelude.{Box, if◌then◌else◌}
 use Rattle.std.specs.declared.alloc.Global.{Global}
 use Rattle.std.proofs.Math.ListN.{get_or-map, get_or-eq_default}
 use Rattle.std.proofs.Math.Nat.{mod-lt, div-add-mod}
 use Rattle.std.proofs.Math.Seq.{map-set_same}
 use Rattle.std.proofs.Math.Bool.{or-false}
 use Rattle.std.proofs.lemmas.List.{get_or-replicate, length-replicate}
-use Rattle.std.proofs.lemmas.Option.{get_or_from_slice_get, slice_get_within}
 use Rattle.private_copy.specs.declared.page.Cell.{Cell}
 use Rattle.private_copy.specs.declared.page.Page.{Page}
 use Rattle.private_copy.specs.Cells.{blank, blank_cells, cells_of, IsBlank}
@@ -98,12 +97,14 @@ agree_more keys n p at table slot stands within some agree page inside =
           ∙ sym (after ∙ ap (λ b. has_page (take n keys) page || b) (ne_eqb page p other) ∙ or-false (has_page (take n keys) page))
     ]
 
--- a spare page
-pub spare_blank : (spare : List Slot) (slot : Slot) → ((k : ℕ) → k < length spare → IsBlank (get_or spare k None)) →
-    Some slot ≡ slice_get spare (length spare - 1) → IsBlank slot
-spare_blank spare slot blank_all popped =
-    subst (λ (s : Slot). IsBlank s) (get_or_from_slice_get spare (length spare - 1) slot None (sym popped))
-    (blank_all (length spare - 1) (slice_get_within spare (length spare - 1) slot (sym popped)))
+-- the last spare page
+same_slot : (slot other : Slot) → Some slot ≡ Some other → slot ≡ other
+same_slot slot other popped = cc
+
+pub spare_blank : (spare : List Slot) (slot : Slot) (many : ℕ) → many ≡ length spare → ((k : ℕ) → k < length spare → IsBlank (get_or spare k None)) →
+    0 < many → Some slot ≡ Some (get_or spare (many - 1) None) → IsBlank slot
+spare_blank spare slot many long blank_all left popped =
+    subst (λ (s : Slot). IsBlank s) (sym (same_slot slot (get_or spare (many - 1) None) popped)) (blank_all (many - 1) (omega (arith, left, long)))
 
 pub blank_is_some : (slot : Slot) → IsBlank slot → is_some slot ≡ true
 blank_is_some None h = absurd h

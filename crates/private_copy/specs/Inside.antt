@@ -22,5 +22,4 @@ pub record ArePages (p : Inside) : Type 0 where
   pub within : p.placed ≤ length p.order.keys
   pub placed : (page : ℕ) → page < length p.table.items →
       is_some (slice_index_or p.table.items page None) ≡ has_page (take p.placed p.order.keys) page
-  pub room : length p.spare.items ≤ 1024
   pub blank : (k : ℕ) → k < length p.spare.items → IsBlank (slice_index_or p.spare.items k None)

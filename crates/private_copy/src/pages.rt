@@ -5,13 +5,9 @@ ghost use Rattle.private_copy.specs.Cells.{total_of, cell_at, blank};
 ghost use Rattle.private_copy.specs.Touched.{has_page, with_page};
 
 use crate::page::{BLANK, Cell, Page};
-use arrayvec::ArrayVec;
 use indexmap::IndexSet;
 use std::alloc::{AllocError, Global};
 use std::marker::Model;
-
-/// The most pages that there may be.
-const MOST_PAGES: usize = 1024;
 
 /// Elements in a page.
 const PAGE: u32 = 64;
@@ -22,7 +18,7 @@ pub(crate) struct Pages {
     order: IndexSet<u32>,
     placed: u32,
     table: Vec<Option<Box<Page>>>,
-    spare: ArrayVec<Option<Box<Page>>, 1024>,
+    spare: Vec<Option<Box<Page>>>,
 }
 
 impl Model for Pages {
@@ -56,7 +52,7 @@ impl Pages {
             order,
             placed: 0,
             table,
-            spare: ArrayVec::new(),
+            spare: Vec::new(alloc),
         })
     }
 
@@ -80,14 +76,13 @@ impl Pages {
     #[cold]
     #[inline(never)]
     fn make_spare(&mut self, alloc: Global, wanted: usize) -> Result<(), AllocError>
-        requires { wanted ≤ 1024 }
         ensures pages { self.new.pages ≡ self.old.pages }
         ensures order { self.new.order ≡ self.old.order }
         ensures spare { OnOk result (wanted ≤ self.new.spare) }
     {
         while self.spare.len() < wanted {
             let page = Box::new(alloc, Page { cells: [BLANK; 64] })?;
-            self.spare.push(Some(page));
+            self.spare.push(Some(page))?;
         }
         Ok(())
     }

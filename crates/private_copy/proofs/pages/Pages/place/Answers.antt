@@ -1,4 +1,4 @@
-use Rattle.std.proofs.Common.{◌≡◌, ◌<◌, ◌+◌, ◌-◌, sym, ◌∙◌, ap, subst, arith, length, length-set, take, get_or, None, false, [], ◌∷◌, ◌++◌}
+use Rattle.std.proofs.Common.{rules, vec_len, ◌≡◌, ◌<◌, ◌+◌, ◌-◌, sym, ◌∙◌, ap, subst, arith, length, length-set, take, get_or, None, false, [], ◌∷◌, ◌++◌}
 use Rattle.std.proofs.lemmas.List.{length-take, get_or-take}
 use Rattle.std.proofs.lemmas.List.Edits.{length-swap}
 use Rattle.std.proofs.lemmas.List.{length-map}
@@ -18,13 +18,17 @@ invariant_of-self-in-Some-pop-2 c =
     let within : c.args.number < length table = omega (arith, c.requires.within, long, all) in
     let absent : has_page (take c.self.inside.placed keys) c.args.number ≡ false = ap (λ (v : PlacedPages). has_page v.order c.args.number) c.self.view_is ∙ c.requires.absent in
     let stands = where_stands keys c.self.inside.placed c.args.number c.in-Some.at (sym c.get_index_of.ensures.index ∙ c.in-Some.is) absent in
-    let blank = spare_blank spares c.in-Some-pop.page c.self.invariant.blank (sym c.in-Some-pop.is ∙ c.pop.ensures.value) in
+    let many = vec_len c.self.inside.spare in
+    let long_spare : many ≡ length spares = search rules in
+    let spare = ap (λ (v : PlacedPages). v.spare) c.self.view_is in
+    let left : 0 < many = omega (arith, c.requires.spare, spare, long_spare) in
+    let blank = spare_blank spares c.in-Some-pop.page many long_spare c.self.invariant.blank left (sym c.in-Some-pop.is ∙ c.pop.ensures.value None left) in
     let placed = c.self.inside.placed in
     let page = c.in-Some-pop.page in
     let after = length-set table c.args.number page in
     let swapped = ap length c.swap_indices.ensures.keys ∙ length-swap keys c.in-Some.at placed in
     let rest = ap length c.pop.ensures.rest in
-    let few = length-take (length spares - 1) spares in
+    let few = length-take (many - 1) spares in
     record {
       most = omega (arith, c.self.invariant.most, after);
       numbers = swapped ∙ c.self.invariant.numbers ∙ sym after;
@@ -33,10 +37,9 @@ invariant_of-self-in-Some-pop-2 c =
       placed = λ other inside.
           agree_more keys placed c.args.number c.in-Some.at table page stands within (blank_is_some page blank) c.self.invariant.placed other inside
           ∙ ap (λ l. has_page (take (placed + 1) l) other) (sym c.swap_indices.ensures.keys);
-      room = omega (arith, c.self.invariant.room, rest, few);
       blank = λ k inside.
-          subst IsBlank (sym (ap (λ l. get_or l k None) c.pop.ensures.rest ∙ get_or-take (length spares - 1) spares k None (omega (arith, inside, rest, few))))
-          (c.self.invariant.blank k (omega (arith, inside, rest, few)));
+          subst IsBlank (sym (ap (λ l. get_or l k None) c.pop.ensures.rest ∙ get_or-take (many - 1) spares k None (omega (arith, inside, rest, few))))
+          (c.self.invariant.blank k (omega (arith, inside, rest, few, long_spare)));
     }
 
 pub returns-in-Some-pop-clause-pages : goal.returns-in-Some-pop-clause-pages
@@ -48,7 +51,11 @@ returns-in-Some-pop-clause-pages c =
     let all = length-map table cells_of in
     let within : c.args.number < length table = omega (arith, c.requires.within, long, all) in
     let absent : has_page (take c.self.inside.placed keys) c.args.number ≡ false = ap (λ (v : PlacedPages). has_page v.order c.args.number) c.self.view_is ∙ c.requires.absent in
-    let blank = spare_blank spares c.in-Some-pop.page c.self.invariant.blank (sym c.in-Some-pop.is ∙ c.pop.ensures.value) in
+    let many = vec_len c.self.inside.spare in
+    let long_spare : many ≡ length spares = search rules in
+    let spare = ap (λ (v : PlacedPages). v.spare) c.self.view_is in
+    let left : 0 < many = omega (arith, c.requires.spare, spare, long_spare) in
+    let blank = spare_blank spares c.in-Some-pop.page many long_spare c.self.invariant.blank left (sym c.in-Some-pop.is ∙ c.pop.ensures.value None left) in
     let stay = cells_stay table c.args.number c.in-Some-pop.page blank (c.self.invariant.placed c.args.number within ∙ absent)
     ∙ ap (λ (v : PlacedPages). v.pages) c.self.view_is in
     elim c.match-index_mut-page.branch [

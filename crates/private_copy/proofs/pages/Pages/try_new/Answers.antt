@@ -23,14 +23,13 @@ invariant_of-result c =
     let number = c.loop-number.number in
     let held = c.loop-number.invariant in
     let long = ap length held.3 ∙ length-replicate number None in
-    let none = ap length c.new.ensures in
+    let none = c.new.ensures.len in
     record {
       most = omega (arith, c.requires, long, c.loop-number.auto.number-end);
       numbers = held.0 ∙ sym long;
       all = λ page inside. held.1 page (omega (arith, inside, long));
       within = omega arith;
       placed = λ page inside. ap is_some (ap (λ l. get_or l page None) held.3 ∙ none_placed number page None refl);
-      room = omega (arith, none);
       blank = λ k inside. absurd (omega (arith, inside, none));
     }
 
