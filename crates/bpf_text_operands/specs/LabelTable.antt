@@ -1,14 +1,16 @@
 -- The labels that were defined so far.
 use Rattle.std.specs.Prelude.{ℕ, if◌then◌else◌, List, Option, Some, None}
 use Rattle.std.specs.Str.{bytes_eq}
-use Rattle.std.specs.HashMap.{get_by}
+use Rattle.std.specs.BTreeMap.{get_by}
+use Rattle.std.specs.Ordering.{nat_cmp}
+use Rattle.std.specs.Cmp.Lexicographic.{slice_cmp}
 use Rattle.std.specs.Option.{option_or}
 use Rattle.bpf_text_operands.specs.declared.labels.Label.{Label}
 use Rattle.bpf_text_operands.specs.declared.labels.Labels.{Labels}
 
 -- where a label is defined, if it is
-abbrev pub found : Labels → List ℕ → Option Label
-found labels name = get_by (λ k. bytes_eq name k.now) labels.places
+unfoldable pub found : Labels → List ℕ → Option Label
+found labels name = get_by (λ k. slice_cmp nat_cmp name k.now) labels.places
 
 -- the slot of a label
 abbrev pub slot_in : Option Label → Option ℕ

@@ -3,8 +3,8 @@
 ghost use Rattle.std.specs.Prelude.{◌≡◌, IfOk, OnOk, ℕ, List, None};
 ghost use Rattle.bpf_text_operands.specs.LabelTable.{found, slot_in, defined};
 
-use std::alloc::{AllocError, AllocFailed, Global};
-use std::collections::HashMap;
+use std::alloc::{AllocError, Global};
+use std::collections::BTreeMap;
 
 /// Where a label is defined.
 #[derive(Clone, Copy)]
@@ -15,23 +15,26 @@ pub struct Label {
     pub slot: u32,
 }
 
-/// The labels of a text by their names.
+/// The labels of a text by their names, in order: whoever writes a text chooses the names, and can't
+/// make a search slow by them.
 #[derive(Drop)]
 pub struct Labels<'a> {
-    places: HashMap<&'a [u8], Label>,
+    places: BTreeMap<&'a [u8], Label>,
 }
 
 impl<'a> Labels<'a> {
     /// No labels.
+    #[tactic(auto, unfolding(crate::specs::LabelTable::found))]
     pub fn new(alloc: Global) -> Labels<'a>
         ensures { (name : List ℕ) → found result name ≡ None }
     {
         Labels {
-            places: HashMap::new(alloc),
+            places: BTreeMap::new(alloc),
         }
     }
 
     /// Where a label is defined, if it is.
+    #[tactic(auto, unfolding(crate::specs::LabelTable::found))]
     pub fn get(&self, name: &[u8]) -> Option<Label>
         ensures { result ≡ found self.now name.now }
     {
@@ -39,17 +42,10 @@ impl<'a> Labels<'a> {
     }
 
     /// Adds a label, unless one of this name is defined already.
-    pub fn define(
-        &mut self,
-        name: &'a [u8],
-        label: Label,
-    ) -> Result<(), AllocFailed<(&'a [u8], Label)>>
+    pub fn define(&mut self, name: &'a [u8], label: Label) -> Result<(), AllocError>
         ensures { OnOk result ((other : List ℕ) → found self.new other ≡ defined (found self.old) name.now label other) }
     {
-        if self.get(name).is_some() {
-            return Ok(());
-        }
-        self.places.insert(name, label)?;
+        self.places.entry(name)?.or_insert(label);
         Ok(())
     }
 }
