@@ -9,6 +9,8 @@ mod commands;
 #[cfg(test)]
 mod examples;
 #[cfg(test)]
+mod long_loops;
+#[cfg(test)]
 mod loops;
 #[cfg(test)]
 mod program;

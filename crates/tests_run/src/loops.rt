@@ -27,7 +27,7 @@ fn spelled_out(alloc: Global, rows: &str) -> Result<String, AllocError> {
 }
 
 /// Asserts what is answered to the rows by each of these command lines.
-fn are_run<R: Abort + Threads + Sync>(
+pub fn are_run<R: Abort + Threads + Sync>(
     rt: &R,
     alloc: Global,
     lines: &str,
@@ -118,22 +118,6 @@ fn a_loop_is_judged_by_the_test_that_is_named(rt: HostRuntime) -> Result<(), Fai
     let by_pairs = READ_AHEAD.replace(alloc, "FIRST", "conflict 3 least 1")?;
     let by_pairs = by_pairs.replace(alloc, "SECOND", "conflict 1 least 0")?;
     are_run(&rt, alloc, "run --test lrpd", &by_pairs)
-}
-
-/// So many iterations that workers have threads of their own, and as many as a loop may have.
-const LONG: &str = "
-    maps 1 | mov64 r1, 20000 | LOOP | ldmapval r2, 0, 0 | atomic64 add [r2+0], r1 | END \
-        => 0 return 20000 | loop 0 at 5: answer 20000, parallel | map 0: 199990000
-";
-
-const LONGEST: &str = "
-    maps 1 | mov64 r1, 8388608 | LOOP | END => 0 return 8388608 | loop 0 at 5: answer 8388608, parallel | map 0: 0
-";
-
-#[test]
-fn long_loops_are_run(rt: HostRuntime) -> Result<(), Fail> {
-    are_run(&rt, rt.alloc(), LINES, LONG)?;
-    are_run(&rt, rt.alloc(), "run", LONGEST)
 }
 
 /// Units that are refused, in hex form, and the argument in R1.
