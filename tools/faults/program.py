@@ -3,6 +3,7 @@
 from __future__ import annotations
 
 import os
+import resource
 import shutil
 import subprocess
 from dataclasses import dataclass
@@ -13,6 +14,7 @@ from .kinds import NO_END, Ran
 SOURCE = Path(__file__).resolve().parent / "fail.c"
 FLAGS = "-O1 -fno-builtin -fPIC -shared -nostdlib".split()
 TIME_LIMIT = 20  # seconds of a run, which takes some milliseconds
+STACK = 128 * 1024  # bytes of stack, for the main thread and for each other, that are enough for every row
 
 
 @dataclass(frozen=True)
@@ -23,15 +25,22 @@ class Program:
     library: Path
 
     def run(self, words: tuple[str, ...], stdin: Path, fault: dict[str, str]) -> Ran:
-        """Runs it once, with the fault that these variables name."""
+        """Runs it once, with the fault that these variables name; without one on a small stack."""
         environment = {"LD_PRELOAD": str(self.library), **fault}
         command = [str(self.path), *words]
+        before = None if fault else _small_stack
         with open(stdin, "rb") as file:
             try:
-                ran = subprocess.run(command, stdin=file, capture_output=True, env=environment, timeout=TIME_LIMIT)
+                ran = subprocess.run(
+                    command, stdin=file, capture_output=True, env=environment, timeout=TIME_LIMIT, preexec_fn=before
+                )
             except subprocess.TimeoutExpired as late:
                 return Ran(NO_END, late.stdout or b"", late.stderr or b"")
         return Ran(ran.returncode, ran.stdout, ran.stderr)
+
+
+def _small_stack() -> None:
+    resource.setrlimit(resource.RLIMIT_STACK, (STACK, STACK))
 
 
 def build_library(library: Path) -> None:
