@@ -3,7 +3,7 @@
 ghost use Rattle.array_maps.specs.Accesses.{EachElement};
 
 /// An operator that changes an element without telling what was there.
-#[derive(Clone, Copy, Debug, PartialEq, Eq)]
+#[derive(Clone, Copy, Debug, PartialEq)]
 pub enum Op {
     Add,
     Or,
@@ -14,7 +14,7 @@ pub enum Op {
 }
 
 /// A change of an element that tells what was there.
-#[derive(Clone, Copy, Debug, PartialEq, Eq)]
+#[derive(Clone, Copy)]
 pub enum Rmw {
     /// Applies an operator.
     Op(Op),
@@ -25,14 +25,14 @@ pub enum Rmw {
 }
 
 /// A half of an element: 4 of its 8 bytes.
-#[derive(Clone, Copy, Debug, PartialEq, Eq)]
+#[derive(Clone, Copy)]
 pub enum Half {
     Low,
     High,
 }
 
 /// What an access is of: a whole element, or a half of it.
-#[derive(Clone, Copy, Debug, PartialEq, Eq)]
+#[derive(Clone, Copy)]
 pub enum Part {
     Whole,
     Half(Half),

@@ -34,7 +34,7 @@ impl From<AllocError> for MapsError {
 }
 
 /// Array maps of 8-byte values. Elements are numbered on over all maps, map 0 first.
-#[derive(Debug, Drop)]
+#[derive(Drop)]
 pub struct Maps {
     sizes: Vec<u32>,
     words: Vec<u64>,

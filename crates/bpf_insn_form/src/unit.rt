@@ -4,7 +4,7 @@ use crate::insn::Insn;
 use std::marker::Model;
 
 /// A program with the maps that it declares. In contracts it is its sizes and instructions.
-#[derive(Debug, Drop)]
+#[derive(Drop)]
 pub struct Unit {
     /// The number of elements of each map, map 0 first.
     pub sizes: Vec<u32>,

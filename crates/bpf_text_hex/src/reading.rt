@@ -14,7 +14,7 @@ use std::alloc::Global;
 use std::marker::Model;
 
 /// What the hex form of a unit gives. In contracts it is its sizes and bytes.
-#[derive(Debug, Drop)]
+#[derive(Drop)]
 pub struct HexUnit {
     /// The number of elements of each map, map 0 first.
     pub sizes: Vec<u32>,

@@ -7,7 +7,7 @@ use crate::words::is_blank;
 use std::marker::Model;
 
 /// A line that isn't empty.
-#[derive(Clone, Copy, Debug, PartialEq, Eq)]
+#[derive(Clone, Copy)]
 pub struct Line<'a> {
     /// The line's number. A text's first line is line 1.
     pub number: u32,

@@ -7,7 +7,7 @@ ghost use Rattle.std.specs.List.{list_all};
 ghost use Rattle.bpf_text_lines.specs.Numbers.{is_numeral, is_negative, is_number, value_of, number_in};
 
 /// Why a word is no number of a field.
-#[derive(Clone, Copy, Debug, PartialEq, Eq)]
+#[derive(Clone, Copy)]
 pub enum NumberError {
     /// The word is no number: a number is `0` or digits without a zero in front, with a minus sign
     /// before it only where it isn't 0.

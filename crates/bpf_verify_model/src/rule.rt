@@ -4,7 +4,7 @@ ghost use Rattle.std.specs.Prelude.{◌≡◌};
 ghost use Rattle.bpf_verify_model.specs.RuleNumbers.{rule_number};
 
 /// A rule that a program breaks at a slot. Where several are broken, the least counts.
-#[derive(Clone, Copy, Debug, PartialEq, Eq)]
+#[derive(Clone, Copy, Debug, PartialEq)]
 pub enum Rule {
     /// V1: there is no slot.
     NoSlot,

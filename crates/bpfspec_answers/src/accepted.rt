@@ -8,7 +8,7 @@ ghost use Rattle.bpfspec_answers.specs.NumberedLines.{numbered_lines};
 use std::alloc::{AllocError, Global};
 
 /// A function of an accepted program.
-#[derive(Clone, Copy, Debug, PartialEq, Eq)]
+#[derive(Clone, Copy)]
 pub struct Function {
     /// The slot at which it starts.
     pub start: u32,

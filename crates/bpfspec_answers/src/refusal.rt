@@ -16,7 +16,7 @@ use std::alloc::{AllocError, Global};
 pub const MEMORY_LINE: &[u8] = b"refused memory\n";
 
 /// A section of an input.
-#[derive(Clone, Copy, Debug, PartialEq, Eq)]
+#[derive(Clone, Copy)]
 pub enum Section {
     /// The program and the sizes of its maps.
     Unit,
@@ -27,7 +27,7 @@ pub enum Section {
 }
 
 /// Why an input has no result.
-#[derive(Clone, Copy, Debug, PartialEq, Eq)]
+#[derive(Clone, Copy)]
 pub enum Refusal {
     /// A section is no text of its form.
     Text {

@@ -8,7 +8,7 @@ use std::alloc::{AllocError, AllocFailed};
 use thiserror::Error;
 
 /// How a unit is written.
-#[derive(Clone, Copy, Debug, PartialEq, Eq)]
+#[derive(Clone, Copy, Debug)]
 pub enum UnitForm {
     /// As assembler text.
     Assembler,
@@ -17,7 +17,7 @@ pub enum UnitForm {
 }
 
 /// What is done with an input.
-#[derive(Clone, Copy, Debug, PartialEq, Eq)]
+#[derive(Clone, Copy, Debug)]
 pub enum Mode {
     /// Tells whether a unit of this form is accepted.
     Verify {
@@ -42,7 +42,7 @@ pub enum Mode {
 }
 
 /// What a command line asks for.
-#[derive(Clone, Copy, Debug, PartialEq, Eq)]
+#[derive(Clone, Copy, Debug)]
 pub enum Job {
     /// To read the input in this mode and write the answer.
     Serve(Mode),
@@ -55,7 +55,7 @@ pub enum Job {
 }
 
 /// Why a command line asks for nothing.
-#[derive(Debug, Drop, PartialEq, Error)]
+#[derive(Debug, Drop, Error)]
 pub enum LineFault {
     /// The words are no command, or ask for help. The text says what is wrong with them, or what can
     /// be asked for.

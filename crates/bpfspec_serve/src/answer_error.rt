@@ -6,7 +6,7 @@ use bpfspec_answers::Refusal;
 use std::alloc::AllocError;
 
 /// Why an input has no result.
-#[derive(Clone, Copy, Debug, PartialEq, Eq)]
+#[derive(Clone, Copy)]
 pub enum AnswerError {
     /// It is refused.
     Refused(Refusal),

@@ -6,7 +6,7 @@ ghost use Rattle.bpfspec_serve.specs.ExitStatus.{exit_status};
 use crate::serving::Served;
 
 /// How the program ends.
-#[derive(Clone, Copy, Debug, PartialEq, Eq)]
+#[derive(Clone, Copy)]
 pub enum ProgramEnd {
     /// An input was served.
     Served(Served),

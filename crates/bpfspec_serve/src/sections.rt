@@ -8,7 +8,7 @@ ghost use Rattle.bpfspec_serve.specs.Sections.{whole_lines, is_mark, before_mark
 use bpf_text_lines::newline_at;
 
 /// A text up to the first line that is exactly `%%`, and the text behind that line.
-#[derive(Clone, Copy, Debug, PartialEq, Eq)]
+#[derive(Clone, Copy)]
 pub struct Parted<'a> {
     /// All of the text, where there is no such line.
     pub section: &'a str,

@@ -18,7 +18,7 @@ use std::alloc::{AllocError, Global};
 use std::thread::Threads;
 
 /// How an input was served.
-#[derive(Clone, Copy, Debug, PartialEq, Eq)]
+#[derive(Clone, Copy, Debug, PartialEq)]
 pub enum Served {
     /// Its result was written.
     Done,
@@ -33,7 +33,7 @@ pub enum Served {
 }
 
 /// An answer: its text, and how it is served once that is written.
-#[derive(Debug, Drop)]
+#[derive(Drop)]
 struct Answer {
     served: Served,
     text: String,

@@ -9,7 +9,7 @@ ghost use Rattle.std.specs.Prelude.{Option};
 use thiserror::Error;
 
 /// A read or a write failed.
-#[derive(Clone, Copy, Debug, PartialEq, Eq, Error)]
+#[derive(Clone, Copy, Debug, PartialEq, Error)]
 #[error("a read or a write failed")]
 pub struct DeviceFault;
 

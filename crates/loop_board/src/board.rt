@@ -21,7 +21,7 @@ const MOST_WORKERS: u32 = 16;
 const NO_POST: u32 = u32::MAX;
 
 /// What the seats of a board did, once all of them came back.
-#[derive(Clone, Copy, Debug, PartialEq, Eq)]
+#[derive(Clone, Copy, Debug, PartialEq)]
 pub struct Tally {
     /// How many blocks were drawn, 0 to 64: the numbers below it, each once. It is all blocks where a seat found none.
     pub claimed: u32,

@@ -3,7 +3,7 @@
 use thiserror::Error;
 
 /// Why `Board::new` or `Board::gather` refused.
-#[derive(Clone, Copy, Debug, PartialEq, Eq, Error)]
+#[derive(Clone, Copy, Debug, PartialEq, Error)]
 pub enum BoardError {
     /// B1: the blocks aren't 1 to 64, or the workers aren't 1 to 16.
     #[error("B1: a board has 1 to 64 blocks and 1 to 16 workers")]

@@ -1,7 +1,7 @@
 //! What can be wrong with a split and with the blocks that were run of it.
 
 /// Why bounds are no split of a number of iterations.
-#[derive(Clone, Copy, Debug, PartialEq, Eq)]
+#[derive(Clone, Copy, Debug)]
 pub enum SplitFault {
     /// S1: a bound is below the one before.
     Falling,
@@ -12,7 +12,7 @@ pub enum SplitFault {
 }
 
 /// Why blocks can't be gathered.
-#[derive(Clone, Copy, Debug, PartialEq, Eq)]
+#[derive(Clone, Copy, Debug)]
 pub enum GatherFault {
     /// G1: a block of the split is missing that starts at or before the least break of those that are
     /// there.

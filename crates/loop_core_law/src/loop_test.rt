@@ -2,7 +2,7 @@
 
 /// Which pairs of iterations make an element conflict, where one of the two writes it and the other
 /// has an exposed read of it.
-#[derive(Clone, Copy, Debug, PartialEq, Eq)]
+#[derive(Clone, Copy, Debug, PartialEq)]
 pub enum Test {
     /// Any two different iterations: this project's variant of the LRPD test.
     Lrpd,

@@ -1,7 +1,7 @@
 //! What is told of a loop call.
 
 /// How a loop call was carried out.
-#[derive(Clone, Copy, Debug, PartialEq, Eq)]
+#[derive(Clone, Copy, Debug, PartialEq)]
 pub enum Verdict {
     /// Its iterations ran in parallel and were committed.
     Parallel,
@@ -14,7 +14,7 @@ pub enum Verdict {
 }
 
 /// A loop call that main made.
-#[derive(Clone, Copy, Debug, PartialEq, Eq)]
+#[derive(Clone, Copy, Debug, PartialEq)]
 pub struct LoopReport {
     /// The slot of the call.
     pub slot: u32,

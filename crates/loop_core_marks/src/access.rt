@@ -3,7 +3,7 @@
 use array_maps::Op;
 
 /// The kind of one access of an element.
-#[derive(Clone, Copy, Debug, PartialEq, Eq)]
+#[derive(Clone, Copy)]
 pub enum Access {
     /// It reads the element.
     Read,

@@ -4,7 +4,7 @@ use thiserror::Error;
 
 /// Why a list of events is no schedule. It is shown as the number that refusals print; where several
 /// faults are there, the first event counts, and there the least number.
-#[derive(Clone, Copy, Debug, PartialEq, Eq, Error)]
+#[derive(Clone, Copy, Debug, PartialEq, Error)]
 pub enum ReplayFault {
     /// The event at this index names a worker above 15.
     #[error("E1 at event {event}")]

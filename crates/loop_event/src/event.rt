@@ -1,7 +1,7 @@
 //! What the workers of a loop do.
 
 /// One atomic step of a worker.
-#[derive(Clone, Copy, Debug, PartialEq, Eq)]
+#[derive(Clone, Copy, Debug, PartialEq)]
 pub enum EventKind {
     /// Takes the next block.
     Claim,
@@ -16,7 +16,7 @@ pub enum EventKind {
 }
 
 /// A step, and the worker that makes it.
-#[derive(Clone, Copy, Debug, PartialEq, Eq)]
+#[derive(Clone, Copy, Debug, PartialEq)]
 pub struct Event {
     /// What is done.
     pub kind: EventKind,

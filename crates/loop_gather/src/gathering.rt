@@ -27,7 +27,7 @@ use std::alloc::{AllocError, Global};
 use thiserror::Error;
 
 /// Why blocks aren't gathered.
-#[derive(Debug, Drop, PartialEq, Error)]
+#[derive(Debug, Drop, Error)]
 pub enum GatherError {
     /// The blocks have a fault.
     #[error("{0:?}")]

@@ -14,7 +14,7 @@ use loop_split::{Split, is_late, lesser};
 pub(crate) const MOST_BLOCKS: usize = 64;
 
 /// The blocks that count.
-#[derive(Debug, Drop)]
+#[derive(Drop)]
 pub struct Counting {
     /// The least break of all blocks, which is the loop's.
     pub least: Option<u32>,

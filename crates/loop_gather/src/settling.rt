@@ -13,7 +13,7 @@ use loop_core_order::in_order;
 use std::alloc::{AllocError, Global};
 
 /// What a loop comes to.
-#[derive(Debug, Drop)]
+#[derive(Drop)]
 pub struct LoopOutcome {
     /// Whether it passed the test.
     pub verdict: Verdict,

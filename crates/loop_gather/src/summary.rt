@@ -8,7 +8,7 @@ use loop_block::Block;
 use std::alloc::{AllocError, Global};
 
 /// What gathering asks of a block that was run.
-#[derive(Clone, Copy, Debug, PartialEq, Eq)]
+#[derive(Clone, Copy)]
 pub struct Summary {
     /// Its number in the split.
     pub number: u32,

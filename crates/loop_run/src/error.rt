@@ -4,7 +4,7 @@ use std::alloc::AllocError;
 use thiserror::Error;
 
 /// Why a loop or a program wasn't run. The maps are as before.
-#[derive(Debug, Drop, PartialEq, Error)]
+#[derive(Debug, Drop, Error)]
 pub enum RunError {
     /// P1: the maps' sizes differ from the program's.
     #[error("P1")]

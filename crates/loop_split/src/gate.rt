@@ -18,7 +18,7 @@ pub trait Gate: Sync {
 }
 
 /// A gate that does nothing.
-#[derive(Clone, Copy, Debug)]
+#[derive(Clone, Copy)]
 pub struct NoGate;
 
 impl Gate for NoGate {

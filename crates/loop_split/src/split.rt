@@ -14,7 +14,7 @@ const MOST_BOUNDS: usize = 65;
 
 /// A split of a loop's iterations into 1 to 64 blocks, which may be empty. Contracts see its bounds: block
 /// k goes from bound k up to, and not with, bound k + 1.
-#[derive(Debug, Drop)]
+#[derive(Drop)]
 pub struct Split {
     bounds: ArrayVec<u32, MOST_BOUNDS>,
 }

@@ -1,7 +1,7 @@
 //! What one worker does, and what the workers share.
 
 /// What a worker does.
-#[derive(Clone, Copy, Debug, PartialEq, Eq)]
+#[derive(Clone, Copy)]
 pub enum Worker {
     /// It may claim a block.
     Idle,
@@ -18,7 +18,7 @@ pub enum Worker {
 }
 
 /// What the workers share.
-#[derive(Clone, Copy, Debug, PartialEq, Eq)]
+#[derive(Clone, Copy)]
 pub struct Shared {
     /// The next block to be claimed, 0 to the number of blocks.
     pub next: u32,
@@ -27,7 +27,7 @@ pub struct Shared {
 }
 
 /// An iteration that a worker is about to run.
-#[derive(Clone, Copy, Debug, PartialEq, Eq)]
+#[derive(Clone, Copy)]
 pub struct Turn {
     /// The worker's number, 0 to 15.
     pub worker: u8,
@@ -38,7 +38,7 @@ pub struct Turn {
 }
 
 /// What came of an event.
-#[derive(Clone, Copy, Debug, PartialEq, Eq)]
+#[derive(Clone, Copy)]
 pub enum Step {
     /// It was done.
     Done,

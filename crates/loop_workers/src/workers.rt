@@ -18,7 +18,7 @@ use std::marker::Model;
 const MOST_WORKERS: usize = 16;
 
 /// Sixteen workers that share the blocks of a split, while a list of events goes by. They take no memory.
-#[derive(Debug, Drop)]
+#[derive(Drop)]
 pub struct Workers {
     shared: Shared,
     workers: [Worker; MOST_WORKERS],

@@ -7,7 +7,7 @@ use crate::reduction::Reduction;
 use array_maps::Op;
 
 /// Whether the reduces of an element are combined.
-#[derive(Clone, Copy, Debug, PartialEq, Eq)]
+#[derive(Clone, Copy)]
 pub(crate) enum Combining {
     /// There was no access.
     Untouched,
@@ -18,7 +18,7 @@ pub(crate) enum Combining {
 }
 
 /// What is kept of one element, in 24 bytes.
-#[derive(Clone, Copy, Debug, PartialEq, Eq)]
+#[derive(Clone, Copy)]
 pub(crate) struct Cell {
     /// What the last iteration that writes the element left, where there is one.
     pub(crate) value: u64,

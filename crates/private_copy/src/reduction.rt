@@ -6,7 +6,7 @@ ghost use Rattle.private_copy.specs.Reductions.{reduced, combination};
 use array_maps::{Op, combine};
 
 /// What was done at an element, as far as its reduces go.
-#[derive(Clone, Copy, Debug, PartialEq, Eq)]
+#[derive(Clone, Copy)]
 pub enum Reduction {
     /// Nothing.
     Untouched,

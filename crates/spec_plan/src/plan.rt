@@ -10,7 +10,7 @@ const MOST_WORKERS: u32 = 16;
 const MOST_BLOCKS: u32 = 64;
 
 /// How the loops of a program are run.
-#[derive(Clone, Copy, Debug, PartialEq, Eq)]
+#[derive(Clone, Copy, Debug)]
 pub struct Plan {
     /// The number of workers, 1 to 16.
     pub workers: u32,

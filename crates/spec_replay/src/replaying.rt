@@ -18,7 +18,7 @@ use std::alloc::Global;
 use thiserror::Error;
 
 /// A loop that was replayed.
-#[derive(Debug, Drop)]
+#[derive(Drop)]
 pub struct Replayed {
     /// Its number among the loop calls that main made, refused ones included, from 0.
     pub number: usize,
@@ -29,7 +29,7 @@ pub struct Replayed {
 }
 
 /// Why there is no loop to replay, or why it can't be done so.
-#[derive(Clone, Copy, Debug, PartialEq, Eq, Error)]
+#[derive(Clone, Copy, Debug, Error)]
 pub enum ReplayRefusal {
     /// Main makes no valid loop call.
     #[error("no loop")]
@@ -43,7 +43,7 @@ pub enum ReplayRefusal {
 }
 
 /// Why nothing was replayed.
-#[derive(Debug, Drop, PartialEq, Error)]
+#[derive(Debug, Drop, Error)]
 pub enum NoReplay {
     /// It is refused.
     #[error("{0}")]

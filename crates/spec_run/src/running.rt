@@ -13,7 +13,7 @@ use loop_run::RunError;
 use std::alloc::{AllocError, Global};
 
 /// What a program did.
-#[derive(Debug, Drop)]
+#[derive(Drop)]
 pub struct Report {
     /// The program's return value.
     pub ret: u64,

@@ -39,7 +39,7 @@ impl<R> Env for Started<'_, R> {
 }
 
 /// What a run of the program left.
-#[derive(Debug, Drop)]
+#[derive(Drop)]
 pub struct Ran {
     pub status: u8,
     pub output: Vec<u8>,

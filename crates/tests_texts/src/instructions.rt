@@ -58,10 +58,10 @@ fn one_map(alloc: Global, lines: &str) -> Result<String, Fail> {
     Ok(format!(in alloc; "maps 1\n{lines}\n")?)
 }
 
-/// Asserts that instructions have these bytes.
+/// Asserts that instructions have these bytes, and those that are read from the bytes too.
 fn are_coded(rt: &impl Abort, alloc: Global, insns: &[Insn], bytes: &[u8]) -> Result<(), Fail> {
     assert_eq!(rt; encode(alloc, insns)?.as_slice(), bytes);
-    assert_eq!(rt; decode(alloc, bytes)?.as_slice(), insns);
+    assert_eq!(rt; encode(alloc, &decode(alloc, bytes)?)?.as_slice(), bytes);
     Ok(())
 }
 

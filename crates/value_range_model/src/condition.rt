@@ -10,7 +10,7 @@ use bpf_insn_form::{Compare, Width};
 use bpf_insn_words::compare_words;
 
 /// What is known on one way of a conditional jump.
-#[derive(Clone, Copy, Debug, PartialEq, Eq)]
+#[derive(Clone, Copy)]
 pub enum Condition {
     /// The comparison holds.
     Holds(Compare),

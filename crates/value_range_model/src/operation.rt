@@ -3,7 +3,7 @@
 use bpf_insn_form::{AluOp, ByteOrder, EndianBits, MovsxBits};
 
 /// An operation on two operands, a and b.
-#[derive(Clone, Copy, Debug, PartialEq, Eq)]
+#[derive(Clone, Copy)]
 pub enum Operation {
     /// An operator; a move takes b alone.
     Alu(AluOp),

@@ -8,7 +8,7 @@ use bpf_insn_form::Width;
 use std::marker::Model;
 
 /// The words from a least to a greatest that are multiples of a power of two.
-#[derive(Clone, Copy, Debug, PartialEq, Eq)]
+#[derive(Clone, Copy, Debug, PartialEq)]
 pub struct Range {
     lo: u64,
     hi: u64,
