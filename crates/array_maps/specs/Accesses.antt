@@ -1,9 +1,9 @@
 -- What a program does to the elements of its maps. The maps are one list of words: the elements of map 0, then
 -- those of map 1, and so on.
 use Rattle.std.specs.Prelude.{◌≡◌, ℕ, ◌<◌, ◌==◌, if◌then◌else◌, List, [], ◌∷◌, length, slice_index, slice_set}
-use Rattle.bpf_insn_form.specs.declared.insn.Width.TheVariants.{W64}
-use Rattle.bpf_insn_form.specs.declared.insn.AluOp.{AluOp}
-use Rattle.bpf_insn_words.specs.Words.{alu}
+use Rattle.bpf_insn_types.specs.declared.insn.Width.TheVariants.{W64}
+use Rattle.bpf_insn_types.specs.declared.insn.AluOp.{AluOp}
+use Rattle.bpf_insn_alu.specs.Words.{alu}
 use Rattle.array_maps.specs.declared.access.Op.{Op}
 use Rattle.array_maps.specs.declared.access.Op.TheVariants.{Add, Or, And, Xor, AddH}
 use Rattle.array_maps.specs.declared.access.Rmw.{Rmw}

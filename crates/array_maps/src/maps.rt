@@ -2,11 +2,11 @@
 
 ghost use Rattle.std.specs.Prelude.{◌≡◌, ◌≢◌, ℕ, ◌+◌, ◌<◌, ◌≤◌, ◌↔◌, length, slice_index, slice_range, slice_set, IfOk, OnOk, IfSome, IfNone, IsErrOf, false};
 ghost use Rattle.std.specs.List.{concat, sum};
-ghost use Rattle.bpf_insn_form.specs.Limits.{AreSizes, sizes_fit};
+ghost use Rattle.bpf_insn_types.specs.Limits.{AreSizes, sizes_fit};
 ghost use Rattle.array_maps.specs.MapList.{MapList, AreWords, base_of, zero_maps, lists, lengths, maps_of};
 
 use crate::words::are_words;
-use bpf_insn_form::{MAX_ELEMENTS, elements_of};
+use bpf_insn_types::{MAX_ELEMENTS, elements_of};
 use std::alloc::{AllocError, Global};
 use std::marker::Model;
 use thiserror::Error;

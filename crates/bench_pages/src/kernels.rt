@@ -1,7 +1,7 @@
 //! Lane kernels on planes of 65,536 elements.
 
 use lane_planes::{conflicts, count_bits, merge};
-use loop_core_law::Test;
+use loop_core_model::Test;
 use shadow_marks::Planes;
 use std::alloc::{AllocError, Global};
 

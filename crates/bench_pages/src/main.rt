@@ -9,7 +9,7 @@ mod rounds;
 ghost use Rattle.std.specs.Prelude.{◌<◌};
 
 use kernels::{judge_often, merge_often};
-use loop_core_law::Test;
+use loop_core_model::Test;
 use rounds::{Pages, round};
 use std::alloc::{AllocError, Global};
 use std::time::Instant;

@@ -5,7 +5,7 @@ ghost use Rattle.private_copy.specs.Shown.{copy_of};
 ghost use Rattle.bench_pages.specs.Resting.{Rests};
 
 use array_maps::{Maps, Store};
-use loop_core_law::Test;
+use loop_core_model::Test;
 use private_copy::Private;
 use shadow_marks::Planes;
 use std::alloc::{AllocError, Global};

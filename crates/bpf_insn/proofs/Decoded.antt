@@ -2,20 +2,20 @@
 use Rattle.std.proofs.Common.{◌≡◌, ℕ, zero, suc, ◌+◌, ◌-◌, ◌*◌, ◌/◌, ◌%◌, ◌≤◌, ◌<◌, cond, ltb, List, [], ◌∷◌, ◌++◌, length, drop, take, Option, Some, None, Result, Ok, Err, refl, sym, ap, subst, ◌∙◌, append_assoc, length-drop, arith, inl, inr}
 use Rattle.std.proofs.lemmas.List.{append-nil, drop-drop, nil_from_length, get_or-drop, take_all}
 use Rattle.std.proofs.lemmas.Bool.{le-ltb, lt-ltb, cases_lt}
-use Rattle.bpf_insn_form.specs.declared.insn.Insn.{Insn}
+use Rattle.bpf_insn_types.specs.declared.insn.Insn.{Insn}
 use Rattle.bpf_insn.specs.declared.slot.Slot.{Slot}
 use Rattle.bpf_insn.specs.declared.codec_error.CodecFault.{CodecFault}
 use Rattle.bpf_insn.specs.declared.codec_error.CodecFault.TheVariants as faults
 use Rattle.bpf_insn.specs.declared.codec_error.CodecError.{CodecError}
 use Rattle.bpf_insn.specs.declared.codec_error.CodecError.TheVariants.{Refused, Memory}
-use Rattle.bpf_insn_form.specs.Slots.{slots_of}
+use Rattle.bpf_insn_types.specs.Slots.{slots_of}
 use Rattle.bpf_insn.specs.SlotBytes.{slot_at}
 use Rattle.bpf_insn.specs.Reading.{insn_of_slot, front_slot, first_insn, FailsFirst, slots_in, first, more_of, before, ended, insns_in, reading}
 use Rattle.std.specs.Prelude.{IfOk}
 use Rattle.std.specs.Global.{Vec}
-use Rattle.bpf_insn_form.specs.Outcome.{Refuses, Gives}
+use Rattle.bpf_insn_types.specs.Outcome.{Refuses, Gives}
 use Rattle.bpf_insn.specs.CodecRefusal.{codec_refusal}
-use Rattle.bpf_insn_form.specs.Values.{AreInsns}
+use Rattle.bpf_insn_types.specs.Values.{AreInsns}
 use Rattle.bpf_insn.specs.Spelling.{program_spelling}
 use Rattle.bpf_insn.proofs.Spelled.{Reads}
 use Rattle.bpf_insn.proofs.SlotReads.{slot_reads}

@@ -2,14 +2,14 @@
 use Rattle.std.proofs.Common.{◌≡◌, ℕ, zero, suc, ◌<◌, Bool, true, false, Option, Some, None, refl, sym, subst, arith, eqb, inl, inr}
 use Rattle.std.specs.Prelude.{IfSome, ◌&&◌}
 use Rattle.std.proofs.lemmas.Bool.{eqb-true, cases_eq}
-use Rattle.bpf_insn_form.specs.declared.insn.Width.{Width}
-use Rattle.bpf_insn_form.specs.declared.insn.Width.TheVariants.{W32, W64}
-use Rattle.bpf_insn_form.specs.declared.insn.Size.{Size}
-use Rattle.bpf_insn_form.specs.declared.insn.Size.TheVariants.{B, H, W, Dw}
-use Rattle.bpf_insn_form.specs.declared.insn.ByteOrder.{ByteOrder}
-use Rattle.bpf_insn_form.specs.declared.insn.ByteOrder.TheVariants as order
-use Rattle.bpf_insn_form.specs.declared.insn.Compare.{Compare}
-use Rattle.bpf_insn_form.specs.declared.insn.Compare.TheVariants as compare
+use Rattle.bpf_insn_types.specs.declared.insn.Width.{Width}
+use Rattle.bpf_insn_types.specs.declared.insn.Width.TheVariants.{W32, W64}
+use Rattle.bpf_insn_types.specs.declared.insn.Size.{Size}
+use Rattle.bpf_insn_types.specs.declared.insn.Size.TheVariants.{B, H, W, Dw}
+use Rattle.bpf_insn_types.specs.declared.insn.ByteOrder.{ByteOrder}
+use Rattle.bpf_insn_types.specs.declared.insn.ByteOrder.TheVariants as order
+use Rattle.bpf_insn_types.specs.declared.insn.Compare.{Compare}
+use Rattle.bpf_insn_types.specs.declared.insn.Compare.TheVariants as compare
 use Rattle.bpf_insn.specs.declared.form.AluCode.{AluCode}
 use Rattle.bpf_insn.specs.declared.form.AluCode.TheVariants as alu
 use Rattle.bpf_insn.specs.declared.form.Form.{Form}

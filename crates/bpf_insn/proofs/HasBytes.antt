@@ -2,26 +2,26 @@
 use Rattle.std.proofs.Common.{ℕ, zero, suc, ◌^◌, ◌≤◌, ◌<◌, Bool, true, false, arith}
 use Rattle.std.specs.Prelude.{IfOk, ℤ, pos, negsuc, FitsSigned}
 use Rattle.std.specs.Int.{w16, w32}
-use Rattle.bpf_insn_form.specs.declared.insn.Width.TheVariants.{W32, W64}
-use Rattle.bpf_insn_form.specs.declared.insn.Size.TheVariants as size
-use Rattle.bpf_insn_form.specs.declared.insn.EndianBits.{EndianBits}
-use Rattle.bpf_insn_form.specs.declared.insn.EndianBits.TheVariants as endian
-use Rattle.bpf_insn_form.specs.declared.insn.MovsxBits.TheVariants as movsx
-use Rattle.bpf_insn_form.specs.declared.insn.AluOp.{AluOp}
-use Rattle.bpf_insn_form.specs.declared.insn.AluOp.TheVariants as op
-use Rattle.bpf_insn_form.specs.declared.insn.Operand.TheVariants.{Imm, Reg}
-use Rattle.bpf_insn_form.specs.declared.insn.SimpleOp.TheVariants as simple
-use Rattle.bpf_insn_form.specs.declared.insn.AtomicOp.{AtomicOp}
-use Rattle.bpf_insn_form.specs.declared.insn.AtomicOp.TheVariants.{Simple, Fetch, Xchg, Cmpxchg}
-use Rattle.bpf_insn_form.specs.declared.insn.ImmKind.{ImmKind}
-use Rattle.bpf_insn_form.specs.declared.insn.Insn.{Insn}
-use Rattle.bpf_insn_form.specs.declared.insn.Insn.TheVariants as insn
+use Rattle.bpf_insn_types.specs.declared.insn.Width.TheVariants.{W32, W64}
+use Rattle.bpf_insn_types.specs.declared.insn.Size.TheVariants as size
+use Rattle.bpf_insn_types.specs.declared.insn.EndianBits.{EndianBits}
+use Rattle.bpf_insn_types.specs.declared.insn.EndianBits.TheVariants as endian
+use Rattle.bpf_insn_types.specs.declared.insn.MovsxBits.TheVariants as movsx
+use Rattle.bpf_insn_types.specs.declared.insn.AluOp.{AluOp}
+use Rattle.bpf_insn_types.specs.declared.insn.AluOp.TheVariants as op
+use Rattle.bpf_insn_types.specs.declared.insn.Operand.TheVariants.{Imm, Reg}
+use Rattle.bpf_insn_types.specs.declared.insn.SimpleOp.TheVariants as simple
+use Rattle.bpf_insn_types.specs.declared.insn.AtomicOp.{AtomicOp}
+use Rattle.bpf_insn_types.specs.declared.insn.AtomicOp.TheVariants.{Simple, Fetch, Xchg, Cmpxchg}
+use Rattle.bpf_insn_types.specs.declared.insn.ImmKind.{ImmKind}
+use Rattle.bpf_insn_types.specs.declared.insn.Insn.{Insn}
+use Rattle.bpf_insn_types.specs.declared.insn.Insn.TheVariants as insn
 use Rattle.bpf_insn.specs.declared.form.AluCode.TheVariants as alu
 use Rattle.bpf_insn.specs.declared.form.Form.{Form}
 use Rattle.bpf_insn.specs.declared.form.Form.TheVariants as form
 use Rattle.bpf_insn.specs.SlotBytes.{slot}
 use Rattle.bpf_insn.specs.Spelling.{op_offset, endian_imm, callee_src, atomic_imm, kind_src, has_next, second, both, two, spelling}
-use Rattle.bpf_insn_form.specs.Values.{InsnFits}
+use Rattle.bpf_insn_types.specs.Values.{InsnFits}
 use Rattle.bpf_insn.proofs.Bytes.{HasBytes, HaveBytes}
 use Rattle.bpf_insn.proofs.ReadsBack.{callee_src-le, kind_src-le}
 

@@ -2,25 +2,25 @@
 use Rattle.std.proofs.Common.{◌≡◌, ℕ, zero, suc, ◌≤◌, Bool, true, false, cond, ltb, List, [], ◌∷◌, Option, Some, Result, Ok, Err, refl, ap, ◌∙◌, arith}
 use Rattle.std.specs.Prelude.{◌||◌, ℤ, pos, negsuc}
 use Rattle.std.proofs.lemmas.Bool.{le-ltb}
-use Rattle.bpf_insn_form.specs.declared.insn.Width.{Width}
-use Rattle.bpf_insn_form.specs.declared.insn.Width.TheVariants.{W32, W64}
-use Rattle.bpf_insn_form.specs.declared.insn.Size.TheVariants as size
-use Rattle.bpf_insn_form.specs.declared.insn.ByteOrder.{ByteOrder}
-use Rattle.bpf_insn_form.specs.declared.insn.EndianBits.{EndianBits}
-use Rattle.bpf_insn_form.specs.declared.insn.EndianBits.TheVariants as endian
-use Rattle.bpf_insn_form.specs.declared.insn.MovsxBits.TheVariants as movsx
-use Rattle.bpf_insn_form.specs.declared.insn.AluOp.{AluOp}
-use Rattle.bpf_insn_form.specs.declared.insn.AluOp.TheVariants as op
-use Rattle.bpf_insn_form.specs.declared.insn.Operand.TheVariants.{Imm, Reg}
-use Rattle.bpf_insn_form.specs.declared.insn.Callee.{Callee}
-use Rattle.bpf_insn_form.specs.declared.insn.Callee.TheVariants.{Helper, Local, Btf}
-use Rattle.bpf_insn_form.specs.declared.insn.SimpleOp.TheVariants as simple
-use Rattle.bpf_insn_form.specs.declared.insn.AtomicOp.{AtomicOp}
-use Rattle.bpf_insn_form.specs.declared.insn.AtomicOp.TheVariants.{Simple, Fetch, Xchg, Cmpxchg}
-use Rattle.bpf_insn_form.specs.declared.insn.ImmKind.{ImmKind}
-use Rattle.bpf_insn_form.specs.declared.insn.ImmKind.TheVariants as kind
-use Rattle.bpf_insn_form.specs.declared.insn.Insn.{Insn}
-use Rattle.bpf_insn_form.specs.declared.insn.Insn.TheVariants as insn
+use Rattle.bpf_insn_types.specs.declared.insn.Width.{Width}
+use Rattle.bpf_insn_types.specs.declared.insn.Width.TheVariants.{W32, W64}
+use Rattle.bpf_insn_types.specs.declared.insn.Size.TheVariants as size
+use Rattle.bpf_insn_types.specs.declared.insn.ByteOrder.{ByteOrder}
+use Rattle.bpf_insn_types.specs.declared.insn.EndianBits.{EndianBits}
+use Rattle.bpf_insn_types.specs.declared.insn.EndianBits.TheVariants as endian
+use Rattle.bpf_insn_types.specs.declared.insn.MovsxBits.TheVariants as movsx
+use Rattle.bpf_insn_types.specs.declared.insn.AluOp.{AluOp}
+use Rattle.bpf_insn_types.specs.declared.insn.AluOp.TheVariants as op
+use Rattle.bpf_insn_types.specs.declared.insn.Operand.TheVariants.{Imm, Reg}
+use Rattle.bpf_insn_types.specs.declared.insn.Callee.{Callee}
+use Rattle.bpf_insn_types.specs.declared.insn.Callee.TheVariants.{Helper, Local, Btf}
+use Rattle.bpf_insn_types.specs.declared.insn.SimpleOp.TheVariants as simple
+use Rattle.bpf_insn_types.specs.declared.insn.AtomicOp.{AtomicOp}
+use Rattle.bpf_insn_types.specs.declared.insn.AtomicOp.TheVariants.{Simple, Fetch, Xchg, Cmpxchg}
+use Rattle.bpf_insn_types.specs.declared.insn.ImmKind.{ImmKind}
+use Rattle.bpf_insn_types.specs.declared.insn.ImmKind.TheVariants as kind
+use Rattle.bpf_insn_types.specs.declared.insn.Insn.{Insn}
+use Rattle.bpf_insn_types.specs.declared.insn.Insn.TheVariants as insn
 use Rattle.bpf_insn.specs.declared.form.AluCode.TheVariants as alu
 use Rattle.bpf_insn.specs.declared.form.Form.{Form}
 use Rattle.bpf_insn.specs.declared.form.Form.TheVariants as form
@@ -30,7 +30,7 @@ use Rattle.bpf_insn.specs.declared.codec_error.CodecFault.TheVariants as faults
 use Rattle.bpf_insn.specs.Opcode.{opcode, form_at}
 use Rattle.bpf_insn.specs.SlotBytes.{slot}
 use Rattle.bpf_insn.specs.Spelling.{code_of, op_offset, endian_imm, callee_src, atomic_imm, kind_src, has_next, second, two, spelling}
-use Rattle.bpf_insn_form.specs.Values.{InsnFits}
+use Rattle.bpf_insn_types.specs.Values.{InsnFits}
 use Rattle.bpf_insn.specs.Reading.{unused_are_zero, op_at, alu_reg, mov_at, endian_at, call_at, atomic_at, kind_at, load_imm_at, insn_of_form, tested, insn_of_slot}
 use Rattle.bpf_insn.proofs.Forms.{form_at-alu_imm, form_at-alu_reg, form_at-jump_imm, form_at-jump_reg, form_at-neg, form_at-endian, form_at-load, form_at-store_imm, form_at-store, form_at-atomic}
 

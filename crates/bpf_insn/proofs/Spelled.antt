@@ -3,15 +3,15 @@ use Rattle.std.proofs.Common.{◌≡◌, ℕ, ◌≤◌, Bool, true, false, cond
 use Rattle.std.specs.Prelude.{IfOk, IfSome, ◌&&◌, ◌||◌, not, ℤ, pos, negsuc, FitsSigned}
 use Rattle.std.specs.Int.{w16, w32}
 use Rattle.std.proofs.lemmas.Bool.{eqb-true}
-use Rattle.bpf_insn_form.specs.declared.insn.Width.{Width}
-use Rattle.bpf_insn_form.specs.declared.insn.Width.TheVariants.{W32, W64}
-use Rattle.bpf_insn_form.specs.declared.insn.MovsxBits.TheVariants as movsx
-use Rattle.bpf_insn_form.specs.declared.insn.AluOp.{AluOp}
-use Rattle.bpf_insn_form.specs.declared.insn.AluOp.TheVariants as op
-use Rattle.bpf_insn_form.specs.declared.insn.Operand.{Operand}
-use Rattle.bpf_insn_form.specs.declared.insn.Operand.TheVariants.{Imm, Reg}
-use Rattle.bpf_insn_form.specs.declared.insn.Insn.{Insn}
-use Rattle.bpf_insn_form.specs.declared.insn.Insn.TheVariants as insn
+use Rattle.bpf_insn_types.specs.declared.insn.Width.{Width}
+use Rattle.bpf_insn_types.specs.declared.insn.Width.TheVariants.{W32, W64}
+use Rattle.bpf_insn_types.specs.declared.insn.MovsxBits.TheVariants as movsx
+use Rattle.bpf_insn_types.specs.declared.insn.AluOp.{AluOp}
+use Rattle.bpf_insn_types.specs.declared.insn.AluOp.TheVariants as op
+use Rattle.bpf_insn_types.specs.declared.insn.Operand.{Operand}
+use Rattle.bpf_insn_types.specs.declared.insn.Operand.TheVariants.{Imm, Reg}
+use Rattle.bpf_insn_types.specs.declared.insn.Insn.{Insn}
+use Rattle.bpf_insn_types.specs.declared.insn.Insn.TheVariants as insn
 use Rattle.bpf_insn.specs.declared.form.AluCode.{AluCode}
 use Rattle.bpf_insn.specs.declared.form.AluCode.TheVariants as alu
 use Rattle.bpf_insn.specs.declared.form.Form.{Form}
@@ -22,7 +22,7 @@ use Rattle.bpf_insn.specs.declared.codec_error.CodecFault.TheVariants as faults
 use Rattle.bpf_insn.specs.Opcode.{opcode, form_at}
 use Rattle.bpf_insn.specs.SlotBytes.{slot}
 use Rattle.bpf_insn.specs.Spelling.{code_of, op_offset, one, spelling}
-use Rattle.bpf_insn_form.specs.Values.{InsnFits}
+use Rattle.bpf_insn_types.specs.Values.{InsnFits}
 use Rattle.bpf_insn.specs.Reading.{is, uses_dst, uses_src, uses_offset, uses_imm, has_signed, signed_at, op_at, alu_insn, movsx_32, mov_at}
 
 -- the signed fields of a slot fit

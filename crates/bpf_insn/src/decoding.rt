@@ -1,20 +1,20 @@
 //! Bytes to instructions.
 
 ghost use Rattle.std.specs.Prelude.{◌≡◌, ◌≤◌, ◌<◌, ◌*◌, List, length, drop, ◌++◌, ◌∷◌, [], IfOk, IfErr, OnOk, MatchResult};
-ghost use Rattle.bpf_insn_form.specs.Slots.{slots_of};
+ghost use Rattle.bpf_insn_types.specs.Slots.{slots_of};
 ghost use Rattle.bpf_insn.specs.Reading.{signed_at, op_at, alu_insn, mov_at, alu_reg, endian_at, call_at, atomic_at, atomic_insn, kind_at, is_second, load_imm_at, insn_of_form, insn_of_slot, front_slot, first_insn, FailsFirst, reading};
-ghost use Rattle.bpf_insn_form.specs.Outcome.{Gives};
+ghost use Rattle.bpf_insn_types.specs.Outcome.{Gives};
 ghost use Rattle.bpf_insn.specs.CodecRefusal.{codec_refusal};
-ghost use Rattle.bpf_insn_form.specs.Values.{AreInsns};
+ghost use Rattle.bpf_insn_types.specs.Values.{AreInsns};
 ghost use Rattle.bpf_insn.specs.Spelling.{program_spelling};
-ghost use Rattle.bpf_insn_form.specs.declared.insn.Insn.{Insn};
+ghost use Rattle.bpf_insn_types.specs.declared.insn.Insn.{Insn};
 
 use crate::codec_error::{CodecError, CodecFault};
 use crate::encoding::has_next_imm;
 use crate::fields::only_its_fields;
 use crate::form::{AluCode, Form, form_of};
 use crate::slot::Slot;
-use bpf_insn_form::{
+use bpf_insn_types::{
     AluOp, AtomicOp, ByteOrder, Callee, EndianBits, ImmKind, Insn, MovsxBits, Operand, Reg,
     SimpleOp, Width, slots,
 };

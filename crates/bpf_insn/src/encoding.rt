@@ -3,13 +3,13 @@
 ghost use Rattle.std.specs.Prelude.{◌≡◌, ◌≤◌, ◌∷◌, [], MatchResult, IfOk, Some};
 ghost use Rattle.bpf_insn.specs.SlotBytes.{slot, SlotFits};
 ghost use Rattle.bpf_insn.specs.Spelling.{code_of, op_offset, movsx_offset, endian_imm, callee_src, atomic_imm, kind_src, has_next, two, spelling, spelled_slots, SpelledFits, Appends, program_spelling};
-ghost use Rattle.bpf_insn_form.specs.Outcome.{Gives};
+ghost use Rattle.bpf_insn_types.specs.Outcome.{Gives};
 ghost use Rattle.bpf_insn.specs.CodecRefusal.{codec_refusal};
 
 use crate::codec_error::{CodecError, CodecFault};
 use crate::form::{AluCode, Form};
 use crate::slot::Slot;
-use bpf_insn_form::{
+use bpf_insn_types::{
     AluOp, AtomicOp, Callee, Compare, EndianBits, ImmKind, Insn, MovsxBits, Operand, SimpleOp,
     Size, Width,
 };

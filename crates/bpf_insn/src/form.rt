@@ -3,7 +3,7 @@
 ghost use Rattle.std.specs.Prelude.{◌≡◌, ◌/◌, ◌%◌, ◌≤◌};
 ghost use Rattle.bpf_insn.specs.Opcode.{alu_code, alu_class, jump_code, jump_class, size_bits, opcode, alu_code_at, compare_at, size_at, alu_form, jump_form, load_form, store_imm_form, store_form, form_at};
 
-use bpf_insn_form::{ByteOrder, Compare, Size, Width};
+use bpf_insn_types::{ByteOrder, Compare, Size, Width};
 
 /// The operation code of an arithmetic opcode (RFC 9669, section 4.1).
 #[derive(Clone, Copy)]

@@ -17,7 +17,7 @@ mod form;
 pub mod laws;
 mod slot;
 
-pub use bpf_insn_form::{
+pub use bpf_insn_types::{
     AluOp, AtomicOp, ByteOrder, Callee, Compare, EndianBits, ImmKind, Insn, MovsxBits, Operand,
     Reg, SimpleOp, Size, Unit, Width, slots,
 };

@@ -3,14 +3,14 @@ use Rattle.std.proofs.Common.{◌≡◌, ℕ, ◌+◌, ◌-◌, ◌%◌, ◌^◌
 use Rattle.std.specs.Prelude.{if◌then◌else◌, ◌==◌}
 use Rattle.std.specs.Int.Bits.{or_zero_r, xor_zero_r}
 use Rattle.std.proofs.lemmas.Nat.{and_shr, or_shr, xor_shr, and_mod, or_mod, xor_mod, and_mask}
-use Rattle.bpf_insn_form.specs.declared.insn.Width.TheVariants.{W32, W64}
-use Rattle.bpf_insn_form.specs.declared.insn.AluOp.{AluOp}
-use Rattle.bpf_insn_form.specs.declared.insn.AtomicOp.{AtomicOp}
-use Rattle.bpf_insn_form.specs.declared.insn.AtomicOp.TheVariants.{Simple, Fetch, Xchg, Cmpxchg}
-use Rattle.bpf_insn_form.specs.declared.insn.SimpleOp.{SimpleOp}
-use Rattle.bpf_insn_form.specs.declared.insn.SimpleOp.TheVariants as simple
-use Rattle.bpf_insn_words.specs.Words.{alu, computed, operator}
-use Rattle.bpf_insn_words.proofs.WordLaws.{alu-words}
+use Rattle.bpf_insn_types.specs.declared.insn.Width.TheVariants.{W32, W64}
+use Rattle.bpf_insn_types.specs.declared.insn.AluOp.{AluOp}
+use Rattle.bpf_insn_types.specs.declared.insn.AtomicOp.{AtomicOp}
+use Rattle.bpf_insn_types.specs.declared.insn.AtomicOp.TheVariants.{Simple, Fetch, Xchg, Cmpxchg}
+use Rattle.bpf_insn_types.specs.declared.insn.SimpleOp.{SimpleOp}
+use Rattle.bpf_insn_types.specs.declared.insn.SimpleOp.TheVariants as simple
+use Rattle.bpf_insn_alu.specs.Words.{alu, computed, operator}
+use Rattle.bpf_insn_alu.proofs.WordLaws.{alu-words}
 use Rattle.array_maps.specs.declared.access.Half.{Half}
 use Rattle.array_maps.specs.declared.access.Half.TheVariants.{Low, High}
 use Rattle.array_maps.specs.declared.access.Part.{Part}

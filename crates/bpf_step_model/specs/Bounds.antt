@@ -1,6 +1,6 @@
 -- A bound decides nothing but whether there is an answer yet.
 use Rattle.std.specs.Prelude.{◌≡◌, ℕ, ◌≤◌, ◌⊎◌, List}
-use Rattle.bpf_insn_form.specs.Program.{Program}
+use Rattle.bpf_insn_types.specs.Program.{Program}
 use Rattle.bpf_step_model.specs.State.{Machine, LoopCall}
 use Rattle.bpf_step_model.specs.Run.{Ending, Unfinished, run}
 use Rattle.bpf_step_model.specs.Iteration.{iteration}

@@ -1,17 +1,17 @@
 -- Worked loops in order: what they return and leave. Each is worked out by hand from bpf-helpers(7) and RFC 9669.
 use Rattle.std.specs.Prelude.{◌≡◌, ℕ, ℤ, pos, negsuc, List, [], ◌∷◌, ◌++◌, Option, Some, None, replicate}
-use Rattle.bpf_insn_form.specs.declared.insn.Size.TheVariants.{Dw}
-use Rattle.bpf_insn_form.specs.declared.insn.Width.TheVariants.{W64}
-use Rattle.bpf_insn_form.specs.declared.insn.SimpleOp.TheVariants.{Add as AddOp, Or as OrOp, And as AndOp}
-use Rattle.bpf_insn_form.specs.declared.insn.AtomicOp.TheVariants.{Simple, Fetch}
-use Rattle.bpf_insn_form.specs.declared.insn.AluOp.TheVariants.{Add, Or, And, Mov}
-use Rattle.bpf_insn_form.specs.declared.insn.Compare.TheVariants.{Ne}
-use Rattle.bpf_insn_form.specs.declared.insn.Operand.TheVariants.{Imm}
-use Rattle.bpf_insn_form.specs.declared.insn.Callee.TheVariants.{Helper}
-use Rattle.bpf_insn_form.specs.declared.insn.ImmKind.TheVariants.{Code, Number}
-use Rattle.bpf_insn_form.specs.declared.insn.Insn.{Insn}
-use Rattle.bpf_insn_form.specs.declared.insn.Insn.TheVariants.{Alu, Call, Exit, Jump, Load, Store, StoreImm, Atomic, LoadImm}
-use Rattle.bpf_insn_form.specs.Program.{Program}
+use Rattle.bpf_insn_types.specs.declared.insn.Size.TheVariants.{Dw}
+use Rattle.bpf_insn_types.specs.declared.insn.Width.TheVariants.{W64}
+use Rattle.bpf_insn_types.specs.declared.insn.SimpleOp.TheVariants.{Add as AddOp, Or as OrOp, And as AndOp}
+use Rattle.bpf_insn_types.specs.declared.insn.AtomicOp.TheVariants.{Simple, Fetch}
+use Rattle.bpf_insn_types.specs.declared.insn.AluOp.TheVariants.{Add, Or, And, Mov}
+use Rattle.bpf_insn_types.specs.declared.insn.Compare.TheVariants.{Ne}
+use Rattle.bpf_insn_types.specs.declared.insn.Operand.TheVariants.{Imm}
+use Rattle.bpf_insn_types.specs.declared.insn.Callee.TheVariants.{Helper}
+use Rattle.bpf_insn_types.specs.declared.insn.ImmKind.TheVariants.{Code, Number}
+use Rattle.bpf_insn_types.specs.declared.insn.Insn.{Insn}
+use Rattle.bpf_insn_types.specs.declared.insn.Insn.TheVariants.{Alu, Call, Exit, Jump, Load, Store, StoreImm, Atomic, LoadImm}
+use Rattle.bpf_insn_types.specs.Program.{Program}
 use Rattle.bpf_step_model.specs.State.{LoopCall, Bytes, fresh_frame}
 use Rattle.bpf_step_model.specs.Memory.{written_at}
 use Rattle.bpf_step_model.specs.Run.{Ended, Stuck}

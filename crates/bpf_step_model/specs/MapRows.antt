@@ -1,16 +1,16 @@
 -- Worked accesses of maps: elements of two maps, and halves of elements. Each is worked out by hand from RFC 9669 and
 -- the profile.
 use Rattle.std.specs.Prelude.{◌≡◌, ℕ, ℤ, pos, negsuc, List, [], ◌∷◌, ◌++◌}
-use Rattle.bpf_insn_form.specs.declared.insn.Size.TheVariants.{B, H, W, Dw}
-use Rattle.bpf_insn_form.specs.declared.insn.Width.TheVariants.{W32}
-use Rattle.bpf_insn_form.specs.declared.insn.AtomicOp.{AtomicOp}
-use Rattle.bpf_insn_form.specs.declared.insn.AtomicOp.TheVariants.{Simple, Fetch, Xchg, Cmpxchg}
-use Rattle.bpf_insn_form.specs.declared.insn.SimpleOp.TheVariants as simple
-use Rattle.bpf_insn_form.specs.declared.insn.AluOp.TheVariants.{Mov}
-use Rattle.bpf_insn_form.specs.declared.insn.ImmKind.TheVariants.{Number}
-use Rattle.bpf_insn_form.specs.declared.insn.Insn.{Insn}
-use Rattle.bpf_insn_form.specs.declared.insn.Insn.TheVariants.{Exit, Load, LoadSx, StoreImm, Store, Atomic, LoadImm}
-use Rattle.bpf_insn_form.specs.Program.{Program}
+use Rattle.bpf_insn_types.specs.declared.insn.Size.TheVariants.{B, H, W, Dw}
+use Rattle.bpf_insn_types.specs.declared.insn.Width.TheVariants.{W32}
+use Rattle.bpf_insn_types.specs.declared.insn.AtomicOp.{AtomicOp}
+use Rattle.bpf_insn_types.specs.declared.insn.AtomicOp.TheVariants.{Simple, Fetch, Xchg, Cmpxchg}
+use Rattle.bpf_insn_types.specs.declared.insn.SimpleOp.TheVariants as simple
+use Rattle.bpf_insn_types.specs.declared.insn.AluOp.TheVariants.{Mov}
+use Rattle.bpf_insn_types.specs.declared.insn.ImmKind.TheVariants.{Number}
+use Rattle.bpf_insn_types.specs.declared.insn.Insn.{Insn}
+use Rattle.bpf_insn_types.specs.declared.insn.Insn.TheVariants.{Exit, Load, LoadSx, StoreImm, Store, Atomic, LoadImm}
+use Rattle.bpf_insn_types.specs.Program.{Program}
 use Rattle.array_maps.specs.declared.access.Op.TheVariants as op
 use Rattle.array_maps.specs.Accesses.{Access, Action, Read, ReadWrite, Reduce}
 use Rattle.bpf_step_model.specs.State.{main_entry}

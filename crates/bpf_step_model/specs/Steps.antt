@@ -1,7 +1,7 @@
 -- A run as a list of states, each the step of the one before.
 use Rattle.std.specs.Prelude.{◌≡◌, ℕ, zero, suc, ◌<◌, ◌≤◌, ◌↔◌, List, [], ◌∷◌, ◌++◌, slice_get, Some, None}
 use Rattle.array_maps.specs.Accesses.{Access, words_after}
-use Rattle.bpf_insn_form.specs.Program.{Program}
+use Rattle.bpf_insn_types.specs.Program.{Program}
 use Rattle.bpf_step_model.specs.State.{Machine}
 use Rattle.bpf_step_model.specs.Step.{Request, Move, NoStep, Next, Asks, Loops, Refuses, Exits, step}
 use Rattle.bpf_step_model.specs.Run.{Ended, Stuck, Turn, Exit, Loop, Refused, Stretch, action_of, told, run}

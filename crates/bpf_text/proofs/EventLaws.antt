@@ -1,13 +1,13 @@
 -- Reading lines of events one after the other, as a loop does.
 use Rattle.std.proofs.Common.{◌≡◌, ℕ, List, [], ◌∷◌, ◌++◌, Result, Ok, Err, refl, sym, ap, ◌∙◌, subst}
-use Rattle.bpf_text_lines.specs.Words.{words_of}
-use Rattle.bpf_text_lines.specs.declared.text_error.TextFault.TheVariants as faults
-use Rattle.bpf_text_lines.specs.declared.text_error.TextError.{TextError}
-use Rattle.bpf_text_lines.specs.declared.text_error.TextError.TheVariants as errors
-use Rattle.bpf_insn_form.specs.Outcome.{Refuses}
-use Rattle.bpf_text_lines.specs.Refusals.{at_line, ◌>>=◌, text_refusal}
-use Rattle.loop_event.specs.declared.event.Event.{Event}
-use Rattle.bpf_text_lines.proofs.RefusalLaws.{bind_fails}
+use Rattle.bpf_text_lex.specs.Words.{words_of}
+use Rattle.bpf_text_lex.specs.declared.text_error.TextFault.TheVariants as faults
+use Rattle.bpf_text_lex.specs.declared.text_error.TextError.{TextError}
+use Rattle.bpf_text_lex.specs.declared.text_error.TextError.TheVariants as errors
+use Rattle.bpf_insn_types.specs.Outcome.{Refuses}
+use Rattle.bpf_text_lex.specs.Refusals.{at_line, ◌>>=◌, text_refusal}
+use Rattle.loop_core_event.specs.declared.event.Event.{Event}
+use Rattle.bpf_text_lex.proofs.RefusalLaws.{bind_fails}
 use Rattle.bpf_text.specs.EventsText.{events_of, bounds_of, events_behind, schedule_of}
 
 -- ---- lines

@@ -2,18 +2,18 @@
 use Rattle.std.specs.Prelude.{ℕ, ◌-◌, ◌^◌, ◌==◌, ◌&&◌, nat_lt, Bool, if◌then◌else◌, List, [], ◌∷◌, ◌++◌, length, drop, slice_index, codes, Option, Some, None, is_some, Result, Ok, Err}
 use Rattle.std.specs.List.{list_all}
 use Rattle.std.specs.Str.{bytes_eq}
-use Rattle.bpf_text_lines.specs.Lines.{contents_of}
-use Rattle.bpf_text_lines.specs.Numbers.{is_number}
-use Rattle.bpf_text_lines.specs.Words.{words_of}
-use Rattle.bpf_text_lines.specs.declared.text_error.TextFault.{TextFault}
-use Rattle.bpf_text_lines.specs.declared.text_error.TextFault.TheVariants as faults
-use Rattle.bpf_text_lines.specs.declared.text_error.TextError.{TextError}
-use Rattle.bpf_text_lines.specs.declared.text_error.TextError.TheVariants as errors
-use Rattle.bpf_text_lines.specs.Refusals.{at_line, with_first, ◌>>=◌}
-use Rattle.bpf_text_lines.specs.Fields.{fields_of, field_of}
-use Rattle.loop_event.specs.declared.event.EventKind.{EventKind}
-use Rattle.loop_event.specs.declared.event.EventKind.TheVariants as kind
-use Rattle.loop_event.specs.declared.event.Event.{Event}
+use Rattle.bpf_text_lex.specs.Lines.{contents_of}
+use Rattle.bpf_text_lex.specs.Numbers.{is_number}
+use Rattle.bpf_text_lex.specs.Words.{words_of}
+use Rattle.bpf_text_lex.specs.declared.text_error.TextFault.{TextFault}
+use Rattle.bpf_text_lex.specs.declared.text_error.TextFault.TheVariants as faults
+use Rattle.bpf_text_lex.specs.declared.text_error.TextError.{TextError}
+use Rattle.bpf_text_lex.specs.declared.text_error.TextError.TheVariants as errors
+use Rattle.bpf_text_lex.specs.Refusals.{at_line, with_first, ◌>>=◌}
+use Rattle.bpf_text_lex.specs.Fields.{fields_of, field_of}
+use Rattle.loop_core_event.specs.declared.event.EventKind.{EventKind}
+use Rattle.loop_core_event.specs.declared.event.EventKind.TheVariants as kind
+use Rattle.loop_core_event.specs.declared.event.Event.{Event}
 
 -- the kind that a letter stands for
 abbrev pub kind_at : ℕ → Option EventKind

@@ -4,16 +4,16 @@ use Rattle.std.specs.declared.alloc.Global.{Global}
 use Rattle.std.specs.Fmt.{decimal}
 use Rattle.std.specs.List.{flat_map}
 use Rattle.std.specs.Str.{bytes_eq}
-use Rattle.bpf_text_lines.specs.declared.numbers.NumberError.{NumberError}
-use Rattle.bpf_text_lines.specs.Lines.{contents_of}
-use Rattle.bpf_text_lines.specs.Numbers.{is_number, number_in}
-use Rattle.bpf_text_lines.specs.Words.{words_of}
-use Rattle.bpf_text_lines.specs.declared.text_error.TextFault.{TextFault}
-use Rattle.bpf_text_lines.specs.declared.text_error.TextFault.TheVariants as faults
-use Rattle.bpf_text_lines.specs.declared.text_error.TextError.{TextError}
-use Rattle.bpf_text_lines.specs.declared.text_error.TextError.TheVariants as errors
-use Rattle.bpf_text_lines.specs.Refusals.{at_line, ◌>>=◌}
-use Rattle.bpf_text_lines.specs.Fields.{fields_of}
+use Rattle.bpf_text_lex.specs.declared.numbers.NumberError.{NumberError}
+use Rattle.bpf_text_lex.specs.Lines.{contents_of}
+use Rattle.bpf_text_lex.specs.Numbers.{is_number, number_in}
+use Rattle.bpf_text_lex.specs.Words.{words_of}
+use Rattle.bpf_text_lex.specs.declared.text_error.TextFault.{TextFault}
+use Rattle.bpf_text_lex.specs.declared.text_error.TextFault.TheVariants as faults
+use Rattle.bpf_text_lex.specs.declared.text_error.TextError.{TextError}
+use Rattle.bpf_text_lex.specs.declared.text_error.TextError.TheVariants as errors
+use Rattle.bpf_text_lex.specs.Refusals.{at_line, ◌>>=◌}
+use Rattle.bpf_text_lex.specs.Fields.{fields_of}
 
 -- maps without where they lie in memory
 abbrev pub lists : List (Vec ℕ Global) → List (List ℕ)

@@ -2,17 +2,17 @@
 
 ghost use Rattle.std.specs.Prelude.{◌≡◌, ◌≤◌, length, [], slice_index, IfOk};
 ghost use Rattle.std.specs.List.{list_all};
-ghost use Rattle.bpf_text_lines.specs.Lines.{contents_of};
-ghost use Rattle.bpf_text_lines.specs.Words.{words_of};
-ghost use Rattle.bpf_insn_form.specs.Outcome.{Gives};
-ghost use Rattle.bpf_text_lines.specs.Refusals.{at_line, text_refusal};
+ghost use Rattle.bpf_text_lex.specs.Lines.{contents_of};
+ghost use Rattle.bpf_text_lex.specs.Words.{words_of};
+ghost use Rattle.bpf_insn_types.specs.Outcome.{Gives};
+ghost use Rattle.bpf_text_lex.specs.Refusals.{at_line, text_refusal};
 ghost use Rattle.bpf_text.specs.EventsText.{kind_at, is_event, event_at, events_in, events_of, bounds_of, events_behind, schedule_of, events_text};
 
-use bpf_text_lines::{
+use bpf_text_lex::{
     Lines, MAX_TEXT, NumberError, TextError, TextFault, Words, is_number, next_word, read_number,
     read_u32_fields,
 };
-use loop_event::{Event, EventKind};
+use loop_core_event::{Event, EventKind};
 use std::alloc::Global;
 
 /// The kind that a letter stands for.

@@ -14,10 +14,10 @@ mod events;
 mod maps;
 mod maps_print;
 
+pub use bpf_text_asm::{parse_unit, print_unit};
 pub use bpf_text_hex::{HexUnit, read_hex, write_hex};
-pub use bpf_text_lines::{TextError, TextFault};
-pub use bpf_text_units::{parse_unit, print_unit};
+pub use bpf_text_lex::{TextError, TextFault};
 pub use events::parse_events;
-pub use loop_event::{Event, EventKind};
+pub use loop_core_event::{Event, EventKind};
 pub use maps::parse_maps;
 pub use maps_print::print_maps;

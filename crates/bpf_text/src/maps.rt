@@ -1,15 +1,15 @@
 //! The values of maps as a text.
 
 ghost use Rattle.std.specs.Prelude.{◌≡◌, ◌≤◌, ◌<◌, ◌+◌, ◌-◌, ◌^◌, length, IsTrue, IfOk, vec_len, [], ◌∷◌, slice_index, ◌==◌};
-ghost use Rattle.bpf_text_lines.specs.Lines.{contents_of};
-ghost use Rattle.bpf_text_lines.specs.Numbers.{number_in};
-ghost use Rattle.bpf_text_lines.specs.Words.{words_of};
-ghost use Rattle.bpf_insn_form.specs.Outcome.{Gives};
-ghost use Rattle.bpf_text_lines.specs.Refusals.{at_line, text_refusal};
+ghost use Rattle.bpf_text_lex.specs.Lines.{contents_of};
+ghost use Rattle.bpf_text_lex.specs.Numbers.{number_in};
+ghost use Rattle.bpf_text_lex.specs.Words.{words_of};
+ghost use Rattle.bpf_insn_types.specs.Outcome.{Gives};
+ghost use Rattle.bpf_text_lex.specs.Refusals.{at_line, text_refusal};
 ghost use Rattle.bpf_text.specs.MapsText.{lists, label_number, is_label, is_map_head, is_turn, fits_as_map, values_of, maps_behind, maps_text};
 
-use bpf_insn_form::{MAX_ELEMENTS, MAX_MAPS};
-use bpf_text_lines::{
+use bpf_insn_types::{MAX_ELEMENTS, MAX_MAPS};
+use bpf_text_lex::{
     Lines, MAX_TEXT, TextError, TextFault, is_number, next_word, read_fields, read_number,
 };
 use std::alloc::Global;

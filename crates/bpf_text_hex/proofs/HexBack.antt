@@ -7,23 +7,23 @@ use Rattle.std.proofs.lemmas.List.{length-append, length-take-le, take-append-dr
 use Rattle.std.proofs.lemmas.List.Sums.{AllPass-from_list_all}
 use Rattle.hex.specs.Hex.{lower_digits, encode_with, encode_lower}
 use Rattle.hex.proofs.HexLemmas.{length-encode_with, decode_of-encode_lower}
-use Rattle.bpf_insn_form.specs.declared.insn.Insn.{Insn}
+use Rattle.bpf_insn_types.specs.declared.insn.Insn.{Insn}
 use Rattle.bpf_insn.specs.Spelling.{program_spelling}
 use Rattle.bpf_insn.proofs.Programs.{one_program}
-use Rattle.bpf_text_lines.specs.Lines.{lines_of, contents_from, contents_of}
-use Rattle.bpf_text_lines.specs.Words.{words_of}
-use Rattle.bpf_text_lines.specs.declared.text_error.TextFault.TheVariants as faults
-use Rattle.bpf_text_lines.specs.declared.text_error.TextError.TheVariants as errors
-use Rattle.bpf_text_lines.specs.Refusals.{at_line}
-use Rattle.bpf_insn_form.specs.Limits.{AreSizes, IsUnit}
-use Rattle.bpf_text_insns.specs.PrintedLines.{head_spelling}
+use Rattle.bpf_text_lex.specs.Lines.{lines_of, contents_from, contents_of}
+use Rattle.bpf_text_lex.specs.Words.{words_of}
+use Rattle.bpf_text_lex.specs.declared.text_error.TextFault.TheVariants as faults
+use Rattle.bpf_text_lex.specs.declared.text_error.TextError.TheVariants as errors
+use Rattle.bpf_text_lex.specs.Refusals.{at_line}
+use Rattle.bpf_insn_types.specs.Limits.{AreSizes, IsUnit}
+use Rattle.bpf_text_mnemonics.specs.PrintedLines.{head_spelling}
 use Rattle.bpf_text_hex.specs.HexForm.{slot_lines, hex_lines, hex_form}
 use Rattle.bpf_text_hex.proofs.HexLines.{slot_lines-slot}
-use Rattle.bpf_text_lines.proofs.ResultLaws.{same_ok, mapped}
-use Rattle.bpf_insn_form.specs.Program.{Program, slot_count}
-use Rattle.bpf_text_insns.proofs.SolidWords.{is_solid, solids_in_line, ends_word, Line}
-use Rattle.bpf_text_insns.proofs.LineLaws.{contents-line}
-use Rattle.bpf_text_insns.proofs.PrintedHead.{word_first, head_back, head_is_line, head_short}
+use Rattle.bpf_text_lex.proofs.ResultLaws.{same_ok, mapped}
+use Rattle.bpf_insn_types.specs.Program.{Program, slot_count}
+use Rattle.bpf_text_mnemonics.proofs.SolidWords.{is_solid, solids_in_line, ends_word, Line}
+use Rattle.bpf_text_mnemonics.proofs.LineLaws.{contents-line}
+use Rattle.bpf_text_mnemonics.proofs.PrintedHead.{word_first, head_back, head_is_line, head_short}
 use Rattle.bpf_text_hex.specs.SizesAndBytes.{SizesAndBytes}
 use Rattle.bpf_text_hex.specs.HexText.{as_bytes, bytes_of, bytes_behind, hex_parts_of, hex_text}
 use Rattle.bpf_text_hex.proofs.HexLaws.{bytes_behind-line, bytes_behind-end, bytes_read}

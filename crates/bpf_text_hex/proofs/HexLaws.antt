@@ -1,15 +1,15 @@
 -- Reading lines of hex digits one after the other, as a loop does.
 use Rattle.std.proofs.Common.{◌≡◌, ℕ, List, [], ◌∷◌, ◌++◌, length, Result, Ok, Err, refl, sym, ap, ◌∙◌, subst}
-use Rattle.bpf_text_lines.specs.Words.{words_of}
-use Rattle.bpf_text_lines.specs.declared.text_error.TextFault.TheVariants as faults
-use Rattle.bpf_text_lines.specs.declared.text_error.TextError.{TextError}
-use Rattle.bpf_text_lines.specs.declared.text_error.TextError.TheVariants as errors
-use Rattle.bpf_insn_form.specs.Outcome.{Refuses}
-use Rattle.bpf_text_lines.specs.Refusals.{at_line, ◌>>=◌, text_refusal}
-use Rattle.bpf_text_lines.proofs.RefusalLaws.{bind_fails}
+use Rattle.bpf_text_lex.specs.Words.{words_of}
+use Rattle.bpf_text_lex.specs.declared.text_error.TextFault.TheVariants as faults
+use Rattle.bpf_text_lex.specs.declared.text_error.TextError.{TextError}
+use Rattle.bpf_text_lex.specs.declared.text_error.TextError.TheVariants as errors
+use Rattle.bpf_insn_types.specs.Outcome.{Refuses}
+use Rattle.bpf_text_lex.specs.Refusals.{at_line, ◌>>=◌, text_refusal}
+use Rattle.bpf_text_lex.proofs.RefusalLaws.{bind_fails}
 use Rattle.bpf_text_hex.specs.SizesAndBytes.{SizesAndBytes}
 use Rattle.bpf_text_hex.specs.HexText.{bytes_of, bytes_behind, hex_parts_of}
-use Rattle.bpf_text_lines.specs.Head.{head_of}
+use Rattle.bpf_text_lex.specs.Head.{head_of}
 
 pub bytes_behind-line : (before : List ℕ) (count : ℕ) (line : ℕ × List ℕ) (lines : List (ℕ × List ℕ)) (more : List ℕ) → count ≡ length before →
     at_line line.0 (bytes_of count (words_of line.1)) ≡ Ok more → bytes_behind before (line ∷ lines) ≡ bytes_behind (before ++ more) lines

@@ -3,18 +3,18 @@ use Rattle.std.proofs.Common.{◌≡◌, ℕ, zero, suc, ◌+◌, ◌*◌, ◌<�
 use Rattle.std.specs.Prelude.{IfOk, ℤ, pos, negsuc, Bool, true, false}
 use Rattle.std.specs.Int.{w16, w32, to_le_bytes, cast_unsigned}
 use Rattle.std.proofs.lemmas.List.{length-append}
-use Rattle.bpf_insn_form.specs.declared.insn.Width.{Width}
-use Rattle.bpf_insn_form.specs.declared.insn.Width.TheVariants.{W32, W64}
-use Rattle.bpf_insn_form.specs.declared.insn.Size.{Size}
-use Rattle.bpf_insn_form.specs.declared.insn.Size.TheVariants as size
-use Rattle.bpf_insn_form.specs.declared.insn.MovsxBits.TheVariants as movsx
-use Rattle.bpf_insn_form.specs.declared.insn.ByteOrder.TheVariants as order
-use Rattle.bpf_insn_form.specs.declared.insn.Compare.{Compare}
-use Rattle.bpf_insn_form.specs.declared.insn.Compare.TheVariants as compare
-use Rattle.bpf_insn_form.specs.declared.insn.Operand.TheVariants.{Imm, Reg}
-use Rattle.bpf_insn_form.specs.declared.insn.ImmKind.{ImmKind}
-use Rattle.bpf_insn_form.specs.declared.insn.Insn.{Insn}
-use Rattle.bpf_insn_form.specs.declared.insn.Insn.TheVariants as insn
+use Rattle.bpf_insn_types.specs.declared.insn.Width.{Width}
+use Rattle.bpf_insn_types.specs.declared.insn.Width.TheVariants.{W32, W64}
+use Rattle.bpf_insn_types.specs.declared.insn.Size.{Size}
+use Rattle.bpf_insn_types.specs.declared.insn.Size.TheVariants as size
+use Rattle.bpf_insn_types.specs.declared.insn.MovsxBits.TheVariants as movsx
+use Rattle.bpf_insn_types.specs.declared.insn.ByteOrder.TheVariants as order
+use Rattle.bpf_insn_types.specs.declared.insn.Compare.{Compare}
+use Rattle.bpf_insn_types.specs.declared.insn.Compare.TheVariants as compare
+use Rattle.bpf_insn_types.specs.declared.insn.Operand.TheVariants.{Imm, Reg}
+use Rattle.bpf_insn_types.specs.declared.insn.ImmKind.{ImmKind}
+use Rattle.bpf_insn_types.specs.declared.insn.Insn.{Insn}
+use Rattle.bpf_insn_types.specs.declared.insn.Insn.TheVariants as insn
 use Rattle.bpf_insn.specs.declared.form.AluCode.{AluCode}
 use Rattle.bpf_insn.specs.declared.form.AluCode.TheVariants as alu
 use Rattle.bpf_insn.specs.declared.form.Form.{Form}
@@ -22,15 +22,15 @@ use Rattle.bpf_insn.specs.declared.form.Form.TheVariants as form
 use Rattle.bpf_insn.specs.declared.slot.Slot.{Slot}
 use Rattle.bpf_insn.specs.declared.codec_error.CodecFault.{CodecFault}
 use Rattle.bpf_insn.specs.Opcode.{alu_class, jump_class, alu_code, jump_code, size_bits, opcode}
-use Rattle.bpf_insn_form.specs.Slots.{slots_of}
+use Rattle.bpf_insn_types.specs.Slots.{slots_of}
 use Rattle.bpf_insn.specs.SlotBytes.{slot_bytes, slots_bytes}
 use Rattle.bpf_insn.specs.Spelling.{code_of, has_next, two, spelling, bytes_at, spelling_from}
-use Rattle.bpf_insn_form.specs.Values.{AreInsns}
+use Rattle.bpf_insn_types.specs.Values.{AreInsns}
 use Rattle.bpf_insn.proofs.Bytes.{HasBytes, HaveBytes}
 use Rattle.bpf_insn.proofs.HasBytes.{spelling_has}
 use Rattle.bpf_insn.proofs.Lengths.{spelled_len}
 use Rattle.bpf_insn.proofs.Programs.{of_ok, both_ok, bytes_ok}
-use Rattle.bpf_insn_form.specs.Program.{slot_count}
+use Rattle.bpf_insn_types.specs.Program.{slot_count}
 
 -- ---- opcodes
 

@@ -2,10 +2,10 @@
 use Rattle.std.specs.Prelude.{ℕ, List, [], ◌∷◌, ◌++◌, codes, Result}
 use Rattle.std.specs.Result.{result_map_both}
 use Rattle.hex.specs.Hex.{encode_lower}
-use Rattle.bpf_insn_form.specs.Program.{Program}
+use Rattle.bpf_insn_types.specs.Program.{Program}
 use Rattle.bpf_insn.specs.declared.codec_error.CodecError.{CodecError}
 use Rattle.bpf_insn.specs.Spelling.{program_spelling}
-use Rattle.bpf_text_insns.specs.PrintedLines.{head_line}
+use Rattle.bpf_text_mnemonics.specs.PrintedLines.{head_line}
 
 -- slots of 8 bytes, a line of hex digits each
 unfoldable pub slot_lines : List ℕ → List ℕ

@@ -2,15 +2,15 @@
 use Rattle.std.specs.Prelude.{ℕ, ◌+◌, nat_lt, nat_le, if◌then◌else◌, List, [], ◌∷◌, ◌++◌, length, Result, Ok, Err}
 use Rattle.hex.specs.declared.error.FromHexError.{FromHexError}
 use Rattle.hex.specs.Hex.{decode_of}
-use Rattle.bpf_text_lines.specs.Lines.{contents_of}
-use Rattle.bpf_text_lines.specs.Words.{words_of}
+use Rattle.bpf_text_lex.specs.Lines.{contents_of}
+use Rattle.bpf_text_lex.specs.Words.{words_of}
 use Rattle.bpf_text_hex.specs.SizesAndBytes.{SizesAndBytes}
-use Rattle.bpf_text_lines.specs.declared.text_error.TextFault.{TextFault}
-use Rattle.bpf_text_lines.specs.declared.text_error.TextFault.TheVariants as faults
-use Rattle.bpf_text_lines.specs.declared.text_error.TextError.{TextError}
-use Rattle.bpf_text_lines.specs.declared.text_error.TextError.TheVariants as errors
-use Rattle.bpf_text_lines.specs.Refusals.{at_line, ◌>>=◌}
-use Rattle.bpf_text_lines.specs.Head.{head_of}
+use Rattle.bpf_text_lex.specs.declared.text_error.TextFault.{TextFault}
+use Rattle.bpf_text_lex.specs.declared.text_error.TextFault.TheVariants as faults
+use Rattle.bpf_text_lex.specs.declared.text_error.TextError.{TextError}
+use Rattle.bpf_text_lex.specs.declared.text_error.TextError.TheVariants as errors
+use Rattle.bpf_text_lex.specs.Refusals.{at_line, ◌>>=◌}
+use Rattle.bpf_text_lex.specs.Head.{head_of}
 
 -- decoded bytes behind `before` others, of which a unit has at most 32,768
 abbrev pub as_bytes : ℕ → Result (List ℕ) FromHexError → Result (List ℕ) TextFault

@@ -1,8 +1,8 @@
 //! Laws of the hex form, as functions that do nothing: what they ensure is the law.
 
 ghost use Rattle.std.specs.Prelude.{◌≡◌, ℕ, List, Ok};
-ghost use Rattle.bpf_insn_form.specs.Limits.{IsUnit};
-ghost use Rattle.bpf_insn_form.specs.Program.{Program};
+ghost use Rattle.bpf_insn_types.specs.Limits.{IsUnit};
+ghost use Rattle.bpf_insn_types.specs.Program.{Program};
 ghost use Rattle.bpf_insn.specs.Spelling.{program_spelling};
 ghost use Rattle.bpf_text_hex.specs.HexForm.{hex_form};
 ghost use Rattle.bpf_text_hex.specs.HexText.{hex_text};

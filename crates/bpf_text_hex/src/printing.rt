@@ -2,13 +2,13 @@
 
 ghost use Rattle.std.specs.Prelude.{◌≡◌, ◌++◌, ◌≤◌, ◌<◌, length, codes, OnOk};
 ghost use Rattle.std.specs.String.{string_bytes};
-ghost use Rattle.bpf_insn_form.specs.Outcome.{Gives};
+ghost use Rattle.bpf_insn_types.specs.Outcome.{Gives};
 ghost use Rattle.bpf_insn.specs.CodecRefusal.{codec_refusal};
 ghost use Rattle.bpf_text_hex.specs.HexForm.{slot_lines, hex_form};
 
 use bpf_insn::{CodecError, encode};
-use bpf_insn_form::Unit;
-use bpf_text_insns::print_head;
+use bpf_insn_types::Unit;
+use bpf_text_mnemonics::print_head;
 use std::alloc::{AllocError, Global};
 
 /// Adds slots of 8 bytes to a text, one a line, as hex digits.

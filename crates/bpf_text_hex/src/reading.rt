@@ -2,13 +2,13 @@
 
 ghost use Rattle.std.specs.Prelude.{◌≡◌, ◌≤◌, ◌+◌, length, [], IfOk, vec_len};
 ghost use Rattle.hex.specs.Hex.{decode_of};
-ghost use Rattle.bpf_text_lines.specs.Lines.{contents_of};
-ghost use Rattle.bpf_text_lines.specs.Words.{words_of};
-ghost use Rattle.bpf_insn_form.specs.Outcome.{Gives};
-ghost use Rattle.bpf_text_lines.specs.Refusals.{at_line, text_refusal};
+ghost use Rattle.bpf_text_lex.specs.Lines.{contents_of};
+ghost use Rattle.bpf_text_lex.specs.Words.{words_of};
+ghost use Rattle.bpf_insn_types.specs.Outcome.{Gives};
+ghost use Rattle.bpf_text_lex.specs.Refusals.{at_line, text_refusal};
 ghost use Rattle.bpf_text_hex.specs.HexText.{as_bytes, bytes_of, bytes_behind, hex_parts_of, hex_text};
 
-use bpf_text_lines::{Lines, MAX_BYTES, MAX_TEXT, TextError, TextFault, next_word, read_head};
+use bpf_text_lex::{Lines, MAX_BYTES, MAX_TEXT, TextError, TextFault, next_word, read_head};
 use hex::FromHexError;
 use std::alloc::Global;
 use std::marker::Model;

@@ -2,24 +2,24 @@
 use Rattle.std.proofs.Common.{◌≡◌, ℕ, ℤ, ◌-◌, ◌^◌, Bool, true, false, cond, ◌&&◌, ◌||◌, ◌==◌, List, length, drop, Option, Some, None, Result, Ok, Err, refl, sym, ap, ◌∙◌}
 use Rattle.std.specs.Prelude.{is_ok}
 use Rattle.std.proofs.lemmas.Bool.{and_from, or_left, or_right, cond-true}
-use Rattle.bpf_insn_form.specs.declared.insn.ImmKind.{ImmKind}
-use Rattle.bpf_insn_form.specs.declared.insn.ImmKind.TheVariants as load
-use Rattle.bpf_insn_form.specs.declared.insn.Insn.{Insn}
-use Rattle.bpf_insn_form.specs.Slots.{slots_of}
-use Rattle.bpf_text_lines.specs.declared.numbers.NumberError.{NumberError}
-use Rattle.bpf_text_lines.specs.declared.text_error.TextFault.{TextFault}
-use Rattle.bpf_text_lines.specs.declared.text_error.TextFault.TheVariants as faults
-use Rattle.bpf_text_lines.specs.Fields.{as_field}
-use Rattle.bpf_text_lines.specs.Lines.{trim}
-use Rattle.bpf_text_lines.specs.Names.{is_name}
-use Rattle.bpf_text_lines.specs.Numbers.{is_numeral, is_negative, is_number, number_in}
-use Rattle.bpf_text_lines.proofs.SpellingLaws.{numeral_if}
-use Rattle.bpf_text_insns.specs.declared.mnemonic.Mnemonic.{Mnemonic}
-use Rattle.bpf_text_insns.specs.declared.mnemonic.Mnemonic.TheVariants as mnemonic
-use Rattle.bpf_text_insns.specs.declared.value.Value.{Value}
-use Rattle.bpf_text_insns.specs.declared.value.Value.TheVariants as value
-use Rattle.bpf_text_insns.specs.declared.value.Operands.{Operands}
-use Rattle.bpf_text_insns.specs.declared.value.Operands.TheVariants.{Zero, One, Two, Three}
+use Rattle.bpf_insn_types.specs.declared.insn.ImmKind.{ImmKind}
+use Rattle.bpf_insn_types.specs.declared.insn.ImmKind.TheVariants as load
+use Rattle.bpf_insn_types.specs.declared.insn.Insn.{Insn}
+use Rattle.bpf_insn_types.specs.Slots.{slots_of}
+use Rattle.bpf_text_lex.specs.declared.numbers.NumberError.{NumberError}
+use Rattle.bpf_text_lex.specs.declared.text_error.TextFault.{TextFault}
+use Rattle.bpf_text_lex.specs.declared.text_error.TextFault.TheVariants as faults
+use Rattle.bpf_text_lex.specs.Fields.{as_field}
+use Rattle.bpf_text_lex.specs.Lines.{trim}
+use Rattle.bpf_text_lex.specs.Names.{is_name}
+use Rattle.bpf_text_lex.specs.Numbers.{is_numeral, is_negative, is_number, number_in}
+use Rattle.bpf_text_lex.proofs.SpellingLaws.{numeral_if}
+use Rattle.bpf_text_mnemonics.specs.declared.mnemonic.Mnemonic.{Mnemonic}
+use Rattle.bpf_text_mnemonics.specs.declared.mnemonic.Mnemonic.TheVariants as mnemonic
+use Rattle.bpf_text_mnemonics.specs.declared.value.Value.{Value}
+use Rattle.bpf_text_mnemonics.specs.declared.value.Value.TheVariants as value
+use Rattle.bpf_text_mnemonics.specs.declared.value.Operands.{Operands}
+use Rattle.bpf_text_mnemonics.specs.declared.value.Operands.TheVariants.{Zero, One, Two, Three}
 use Rattle.bpf_text_operands.specs.declared.kind.Kind.{Kind}
 use Rattle.bpf_text_operands.specs.declared.kind.Kind.TheVariants as kind
 use Rattle.bpf_text_operands.specs.declared.kind.Kinds.{Kinds}

@@ -1,20 +1,20 @@
 -- Each mnemonic is read back from its words.
 use Rattle.std.proofs.Common.{◌≡◌, ℕ, List, [], ◌∷◌, ◌++◌, Some, refl}
-use Rattle.bpf_insn_form.specs.declared.insn.Width.TheVariants as width
-use Rattle.bpf_insn_form.specs.declared.insn.Size.TheVariants as size
-use Rattle.bpf_insn_form.specs.declared.insn.EndianBits.TheVariants as endian
-use Rattle.bpf_insn_form.specs.declared.insn.MovsxBits.TheVariants as movsx
-use Rattle.bpf_insn_form.specs.declared.insn.AluOp.TheVariants as op
-use Rattle.bpf_insn_form.specs.declared.insn.ByteOrder.TheVariants as order
-use Rattle.bpf_insn_form.specs.declared.insn.Compare.TheVariants as compare
-use Rattle.bpf_insn_form.specs.declared.insn.Callee.TheVariants as callee
-use Rattle.bpf_insn_form.specs.declared.insn.SimpleOp.TheVariants as simple
-use Rattle.bpf_insn_form.specs.declared.insn.AtomicOp.TheVariants as atomic
-use Rattle.bpf_insn_form.specs.declared.insn.ImmKind.TheVariants as kind
-use Rattle.bpf_text_lines.specs.Lines.{trim_start}
-use Rattle.bpf_text_insns.specs.declared.mnemonic.Mnemonic.{Mnemonic}
-use Rattle.bpf_text_insns.specs.declared.mnemonic.Mnemonic.TheVariants as mnemonic
-use Rattle.bpf_text_insns.specs.MnemonicWords.{mnemonic_word}
+use Rattle.bpf_insn_types.specs.declared.insn.Width.TheVariants as width
+use Rattle.bpf_insn_types.specs.declared.insn.Size.TheVariants as size
+use Rattle.bpf_insn_types.specs.declared.insn.EndianBits.TheVariants as endian
+use Rattle.bpf_insn_types.specs.declared.insn.MovsxBits.TheVariants as movsx
+use Rattle.bpf_insn_types.specs.declared.insn.AluOp.TheVariants as op
+use Rattle.bpf_insn_types.specs.declared.insn.ByteOrder.TheVariants as order
+use Rattle.bpf_insn_types.specs.declared.insn.Compare.TheVariants as compare
+use Rattle.bpf_insn_types.specs.declared.insn.Callee.TheVariants as callee
+use Rattle.bpf_insn_types.specs.declared.insn.SimpleOp.TheVariants as simple
+use Rattle.bpf_insn_types.specs.declared.insn.AtomicOp.TheVariants as atomic
+use Rattle.bpf_insn_types.specs.declared.insn.ImmKind.TheVariants as kind
+use Rattle.bpf_text_lex.specs.Lines.{trim_start}
+use Rattle.bpf_text_mnemonics.specs.declared.mnemonic.Mnemonic.{Mnemonic}
+use Rattle.bpf_text_mnemonics.specs.declared.mnemonic.Mnemonic.TheVariants as mnemonic
+use Rattle.bpf_text_mnemonics.specs.MnemonicWords.{mnemonic_word}
 use Rattle.bpf_text_operands.specs.Statements.{statement_at}
 
 -- a mnemonic that takes operands and that some instruction with bytes has

@@ -6,8 +6,8 @@ use Rattle.std.specs.List.{position_or_len, list_all}
 use Rattle.std.proofs.lemmas.Bool.{ne_eqb, lt-ltb, and_parts}
 use Rattle.std.proofs.lemmas.List.{length-append}
 use Rattle.std.proofs.Math.Seq.{take-append_seam, drop-append-add}
-use Rattle.bpf_text_lines.specs.Lines.{is_blank, trim_start, before_kept, trim_end, trim}
-use Rattle.bpf_text_lines.proofs.SpellingLaws.{digit_low}
+use Rattle.bpf_text_lex.specs.Lines.{is_blank, trim_start, before_kept, trim_end, trim}
+use Rattle.bpf_text_lex.proofs.SpellingLaws.{digit_low}
 use Rattle.bpf_text_operands.specs.Operands.{cut, cut_comma}
 
 -- no byte is a blank or a comma

@@ -9,17 +9,17 @@ use Rattle.std.proofs.lemmas.Bool.{ne_eqb, lt-ltb, and_parts, and_from, cond-tru
 use Rattle.std.proofs.lemmas.Fmt.{first_decimal}
 use Rattle.std.proofs.lemmas.List.{length-append}
 use Rattle.std.proofs.Math.Seq.{take-append_seam, drop-append_seam, get_or-append_seam}
-use Rattle.bpf_text_lines.specs.Names.{continues_name, is_name}
-use Rattle.bpf_text_lines.specs.Numbers.{is_numeral, is_negative, number_in}
-use Rattle.bpf_text_lines.proofs.SpellingLaws.{in_field, digit_low, decimal_digits}
-use Rattle.bpf_text_lines.specs.declared.text_error.TextFault.{TextFault}
-use Rattle.bpf_text_lines.specs.declared.text_error.TextFault.TheVariants as faults
-use Rattle.bpf_text_insns.specs.declared.value.Value.{Value}
-use Rattle.bpf_text_insns.specs.declared.value.Value.TheVariants as value
-use Rattle.bpf_text_insns.specs.PrintedLines.{distance_spelling, value_spelling}
+use Rattle.bpf_text_lex.specs.Names.{continues_name, is_name}
+use Rattle.bpf_text_lex.specs.Numbers.{is_numeral, is_negative, number_in}
+use Rattle.bpf_text_lex.proofs.SpellingLaws.{in_field, digit_low, decimal_digits}
+use Rattle.bpf_text_lex.specs.declared.text_error.TextFault.{TextFault}
+use Rattle.bpf_text_lex.specs.declared.text_error.TextFault.TheVariants as faults
+use Rattle.bpf_text_mnemonics.specs.declared.value.Value.{Value}
+use Rattle.bpf_text_mnemonics.specs.declared.value.Value.TheVariants as value
+use Rattle.bpf_text_mnemonics.specs.PrintedLines.{distance_spelling, value_spelling}
 use Rattle.bpf_text_operands.specs.SignedNumbers.{as_register, register_at, ahead, back, signed_at, offset_at, distance_at}
 use Rattle.bpf_text_operands.specs.Operands.{pair, as_address, is_sign, is_bracketed, inside, base_part, offset_part, address_at}
-use Rattle.bpf_text_insns.proofs.Bounds.{InBound}
+use Rattle.bpf_text_mnemonics.proofs.Bounds.{InBound}
 
 -- digits have no sign
 no_minus : (word : List ℕ) → 48 ≤ get_or word 0 0 → is_negative word ≡ false

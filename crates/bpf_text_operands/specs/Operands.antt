@@ -1,20 +1,20 @@
 -- The operands of a line: what kinds a mnemonic takes, and what a word of a kind means.
 use Rattle.std.specs.Prelude.{ℕ, ℤ, ◌+◌, ◌-◌, ◌^◌, ◌==◌, ◌&&◌, ◌||◌, nat_lt, nat_le, Bool, false, if◌then◌else◌, List, length, take, drop, slice_index, position, Option, Some, None, is_ok, Result, Ok, Err}
 use Rattle.std.specs.List.{position_or_len}
-use Rattle.bpf_insn_form.specs.declared.insn.ImmKind.TheVariants as load
-use Rattle.bpf_text_lines.specs.Lines.{trim}
-use Rattle.bpf_text_lines.specs.Names.{is_name}
-use Rattle.bpf_text_lines.specs.Numbers.{is_number}
-use Rattle.bpf_text_lines.specs.declared.text_error.TextFault.{TextFault}
-use Rattle.bpf_text_lines.specs.declared.text_error.TextFault.TheVariants as faults
-use Rattle.bpf_text_lines.specs.FaultNumbers.{fault_number}
-use Rattle.bpf_text_lines.specs.Fields.{field_of}
-use Rattle.bpf_text_insns.specs.declared.mnemonic.Mnemonic.{Mnemonic}
-use Rattle.bpf_text_insns.specs.declared.mnemonic.Mnemonic.TheVariants as mnemonic
-use Rattle.bpf_text_insns.specs.declared.value.Value.{Value}
-use Rattle.bpf_text_insns.specs.declared.value.Value.TheVariants as value
-use Rattle.bpf_text_insns.specs.declared.value.Operands.{Operands}
-use Rattle.bpf_text_insns.specs.declared.value.Operands.TheVariants as operands
+use Rattle.bpf_insn_types.specs.declared.insn.ImmKind.TheVariants as load
+use Rattle.bpf_text_lex.specs.Lines.{trim}
+use Rattle.bpf_text_lex.specs.Names.{is_name}
+use Rattle.bpf_text_lex.specs.Numbers.{is_number}
+use Rattle.bpf_text_lex.specs.declared.text_error.TextFault.{TextFault}
+use Rattle.bpf_text_lex.specs.declared.text_error.TextFault.TheVariants as faults
+use Rattle.bpf_text_lex.specs.FaultNumbers.{fault_number}
+use Rattle.bpf_text_lex.specs.Fields.{field_of}
+use Rattle.bpf_text_mnemonics.specs.declared.mnemonic.Mnemonic.{Mnemonic}
+use Rattle.bpf_text_mnemonics.specs.declared.mnemonic.Mnemonic.TheVariants as mnemonic
+use Rattle.bpf_text_mnemonics.specs.declared.value.Value.{Value}
+use Rattle.bpf_text_mnemonics.specs.declared.value.Value.TheVariants as value
+use Rattle.bpf_text_mnemonics.specs.declared.value.Operands.{Operands}
+use Rattle.bpf_text_mnemonics.specs.declared.value.Operands.TheVariants as operands
 use Rattle.bpf_text_operands.specs.declared.kind.Kind.{Kind}
 use Rattle.bpf_text_operands.specs.declared.kind.Kind.TheVariants as kind
 use Rattle.bpf_text_operands.specs.declared.kind.Kinds.{Kinds}

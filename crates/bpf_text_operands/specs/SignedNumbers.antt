@@ -2,12 +2,12 @@
 use Rattle.std.specs.Prelude.{ℕ, ℤ, pos, neg_ℤ, ◌+◌, ◌-◌, ◌==◌, ◌&&◌, ◌||◌, nat_lt, nat_le, Bool, if◌then◌else◌, List, length, drop, slice_index, Option, Some, None, Result, Ok, Err}
 use Rattle.std.specs.Char.{is_ascii_digit}
 use Rattle.std.specs.List.{list_all}
-use Rattle.bpf_text_lines.specs.declared.numbers.NumberError.{NumberError}
-use Rattle.bpf_text_lines.specs.Names.{is_name}
-use Rattle.bpf_text_lines.specs.Numbers.{is_numeral, is_negative, number_in}
-use Rattle.bpf_text_lines.specs.declared.text_error.TextFault.{TextFault}
-use Rattle.bpf_text_lines.specs.declared.text_error.TextFault.TheVariants as faults
-use Rattle.bpf_text_lines.specs.Fields.{fault_of}
+use Rattle.bpf_text_lex.specs.declared.numbers.NumberError.{NumberError}
+use Rattle.bpf_text_lex.specs.Names.{is_name}
+use Rattle.bpf_text_lex.specs.Numbers.{is_numeral, is_negative, number_in}
+use Rattle.bpf_text_lex.specs.declared.text_error.TextFault.{TextFault}
+use Rattle.bpf_text_lex.specs.declared.text_error.TextFault.TheVariants as faults
+use Rattle.bpf_text_lex.specs.Fields.{fault_of}
 
 -- an `r` and digits
 abbrev pub is_register : List ℕ → Bool

@@ -2,21 +2,21 @@
 use Rattle.std.specs.Prelude.{ℕ, ◌%◌, ◌/◌, ◌^◌, if◌then◌else◌, List, take, drop, Option, Some, None, pos, Result, Ok, Err}
 use Rattle.std.specs.Int.{w32, cast_signed}
 use Rattle.std.specs.List.{position_or_len}
-use Rattle.bpf_insn_form.specs.declared.insn.ImmKind.{ImmKind}
-use Rattle.bpf_insn_form.specs.declared.insn.ImmKind.TheVariants as load
-use Rattle.bpf_insn_form.specs.declared.insn.Width.{Width}
-use Rattle.bpf_insn_form.specs.declared.insn.AtomicOp.{AtomicOp}
-use Rattle.bpf_insn_form.specs.declared.insn.Operand.TheVariants as operand
-use Rattle.bpf_insn_form.specs.declared.insn.Insn.{Insn}
-use Rattle.bpf_insn_form.specs.declared.insn.Insn.TheVariants as insn
-use Rattle.bpf_text_lines.specs.Lines.{is_blank, trim_start}
-use Rattle.bpf_text_lines.specs.declared.text_error.TextFault.{TextFault}
-use Rattle.bpf_text_lines.specs.declared.text_error.TextFault.TheVariants as faults
-use Rattle.bpf_text_insns.specs.declared.mnemonic.Mnemonic.{Mnemonic}
-use Rattle.bpf_text_insns.specs.declared.mnemonic.Mnemonic.TheVariants as mnemonic
-use Rattle.bpf_text_insns.specs.declared.value.Value.TheVariants as value
-use Rattle.bpf_text_insns.specs.declared.value.Operands.{Operands}
-use Rattle.bpf_text_insns.specs.declared.value.Operands.TheVariants.{Zero, One, Two, Three}
+use Rattle.bpf_insn_types.specs.declared.insn.ImmKind.{ImmKind}
+use Rattle.bpf_insn_types.specs.declared.insn.ImmKind.TheVariants as load
+use Rattle.bpf_insn_types.specs.declared.insn.Width.{Width}
+use Rattle.bpf_insn_types.specs.declared.insn.AtomicOp.{AtomicOp}
+use Rattle.bpf_insn_types.specs.declared.insn.Operand.TheVariants as operand
+use Rattle.bpf_insn_types.specs.declared.insn.Insn.{Insn}
+use Rattle.bpf_insn_types.specs.declared.insn.Insn.TheVariants as insn
+use Rattle.bpf_text_lex.specs.Lines.{is_blank, trim_start}
+use Rattle.bpf_text_lex.specs.declared.text_error.TextFault.{TextFault}
+use Rattle.bpf_text_lex.specs.declared.text_error.TextFault.TheVariants as faults
+use Rattle.bpf_text_mnemonics.specs.declared.mnemonic.Mnemonic.{Mnemonic}
+use Rattle.bpf_text_mnemonics.specs.declared.mnemonic.Mnemonic.TheVariants as mnemonic
+use Rattle.bpf_text_mnemonics.specs.declared.value.Value.TheVariants as value
+use Rattle.bpf_text_mnemonics.specs.declared.value.Operands.{Operands}
+use Rattle.bpf_text_mnemonics.specs.declared.value.Operands.TheVariants.{Zero, One, Two, Three}
 use Rattle.bpf_text_operands.specs.Stems.{mnemonic_at, atomic_width, atomics, first_atomic}
 use Rattle.bpf_text_operands.specs.Operands.{kinds_of, operands_at, all_stand}
 

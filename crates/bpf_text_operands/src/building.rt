@@ -3,11 +3,11 @@
 ghost use Rattle.std.specs.Prelude.{◌≡◌, Some};
 ghost use Rattle.bpf_text_operands.specs.Statements.{two_slots_of, insn_of_mnemonic};
 
-use bpf_insn_form::{
+use bpf_insn_types::{
     AluOp, AtomicOp, ByteOrder, Callee, Compare, EndianBits, ImmKind, Insn, MovsxBits, Operand,
     Reg, Size, Width,
 };
-use bpf_text_insns::{Mnemonic, Operands, Value};
+use bpf_text_mnemonics::{Mnemonic, Operands, Value};
 
 /// A two-slot load of a number.
 fn two_slot_number(dst: Reg, number: u64) -> Insn

@@ -3,8 +3,8 @@
 ghost use Rattle.std.specs.Prelude.{◌≡◌};
 ghost use Rattle.bpf_text_operands.specs.Operands.{kinds_of};
 
-use bpf_insn_form::ImmKind;
-use bpf_text_insns::Mnemonic;
+use bpf_insn_types::ImmKind;
+use bpf_text_mnemonics::Mnemonic;
 
 /// What may stand as an operand.
 #[derive(Clone, Copy)]

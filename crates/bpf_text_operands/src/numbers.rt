@@ -2,14 +2,12 @@
 
 ghost use Rattle.std.specs.Prelude.{◌≡◌, ◌≤◌, ◌<◌, ◌-◌, ◌^◌, pos, neg_ℤ, IfOk, FitsSigned};
 ghost use Rattle.std.specs.Int.{w16};
-ghost use Rattle.bpf_text_lines.specs.Numbers.{number_in};
-ghost use Rattle.bpf_text_lines.specs.Fields.{fault_of};
+ghost use Rattle.bpf_text_lex.specs.Numbers.{number_in};
+ghost use Rattle.bpf_text_lex.specs.Fields.{fault_of};
 ghost use Rattle.bpf_text_operands.specs.SignedNumbers.{is_register, register_at, ahead, back, signed_at, is_ahead, is_offset, offset_at, distance_to};
 
-use bpf_insn_form::Reg;
-use bpf_text_lines::{
-    NumberError, TextFault, has_only_digits, is_negative, is_numeral, read_number,
-};
+use bpf_insn_types::Reg;
+use bpf_text_lex::{NumberError, TextFault, has_only_digits, is_negative, is_numeral, read_number};
 
 /// Whether a word is an `r` and digits.
 pub fn is_register(word: &[u8]) -> bool

@@ -5,7 +5,7 @@ ghost use Rattle.std.specs.Int.{w16};
 ghost use Rattle.bpf_text_operands.specs.LabelTable.{label_slots};
 ghost use Rattle.bpf_text_operands.specs.SignedNumbers.{register_at, signed_at, offset_at, distance_at};
 ghost use Rattle.bpf_text_operands.specs.Operands.{pair, as_reg, as_imm, as_wide, as_distance, as_far_distance, is_sign, is_bracketed, inside, base_part, offset_part, address_at, value_at, cut_comma, both_at, three_at, operands_at, stands, both_stand, three_stand, all_stand};
-ghost use Rattle.bpf_text_lines.specs.Fields.{field_of};
+ghost use Rattle.bpf_text_lex.specs.Fields.{field_of};
 
 use crate::kind::{Kind, Kinds};
 use crate::labels::Labels;
@@ -13,9 +13,9 @@ use crate::numbers::{
     distance_to, fault_of, is_offset, is_register, offset_at, register_at, signed_at,
 };
 use crate::pairs::pair;
-use bpf_insn_form::Reg;
-use bpf_text_insns::{Operands, Value};
-use bpf_text_lines::{TextFault, is_name, is_number, read_number, trim};
+use bpf_insn_types::Reg;
+use bpf_text_lex::{TextFault, is_name, is_number, read_number, trim};
+use bpf_text_mnemonics::{Operands, Value};
 
 /// The bound of distances and offsets of 16 bits, which lie from its negative to below it.
 const NEAR: u64 = 1 << 15;

@@ -3,7 +3,7 @@
 ghost use Rattle.std.specs.Prelude.{◌≡◌};
 ghost use Rattle.bpf_text_operands.specs.Operands.{least, pair};
 
-use bpf_text_lines::TextFault;
+use bpf_text_lex::TextFault;
 
 /// The least of two faults.
 fn least(fault: TextFault, other: TextFault) -> TextFault

@@ -1,6 +1,6 @@
 //! The words that mnemonics begin with.
 
-use bpf_insn_form::{AluOp, ByteOrder, Callee, Compare, ImmKind, Width};
+use bpf_insn_types::{AluOp, ByteOrder, Callee, Compare, ImmKind, Width};
 
 /// A mnemonic's word without the bits at its end.
 #[derive(Clone, Copy)]

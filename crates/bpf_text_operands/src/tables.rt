@@ -4,11 +4,11 @@ ghost use Rattle.std.specs.Prelude.{◌≡◌, ◌-◌, length, take, drop};
 ghost use Rattle.bpf_text_operands.specs.Stems.{stem_word, stems, first_stem, whole, sized, front, ending, sized_at, mnemonic_at, atomic_width, atomics, first_atomic};
 
 use crate::stem::Stem;
-use bpf_insn_form::{
+use bpf_insn_types::{
     AluOp, AtomicOp, ByteOrder, Callee, Compare, EndianBits, ImmKind, MovsxBits, SimpleOp, Size,
     Width,
 };
-use bpf_text_insns::{
+use bpf_text_mnemonics::{
     Mnemonic, alu_word, atomic_word, callee_word, compare_word, kind_word, order_word,
 };
 

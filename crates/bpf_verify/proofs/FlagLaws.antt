@@ -6,9 +6,9 @@ use Rattle.std.proofs.lemmas.Bool.Decides.{nat_tests}
 use Rattle.std.proofs.lemmas.List.{get_or-set_same, get_or-set_other}
 use Rattle.std.proofs.lemmas.List.Folds.{list_any-append}
 use Rattle.std.proofs.Math.ListN.{length-set}
-use Rattle.bpf_insn_form.specs.declared.insn.Insn.{Insn}
-use Rattle.bpf_insn_form.specs.Program.{slot_count, insn_at}
-use Rattle.bpf_insn_form.proofs.ProgramLaws.{insn_at-front, starts-push}
+use Rattle.bpf_insn_types.specs.declared.insn.Insn.{Insn}
+use Rattle.bpf_insn_types.specs.Program.{slot_count, insn_at}
+use Rattle.bpf_insn_types.proofs.ProgramLaws.{insn_at-front, starts-push}
 use Rattle.bpf_verify.specs.SlotFlags.{flagged}
 
 -- the marks of a front with one instruction more

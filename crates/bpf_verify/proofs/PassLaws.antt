@@ -2,9 +2,9 @@
 use Rattle.std.proofs.Common.{◌≡◌, ℕ, zero, suc, ◌+◌, ◌-◌, ◌<◌, ◌≤◌, Bool, true, false, List, [], ◌∷◌, ◌++◌, length, get_or, refl, ap, sym, ◌∙◌, subst, arith, add-one, Option, Some, None, is_some, take}
 use Rattle.std.specs.Prelude.{nat_lt}
 use Rattle.std.proofs.lemmas.Bool.Decides.{nat_tests}
-use Rattle.bpf_insn_form.specs.Slots.{slots_of}
-use Rattle.bpf_insn_form.specs.declared.insn.Insn.{Insn}
-use Rattle.bpf_insn_form.specs.Program.{Program, insn_at, slot_count, named_by, function_of}
+use Rattle.bpf_insn_types.specs.Slots.{slots_of}
+use Rattle.bpf_insn_types.specs.declared.insn.Insn.{Insn}
+use Rattle.bpf_insn_types.specs.Program.{Program, insn_at, slot_count, named_by, function_of}
 use Rattle.bpf_verify_model.specs.declared.rule.Rule.{Rule}
 use Rattle.bpf_verify_model.specs.declared.state.State.{State}
 use Rattle.bpf_verify_model.specs.States.{known_main_entry}
@@ -17,7 +17,7 @@ use Rattle.bpf_verify.specs.declared.error.VerifyError.TheVariants.{Refused, Mem
 use Rattle.bpf_verify.specs.declared.layout.Layout.{Layout}
 use Rattle.bpf_verify.specs.Layout.{IsLayout}
 use Rattle.bpf_verify.specs.Passing.{Stands, out_of, Passed, IsFault}
-use Rattle.bpf_insn_form.proofs.ProgramLaws.{slots_some, slots_two, slot_count-more, slot_count-front, insn_at-index, insn_at-index_inner}
+use Rattle.bpf_insn_types.proofs.ProgramLaws.{slots_some, slots_two, slot_count-more, slot_count-front, insn_at-index, insn_at-index_inner}
 use Rattle.bpf_verify.proofs.StartLaws.{get_or-push-below, get_or-push-at}
 
 -- the least rule from its parts

@@ -5,10 +5,10 @@ use Rattle.std.specs.List.{list_any, range_with_len}
 use Rattle.std.proofs.lemmas.Bool.Decides.{nat_tests}
 use Rattle.std.proofs.lemmas.List.FromFn.{length-range_with_len}
 use Rattle.std.proofs.lemmas.List.Sums.{length-filter, count_by-le-length}
-use Rattle.bpf_insn_form.specs.declared.insn.Insn.{Insn}
-use Rattle.bpf_insn_form.specs.Program.{slot_count, insn_at, named_from, is_callback_start, callback_starts, function_of}
+use Rattle.bpf_insn_types.specs.declared.insn.Insn.{Insn}
+use Rattle.bpf_insn_types.specs.Program.{slot_count, insn_at, named_from, is_callback_start, callback_starts, function_of}
 use Rattle.bpf_verify.specs.Layout.{place_of}
-use Rattle.bpf_insn_form.proofs.ProgramLaws.{insn_at-end}
+use Rattle.bpf_insn_types.proofs.ProgramLaws.{insn_at-end}
 
 -- a filter of one number more
 pub filter-more : (p : ℕ → Bool) (a n : ℕ) →

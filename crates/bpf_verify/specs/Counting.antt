@@ -1,15 +1,15 @@
 -- The most instructions from each slot on.
 use Rattle.std.specs.Prelude.{◌≡◌, ℕ, ◌<◌, List, length, map, ◌∷◌, slice_index_or, None}
-use Rattle.bpf_insn_form.specs.declared.insn.Insn.{Insn}
-use Rattle.bpf_insn_form.specs.Limits.{AreSizes}
-use Rattle.bpf_insn_form.specs.Values.{AreInsns}
-use Rattle.bpf_insn_form.specs.Program.{Program, slot_count, callback_starts}
+use Rattle.bpf_insn_types.specs.declared.insn.Insn.{Insn}
+use Rattle.bpf_insn_types.specs.Limits.{AreSizes}
+use Rattle.bpf_insn_types.specs.Values.{AreInsns}
+use Rattle.bpf_insn_types.specs.Program.{Program, slot_count, callback_starts}
 use Rattle.bpf_verify_model.specs.Accepted.{first_fault}
 use Rattle.bpf_verify_model.specs.Count.{longest}
-use Rattle.bpf_ops.specs.declared.plain_op.PlainOp.{PlainOp}
-use Rattle.bpf_ops.specs.Translation.{AreOps}
-use Rattle.bpf_fast_ops.specs.declared.fast_op.FastOp.{FastOp}
-use Rattle.bpf_fast_ops.specs.Parts.{AreFast}
+use Rattle.bpf_step_ir.specs.declared.plain_op.PlainOp.{PlainOp}
+use Rattle.bpf_step_ir.specs.Translation.{AreOps}
+use Rattle.bpf_step_fuse.specs.declared.fast_op.FastOp.{FastOp}
+use Rattle.bpf_step_fuse.specs.Parts.{AreFast}
 
 -- the number at an index of a list, and 0 past its end
 abbrev pub most_at : List ℕ → ℕ → ℕ

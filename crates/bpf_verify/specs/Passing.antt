@@ -1,16 +1,16 @@
 -- How far a pass over a program's slots has come.
 use Rattle.std.specs.Prelude.{◌≡◌, ℕ, ◌<◌, ◌≤◌, true, List, length, slice_index_or, Option, Some, None, is_some}
-use Rattle.bpf_insn_form.specs.declared.insn.Insn.{Insn}
-use Rattle.bpf_insn_form.specs.Program.{Program, insn_at}
+use Rattle.bpf_insn_types.specs.declared.insn.Insn.{Insn}
+use Rattle.bpf_insn_types.specs.Program.{Program, insn_at}
 use Rattle.bpf_verify_model.specs.declared.state.State.{State}
 use Rattle.bpf_verify_model.specs.Rules.{targets_in}
 use Rattle.bpf_verify_model.specs.declared.outflow.Outflow.{Outflow}
 use Rattle.bpf_verify_model.specs.Flow.{flow}
 use Rattle.bpf_verify_model.specs.Inflow.{incoming, no_way, entry}
 use Rattle.bpf_verify_model.specs.Accepted.{BrokenRule, fault_within}
-use Rattle.bpf_ops.specs.declared.plain_op.PlainOp.{PlainOp}
-use Rattle.bpf_ops.specs.declared.plain_op.PlainOp.TheVariants.{Stop}
-use Rattle.bpf_ops.specs.Translation.{op_at}
+use Rattle.bpf_step_ir.specs.declared.plain_op.PlainOp.{PlainOp}
+use Rattle.bpf_step_ir.specs.declared.plain_op.PlainOp.TheVariants.{Stop}
+use Rattle.bpf_step_ir.specs.Translation.{op_at}
 use Rattle.bpf_verify.specs.declared.error.VerifyError.{VerifyError}
 use Rattle.bpf_verify.specs.declared.error.VerifyError.TheVariants.{Refused, Memory}
 use Rattle.bpf_verify.specs.declared.layout.Layout.{Layout}

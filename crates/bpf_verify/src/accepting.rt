@@ -11,7 +11,7 @@ use crate::layout::layout_of;
 use crate::operations::fused;
 use crate::passing::{Code, pass};
 use crate::verified::Verified;
-use bpf_insn_form::{Unit, elements_of, slot_count};
+use bpf_insn_types::{Unit, elements_of, slot_count};
 use bpf_verify_model::Rule;
 use std::alloc::Global;
 

@@ -1,13 +1,13 @@
 //! How many instructions each function takes at most.
 
 ghost use Rattle.std.specs.Prelude.{◌≡◌, ℕ, ◌<◌, ◌≤◌, ◌∷◌, [], ◌++◌, map, length, replicate, slice_set, slice_index_or, IfOk, IfErr, OnOk};
-ghost use Rattle.bpf_insn_form.specs.Program.{slot_count};
+ghost use Rattle.bpf_insn_types.specs.Program.{slot_count};
 ghost use Rattle.bpf_verify_model.specs.Count.{behind_jump, through, longest, JumpsForward};
 ghost use Rattle.bpf_verify.specs.Counting.{most_at, AreLongest};
 
 use crate::error::VerifyError;
-use bpf_insn_form::{Insn, slots};
-use bpf_verify_state::slot_beyond;
+use bpf_insn_types::{Insn, slots};
+use bpf_verify_values::slot_beyond;
 use std::alloc::Global;
 
 /// The most instructions from a slot on.

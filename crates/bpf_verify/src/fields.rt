@@ -2,9 +2,9 @@
 //! made a clause, so that contracts over plain numbers know it.
 
 ghost use Rattle.std.specs.Prelude.{◌≤◌};
-ghost use Rattle.bpf_insn_form.specs.Values.{OperandFits, InsnFits, AreInsns};
+ghost use Rattle.bpf_insn_types.specs.Values.{OperandFits, InsnFits, AreInsns};
 
-use bpf_insn_form::{Insn, Operand, Reg};
+use bpf_insn_types::{Insn, Operand, Reg};
 
 /// A register is one of eleven.
 fn register_fits(reg: Reg)

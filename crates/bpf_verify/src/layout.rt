@@ -1,13 +1,13 @@
 //! Where instructions stand, and in which functions.
 
 ghost use Rattle.std.specs.Prelude.{◌≡◌, ◌<◌, ◌≤◌, ◌&&◌, false, if◌then◌else◌, ◌++◌, ◌∷◌, [], length, slice_index_or, option_to_list, IfSome, IfNone, IfOk, IfErr, OnOk};
-ghost use Rattle.bpf_insn_form.specs.Program.{slot_count};
+ghost use Rattle.bpf_insn_types.specs.Program.{slot_count};
 ghost use Rattle.bpf_verify.specs.SlotFlags.{flagged, StartFlags, NamedFlags};
 ghost use Rattle.bpf_verify.specs.Layout.{IsLayout};
 
 use crate::error::VerifyError;
-use bpf_insn_form::{Insn, slots};
-use bpf_verify_state::named_by;
+use bpf_insn_types::{Insn, slots};
+use bpf_verify_values::named_by;
 use std::alloc::Global;
 
 /// The function of the instruction that starts at each slot, if one does, and where the callbacks

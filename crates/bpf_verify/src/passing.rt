@@ -2,11 +2,11 @@
 
 ghost use Rattle.std.specs.Prelude.{◌≡◌, ℕ, ◌+◌, ◌<◌, ◌≤◌, ◌++◌, ◌∷◌, [], length, nat_eq, slice_set, IfOk, IfErr, OnOk};
 ghost use Rattle.std.specs.List.{list_any};
-ghost use Rattle.bpf_insn_form.specs.Limits.{AreSizes};
-ghost use Rattle.bpf_insn_form.specs.Program.{slot_count, insn_at, function_of, leads_to};
+ghost use Rattle.bpf_insn_types.specs.Limits.{AreSizes};
+ghost use Rattle.bpf_insn_types.specs.Program.{slot_count, insn_at, function_of, leads_to};
 ghost use Rattle.bpf_verify_model.specs.Rules.{leads_later, jumps_astray, falls_off, starts, names_none, targets_in, with_target, slot_fault, reached, state_fault, exit_fault, fault_of};
 ghost use Rattle.bpf_verify_model.specs.Accepted.{fault_within};
-ghost use Rattle.bpf_ops.specs.Translation.{op_at, AreOps};
+ghost use Rattle.bpf_step_ir.specs.Translation.{op_at, AreOps};
 ghost use Rattle.bpf_verify.specs.Layout.{IsLayout, place_of};
 ghost use Rattle.bpf_verify.specs.Passing.{program_of, Stands, Passed, IsFault};
 
@@ -14,14 +14,14 @@ use crate::error::VerifyError;
 use crate::layout::Layout;
 use crate::operations::{no_ops, put_op};
 use crate::table::{first_table, hand_on_reached, known};
-use bpf_insn_form::{Insn, slots};
-use bpf_ops::PlainOp;
+use bpf_insn_types::{Insn, slots};
+use bpf_step_ir::PlainOp;
 use bpf_verify_model::{Rule, State};
 use bpf_verify_rules::{
     callback_fault, exit_fault, goes_on, insn_fault, is_code_load, jump_distance, or_else,
     state_fault,
 };
-use bpf_verify_state::{named_by, slot_beyond};
+use bpf_verify_values::{named_by, slot_beyond};
 use std::alloc::Global;
 
 /// A program with its layout.

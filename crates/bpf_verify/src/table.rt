@@ -1,16 +1,16 @@
 //! What is known before each slot, as far as a pass has come.
 
 ghost use Rattle.std.specs.Prelude.{◌≡◌, ℕ, ◌+◌, ◌<◌, ◌++◌, ◌∷◌, [], length, slice_index_or, Some, None, IfOk, IfErr, OnOk};
-ghost use Rattle.bpf_insn_form.specs.Slots.{slots_of};
+ghost use Rattle.bpf_insn_types.specs.Slots.{slots_of};
 ghost use Rattle.bpf_verify_model.specs.Flow.{known_behind, ahead_outflow, flow};
 ghost use Rattle.bpf_verify_model.specs.Inflow.{met, received, received_all};
 ghost use Rattle.bpf_verify.specs.Passing.{out_of, IsFirst};
 
 use crate::error::VerifyError;
-use bpf_insn_form::{Insn, slots};
-use bpf_verify_flow::{behind, flow, main_entry};
+use bpf_insn_types::{Insn, slots};
 use bpf_verify_model::{Edge, Outflow, State};
-use bpf_verify_state::meet_states;
+use bpf_verify_transfer::{behind, flow, main_entry};
+use bpf_verify_values::meet_states;
 use std::alloc::Global;
 
 /// By a slice of one: the borrow checker has no plan yet for a push of a struct within an enum.

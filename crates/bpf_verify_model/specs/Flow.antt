@@ -1,24 +1,24 @@
 -- What flows from a slot to later ones.
 use Rattle.std.specs.Prelude.{ℕ, ℤ, pos, negsuc, ◌+◌, ◌+ℤ◌, ◌-◌, ◌*◌, ◌^◌, ◌==◌, Bool, nat_le, if◌then◌else◌, min, max, List, slice_get, slice_set, Option, Some, None}
 use Rattle.std.specs.Int.{cast_unsigned, w32}
-use Rattle.bpf_insn_form.specs.declared.insn.Width.{Width}
-use Rattle.bpf_insn_form.specs.declared.insn.Width.TheVariants.{W32, W64}
-use Rattle.bpf_insn_form.specs.declared.insn.Size.{Size}
-use Rattle.bpf_insn_form.specs.declared.insn.AluOp.TheVariants.{Mov}
-use Rattle.bpf_insn_form.specs.declared.insn.Compare.{Compare}
-use Rattle.bpf_insn_form.specs.declared.insn.Compare.TheVariants.{Eq}
-use Rattle.bpf_insn_form.specs.declared.insn.AtomicOp.{AtomicOp}
-use Rattle.bpf_insn_form.specs.declared.insn.AtomicOp.TheVariants.{Fetch, Xchg, Cmpxchg}
-use Rattle.bpf_insn_form.specs.declared.insn.Operand.{Operand}
-use Rattle.bpf_insn_form.specs.declared.insn.Operand.TheVariants.{Imm, Reg}
-use Rattle.bpf_insn_form.specs.declared.insn.ImmKind.{ImmKind}
-use Rattle.bpf_insn_form.specs.declared.insn.ImmKind.TheVariants.{Number as NumberKind, Code as CodeKind, Map as MapKind, MapValue}
-use Rattle.bpf_insn_form.specs.declared.insn.Insn.{Insn}
-use Rattle.bpf_insn_form.specs.declared.insn.Insn.TheVariants.{Alu, Neg, Movsx, Endian, Ja, Ja32, Jump, Call, Exit, Load, LoadSx, StoreImm, Store, Atomic, LoadImm}
-use Rattle.bpf_insn_form.specs.Slots.{slots_of}
-use Rattle.bpf_insn_words.specs.Words.{word_of}
-use Rattle.bpf_insn_form.specs.Program.{moved, code_target}
-use Rattle.bpf_insn_form.specs.Sizes.{bytes_of}
+use Rattle.bpf_insn_types.specs.declared.insn.Width.{Width}
+use Rattle.bpf_insn_types.specs.declared.insn.Width.TheVariants.{W32, W64}
+use Rattle.bpf_insn_types.specs.declared.insn.Size.{Size}
+use Rattle.bpf_insn_types.specs.declared.insn.AluOp.TheVariants.{Mov}
+use Rattle.bpf_insn_types.specs.declared.insn.Compare.{Compare}
+use Rattle.bpf_insn_types.specs.declared.insn.Compare.TheVariants.{Eq}
+use Rattle.bpf_insn_types.specs.declared.insn.AtomicOp.{AtomicOp}
+use Rattle.bpf_insn_types.specs.declared.insn.AtomicOp.TheVariants.{Fetch, Xchg, Cmpxchg}
+use Rattle.bpf_insn_types.specs.declared.insn.Operand.{Operand}
+use Rattle.bpf_insn_types.specs.declared.insn.Operand.TheVariants.{Imm, Reg}
+use Rattle.bpf_insn_types.specs.declared.insn.ImmKind.{ImmKind}
+use Rattle.bpf_insn_types.specs.declared.insn.ImmKind.TheVariants.{Number as NumberKind, Code as CodeKind, Map as MapKind, MapValue}
+use Rattle.bpf_insn_types.specs.declared.insn.Insn.{Insn}
+use Rattle.bpf_insn_types.specs.declared.insn.Insn.TheVariants.{Alu, Neg, Movsx, Endian, Ja, Ja32, Jump, Call, Exit, Load, LoadSx, StoreImm, Store, Atomic, LoadImm}
+use Rattle.bpf_insn_types.specs.Slots.{slots_of}
+use Rattle.bpf_insn_alu.specs.Words.{word_of}
+use Rattle.bpf_insn_types.specs.Program.{moved, code_target}
+use Rattle.bpf_insn_types.specs.Sizes.{bytes_of}
 use Rattle.value_range_model.specs.Spans.{Span, exact, top, norm}
 use Rattle.value_range_model.specs.declared.operation.Operation.TheVariants.{Alu as AluOperation, Neg as NegOperation, Movsx as MovsxOperation, Endian as EndianOperation}
 use Rattle.value_range_model.specs.declared.condition.Condition.TheVariants.{Holds}
@@ -32,7 +32,7 @@ use Rattle.bpf_verify_model.specs.declared.state.State.{State}
 use Rattle.bpf_verify_model.specs.declared.outflow.Edge.{Edge}
 use Rattle.bpf_verify_model.specs.declared.outflow.Outflow.{Outflow}
 use Rattle.bpf_verify_model.specs.declared.outflow.Ways.{Ways}
-use Rattle.written_bytes.specs.Written.{none_written, written_from}
+use Rattle.bpf_verify_written.specs.Written.{none_written, written_from}
 use Rattle.bpf_verify_model.specs.States.{known_register, with_known, starting_registers}
 use Rattle.bpf_verify_model.specs.Values.{known_operand, known_of_number, known_result}
 use Rattle.bpf_verify_model.specs.Helpers.{helper_called}

@@ -1,7 +1,7 @@
 -- The helpers that a program may call.
 use Rattle.std.specs.Prelude.{ℤ, pos, negsuc, ◌==◌, if◌then◌else◌, Option, Some, None}
-use Rattle.bpf_insn_form.specs.declared.insn.Callee.{Callee}
-use Rattle.bpf_insn_form.specs.declared.insn.Callee.TheVariants as callee
+use Rattle.bpf_insn_types.specs.declared.insn.Callee.{Callee}
+use Rattle.bpf_insn_types.specs.declared.insn.Callee.TheVariants as callee
 use Rattle.bpf_verify_model.specs.declared.helper.Helper.{Helper}
 use Rattle.bpf_verify_model.specs.declared.helper.Helper.TheVariants.{Lookup, Loop}
 

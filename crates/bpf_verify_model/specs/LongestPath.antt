@@ -1,10 +1,10 @@
 -- The law of counts: a function's count is its longest path.
 use Rattle.std.specs.Prelude.{◌≡◌, ℕ, ◌+◌, ◌≤◌, true, false, nat_eq, List, [], ◌∷◌, length, Option, Some, None, is_some, option_to_list}
 use Rattle.std.specs.List.{list_any}
-use Rattle.bpf_insn_form.specs.declared.insn.Insn.{Insn}
-use Rattle.bpf_insn_form.specs.declared.insn.Insn.TheVariants.{Ja, Ja32, Jump, Exit}
-use Rattle.bpf_insn_form.specs.Slots.{slots_of}
-use Rattle.bpf_insn_form.specs.Program.{Program, insn_at, moved}
+use Rattle.bpf_insn_types.specs.declared.insn.Insn.{Insn}
+use Rattle.bpf_insn_types.specs.declared.insn.Insn.TheVariants.{Ja, Ja32, Jump, Exit}
+use Rattle.bpf_insn_types.specs.Slots.{slots_of}
+use Rattle.bpf_insn_types.specs.Program.{Program, insn_at, moved}
 use Rattle.bpf_verify_model.specs.Accepted.{Accepted}
 use Rattle.bpf_verify_model.specs.Count.{start_of, count_of}
 

@@ -1,11 +1,11 @@
 -- Worked states and rules, each by hand: what a join, a store, a comparison and a null check leave, and what is refused
 -- at the end of a callback and past the end of what an access may reach.
 use Rattle.std.specs.Prelude.{◌≡◌, ℕ, pos, negsuc, true, false, [], ◌∷◌, Some, None}
-use Rattle.bpf_insn_form.specs.declared.insn.Width.TheVariants.{W64}
-use Rattle.bpf_insn_form.specs.declared.insn.Size.TheVariants.{W, Dw}
-use Rattle.bpf_insn_form.specs.declared.insn.Compare.TheVariants.{Eq, Gt, Ne}
-use Rattle.bpf_insn_form.specs.declared.insn.Operand.TheVariants.{Imm}
-use Rattle.bpf_insn_form.specs.declared.insn.Insn.TheVariants.{Jump, Exit, StoreImm}
+use Rattle.bpf_insn_types.specs.declared.insn.Width.TheVariants.{W64}
+use Rattle.bpf_insn_types.specs.declared.insn.Size.TheVariants.{W, Dw}
+use Rattle.bpf_insn_types.specs.declared.insn.Compare.TheVariants.{Eq, Gt, Ne}
+use Rattle.bpf_insn_types.specs.declared.insn.Operand.TheVariants.{Imm}
+use Rattle.bpf_insn_types.specs.declared.insn.Insn.TheVariants.{Jump, Exit, StoreImm}
 use Rattle.value_range_model.specs.Spans.{exact, norm}
 use Rattle.bpf_verify_model.specs.declared.abstract_value.AbstractValue.{AbstractValue}
 use Rattle.bpf_verify_model.specs.declared.abstract_value.AbstractValue.TheVariants.{Unwritten, Number, Frame, Area, AreaOrNull}

@@ -1,19 +1,19 @@
 -- The rules that an instruction breaks at a slot, and the least of them.
 use Rattle.std.specs.Prelude.{ℕ, zero, suc, ℤ, pos, negsuc, ◌+◌, ◌*◌, ◌%◌, ◌==◌, Bool, true, false, not, ◌&&◌, ◌||◌, nat_eq, nat_lt, nat_le, if◌then◌else◌, List, [], ◌∷◌, ◌++◌, length, slice_get, Option, Some, None, is_none, is_some}
 use Rattle.std.specs.List.{list_any}
-use Rattle.bpf_insn_form.specs.declared.insn.AluOp.{AluOp}
-use Rattle.bpf_insn_form.specs.declared.insn.AluOp.TheVariants.{Mov}
-use Rattle.bpf_insn_form.specs.declared.insn.AtomicOp.{AtomicOp}
-use Rattle.bpf_insn_form.specs.declared.insn.AtomicOp.TheVariants.{Fetch, Xchg, Cmpxchg}
-use Rattle.bpf_insn_form.specs.declared.insn.Operand.{Operand}
-use Rattle.bpf_insn_form.specs.declared.insn.Operand.TheVariants.{Imm, Reg}
-use Rattle.bpf_insn_form.specs.declared.insn.Callee.TheVariants as callee
-use Rattle.bpf_insn_form.specs.declared.insn.ImmKind.{ImmKind}
-use Rattle.bpf_insn_form.specs.declared.insn.ImmKind.TheVariants.{MapFd, MapFdValue, Variable, Code as CodeKind, Map as MapKind, MapValue}
-use Rattle.bpf_insn_form.specs.declared.insn.Insn.{Insn}
-use Rattle.bpf_insn_form.specs.declared.insn.Insn.TheVariants.{Alu, Neg, Movsx, Endian, Ja, Ja32, Jump, Call, Exit, Load, LoadSx, StoreImm, Store, Atomic, LoadImm}
-use Rattle.bpf_insn_form.specs.Slots.{slots_of}
-use Rattle.bpf_insn_form.specs.Program.{Program, moved, insn_at, named_by, function_of, leads_to}
+use Rattle.bpf_insn_types.specs.declared.insn.AluOp.{AluOp}
+use Rattle.bpf_insn_types.specs.declared.insn.AluOp.TheVariants.{Mov}
+use Rattle.bpf_insn_types.specs.declared.insn.AtomicOp.{AtomicOp}
+use Rattle.bpf_insn_types.specs.declared.insn.AtomicOp.TheVariants.{Fetch, Xchg, Cmpxchg}
+use Rattle.bpf_insn_types.specs.declared.insn.Operand.{Operand}
+use Rattle.bpf_insn_types.specs.declared.insn.Operand.TheVariants.{Imm, Reg}
+use Rattle.bpf_insn_types.specs.declared.insn.Callee.TheVariants as callee
+use Rattle.bpf_insn_types.specs.declared.insn.ImmKind.{ImmKind}
+use Rattle.bpf_insn_types.specs.declared.insn.ImmKind.TheVariants.{MapFd, MapFdValue, Variable, Code as CodeKind, Map as MapKind, MapValue}
+use Rattle.bpf_insn_types.specs.declared.insn.Insn.{Insn}
+use Rattle.bpf_insn_types.specs.declared.insn.Insn.TheVariants.{Alu, Neg, Movsx, Endian, Ja, Ja32, Jump, Call, Exit, Load, LoadSx, StoreImm, Store, Atomic, LoadImm}
+use Rattle.bpf_insn_types.specs.Slots.{slots_of}
+use Rattle.bpf_insn_types.specs.Program.{Program, moved, insn_at, named_by, function_of, leads_to}
 use Rattle.bpf_verify_model.specs.declared.abstract_value.AbstractValue.{AbstractValue}
 use Rattle.bpf_verify_model.specs.declared.abstract_value.AbstractValue.TheVariants.{Number, Frame, Ctx, Map, Code}
 use Rattle.bpf_verify_model.specs.declared.memory_access.MemoryAccess.{MemoryAccess}

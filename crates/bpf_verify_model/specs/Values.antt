@@ -1,15 +1,15 @@
 -- What operators and comparisons give on what is known of registers.
 use Rattle.std.specs.Option.{option_map}
 use Rattle.std.specs.Prelude.{ℕ, zero, pos, ◌+◌, Bool, true, false, ◌&&◌, ◌==◌, nat_le, if◌then◌else◌, Option, Some, None}
-use Rattle.bpf_insn_form.specs.declared.insn.Width.{Width}
-use Rattle.bpf_insn_form.specs.declared.insn.Width.TheVariants.{W32, W64}
-use Rattle.bpf_insn_form.specs.declared.insn.AluOp.{AluOp}
-use Rattle.bpf_insn_form.specs.declared.insn.AluOp.TheVariants.{Add, Sub, Mov}
-use Rattle.bpf_insn_form.specs.declared.insn.Compare.{Compare}
-use Rattle.bpf_insn_form.specs.declared.insn.Compare.TheVariants.{Eq, Ne}
-use Rattle.bpf_insn_form.specs.declared.insn.Operand.{Operand}
-use Rattle.bpf_insn_form.specs.declared.insn.Operand.TheVariants.{Imm, Reg}
-use Rattle.bpf_insn_words.specs.Words.{word_of, alu}
+use Rattle.bpf_insn_types.specs.declared.insn.Width.{Width}
+use Rattle.bpf_insn_types.specs.declared.insn.Width.TheVariants.{W32, W64}
+use Rattle.bpf_insn_types.specs.declared.insn.AluOp.{AluOp}
+use Rattle.bpf_insn_types.specs.declared.insn.AluOp.TheVariants.{Add, Sub, Mov}
+use Rattle.bpf_insn_types.specs.declared.insn.Compare.{Compare}
+use Rattle.bpf_insn_types.specs.declared.insn.Compare.TheVariants.{Eq, Ne}
+use Rattle.bpf_insn_types.specs.declared.insn.Operand.{Operand}
+use Rattle.bpf_insn_types.specs.declared.insn.Operand.TheVariants.{Imm, Reg}
+use Rattle.bpf_insn_alu.specs.Words.{word_of, alu}
 use Rattle.value_range_model.specs.Spans.{Span, exact}
 use Rattle.value_range_model.specs.declared.operation.Operation.{Operation}
 use Rattle.value_range_model.specs.declared.operation.Operation.TheVariants.{Alu as AluOperation}

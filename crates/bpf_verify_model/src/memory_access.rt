@@ -1,6 +1,6 @@
 //! Accesses of memory.
 
-use bpf_insn_form::Reg;
+use bpf_insn_types::Reg;
 
 /// What an access does.
 #[derive(Clone, Copy)]

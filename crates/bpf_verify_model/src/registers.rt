@@ -5,7 +5,7 @@ ghost use Rattle.bpf_verify_model.specs.declared.abstract_value.AbstractValue.Th
 ghost use Rattle.bpf_verify_model.specs.States.{starting_registers};
 
 use crate::abstract_value::AbstractValue;
-use bpf_insn_form::Reg;
+use bpf_insn_types::Reg;
 use std::marker::Model;
 
 /// What is known of each register.

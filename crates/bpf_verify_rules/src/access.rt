@@ -3,9 +3,9 @@
 ghost use Rattle.std.specs.Prelude.{◌≡◌, ◌≤◌, IfSome};
 ghost use Rattle.bpf_verify_model.specs.Accesses.{memory_access_of, kind_reads, kind_writes};
 
-use bpf_insn_form::Insn;
+use bpf_insn_types::Insn;
 use bpf_verify_model::{AccessKind, MemoryAccess};
-use bpf_verify_state::{atomic_bytes, bytes_of};
+use bpf_verify_values::{atomic_bytes, bytes_of};
 
 /// The access of memory that an instruction makes, if it makes one.
 pub fn access_of(insn: Insn) -> Option<MemoryAccess>

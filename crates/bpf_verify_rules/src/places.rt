@@ -3,10 +3,10 @@
 ghost use Rattle.std.specs.Prelude.{◌≡◌, ◌+ℤ◌, ◌*◌, ◌^◌, ◌≤◌, pos, slice_get};
 ghost use Rattle.bpf_verify_model.specs.Accesses.{is_memory, is_part_of_half, is_misaligned, is_spread, misses_alignment, is_outside_frame, is_outside_map, is_outside, lacks, caller_lacks, has_unwritten_byte, is_ctx};
 
-use bpf_insn_form::FRAME_BYTES;
+use bpf_insn_types::FRAME_BYTES;
 use bpf_verify_model::{AbstractValue, State};
+use bpf_verify_written::WrittenBytes;
 use value_range_model::Range;
-use written_bytes::WrittenBytes;
 
 /// Whether it is the address of memory.
 pub fn is_memory(base: AbstractValue) -> bool

@@ -9,9 +9,9 @@ use crate::access::{access_of, reads, writes};
 use crate::places::{
     has_unwritten_byte, is_ctx, is_memory, is_outside, is_part_of_half, misses_alignment,
 };
-use bpf_insn_form::{AluOp, AtomicOp, Insn, Operand, Reg};
+use bpf_insn_types::{AluOp, AtomicOp, Insn, Operand, Reg};
 use bpf_verify_model::{AbstractValue, Helper, MemoryAccess, Rule, State, reg};
-use bpf_verify_state::{compares, helper_of, is_number, is_unwritten, operand_value, result_of};
+use bpf_verify_values::{compares, helper_of, is_number, is_unwritten, operand_value, result_of};
 
 fn unwritten(state: &State, reg: Reg) -> bool
     ensures { result ≡ unwritten_register state.now reg }

@@ -2,8 +2,8 @@
 
 ghost use Rattle.std.specs.Prelude.{◌≡◌};
 
-use loop_core_law::Test;
-use spec_plan::Plan;
+use loop_core_model::Test;
+use spec_run_plan::Plan;
 use std::alloc::{AllocError, AllocFailed};
 use thiserror::Error;
 

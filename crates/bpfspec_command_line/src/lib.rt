@@ -8,6 +8,6 @@ mod values;
 mod words;
 
 pub use job::{Job, LineFault, Mode, UnitForm};
-pub use loop_core_law::Test;
-pub use spec_plan::Plan;
+pub use loop_core_model::Test;
+pub use spec_run_plan::Plan;
 pub use words::{read_command_line, read_words};

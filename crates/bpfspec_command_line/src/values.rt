@@ -6,8 +6,8 @@ ghost use Rattle.bpfspec_command_line.specs.CommandLine.{IsArgument, IsForm, IsN
 
 use crate::job::UnitForm;
 use clap::ArgMatches;
-use loop_core_law::Test;
-use spec_plan::Plan;
+use loop_core_model::Test;
+use spec_run_plan::Plan;
 
 /// The form that the arguments ask for.
 pub fn unit_form(matches: &ArgMatches<'_>) -> UnitForm

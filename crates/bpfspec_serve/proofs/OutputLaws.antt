@@ -3,18 +3,18 @@ use Rattle.std.proofs.Common.{◌≡◌, ℕ, ◌≤◌, ◌<◌, Bool, false, t
 use Rattle.std.specs.Cmp.Lexicographic.{pointwise, same_text}
 use Rattle.std.specs.List.{concat}
 use Rattle.array_maps.specs.MapList.{lengths}
-use Rattle.bpf_insn_form.specs.Limits.{AreSizes, sizes_fit}
-use Rattle.bpf_insn_form.specs.Program.{Program}
+use Rattle.bpf_insn_types.specs.Limits.{AreSizes, sizes_fit}
+use Rattle.bpf_insn_types.specs.Program.{Program}
 use Rattle.bpf_step_model.specs.Run.{Ending, Ended}
-use Rattle.loop_core_law.specs.Report.{Reported}
-use Rattle.bpfspec_answers.specs.ReportText.{report_text}
+use Rattle.loop_core_model.specs.Report.{Reported}
+use Rattle.bpfspec_output.specs.ReportText.{report_text}
 use Rattle.std.specs.Prelude.{nat_lt, nat_le}
 use Rattle.std.specs.Str.{IsUtf8, is_utf8}
 use Rattle.std.proofs.lemmas.Bool.Decides.{nat_tests}
 use Rattle.std.proofs.lemmas.Str.{IsUtf8-from_is_utf8, is_utf8-from_IsUtf8}
-use Rattle.bpf_text_lines.specs.declared.text_error.TextFault.TheVariants as text_faults
-use Rattle.bpfspec_answers.specs.declared.refusal.Section.TheVariants as sections
-use Rattle.bpfspec_answers.specs.declared.refusal.Refusal.TheVariants as refusals
+use Rattle.bpf_text_lex.specs.declared.text_error.TextFault.TheVariants as text_faults
+use Rattle.bpfspec_output.specs.declared.refusal.Section.TheVariants as sections
+use Rattle.bpfspec_output.specs.declared.refusal.Refusal.TheVariants as refusals
 use Rattle.bpfspec_streams.specs.Streams.{ReadsToEnd}
 use Rattle.bpfspec_serve.specs.HowServed.{AnswersReader, HowWritten, HowServed, Answered, Out_of_memory, Read_failed}
 use Rattle.bpfspec_serve.specs.declared.answer_error.AnswerError.{AnswerError}

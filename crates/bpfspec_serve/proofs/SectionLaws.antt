@@ -8,8 +8,8 @@ use Rattle.std.proofs.Math.ListN.{drop_of_length-le}
 use Rattle.std.proofs.Math.Seq.{take-add, take-length}
 use Rattle.std.specs.Prelude.{position}
 use Rattle.std.specs.List.{concat, position_or_len}
-use Rattle.bpf_text_lines.specs.Lines.{with_front}
-use Rattle.bpf_text_lines.proofs.LineLaws.{position_found, position_missing}
+use Rattle.bpf_text_lex.specs.Lines.{with_front}
+use Rattle.bpf_text_lex.proofs.LineLaws.{position_found, position_missing}
 use Rattle.bpfspec_serve.specs.Sections.{whole_lines, is_mark, before_mark, behind_mark}
 
 next_of : (k : ℕ) → 1 + k ≡ suc k

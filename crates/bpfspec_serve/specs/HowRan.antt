@@ -9,7 +9,7 @@ use Rattle.bpfspec_serve.specs.declared.serving.Served.{Served}
 use Rattle.bpfspec_serve.specs.declared.serving.Served.TheVariants as served
 use Rattle.bpfspec_serve.specs.HowServed.{HowServed, HowWritten}
 use Rattle.bpfspec_serve.specs.Output.{Answer}
-use Rattle.bpfspec_answers.specs.Refusals.{memory_line}
+use Rattle.bpfspec_output.specs.Refusals.{memory_line}
 
 -- the words of a command line ask for a job, by which an input is served; or there is no memory for them; or they ask
 -- for nothing, and nothing is written to the output

@@ -5,7 +5,7 @@ use Rattle.bpfspec_command_line.specs.declared.job.Job.{Job}
 use Rattle.bpfspec_serve.specs.declared.serving.Served.{Served}
 use Rattle.bpfspec_serve.specs.declared.serving.Served.TheVariants as served
 use Rattle.bpfspec_serve.specs.Output.{Answer, Answers}
-use Rattle.bpfspec_answers.specs.Refusals.{memory_line}
+use Rattle.bpfspec_output.specs.Refusals.{memory_line}
 use Rattle.bpfspec_streams.specs.Streams.{AppendsBeginning, ReadsToEnd}
 
 -- the answer to what a reader had left, where that is known, and else to some input; of which no more than one byte past

@@ -3,45 +3,45 @@ use Rattle.std.specs.Prelude.{◌≡◌, ℕ, ◌+◌, nat_lt, nat_eq, if◌then
 use Rattle.std.specs.Cmp.Lexicographic.{pointwise}
 use Rattle.std.specs.List.{concat, range_with_len, sum}
 use Rattle.std.specs.Str.{is_utf8}
-use Rattle.bpf_insn_form.specs.declared.insn.Insn.{Insn}
+use Rattle.bpf_insn_types.specs.declared.insn.Insn.{Insn}
 use Rattle.bpf_insn.specs.declared.codec_error.CodecError.{CodecError}
 use Rattle.bpf_insn.specs.declared.codec_error.CodecError.TheVariants as codec
 use Rattle.bpf_insn.specs.Reading.{reading}
-use Rattle.bpf_text_lines.specs.declared.text_error.TextFault.TheVariants as text_faults
-use Rattle.bpf_text_lines.specs.declared.text_error.TextError.{TextError}
-use Rattle.bpf_text_lines.specs.declared.text_error.TextError.TheVariants as text
+use Rattle.bpf_text_lex.specs.declared.text_error.TextFault.TheVariants as text_faults
+use Rattle.bpf_text_lex.specs.declared.text_error.TextError.{TextError}
+use Rattle.bpf_text_lex.specs.declared.text_error.TextError.TheVariants as text
 use Rattle.bpf_text_hex.specs.SizesAndBytes.{SizesAndBytes}
 use Rattle.bpf_text_hex.specs.HexText.{hex_text}
 use Rattle.bpf_text_hex.specs.HexForm.{hex_form}
-use Rattle.bpf_text_units.specs.AssemblerForm.{assembler_form}
-use Rattle.bpf_text_units.specs.AssemblerText.{assembler_text}
+use Rattle.bpf_text_asm.specs.AssemblerForm.{assembler_form}
+use Rattle.bpf_text_asm.specs.AssemblerText.{assembler_text}
 use Rattle.bpf_text.specs.MapsText.{maps_text}
 use Rattle.bpf_text.specs.EventsText.{events_text}
-use Rattle.bpf_insn_form.specs.Program.{Program, callback_starts}
+use Rattle.bpf_insn_types.specs.Program.{Program, callback_starts}
 use Rattle.array_maps.specs.MapList.{lengths}
 use Rattle.bpf_step_model.specs.Run.{Ending, Ended}
-use Rattle.loop_core_law.specs.declared.loop_test.Test.{Test}
-use Rattle.loop_core_law.specs.Report.{Reported, report, report_in_order}
-use Rattle.loop_event.specs.declared.event.Event.{Event}
-use Rattle.spec_replay.specs.declared.replaying.ReplayRefusal.{ReplayRefusal}
-use Rattle.spec_replay.specs.declared.replaying.ReplayRefusal.TheVariants as replays
-use Rattle.spec_replay.specs.ProgramReplay.{LoopReplay, ComesTo}
-use Rattle.spec_plan.specs.declared.plan.Plan.{Plan}
-use Rattle.spec_plan.specs.Plans.{IsPlan}
+use Rattle.loop_core_model.specs.declared.loop_test.Test.{Test}
+use Rattle.loop_core_model.specs.Report.{Reported, report, report_in_order}
+use Rattle.loop_core_event.specs.declared.event.Event.{Event}
+use Rattle.spec_run_replay.specs.declared.replaying.ReplayRefusal.{ReplayRefusal}
+use Rattle.spec_run_replay.specs.declared.replaying.ReplayRefusal.TheVariants as replays
+use Rattle.spec_run_replay.specs.ProgramReplay.{LoopReplay, ComesTo}
+use Rattle.spec_run_plan.specs.declared.plan.Plan.{Plan}
+use Rattle.spec_run_plan.specs.Plans.{IsPlan}
 use Rattle.bpfspec_command_line.specs.declared.job.Job.{Job}
 use Rattle.bpfspec_command_line.specs.declared.job.Job.TheVariants.{Serve, Run}
 use Rattle.bpfspec_command_line.specs.declared.job.Mode.{Mode}
 use Rattle.bpfspec_command_line.specs.declared.job.Mode.TheVariants.{Verify, Order, Replay, Asm, Disasm}
 use Rattle.bpfspec_command_line.specs.declared.job.UnitForm.{UnitForm}
 use Rattle.bpfspec_command_line.specs.declared.job.UnitForm.TheVariants.{Assembler, Hex}
-use Rattle.bpfspec_answers.specs.declared.accepted.Function.{Function}
-use Rattle.bpfspec_answers.specs.declared.refusal.Section.{Section}
-use Rattle.bpfspec_answers.specs.declared.refusal.Section.TheVariants as sections
-use Rattle.bpfspec_answers.specs.declared.refusal.Refusal.{Refusal}
-use Rattle.bpfspec_answers.specs.declared.refusal.Refusal.TheVariants as refusals
-use Rattle.bpfspec_answers.specs.AcceptedText.{accepted_text}
-use Rattle.bpfspec_answers.specs.Refusals.{refusal_line, memory_line}
-use Rattle.bpfspec_answers.specs.ReportText.{report_text, replay_text}
+use Rattle.bpfspec_output.specs.declared.accepted.Function.{Function}
+use Rattle.bpfspec_output.specs.declared.refusal.Section.{Section}
+use Rattle.bpfspec_output.specs.declared.refusal.Section.TheVariants as sections
+use Rattle.bpfspec_output.specs.declared.refusal.Refusal.{Refusal}
+use Rattle.bpfspec_output.specs.declared.refusal.Refusal.TheVariants as refusals
+use Rattle.bpfspec_output.specs.AcceptedText.{accepted_text}
+use Rattle.bpfspec_output.specs.Refusals.{refusal_line, memory_line}
+use Rattle.bpfspec_output.specs.ReportText.{report_text, replay_text}
 use Rattle.bpfspec_serve.specs.declared.answer_error.AnswerError.{AnswerError}
 use Rattle.bpfspec_serve.specs.declared.answer_error.AnswerError.TheVariants as errors
 use Rattle.bpfspec_serve.specs.declared.serving.Served.{Served}

@@ -2,7 +2,7 @@
 use Rattle.std.specs.Prelude.{ℕ, ◌==◌, ◌||◌, Bool, if◌then◌else◌, List, [], ◌∷◌, ◌++◌, codes}
 use Rattle.std.specs.List.{concat}
 use Rattle.std.specs.Str.{bytes_eq}
-use Rattle.bpf_text_lines.specs.Lines.{with_front}
+use Rattle.bpf_text_lex.specs.Lines.{with_front}
 
 -- the lines of a text, each with its newline, which the last may lack
 abbrev pub whole_lines : List ℕ → List (List ℕ)

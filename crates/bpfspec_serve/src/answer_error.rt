@@ -2,7 +2,7 @@
 
 ghost use Rattle.std.specs.Prelude.{◌≡◌};
 
-use bpfspec_answers::Refusal;
+use bpfspec_output::Refusal;
 use std::alloc::AllocError;
 
 /// Why an input has no result.

@@ -1,7 +1,7 @@
 //! What comes of an input.
 
 ghost use Rattle.std.specs.Prelude.{◌≡◌, ◌<◌, ◌≤◌, IfOk, Ok, length};
-ghost use Rattle.bpf_insn_form.specs.Program.{callback_starts};
+ghost use Rattle.bpf_insn_types.specs.Program.{callback_starts};
 ghost use Rattle.std.specs.String.{string_bytes};
 ghost use Rattle.bpfspec_command_line.specs.declared.job.Job.TheVariants.{Serve, Run};
 ghost use Rattle.bpfspec_command_line.specs.declared.job.Mode.TheVariants.{Order, Replay};
@@ -12,15 +12,15 @@ use crate::answer_error::AnswerError;
 use crate::reading::{accept, codec_error, read_events, read_unit, readable, start_maps};
 use crate::sections::part;
 use array_maps::Maps;
-use bpf_insn_form::Unit;
+use bpf_insn_types::Unit;
 use bpf_text::{print_unit, write_hex};
 use bpf_verify::Verified;
-use bpfspec_answers::{Function, Refusal, print_accepted, print_replay, print_report};
 use bpfspec_command_line::{Mode, Plan, Test, UnitForm};
-use loop_event::Event;
-use loop_split::Gate;
-use spec_replay::{NoReplay, ReplayRefusal, replay};
+use bpfspec_output::{Function, Refusal, print_accepted, print_replay, print_report};
+use loop_core_event::Event;
+use loop_core_split::Gate;
 use spec_run::{RunError, run, run_in_order};
+use spec_run_replay::{NoReplay, ReplayRefusal, replay};
 use std::alloc::{AllocError, Global};
 use std::thread::Threads;
 

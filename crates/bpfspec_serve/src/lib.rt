@@ -24,7 +24,7 @@ pub use bpfspec_streams::{
     Counted, DeviceFault, ReadAllError, Sink, Source, read_all, read_outcome, write_all,
     write_outcome,
 };
-pub use loop_split::{Gate, NoGate};
+pub use loop_core_split::{Gate, NoGate};
 pub use program::run;
 pub use program_end::{ProgramEnd, exit_status};
 pub use serving::{Served, serve, serve_run};

@@ -7,10 +7,10 @@ ghost use Rattle.bpfspec_serve.specs.HowServed.{AnswersReader, HowServed};
 
 use crate::program_end::{ProgramEnd, exit_status};
 use crate::serving::{Served, serve, serve_run, write};
-use bpfspec_answers::MEMORY_LINE;
 use bpfspec_command_line::{Job, LineFault, read_command_line};
+use bpfspec_output::MEMORY_LINE;
 use bpfspec_streams::{Sink, Source, write_all};
-use loop_split::NoGate;
+use loop_core_split::NoGate;
 use std::env::Env;
 use std::thread::Threads;
 

@@ -3,19 +3,19 @@
 ghost use Rattle.std.specs.Prelude.{◌≡◌, IfOk, Ok};
 ghost use Rattle.array_maps.specs.MapList.{lists, zero_maps};
 ghost use Rattle.bpf_text.specs.EventsText.{events_text};
-ghost use Rattle.bpfspec_answers.specs.declared.refusal.Refusal.TheVariants.{Text};
+ghost use Rattle.bpfspec_output.specs.declared.refusal.Refusal.TheVariants.{Text};
 ghost use Rattle.bpfspec_serve.specs.declared.answer_error.AnswerError.TheVariants.{Refused};
 ghost use Rattle.bpfspec_serve.specs.Output.{text_error, codec_error, readable, unit_program, fitting, start_words, in_section, Met, accepted};
 
 use crate::answer_error::AnswerError;
 use array_maps::{Maps, MapsError};
 use bpf_insn::{CodecError, decode};
-use bpf_insn_form::Unit;
+use bpf_insn_types::Unit;
 use bpf_text::{TextError, TextFault, parse_events, parse_maps, parse_unit, read_hex};
 use bpf_verify::{Verified, VerifyError, verify};
-use bpfspec_answers::{Refusal, Section};
 use bpfspec_command_line::UnitForm;
-use loop_event::Event;
+use bpfspec_output::{Refusal, Section};
+use loop_core_event::Event;
 use std::alloc::Global;
 use std::str;
 

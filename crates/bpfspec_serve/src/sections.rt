@@ -5,7 +5,7 @@ ghost use Rattle.std.specs.List.{concat};
 ghost use Rattle.std.specs.Str.{IsCharBoundary};
 ghost use Rattle.bpfspec_serve.specs.Sections.{whole_lines, is_mark, before_mark, behind_mark};
 
-use bpf_text_lines::newline_at;
+use bpf_text_lex::newline_at;
 
 /// A text up to the first line that is exactly `%%`, and the text behind that line.
 #[derive(Clone, Copy)]

@@ -10,10 +10,10 @@ ghost use Rattle.bpfspec_streams.specs.Streams.{ConsumesAtMost};
 use crate::answer_error::AnswerError;
 use crate::answering::{outcome, run_outcome};
 use crate::reading::MOST_READ;
-use bpfspec_answers::{MEMORY_LINE, Refusal, print_refusal};
 use bpfspec_command_line::{Mode, Plan, UnitForm};
+use bpfspec_output::{MEMORY_LINE, Refusal, print_refusal};
 use bpfspec_streams::{ReadAllError, Sink, Source, read_all, write_all};
-use loop_split::Gate;
+use loop_core_split::Gate;
 use std::alloc::{AllocError, Global};
 use std::thread::Threads;
 

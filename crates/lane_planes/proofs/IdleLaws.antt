@@ -11,8 +11,8 @@ use Rattle.std.proofs.lemmas.Nat.Bits.{bit_at-zero, bit_at-lt, same_from_bits_be
 use Rattle.array_maps.specs.declared.access.Op.{Op}
 use Rattle.array_maps.specs.declared.access.Op.TheVariants.{Add, Or, And, Xor, AddH}
 use Rattle.array_maps.specs.Accesses.{Action, Read, Write, ReadWrite, Reduce}
-use Rattle.loop_core_law.specs.Actions.{writes, exposed, is_same, reduces_by}
-use Rattle.loop_core_law.specs.LeastBreak.{lesser}
+use Rattle.loop_core_model.specs.Actions.{writes, exposed, is_same, reduces_by}
+use Rattle.loop_core_model.specs.LeastBreak.{lesser}
 use Rattle.loop_core_marks.specs.Flags.{is_plain}
 use Rattle.loop_core_marks.specs.Marks.{Visit, actions_of, Marks, two_write, first_writer, last_reader, marks_of, first_number}
 use Rattle.loop_core_marks.specs.Planes.{bit_of}

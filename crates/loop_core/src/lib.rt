@@ -13,10 +13,10 @@
 //! ```
 #![tactic(auto)]
 
-pub use loop_block::{Block, run_block};
-pub use loop_core_law::{Test, Verdict};
-pub use loop_core_order::in_order;
-pub use loop_event::{Event, EventKind};
-pub use loop_gather::{GatherError, GatherFault, Gathered, LoopOutcome, gather, settle};
-pub use loop_replay::{ReplayError, ReplayFault, replay_loop};
-pub use loop_split::{Gate, NoGate, Split, SplitError};
+pub use loop_core_block::{Block, run_block};
+pub use loop_core_event::{Event, EventKind};
+pub use loop_core_gather::{GatherError, GatherFault, Gathered, LoopOutcome, gather, settle};
+pub use loop_core_model::{Test, Verdict};
+pub use loop_core_replay::{ReplayError, ReplayFault, replay_loop};
+pub use loop_core_sequential::in_order;
+pub use loop_core_split::{Gate, NoGate, Split, SplitError};

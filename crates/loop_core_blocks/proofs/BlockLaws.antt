@@ -3,8 +3,8 @@ use Rattle.std.proofs.Common.{◌≡◌, zero, suc, ◌+◌, Bool, true, false, 
 use Rattle.std.specs.Prelude.{if◌then◌else◌, ◌==◌}
 use Rattle.bpf_step_model.specs.Run.{Ending, Ended, Stuck, Unfinished, mapped, followed}
 use Rattle.bpf_step_model.specs.Iteration.{Iterated}
-use Rattle.loop_core_law.specs.LeastBreak.{in_front_of}
-use Rattle.loop_core_law.specs.Scan.{up_to_break, scan}
+use Rattle.loop_core_model.specs.LeastBreak.{in_front_of}
+use Rattle.loop_core_model.specs.Scan.{up_to_break, scan}
 use Rattle.loop_core_blocks.specs.Block.{has_break, unless_broken, ScansFollow}
 
 mapped_same : (e : Ending (List Iterated)) → mapped (λ others. [] ++ others) e ≡ e

@@ -6,9 +6,9 @@ use Rattle.std.proofs.lemmas.Bool.Decides.{eqb_tells}
 use Rattle.bpf_step_model.specs.Run.{Ending, Ended, Stuck, Unfinished, followed}
 use Rattle.bpf_step_model.specs.Iteration.{Iterated}
 use Rattle.bpf_step_model.proofs.Endings.{mapped_from}
-use Rattle.loop_core_law.specs.LeastBreak.{is_break, in_front_of}
-use Rattle.loop_core_law.specs.Scan.{up_to_break, scan}
-use Rattle.loop_core_law.proofs.Least.{LeastIs}
+use Rattle.loop_core_model.specs.LeastBreak.{is_break, in_front_of}
+use Rattle.loop_core_model.specs.Scan.{up_to_break, scan}
+use Rattle.loop_core_model.proofs.Least.{LeastIs}
 use Rattle.loop_core_blocks.specs.Block.{has_break, break_from}
 
 -- no index of an interval passes

@@ -4,16 +4,16 @@ use Rattle.std.specs.Prelude.{if◌then◌else◌, ◌==◌, nat_lt, min, cond, 
 use Rattle.std.specs.List.{list_any, AllByRecursion}
 use Rattle.std.proofs.lemmas.Bool.{cases_lt, eqb-true, ltb-false, le-ltb, lt-ltb}
 use Rattle.std.proofs.lemmas.List.{append-nil}
-use Rattle.bpf_insn_form.specs.Program.{Program}
+use Rattle.bpf_insn_types.specs.Program.{Program}
 use Rattle.bpf_step_model.specs.State.{LoopCall}
 use Rattle.bpf_step_model.specs.Run.{Ending, Ended, mapped, followed}
 use Rattle.bpf_step_model.specs.Iteration.{Iterated, iteration}
-use Rattle.loop_core_law.specs.Actions.{joined}
-use Rattle.loop_core_law.specs.LeastBreak.{is_break, least_below, lesser}
-use Rattle.loop_core_law.specs.Scan.{scan}
-use Rattle.loop_core_law.proofs.Least.{least_is}
-use Rattle.loop_core_law.proofs.OneElement.{or_false_left, or_false_right, and_true_left, and_true_right}
-use Rattle.loop_core_law.proofs.ScanLaws.{counted_are_scanned}
+use Rattle.loop_core_model.specs.Actions.{joined}
+use Rattle.loop_core_model.specs.LeastBreak.{is_break, least_below, lesser}
+use Rattle.loop_core_model.specs.Scan.{scan}
+use Rattle.loop_core_model.proofs.Least.{least_is}
+use Rattle.loop_core_model.proofs.OneElement.{or_false_left, or_false_right, and_true_left, and_true_right}
+use Rattle.loop_core_model.proofs.ScanLaws.{counted_are_scanned}
 use Rattle.loop_core_blocks.specs.Block.{has_break, break_from, unless_broken}
 use Rattle.loop_core_blocks.specs.Split.{falls, last_bound, ends_amiss}
 use Rattle.loop_core_blocks.specs.Gather.{Block, IsRunOf, least_of, starts_late, with_number, lacks, counting, lacks_some, twice, is_bound, stands_in, gathered, Gathers, BlocksGather}

@@ -7,9 +7,9 @@ use Rattle.std.proofs.lemmas.List.Sums.{fold-append}
 use Rattle.std.proofs.lemmas.List.Elements.{filter_map-append}
 use Rattle.array_maps.specs.declared.access.Op.{Op}
 use Rattle.array_maps.specs.Accesses.{Action, Read, Write, ReadWrite, Reduce, combined, left_by_all}
-use Rattle.loop_core_law.specs.Actions.{writes, is_same, reduces_by, joined, only_operator, operand_of, operands}
-use Rattle.loop_core_law.specs.Committed.{last_that, last_value, committed_by}
-use Rattle.loop_core_law.proofs.OneElement.{and_true_left, and_true_right, same_op, all_left, all_right, only_reduces}
+use Rattle.loop_core_model.specs.Actions.{writes, is_same, reduces_by, joined, only_operator, operand_of, operands}
+use Rattle.loop_core_model.specs.Committed.{last_that, last_value, committed_by}
+use Rattle.loop_core_model.proofs.OneElement.{and_true_left, and_true_right, same_op, all_left, all_right, only_reduces}
 use Rattle.loop_core_blocks.specs.Kept.{partial_by, partial, Kept, kept, applied, last_of, committed_of_kept, CommitsOfKept}
 use Rattle.loop_core_blocks.proofs.OperatorLaws.{fold_at_once}
 

@@ -6,7 +6,7 @@ use Rattle.std.specs.Int.Bits.{xor_assoc, or_zero_l}
 use Rattle.std.proofs.Math.Arith.{bin_ind}
 use Rattle.std.proofs.Math.Nat.{mod-mod, mod-lt, add-mod-mod, mod-add-mod, add_assoc, div-add-mod}
 use Rattle.std.proofs.lemmas.Nat.{and_assoc, and_mod, or_mod, or_shr, xor_mod}
-use Rattle.bpf_insn_words.specs.Words.{alu}
+use Rattle.bpf_insn_alu.specs.Words.{alu}
 use Rattle.array_maps.specs.declared.access.Op.{Op}
 use Rattle.array_maps.specs.declared.access.Op.TheVariants.{Add, Or, And, Xor, AddH}
 use Rattle.array_maps.specs.Accesses.{combined}

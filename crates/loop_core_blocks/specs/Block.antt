@@ -2,11 +2,11 @@
 -- to the first that breaks.
 use Rattle.std.specs.Prelude.{◌≡◌, ℕ, ◌+◌, ◌-◌, Bool, ◌==◌, if◌then◌else◌, List, [], ◌∷◌, ◌++◌, Option, Some, None}
 use Rattle.std.specs.List.{list_any}
-use Rattle.bpf_insn_form.specs.Program.{Program}
+use Rattle.bpf_insn_types.specs.Program.{Program}
 use Rattle.bpf_step_model.specs.State.{LoopCall}
 use Rattle.bpf_step_model.specs.Run.{Ending, Ended, mapped, followed}
 use Rattle.bpf_step_model.specs.Iteration.{Iterated, iteration}
-use Rattle.loop_core_law.specs.Scan.{scan}
+use Rattle.loop_core_model.specs.Scan.{scan}
 
 -- what is run of the interval from a first index up to, and without, another
 abbrev pub block : Program → ℕ → LoopCall → List ℕ → (first past : ℕ) → Ending (List Iterated)

@@ -1,12 +1,12 @@
 -- Blocks that were run, gathered: which of them count, and whether all of those are there.
 use Rattle.std.specs.Prelude.{◌≡◌, ℕ, ◌+◌, Bool, false, not, ◌&&◌, ◌||◌, ◌==◌, nat_lt, is_none, if◌then◌else◌, List, [], ◌∷◌, map, slice_get, Option, Some, None}
 use Rattle.std.specs.List.{find, list_any, AllByRecursion}
-use Rattle.bpf_insn_form.specs.Program.{Program}
+use Rattle.bpf_insn_types.specs.Program.{Program}
 use Rattle.bpf_step_model.specs.State.{LoopCall}
 use Rattle.bpf_step_model.specs.Run.{Ended}
 use Rattle.bpf_step_model.specs.Iteration.{Iterated}
-use Rattle.loop_core_law.specs.Actions.{joined}
-use Rattle.loop_core_law.specs.LeastBreak.{lesser, least_break, counted_iterations, all_ended}
+use Rattle.loop_core_model.specs.Actions.{joined}
+use Rattle.loop_core_model.specs.LeastBreak.{lesser, least_break, counted_iterations, all_ended}
 use Rattle.loop_core_blocks.specs.declared.faults.GatherFault.{GatherFault}
 use Rattle.loop_core_blocks.specs.declared.faults.GatherFault.TheVariants.{Missing, Twice, Foreign}
 use Rattle.loop_core_blocks.specs.Block.{block, break_from}

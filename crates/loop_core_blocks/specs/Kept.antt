@@ -4,8 +4,8 @@ use Rattle.std.specs.List.{fold}
 use Rattle.std.specs.Option.{option_or, unwrap_or}
 use Rattle.array_maps.specs.declared.access.Op.{Op}
 use Rattle.array_maps.specs.Accesses.{Action, combined}
-use Rattle.loop_core_law.specs.Actions.{joined, only_operator, operands}
-use Rattle.loop_core_law.specs.Committed.{last_value, committed}
+use Rattle.loop_core_model.specs.Actions.{joined, only_operator, operands}
+use Rattle.loop_core_model.specs.Committed.{last_value, committed}
 
 -- operands combined by an operator, beginning with the first
 abbrev pub combined_from_first : Op → List ℕ → Option (Op × ℕ)

@@ -5,7 +5,7 @@ use Rattle.std.proofs.Math.Bool.{or-false}
 use Rattle.std.proofs.lemmas.List.Folds.{list_any-append}
 use Rattle.array_maps.specs.declared.access.Op.{Op}
 use Rattle.array_maps.specs.Accesses.{Action, Read, Write, ReadWrite, Reduce}
-use Rattle.loop_core_law.specs.Actions.{is_write, writes, is_plain_write, exposed, reduces_by}
+use Rattle.loop_core_model.specs.Actions.{is_write, writes, is_plain_write, exposed, reduces_by}
 use Rattle.loop_core_marks.specs.Flags.{kind_of, is_plain, Flags, flags_of, flagged, FlagsFollowKinds}
 
 -- flags that agree are the same

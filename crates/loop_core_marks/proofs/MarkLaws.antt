@@ -8,11 +8,11 @@ use Rattle.std.proofs.lemmas.List.{map-append}
 use Rattle.std.proofs.lemmas.List.Folds.{list_any-append}
 use Rattle.array_maps.specs.declared.access.Op.{Op}
 use Rattle.array_maps.specs.Accesses.{Action, operators}
-use Rattle.loop_core_law.specs.declared.loop_test.Test.{Test}
-use Rattle.loop_core_law.specs.declared.loop_test.Test.TheVariants.{Lrpd, Flow}
-use Rattle.loop_core_law.specs.Actions.{writes, exposed, reduces_by, joined, only_operator}
-use Rattle.loop_core_law.specs.Conflict.{clash, harm, fails, conflicts}
-use Rattle.loop_core_law.specs.LeastBreak.{lesser}
+use Rattle.loop_core_model.specs.declared.loop_test.Test.{Test}
+use Rattle.loop_core_model.specs.declared.loop_test.Test.TheVariants.{Lrpd, Flow}
+use Rattle.loop_core_model.specs.Actions.{writes, exposed, reduces_by, joined, only_operator}
+use Rattle.loop_core_model.specs.Conflict.{clash, harm, fails, conflicts}
+use Rattle.loop_core_model.specs.LeastBreak.{lesser}
 use Rattle.loop_core_marks.specs.Flags.{is_plain, flags_of}
 use Rattle.loop_core_marks.specs.Marks.{Visit, actions_of, numbered, Marks, two_write, first_writer, last_reader, marks_of, marked_reduction, stands_before, first_number, marked_fails, marked_conflict, marks_of_one, merged}
 use Rattle.loop_core_marks.specs.MarkLaw.{MarksTell, FirstIsNumber, MarksMerge}

@@ -12,8 +12,8 @@ use Rattle.std.proofs.lemmas.List.Elements.{filter-append}
 use Rattle.std.proofs.lemmas.Nat.{ones_le_self}
 use Rattle.std.proofs.lemmas.Nat.Bits.{bit_at_lowest, bit_at-suc, bit_at-zero, bit_at-trailing_zeros}
 use Rattle.array_maps.specs.MapList.{AreWords}
-use Rattle.loop_core_law.specs.declared.verdict.Verdict.TheVariants.{Conflict}
-use Rattle.loop_core_law.specs.Report.{judged}
+use Rattle.loop_core_model.specs.declared.verdict.Verdict.TheVariants.{Conflict}
+use Rattle.loop_core_model.specs.Report.{judged}
 use Rattle.loop_core_marks.specs.Planes.{bit_of, elements_of, least_in, judged_by, set_bits, least_bit, PlaneJudges}
 use Rattle.loop_core_marks.proofs.PlaneLaws.{range-append, filter-same, filter-none}
 

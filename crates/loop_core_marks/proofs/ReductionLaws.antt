@@ -7,8 +7,8 @@ use Rattle.std.proofs.lemmas.List.Folds.{list_any-append}
 use Rattle.array_maps.specs.declared.access.Op.{Op}
 use Rattle.array_maps.specs.declared.access.Op.TheVariants.{Add, Or, And, Xor, AddH}
 use Rattle.array_maps.specs.Accesses.{Action, Read, Write, ReadWrite, Reduce, operators}
-use Rattle.loop_core_law.specs.Actions.{is_same, reduces_by, joined, only_operator}
-use Rattle.loop_core_law.proofs.OneElement.{same_op, is_same-refl}
+use Rattle.loop_core_model.specs.Actions.{is_same, reduces_by, joined, only_operator}
+use Rattle.loop_core_model.proofs.OneElement.{same_op, is_same-refl}
 use Rattle.loop_core_marks.specs.Flags.{is_plain}
 
 pub any-joined : (p : Action → Bool) (its : List (List Action)) → list_any (λ actions. list_any p actions) its ≡ list_any p (joined its)

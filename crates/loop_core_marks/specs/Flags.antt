@@ -3,7 +3,7 @@ use Rattle.std.specs.Prelude.{◌≡◌, Bool, true, false, not, ◌||◌, List,
 use Rattle.std.specs.List.{list_any}
 use Rattle.array_maps.specs.declared.access.Op.{Op}
 use Rattle.array_maps.specs.Accesses.{Action, Read, Write, ReadWrite, Reduce}
-use Rattle.loop_core_law.specs.Actions.{writes, exposed, is_same, reduces_by}
+use Rattle.loop_core_model.specs.Actions.{writes, exposed, is_same, reduces_by}
 use Rattle.loop_core_marks.specs.declared.access.Access.{Access as Kind}
 use Rattle.loop_core_marks.specs.declared.access.Access.TheVariants.{Read as Reads, Write as Writes, Both, Reduce as Reduces}
 

@@ -1,7 +1,7 @@
 -- The marks of blocks are those of their iterations.
 use Rattle.std.proofs.Common.{◌≡◌, ℕ, ◌+◌, List, [], ◌∷◌, ◌++◌, map, length, ◌∙◌, ap, arith}
 use Rattle.array_maps.specs.Accesses.{Action}
-use Rattle.loop_core_law.specs.Actions.{joined}
+use Rattle.loop_core_model.specs.Actions.{joined}
 use Rattle.loop_core_marks.specs.Marks.{Visit, numbered, marks_of, marked_reduction, marked_conflict, merged}
 use Rattle.loop_core_marks.proofs.MarkLaws.{marks_tell, marks_merge}
 use Rattle.loop_core_blocks.specs.Kept.{kept, committed_of_kept}

@@ -1,16 +1,16 @@
 -- The outcome of a loop by a test, from the law of speculation.
 use Rattle.std.proofs.Common.{◌≡◌, ℕ, List, length, ◌∙◌, ap}
 use Rattle.array_maps.specs.Accesses.{Access}
-use Rattle.bpf_insn_form.specs.Program.{Program}
+use Rattle.bpf_insn_types.specs.Program.{Program}
 use Rattle.bpf_step_model.specs.State.{LoopCall}
 use Rattle.bpf_step_model.specs.Run.{Ending, Ended, mapped, followed}
 use Rattle.bpf_step_model.specs.LoopInOrder.{Looped, loop_in_order}
-use Rattle.loop_core_law.specs.declared.loop_test.Test.{Test}
-use Rattle.loop_core_law.specs.declared.verdict.Verdict.{Verdict}
-use Rattle.loop_core_law.specs.Conflict.{conflicting}
-use Rattle.loop_core_law.specs.LeastBreak.{counted_runs}
-use Rattle.loop_core_law.specs.Report.{judged, verdict}
-use Rattle.loop_core_law.proofs.LoopAgain.{loop_law}
+use Rattle.loop_core_model.specs.declared.loop_test.Test.{Test}
+use Rattle.loop_core_model.specs.declared.verdict.Verdict.{Verdict}
+use Rattle.loop_core_model.specs.Conflict.{conflicting}
+use Rattle.loop_core_model.specs.LeastBreak.{counted_runs}
+use Rattle.loop_core_model.specs.Report.{judged, verdict}
+use Rattle.loop_core_model.proofs.LoopAgain.{loop_law}
 use Rattle.loop_core_schedule.specs.Outcome.{judged_as, outcome}
 use Rattle.loop_core_schedule.specs.OutcomeLaw.{OutcomeByTest}
 

@@ -6,8 +6,8 @@ use Rattle.std.proofs.lemmas.Bool.{eqb-true, eq-eqb, cases_Bool, and_parts, and_
 use Rattle.bpf_step_model.specs.Run.{Ending, Ended, Stuck, Unfinished, followed}
 use Rattle.bpf_step_model.specs.Iteration.{Iterated}
 use Rattle.bpf_step_model.proofs.Endings.{mapped_from}
-use Rattle.loop_core_law.specs.LeastBreak.{is_break, lesser, in_front_of}
-use Rattle.loop_core_law.specs.Scan.{up_to_break, scan}
+use Rattle.loop_core_model.specs.LeastBreak.{is_break, lesser, in_front_of}
+use Rattle.loop_core_model.specs.Scan.{up_to_break, scan}
 use Rattle.loop_core_blocks.specs.Block.{break_from}
 use Rattle.loop_core_blocks.specs.Gather.{Block, starts_late, with_number, least_of, lacks, lacks_some, twice, is_bound, stands_in}
 use Rattle.loop_core_schedule.specs.Intervals.{blocks_of, start_of, end_of}

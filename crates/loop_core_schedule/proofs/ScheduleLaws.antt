@@ -4,16 +4,16 @@ use Rattle.std.specs.Prelude.{not, ◌==◌, nat_lt, is_none, map, length, repli
 use Rattle.std.specs.List.{list_all, list_any}
 use Rattle.std.proofs.lemmas.Bool.{both_ways, ltb-false, eqb-true, eq-eqb, cases_eq, cases_Bool, and_parts, or_parts, or_cases}
 use Rattle.std.proofs.lemmas.List.{length-set, get_or-set_same, get_or-set_other}
-use Rattle.bpf_insn_form.specs.Program.{Program}
+use Rattle.bpf_insn_types.specs.Program.{Program}
 use Rattle.bpf_step_model.specs.State.{LoopCall}
 use Rattle.bpf_step_model.specs.Iteration.{iteration}
-use Rattle.loop_core_law.specs.LeastBreak.{lesser}
+use Rattle.loop_core_model.specs.LeastBreak.{lesser}
 use Rattle.loop_core_blocks.specs.declared.faults.GatherFault.{GatherFault}
 use Rattle.loop_core_blocks.specs.declared.faults.GatherFault.TheVariants.{Missing, Twice, Foreign}
 use Rattle.loop_core_blocks.specs.Split.{falls, split_fault}
 use Rattle.loop_core_blocks.specs.Gather.{Block, starts_late, with_number, least_of, lacks_some, twice, stands_in, gather_fault}
 use Rattle.loop_core_blocks.proofs.GatherLaws.{blocks_gather}
-use Rattle.loop_event.specs.declared.event.Event.{Event}
+use Rattle.loop_core_event.specs.declared.event.Event.{Event}
 use Rattle.loop_core_schedule.specs.declared.replay_fault.ReplayFault.{ReplayFault}
 use Rattle.loop_core_schedule.specs.declared.replay_fault.ReplayFault.TheVariants as faults
 use Rattle.loop_core_schedule.specs.Intervals.{blocks_of, start_of}

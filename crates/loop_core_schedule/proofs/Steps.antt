@@ -3,11 +3,11 @@ use Rattle.std.proofs.Common.{◌≡◌, ℕ, zero, suc, ◌+◌, ◌-◌, ◌<�
 use Rattle.std.specs.Prelude.{◌==◌, nat_lt, min, if◌then◌else◌}
 use Rattle.std.proofs.lemmas.Bool.{ltb-false, ltb-true, eqb-true, eqb-false, lt-ltb, eq-eqb, ne_eqb, cases_eq}
 use Rattle.std.proofs.Math.Nat.{min-le_right, min_comm}
-use Rattle.loop_core_law.specs.LeastBreak.{lesser}
+use Rattle.loop_core_model.specs.LeastBreak.{lesser}
 use Rattle.loop_core_blocks.specs.Split.{falls}
 use Rattle.loop_core_blocks.specs.Gather.{starts_late}
-use Rattle.loop_event.specs.declared.event.EventKind.{EventKind}
-use Rattle.loop_event.specs.declared.event.EventKind.TheVariants.{Claim, Look, Turn, Post, Stop}
+use Rattle.loop_core_event.specs.declared.event.EventKind.{EventKind}
+use Rattle.loop_core_event.specs.declared.event.EventKind.TheVariants.{Claim, Look, Turn, Post, Stop}
 use Rattle.loop_core_schedule.specs.Intervals.{blocks_of, start_of, end_of}
 use Rattle.loop_core_schedule.specs.Events.{Worker, Idle, Holding, Running, Posting, Drained, Stopped, Shared, Moved, becomes, having_run, posts, event}
 use Rattle.loop_core_schedule.proofs.SplitLaws.{rising}

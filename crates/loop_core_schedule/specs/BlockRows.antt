@@ -3,13 +3,13 @@
 use Rattle.std.specs.Prelude.{◌≡◌, ℕ, ◌&&◌, Bool, List, [], ◌∷◌, map, Some, None}
 use Rattle.std.specs.List.{filter, range_with_len}
 use Rattle.array_maps.specs.declared.access.Op.TheVariants.{Add, And, AddH}
-use Rattle.bpf_insn_form.specs.declared.insn.Insn.{Insn}
+use Rattle.bpf_insn_types.specs.declared.insn.Insn.{Insn}
 use Rattle.bpf_step_model.specs.Run.{Ending, Ended, mapped}
 use Rattle.bpf_step_model.specs.Iteration.{Iterated}
 use Rattle.bpf_step_model.specs.LoopRows.{looping, call_of, add_index, shift_right, shift_left, last_writer, mixed_operators, and_operands}
-use Rattle.loop_core_law.specs.Conflict.{at_element}
-use Rattle.loop_core_law.specs.LeastBreak.{accesses_of_each}
-use Rattle.loop_core_law.specs.VerdictRows.{add_halves, add_half_and_whole, store_half}
+use Rattle.loop_core_model.specs.Conflict.{at_element}
+use Rattle.loop_core_model.specs.LeastBreak.{accesses_of_each}
+use Rattle.loop_core_model.specs.VerdictRows.{add_halves, add_half_and_whole, store_half}
 use Rattle.loop_core_marks.specs.Marks.{Marks, marks_of, numbered}
 use Rattle.loop_core_blocks.specs.Block.{block}
 use Rattle.loop_core_blocks.specs.Kept.{Kept, kept}

@@ -2,10 +2,10 @@
 -- and what a pass leaves there.
 use Rattle.std.specs.Prelude.{◌≡◌, ℕ, ◌+◌, List, [], ◌∷◌, map, length}
 use Rattle.array_maps.specs.Accesses.{Action}
-use Rattle.loop_core_law.specs.declared.loop_test.Test.{Test}
-use Rattle.loop_core_law.specs.Actions.{joined}
-use Rattle.loop_core_law.specs.Conflict.{conflicts}
-use Rattle.loop_core_law.specs.Committed.{committed}
+use Rattle.loop_core_model.specs.declared.loop_test.Test.{Test}
+use Rattle.loop_core_model.specs.Actions.{joined}
+use Rattle.loop_core_model.specs.Conflict.{conflicts}
+use Rattle.loop_core_model.specs.Committed.{committed}
 use Rattle.loop_core_marks.specs.Marks.{numbered, Marks, marks_of, marked_reduction, marked_conflict, no_marks, merged}
 use Rattle.loop_core_blocks.specs.Kept.{kept, committed_of_kept}
 

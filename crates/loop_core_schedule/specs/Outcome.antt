@@ -1,15 +1,15 @@
 -- The outcome of a speculative loop.
 use Rattle.std.specs.Prelude.{ℕ, Bool, List, Result, Ok, Err}
-use Rattle.bpf_insn_form.specs.Program.{Program}
+use Rattle.bpf_insn_types.specs.Program.{Program}
 use Rattle.bpf_step_model.specs.State.{LoopCall}
 use Rattle.bpf_step_model.specs.Run.{Ending, mapped, followed}
 use Rattle.bpf_step_model.specs.Iteration.{iteration}
 use Rattle.bpf_step_model.specs.LoopInOrder.{Looped, loop_in_order}
-use Rattle.loop_core_law.specs.declared.loop_test.Test.{Test}
-use Rattle.loop_core_law.specs.declared.verdict.Verdict.{Verdict}
-use Rattle.loop_core_law.specs.LeastBreak.{is_break}
-use Rattle.loop_core_law.specs.Report.{verdict}
-use Rattle.loop_event.specs.declared.event.Event.{Event}
+use Rattle.loop_core_model.specs.declared.loop_test.Test.{Test}
+use Rattle.loop_core_model.specs.declared.verdict.Verdict.{Verdict}
+use Rattle.loop_core_model.specs.LeastBreak.{is_break}
+use Rattle.loop_core_model.specs.Report.{verdict}
+use Rattle.loop_core_event.specs.declared.event.Event.{Event}
 use Rattle.loop_core_schedule.specs.declared.replay_fault.ReplayFault.{ReplayFault}
 use Rattle.loop_core_schedule.specs.Schedule.{State, replay}
 

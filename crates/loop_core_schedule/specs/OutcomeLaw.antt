@@ -1,15 +1,15 @@
 -- What the outcome of a loop is by a test.
 use Rattle.std.specs.Prelude.{◌≡◌, ℕ, ◌+◌, List, [], ◌∷◌, length}
 use Rattle.array_maps.specs.Accesses.{Access}
-use Rattle.bpf_insn_form.specs.Program.{Program}
+use Rattle.bpf_insn_types.specs.Program.{Program}
 use Rattle.bpf_step_model.specs.State.{LoopCall}
 use Rattle.bpf_step_model.specs.Run.{Ended}
 use Rattle.bpf_step_model.specs.LoopInOrder.{Looped, loop_in_order}
-use Rattle.loop_core_law.specs.declared.loop_test.Test.{Test}
-use Rattle.loop_core_law.specs.declared.verdict.Verdict.TheVariants.{Parallel, Conflict}
-use Rattle.loop_core_law.specs.Conflict.{conflicting}
-use Rattle.loop_core_law.specs.LeastBreak.{counted, counted_runs}
-use Rattle.loop_core_law.specs.Committed.{committed_words}
+use Rattle.loop_core_model.specs.declared.loop_test.Test.{Test}
+use Rattle.loop_core_model.specs.declared.verdict.Verdict.TheVariants.{Parallel, Conflict}
+use Rattle.loop_core_model.specs.Conflict.{conflicting}
+use Rattle.loop_core_model.specs.LeastBreak.{counted, counted_runs}
+use Rattle.loop_core_model.specs.Committed.{committed_words}
 use Rattle.loop_core_schedule.specs.Outcome.{outcome}
 
 -- where all counted iterations end on the start words: if no element conflicts, the loop answers how many iterations

@@ -5,9 +5,9 @@ use Rattle.array_maps.specs.declared.access.Op.TheVariants.{Add, Or, And, Xor, A
 use Rattle.bpf_step_model.specs.Run.{Ending, Ended, mapped}
 use Rattle.bpf_step_model.specs.Iteration.{Iterated}
 use Rattle.bpf_step_model.specs.LoopRows.{increment}
-use Rattle.loop_core_law.specs.declared.loop_test.Test.TheVariants.{Lrpd, Flow}
-use Rattle.loop_core_law.specs.declared.verdict.Verdict.{Verdict}
-use Rattle.loop_core_law.specs.declared.verdict.Verdict.TheVariants.{Parallel, Conflict}
+use Rattle.loop_core_model.specs.declared.loop_test.Test.TheVariants.{Lrpd, Flow}
+use Rattle.loop_core_model.specs.declared.verdict.Verdict.{Verdict}
+use Rattle.loop_core_model.specs.declared.verdict.Verdict.TheVariants.{Parallel, Conflict}
 use Rattle.loop_core_marks.specs.Marks.{Marks, marked_conflict}
 use Rattle.loop_core_marks.specs.Planes.{set_bits, least_bit, plane_verdict}
 use Rattle.loop_core_schedule.specs.BlockRows.{block_of, of_each, right, left, mixed, writers}

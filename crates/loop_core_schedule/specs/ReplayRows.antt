@@ -1,19 +1,19 @@
 -- Worked lists of events. Each is worked out by hand.
 use Rattle.std.specs.Prelude.{◌≡◌, ℕ, ◌-◌, pos, List, [], ◌∷◌, ◌++◌, length, replicate, Option, Some, None, Result, Ok, Err}
-use Rattle.bpf_insn_form.specs.declared.insn.Size.TheVariants.{Dw}
-use Rattle.bpf_insn_form.specs.declared.insn.Width.TheVariants.{W64}
-use Rattle.bpf_insn_form.specs.declared.insn.Compare.TheVariants.{Eq}
-use Rattle.bpf_insn_form.specs.declared.insn.Operand.TheVariants.{Imm}
-use Rattle.bpf_insn_form.specs.declared.insn.Insn.{Insn}
-use Rattle.bpf_insn_form.specs.declared.insn.Insn.TheVariants.{Exit, Jump, StoreImm}
-use Rattle.bpf_insn_form.specs.Program.{Program}
+use Rattle.bpf_insn_types.specs.declared.insn.Size.TheVariants.{Dw}
+use Rattle.bpf_insn_types.specs.declared.insn.Width.TheVariants.{W64}
+use Rattle.bpf_insn_types.specs.declared.insn.Compare.TheVariants.{Eq}
+use Rattle.bpf_insn_types.specs.declared.insn.Operand.TheVariants.{Imm}
+use Rattle.bpf_insn_types.specs.declared.insn.Insn.{Insn}
+use Rattle.bpf_insn_types.specs.declared.insn.Insn.TheVariants.{Exit, Jump, StoreImm}
+use Rattle.bpf_insn_types.specs.Program.{Program}
 use Rattle.bpf_step_model.specs.Run.{Ended}
 use Rattle.bpf_step_model.specs.Lines.{mov, element_address}
 use Rattle.bpf_step_model.specs.LoopRows.{looping, call_of, skip_unless, shift_right}
-use Rattle.loop_core_law.specs.declared.loop_test.Test.{Test}
-use Rattle.loop_core_law.specs.declared.verdict.Verdict.TheVariants.{Parallel, Conflict}
-use Rattle.loop_event.specs.declared.event.EventKind.TheVariants.{Claim, Look, Turn, Post, Stop}
-use Rattle.loop_event.specs.declared.event.Event.{Event}
+use Rattle.loop_core_model.specs.declared.loop_test.Test.{Test}
+use Rattle.loop_core_model.specs.declared.verdict.Verdict.TheVariants.{Parallel, Conflict}
+use Rattle.loop_core_event.specs.declared.event.EventKind.TheVariants.{Claim, Look, Turn, Post, Stop}
+use Rattle.loop_core_event.specs.declared.event.Event.{Event}
 use Rattle.loop_core_schedule.specs.declared.replay_fault.ReplayFault.{ReplayFault}
 use Rattle.loop_core_schedule.specs.declared.replay_fault.ReplayFault.TheVariants as faults
 use Rattle.loop_core_schedule.specs.Events.{Shared}

@@ -1,12 +1,12 @@
 -- Every ended list of events leaves a complete list of blocks.
 use Rattle.std.specs.Prelude.{◌≡◌, ℕ, true, List, map, None, Ok}
 use Rattle.std.specs.List.{AllByRecursion}
-use Rattle.bpf_insn_form.specs.Program.{Program}
+use Rattle.bpf_insn_types.specs.Program.{Program}
 use Rattle.bpf_step_model.specs.State.{LoopCall}
-use Rattle.loop_core_law.specs.LeastBreak.{least_break}
+use Rattle.loop_core_model.specs.LeastBreak.{least_break}
 use Rattle.loop_core_blocks.specs.Split.{split_fault}
 use Rattle.loop_core_blocks.specs.Gather.{Block, IsRunOf, least_of, stands_in, gather_fault}
-use Rattle.loop_event.specs.declared.event.Event.{Event}
+use Rattle.loop_core_event.specs.declared.event.Event.{Event}
 use Rattle.loop_core_schedule.specs.Intervals.{blocks_of}
 use Rattle.loop_core_schedule.specs.Events.{Shared}
 use Rattle.loop_core_schedule.specs.Schedule.{State, replay}

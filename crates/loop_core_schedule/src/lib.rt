@@ -15,7 +15,7 @@ ghost use Rattle.loop_core_schedule.specs.ScheduleLaw.{EndedSchedulesComplete};
 ghost use Rattle.loop_core_schedule.specs.SplitLaw.{SplitsPartition};
 ghost use Rattle.loop_core_schedule.specs.SplitRows.{SplitRows};
 
-pub use loop_event::{Event, EventKind};
+pub use loop_core_event::{Event, EventKind};
 pub use replay_fault::ReplayFault;
 
 /// The law of splits: each index of the loop lies in exactly one block, and the blocks reach no

@@ -6,7 +6,7 @@ use Rattle.std.proofs.lemmas.Bool.{cases_eq}
 use Rattle.std.proofs.lemmas.List.{ext_get_or}
 use Rattle.std.proofs.lemmas.List.FromFn.{get_or-map-range_with_len, length-map-range_with_len}
 use Rattle.array_maps.specs.Accesses.{Action, Read, left_by}
-use Rattle.loop_core_law.specs.Actions.{is_write}
+use Rattle.loop_core_model.specs.Actions.{is_write}
 use Rattle.loop_core_marks.specs.Flags.{kind_of, flagged}
 use Rattle.loop_core_marks.specs.declared.access.Access.{Access as Kind}
 use Rattle.loop_core_marks.specs.declared.access.Access.TheVariants.{Read as Reads}

@@ -4,8 +4,8 @@ use Rattle.std.specs.Prelude.{slice_index, if◌then◌else◌}
 use Rattle.std.specs.List.{range_with_len}
 use Rattle.std.proofs.lemmas.List.{ext_get_or}
 use Rattle.array_maps.specs.Accesses.{Access}
-use Rattle.loop_core_law.specs.Committed.{last_value}
-use Rattle.loop_core_law.specs.Conflict.{at_element}
+use Rattle.loop_core_model.specs.Committed.{last_value}
+use Rattle.loop_core_model.specs.Conflict.{at_element}
 use Rattle.loop_core_marks.proofs.FlagLaws.{flags_follow_kinds}
 use Rattle.shadow_marks.specs.declared.iter_flags.IterFlags.{IterFlags}
 use Rattle.shadow_marks.specs.Iteration.{touched_count, IsEmptied}

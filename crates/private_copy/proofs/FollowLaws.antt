@@ -7,8 +7,8 @@ use Rattle.array_maps.specs.Accesses.{Access, actions_at, words_after, words_aft
 use Rattle.array_maps.specs.Store.{Effects}
 use Rattle.array_maps.proofs.ElementLaws.{element_after_all}
 use Rattle.array_maps.proofs.StoreLaws.{words_after_all-more}
-use Rattle.loop_core_law.specs.Committed.{last_value}
-use Rattle.loop_core_law.specs.Conflict.{at_element}
+use Rattle.loop_core_model.specs.Committed.{last_value}
+use Rattle.loop_core_model.specs.Conflict.{at_element}
 use Rattle.loop_core_marks.specs.Flags.{flags_of, flagged, kind_of}
 use Rattle.loop_core_marks.proofs.FlagLaws.{flags_follow_kinds}
 use Rattle.shadow_marks.specs.Iteration.{flags_at}

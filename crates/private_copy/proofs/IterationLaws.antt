@@ -6,11 +6,11 @@ use Rattle.std.proofs.Math.Bool.{or-false}
 use Rattle.std.proofs.lemmas.List.{append-nil, map-append}
 use Rattle.std.proofs.lemmas.List.Folds.{list_any-append}
 use Rattle.array_maps.specs.Accesses.{Access, Action, Read, Write, ReadWrite, Reduce, left_by, left_by_all, actions_at}
-use Rattle.loop_core_law.specs.Actions.{is_write, writes, joined}
-use Rattle.loop_core_law.specs.Committed.{last_that, last_value}
-use Rattle.loop_core_law.specs.Conflict.{at_element}
-use Rattle.loop_core_law.proofs.OneElement.{left_by_all-append}
-use Rattle.loop_core_law.proofs.Turns.{actions_at-append}
+use Rattle.loop_core_model.specs.Actions.{is_write, writes, joined}
+use Rattle.loop_core_model.specs.Committed.{last_that, last_value}
+use Rattle.loop_core_model.specs.Conflict.{at_element}
+use Rattle.loop_core_model.proofs.OneElement.{left_by_all-append}
+use Rattle.loop_core_model.proofs.Turns.{actions_at-append}
 use Rattle.loop_core_blocks.proofs.KeptLaws.{joined-append, last_that-append}
 use Rattle.private_copy.specs.declared.reduction.Reduction.TheVariants.{Untouched}
 use Rattle.private_copy.specs.Reductions.{reduction_after, reduction_from, reduction_of}

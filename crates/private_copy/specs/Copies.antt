@@ -1,9 +1,9 @@
 -- A private copy of maps: what it shows, and what is remembered of the iterations that used it.
 use Rattle.std.specs.Prelude.{◌≡◌, ◌≢◌, ℕ, ◌+◌, ◌<◌, Bool, true, false, if◌then◌else◌, List, [], ◌∷◌, ◌++◌, length, slice_index, Option, Some}
 use Rattle.array_maps.specs.Accesses.{Access, Action, actions_at, left_by, words_after, words_after_all}
-use Rattle.loop_core_law.specs.Actions.{is_write, joined}
-use Rattle.loop_core_law.specs.Committed.{last_value}
-use Rattle.loop_core_law.specs.Conflict.{at_element}
+use Rattle.loop_core_model.specs.Actions.{is_write, joined}
+use Rattle.loop_core_model.specs.Committed.{last_value}
+use Rattle.loop_core_model.specs.Conflict.{at_element}
 use Rattle.loop_core_marks.specs.Flags.{flagged, kind_of}
 use Rattle.shadow_marks.specs.declared.iter_flags.IterFlags.{IterFlags}
 use Rattle.shadow_marks.specs.Iteration.{elements_of, flags_at, AreFlagsOf}

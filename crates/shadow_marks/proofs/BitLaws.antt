@@ -9,7 +9,7 @@ use Rattle.std.proofs.lemmas.Nat.{pow_pos}
 use Rattle.std.proofs.lemmas.Nat.Bits.{bit_at_or, bit_at-pow_same, bit_at-pow_other, bit_at-lt, and_pow}
 use Rattle.array_maps.specs.declared.access.Op.{Op}
 use Rattle.array_maps.specs.declared.access.Op.TheVariants.{Add, Or, And, Xor, AddH}
-use Rattle.loop_core_law.specs.Actions.{is_same}
+use Rattle.loop_core_model.specs.Actions.{is_same}
 use Rattle.loop_core_marks.specs.Planes.{bit_of}
 use Rattle.shadow_marks.specs.Kept.{place_by}
 

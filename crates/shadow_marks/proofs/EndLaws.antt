@@ -3,7 +3,7 @@ use Rattle.std.proofs.Common.{◌≡◌, ◌≢◌, ℕ, ◌<◌, Bool, true, fa
 use Rattle.std.proofs.Math.Bool.{or-false}
 use Rattle.std.proofs.lemmas.Bool.{cases_eq}
 use Rattle.array_maps.specs.Accesses.{Action}
-use Rattle.loop_core_law.specs.LeastBreak.{lesser}
+use Rattle.loop_core_model.specs.LeastBreak.{lesser}
 use Rattle.loop_core_marks.specs.Flags.{Flags, no_flags}
 use Rattle.loop_core_marks.specs.Marks.{Visit, Marks, marks_of, marks_of_one, merged}
 use Rattle.loop_core_marks.proofs.MarkLaws.{marks_merge}

@@ -8,7 +8,7 @@ use Rattle.std.proofs.lemmas.Nat.Bits.{bit_at-zero}
 use Rattle.std.specs.Int.{bit_at}
 use Rattle.array_maps.specs.declared.access.Op.{Op}
 use Rattle.array_maps.specs.declared.access.Op.TheVariants.{Add, Or, And, Xor, AddH}
-use Rattle.loop_core_law.specs.LeastBreak.{lesser}
+use Rattle.loop_core_model.specs.LeastBreak.{lesser}
 use Rattle.loop_core_marks.specs.Flags.{Flags}
 use Rattle.loop_core_marks.specs.Marks.{Marks, first_number, no_marks, marks_of_one, merged}
 use Rattle.loop_core_marks.specs.Planes.{bit_of}

@@ -5,7 +5,7 @@ ghost use Rattle.array_maps.specs.declared.access.Op.{Op as Operator};
 ghost use Rattle.loop_core_marks.specs.Marks.{no_marks};
 ghost use Rattle.shadow_marks.specs.Standing.{words_for, plane_by, AreTested, test_of, TestedStandAt, no_visits, StandFor};
 
-use loop_core_law::Test;
+use loop_core_model::Test;
 use std::alloc::{AllocError, Global};
 
 /// Planes for the LRPD test: a bit for each element, 64 in a word, the least first, and zero past the

@@ -1,22 +1,22 @@
 -- What a loop call that was run tells of it.
 use Rattle.std.proofs.Common.{◌≡◌, ℕ, pos, Some, refl, ap, sym, ◌∙◌}
 use Rattle.array_maps.specs.MapList.{MapList}
-use Rattle.bpf_insn_form.specs.Program.{Program}
+use Rattle.bpf_insn_types.specs.Program.{Program}
 use Rattle.bpf_step_model.specs.State.{LoopCall}
 use Rattle.bpf_step_model.specs.Run.{Ending, Ended, Stuck, Unfinished, mapped, followed}
 use Rattle.bpf_step_model.specs.LoopInOrder.{Looped, loop_in_order}
 use Rattle.bpf_step_model.specs.ProgramInOrder.{LoopMade}
-use Rattle.bpf_step_sound.specs.Soundness.{IsSoundProgram, AreMapWords, IsKnownCall}
+use Rattle.bpf_verify_sound.specs.Soundness.{IsSoundProgram, AreMapWords, IsKnownCall}
 use Rattle.bpf_step.specs.Turns.{IsFilled}
-use Rattle.loop_core_law.specs.declared.loop_test.Test.{Test}
-use Rattle.loop_core_law.specs.declared.verdict.LoopReport.{LoopReport}
-use Rattle.loop_core_law.specs.declared.verdict.Verdict.{Verdict}
-use Rattle.loop_core_law.specs.declared.verdict.Verdict.TheVariants.{InOrder}
-use Rattle.loop_core_law.specs.Report.{line, loop_report, loop_report_in_order, verdict}
+use Rattle.loop_core_model.specs.declared.loop_test.Test.{Test}
+use Rattle.loop_core_model.specs.declared.verdict.LoopReport.{LoopReport}
+use Rattle.loop_core_model.specs.declared.verdict.Verdict.{Verdict}
+use Rattle.loop_core_model.specs.declared.verdict.Verdict.TheVariants.{InOrder}
+use Rattle.loop_core_model.specs.Report.{line, loop_report, loop_report_in_order, verdict}
 use Rattle.loop_core_schedule.specs.Outcome.{Outcome, judged_as}
-use Rattle.loop_core_order.specs.FilledCalls.{FilledCallsAreOneLoop}
-use Rattle.loop_core_order.specs.Loops.{RanLoopInOrder}
-use Rattle.loop_gather.specs.Gathered.{IsOutcome}
+use Rattle.loop_core_sequential.specs.FilledCalls.{FilledCallsAreOneLoop}
+use Rattle.loop_core_sequential.specs.Loops.{RanLoopInOrder}
+use Rattle.loop_core_gather.specs.Gathered.{IsOutcome}
 
 -- a loop call left what it leaves in order, and this is its verdict's line, whatever call main made of it
 pub record RanCall (line_of : LoopMade → Ending LoopReport) (program : Program) (call : LoopCall) (start left : MapList) (answer : ℕ) (told_verdict : Verdict) : Type 0 where

@@ -2,9 +2,9 @@
 use Rattle.std.proofs.Common.{◌≡◌, List, [], ◌∷◌, ◌++◌, map, refl, sym, ◌∙◌, ap, append_assoc, append-nil}
 use Rattle.bpf_step_model.specs.Run.{Ending, Ended, Stuck, Unfinished, mapped, followed}
 use Rattle.bpf_step_model.specs.ProgramInOrder.{LoopMade, Finished, with_loop}
-use Rattle.loop_core_law.specs.declared.verdict.LoopReport.{LoopReport}
-use Rattle.loop_core_law.specs.LeastBreak.{in_front_of, all_ended}
-use Rattle.loop_core_law.specs.Report.{Reported, with_lines, reported_with}
+use Rattle.loop_core_model.specs.declared.verdict.LoopReport.{LoopReport}
+use Rattle.loop_core_model.specs.LeastBreak.{in_front_of, all_ended}
+use Rattle.loop_core_model.specs.Report.{Reported, with_lines, reported_with}
 
 -- the report of a program behind lines that were told before
 abbrev pub behind_lines : List LoopReport → Reported → Reported

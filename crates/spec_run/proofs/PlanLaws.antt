@@ -2,9 +2,9 @@
 use Rattle.std.proofs.Common.{◌≡◌, ℕ, ◌<◌, ◌≤◌, List, None, sym, subst, arith}
 use Rattle.loop_core_blocks.specs.Split.{split_fault, even_bounds}
 use Rattle.loop_core_blocks.proofs.SplitLaws.{even_is_split}
-use Rattle.loop_run.specs.Plans.{IsLoopPlan}
-use Rattle.spec_plan.specs.Plans.{IsPlan}
-use Rattle.spec_plan.specs.declared.plan.Plan.{Plan}
+use Rattle.spec_run_loop.specs.Plans.{IsLoopPlan}
+use Rattle.spec_run_plan.specs.Plans.{IsPlan}
+use Rattle.spec_run_plan.specs.declared.plan.Plan.{Plan}
 
 -- each loop can be split evenly
 pub even_is : (n blocks : ℕ) → 0 < blocks → blocks ≤ 64 → split_fault (even_bounds n blocks) n ≡ None

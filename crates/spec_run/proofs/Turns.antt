@@ -3,23 +3,23 @@
 use Rattle.std.proofs.Common.{◌≡◌, ℕ, ℤ, pos, zero, suc, ◌+◌, ◌<◌, ◌≤◌, ◌^◌, List, [], ◌∷◌, ◌++◌, length, Some, None, refl, sym, ap, subst, ◌∙◌, arith}
 use Rattle.std.specs.List.{sum}
 use Rattle.array_maps.specs.MapList.{MapList, AreWords}
-use Rattle.bpf_insn_form.specs.Program.{Program}
+use Rattle.bpf_insn_types.specs.Program.{Program}
 use Rattle.bpf_step_model.specs.State.{Machine, LoopCall, main_entry}
 use Rattle.bpf_step_model.specs.Run.{Ending, Ended, followed, Turn, Exit, Loop, Refused, Stretch, run}
 use Rattle.bpf_step_model.specs.LoopInOrder.{Looped, loop_in_order}
 use Rattle.bpf_step_model.specs.ProgramInOrder.{LoopMade, resumed, after_loop, after_turn, after_stretch, main_from, program_in_order}
-use Rattle.bpf_step_sound.specs.Soundness.{IsSoundProgram, AreMapWords, IsKnownCall, EachProgramEnds, LoopEnds, ProgramEnds, EachCountIsSmall, most_from, most_after}
+use Rattle.bpf_verify_sound.specs.Soundness.{IsSoundProgram, AreMapWords, IsKnownCall, EachProgramEnds, LoopEnds, ProgramEnds, EachCountIsSmall, most_from, most_after}
 use Rattle.bpf_step.specs.declared.main_function.Turned.{Turned}
 use Rattle.bpf_step.specs.declared.main_function.Turned.TheVariants as turned
 use Rattle.bpf_step.specs.Mains.{MainOf, IsAt, Waits}
 use Rattle.bpf_step.specs.Turns.{IsFilled, TurnsTo, RanMain}
 use Rattle.bpf_step.proofs.Limits.{few_slots, few_steps, few_counts, map_words}
-use Rattle.loop_core_law.specs.declared.verdict.LoopReport.{LoopReport}
-use Rattle.loop_core_law.specs.declared.verdict.Verdict.{Verdict}
-use Rattle.loop_core_law.specs.declared.verdict.Verdict.TheVariants as verdicts
-use Rattle.loop_core_law.specs.Report.{Reported, reported_with}
-use Rattle.loop_core_order.proofs.MapEffects.{map_effect, sizes_kept}
-use Rattle.loop_core_order.proofs.SameLoops.{same_loop}
+use Rattle.loop_core_model.specs.declared.verdict.LoopReport.{LoopReport}
+use Rattle.loop_core_model.specs.declared.verdict.Verdict.{Verdict}
+use Rattle.loop_core_model.specs.declared.verdict.Verdict.TheVariants as verdicts
+use Rattle.loop_core_model.specs.Report.{Reported, reported_with}
+use Rattle.loop_core_sequential.proofs.MapEffects.{map_effect, sizes_kept}
+use Rattle.loop_core_sequential.proofs.SameLoops.{same_loop}
 use Rattle.spec_run.specs.declared.running.Report.{Report}
 use Rattle.spec_run.proofs.CallLaws.{RanCall}
 use Rattle.spec_run.proofs.Lines.{told_behind, no_lines, one_line, last_line}

@@ -1,18 +1,18 @@
 -- What a run gives whose loops may run in parallel.
 use Rattle.std.specs.Prelude.{◌≡◌, ℕ, Result, IfOk, IfErr, OnErr}
 use Rattle.array_maps.specs.MapList.{MapList}
-use Rattle.bpf_insn_form.specs.Program.{Program}
+use Rattle.bpf_insn_types.specs.Program.{Program}
 use Rattle.bpf_step_model.specs.Run.{Ended}
 use Rattle.bpf_step_model.specs.ProgramInOrder.{program_in_order}
-use Rattle.bpf_step_sound.specs.Soundness.{ProgramEnds}
+use Rattle.bpf_verify_sound.specs.Soundness.{ProgramEnds}
 use Rattle.bpf_step.specs.Iterations.{EachIterationEnds}
-use Rattle.loop_core_law.specs.declared.loop_test.Test.{Test}
-use Rattle.loop_core_law.specs.Report.{report as report_by}
-use Rattle.loop_run.specs.declared.error.RunError.{RunError}
-use Rattle.loop_run.specs.declared.error.RunError.TheVariants.{Memory}
-use Rattle.spec_plan.specs.declared.plan.Plan.{Plan}
+use Rattle.loop_core_model.specs.declared.loop_test.Test.{Test}
+use Rattle.loop_core_model.specs.Report.{report as report_by}
+use Rattle.spec_run_loop.specs.declared.error.RunError.{RunError}
+use Rattle.spec_run_loop.specs.declared.error.RunError.TheVariants.{Memory}
+use Rattle.spec_run_plan.specs.declared.plan.Plan.{Plan}
 use Rattle.spec_run.specs.declared.running.Report.{Report}
-use Rattle.spec_plan.specs.Plans.{IsPlan}
+use Rattle.spec_run_plan.specs.Plans.{IsPlan}
 
 -- what a run gives is what the program gives whose loops run in order, from the old maps
 pub record RanAsInOrder (test : Test) (program : Program) (argument : ℕ) (old new : MapList) (report : Report) : Type 0 where

@@ -1,12 +1,12 @@
 -- What a run in order gives.
 use Rattle.std.specs.Prelude.{◌≡◌, ℕ}
 use Rattle.array_maps.specs.MapList.{MapList}
-use Rattle.bpf_insn_form.specs.Program.{Program}
+use Rattle.bpf_insn_types.specs.Program.{Program}
 use Rattle.bpf_step_model.specs.Run.{Ended}
 use Rattle.bpf_step_model.specs.ProgramInOrder.{program_in_order}
-use Rattle.bpf_step_sound.specs.Soundness.{ProgramEnds}
+use Rattle.bpf_verify_sound.specs.Soundness.{ProgramEnds}
 use Rattle.bpf_step.specs.Iterations.{EachIterationEnds}
-use Rattle.loop_core_law.specs.Report.{report_in_order}
+use Rattle.loop_core_model.specs.Report.{report_in_order}
 use Rattle.spec_run.specs.declared.running.Report.{Report}
 
 -- what a run in order gives is what the program in order gives, from the old maps

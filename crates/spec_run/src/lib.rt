@@ -13,10 +13,10 @@
 mod running;
 mod speculating;
 
-pub use loop_core_law::{LoopReport, Test, Verdict};
-pub use loop_run::{LoopOutcome, RunError, run_loop};
-pub use loop_split::{Gate, NoGate};
-pub use loop_work::work;
+pub use loop_core_model::{LoopReport, Test, Verdict};
+pub use loop_core_split::{Gate, NoGate};
 pub use running::{Report, run_in_order};
-pub use spec_plan::Plan;
+pub use spec_run_loop::{LoopOutcome, RunError, run_loop};
+pub use spec_run_plan::Plan;
+pub use spec_run_work::work;
 pub use speculating::run;

@@ -5,11 +5,11 @@ ghost use Rattle.spec_run.specs.InOrder.{RanInOrder};
 
 use array_maps::{Maps, Store};
 use bpf_step::{Main, Turned};
-use bpf_step_sound::{law_of_accepted_programs, law_of_accepted_runs};
 use bpf_verify::Verified;
-use loop_core_law::{LoopReport, Verdict};
-use loop_core_order::in_order;
-use loop_run::RunError;
+use bpf_verify_sound::{law_of_accepted_programs, law_of_accepted_runs};
+use loop_core_model::{LoopReport, Verdict};
+use loop_core_sequential::in_order;
+use spec_run_loop::RunError;
 use std::alloc::{AllocError, Global};
 
 /// What a program did.

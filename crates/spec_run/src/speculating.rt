@@ -1,21 +1,21 @@
 //! Running a program whose loops may run in parallel.
 
 ghost use Rattle.std.specs.Prelude.{◌≡◌, ◌≢◌, ◌↔◌, IfOk, OnErr, Err};
-ghost use Rattle.bpf_step_sound.specs.Soundness.{IsKnownCall};
-ghost use Rattle.loop_gather.specs.Gathered.{IsOutcome};
+ghost use Rattle.bpf_verify_sound.specs.Soundness.{IsKnownCall};
+ghost use Rattle.loop_core_gather.specs.Gathered.{IsOutcome};
 ghost use Rattle.spec_run.specs.AsInOrder.{RanAsInOrder, RunsAsInOrder};
-ghost use Rattle.spec_plan.specs.Plans.{IsPlan};
+ghost use Rattle.spec_run_plan.specs.Plans.{IsPlan};
 
 use crate::running::Report;
 use array_maps::{Maps, Store};
 use bpf_step::{LoopCall, Main, Turned};
-use bpf_step_sound::{law_of_accepted_programs, law_of_accepted_runs};
 use bpf_verify::Verified;
-use loop_core_law::{LoopReport, Verdict};
-use loop_core_order::law_of_filled_calls;
-use loop_run::{LoopOutcome, RunError, run_loop};
-use loop_split::{Gate, Split};
-use spec_plan::Plan;
+use bpf_verify_sound::{law_of_accepted_programs, law_of_accepted_runs};
+use loop_core_model::{LoopReport, Verdict};
+use loop_core_sequential::law_of_filled_calls;
+use loop_core_split::{Gate, Split};
+use spec_run_loop::{LoopOutcome, RunError, run_loop};
+use spec_run_plan::Plan;
 use std::alloc::{AllocError, Global};
 use std::thread::Threads;
 

@@ -26,8 +26,26 @@ fn comes_to_33(rt: &impl Abort, alloc: Global, stage: Stage) -> Result<(), Fail>
     if split.blocks() != 2 {
         return Err(Fail::new("two blocks"));
     }
-    let first = run_block(alloc, &program, &call, &maps, &split, 0, &NoGate, Test::Flow)?;
-    let second = run_block(alloc, &program, &call, &maps, &split, 1, &NoGate, Test::Flow)?;
+    let first = run_block(
+        alloc,
+        &program,
+        &call,
+        &maps,
+        &split,
+        0,
+        &NoGate,
+        Test::Flow,
+    )?;
+    let second = run_block(
+        alloc,
+        &program,
+        &call,
+        &maps,
+        &split,
+        1,
+        &NoGate,
+        Test::Flow,
+    )?;
     let blocks = vec![in alloc; first, second]?;
     let gathered = gather(alloc, &program, &call, &maps, &split, blocks, Test::Flow)?;
     assert_eq!(rt; gathered.verdict(), Verdict::Parallel);

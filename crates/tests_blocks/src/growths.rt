@@ -5,8 +5,8 @@ ghost use Rattle.std.specs.Prelude.{IfSome};
 ghost use Rattle.tests_blocks.specs.Stages.{IsStage};
 
 use crate::stage::{Stage, outcome_of, stage_of};
-use loop_core_law::{Test, Verdict};
-use loop_gather::GatherError;
+use loop_core_gather::GatherError;
+use loop_core_model::{Test, Verdict};
 use std::alloc::Global;
 use std::process::Abort;
 use std::test::Fail;

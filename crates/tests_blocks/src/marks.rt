@@ -1,15 +1,15 @@
 //! What a block remembers of its iterations: planes and the conflicts that they tell, partials, and pages.
 
 ghost use Rattle.std.specs.Prelude.{◌≤◌, IfOk};
-ghost use Rattle.loop_core_law.specs.declared.loop_test.Test.TheVariants.{Lrpd};
+ghost use Rattle.loop_core_model.specs.declared.loop_test.Test.TheVariants.{Lrpd};
 ghost use Rattle.shadow_marks.specs.Standing.{ArePlanes};
 ghost use Rattle.tests_blocks.specs.Stages.{IsStage, IsRunOn};
 
 use crate::stage::{Stage, run_on, stage_of};
 use array_maps::Op;
 use lane_planes::{conflicts, count_bits, first_bit};
-use loop_block::Block;
-use loop_core_law::Test;
+use loop_core_block::Block;
+use loop_core_model::Test;
 use shadow_marks::{Planes, Tested};
 use std::alloc::{AllocError, Global};
 use std::fmt::Write;

@@ -2,16 +2,16 @@
 
 ghost use Rattle.std.specs.Prelude.{◌≡◌, ◌<◌, All, IfSome, IfOk};
 ghost use Rattle.loop_core_schedule.specs.Intervals.{blocks_of};
-ghost use Rattle.loop_gather.specs.Gathered.{Tells};
+ghost use Rattle.loop_core_gather.specs.Gathered.{Tells};
 ghost use Rattle.tests_blocks.specs.Stages.{IsStage, IsRunOn};
 
 use array_maps::Maps;
 use bpf_step::LoopCall;
 use bpf_verify::Verified;
-use loop_block::{Block, run_block};
-use loop_core_law::Test;
-use loop_gather::{GatherError, Gathered, LoopOutcome, gather, settle};
-use loop_split::{NoGate, Split};
+use loop_core_block::{Block, run_block};
+use loop_core_gather::{GatherError, Gathered, LoopOutcome, gather, settle};
+use loop_core_model::Test;
+use loop_core_split::{NoGate, Split};
 use std::alloc::{AllocError, Global};
 use tests_rows::{first_loop, read_row};
 

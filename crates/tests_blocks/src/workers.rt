@@ -1,16 +1,16 @@
 //! Two workers of one loop, each in a thread of the test, that meet as they run.
 
 ghost use Rattle.std.specs.Prelude.{◌≡◌, All, IfOk};
-ghost use Rattle.loop_core_law.specs.declared.loop_test.Test.TheVariants.{Flow};
+ghost use Rattle.loop_core_model.specs.declared.loop_test.Test.TheVariants.{Flow};
 ghost use Rattle.loop_core_schedule.specs.Intervals.{blocks_of};
 ghost use Rattle.tests_blocks.specs.Stages.{IsStage, IsRunOn};
 
 use crate::stage::{Stage, gathered, stage_of};
-use loop_block::Block;
 use loop_board::{Board, BoardSeat};
-use loop_core_law::{Test, Verdict};
-use loop_split::Gate;
-use loop_work::work;
+use loop_core_block::Block;
+use loop_core_model::{Test, Verdict};
+use loop_core_split::Gate;
+use spec_run_work::work;
 use std::alloc::{AllocError, Global};
 use std::test::Fail;
 use std::thread;

@@ -1,9 +1,9 @@
 -- A loop at its call.
 use Rattle.std.specs.Prelude.{◌≡◌, ℕ, List, None}
 use Rattle.array_maps.specs.MapList.{MapList}
-use Rattle.bpf_insn_form.specs.Program.{Program}
+use Rattle.bpf_insn_types.specs.Program.{Program}
 use Rattle.bpf_step_model.specs.State.{LoopCall}
-use Rattle.bpf_step_sound.specs.Soundness.{IsKnownCall}
+use Rattle.bpf_verify_sound.specs.Soundness.{IsKnownCall}
 use Rattle.loop_core_blocks.specs.Split.{split_fault}
 
 -- a program, a loop call, the maps that it starts on, and a split's bounds

@@ -1,6 +1,6 @@
 //! Loops with one map, and what they come to.
 
-use loop_core_law::Verdict;
+use loop_core_model::Verdict;
 
 /// A unit, whose lines ` | ` parts, with the words of its map and the bounds of its loop's blocks; which iterations break on
 /// these words; and what the loop comes to.

@@ -2,17 +2,17 @@
 
 ghost use Rattle.std.specs.Prelude.{◌≡◌, IfSome, None};
 ghost use Rattle.loop_core_blocks.specs.Split.{split_fault};
-ghost use Rattle.bpf_step_sound.specs.Soundness.{IsKnownCall};
+ghost use Rattle.bpf_verify_sound.specs.Soundness.{IsKnownCall};
 
 use crate::loops::Row;
 use array_maps::Maps;
 use bpf_step::{LoopCall, Main, Turned};
-use bpf_text_units::parse_unit;
+use bpf_text_asm::parse_unit;
 use bpf_verify::{Verified, verify};
-use loop_core_law::Test;
-use loop_event::Event;
-use loop_replay::{ReplayError, replay_loop};
-use loop_split::Split;
+use loop_core_event::Event;
+use loop_core_model::Test;
+use loop_core_replay::{ReplayError, replay_loop};
+use loop_core_split::Split;
 use std::alloc::Global;
 use std::marker::Model;
 

@@ -1,7 +1,7 @@
 -- The loop call that main comes to.
 use Rattle.bpf_step_model.specs.Run.{Turn, Exit, Loop, Refused}
 use Rattle.bpf_step_model.specs.State.{LoopCall}
-use Rattle.bpf_step_sound.specs.Soundness.{IsKnownCall}
+use Rattle.bpf_verify_sound.specs.Soundness.{IsKnownCall}
 use Rattle.bpf_step.specs.declared.main_function.Turned.TheVariants as turned
 use Rattle.bpf_step.specs.Mains.{MainOf}
 use Rattle.bpf_step.specs.Turns.{TurnsTo}

@@ -1,6 +1,6 @@
 //! Gates at which workers meet.
 
-use loop_split::Gate;
+use loop_core_split::Gate;
 use std::hint::spin_loop;
 use std::sync::atomic::{AtomicBool, AtomicU64, Ordering};
 

@@ -2,7 +2,7 @@
 //! they aren't all zero.
 
 ghost use Rattle.std.specs.Prelude.{◌≡◌, IfSome};
-ghost use Rattle.bpf_step_sound.specs.Soundness.{IsKnownCall};
+ghost use Rattle.bpf_verify_sound.specs.Soundness.{IsKnownCall};
 
 use array_maps::Maps;
 use bpf_step::{LoopCall, Main, Turned};

@@ -2,7 +2,7 @@
 
 use crate::rows::text_of;
 use bpf_insn::{CodecError, decode, encode};
-use bpf_insn_form::{ImmKind, Insn, MovsxBits, Reg, Size, Unit, Width};
+use bpf_insn_types::{ImmKind, Insn, MovsxBits, Reg, Size, Unit, Width};
 use bpf_text::{parse_unit, print_unit, read_hex, write_hex};
 use std::alloc::Global;
 use std::process::Abort;

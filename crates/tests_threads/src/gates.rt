@@ -2,7 +2,7 @@
 //! at once, that they pass the gate, and that they skip what lies behind a break that they see, is seen here alone.
 
 use crate::reports::{loop_report, report, served};
-use loop_core_law::Test;
+use loop_core_model::Test;
 use spec_run::Plan;
 use std::alloc::Global;
 use std::process::Abort;

@@ -2,7 +2,7 @@
 //! the memory.
 
 use array_maps::Maps;
-use loop_core_law::{LoopReport, Test, Verdict};
+use loop_core_model::{LoopReport, Test, Verdict};
 use spec_run::{Plan, Report, RunError, run, run_in_order};
 use std::alloc::Global;
 use std::process::Abort;

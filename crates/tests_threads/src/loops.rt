@@ -1,11 +1,11 @@
 //! What is told of rows, with any number of workers and blocks. A row has a program with its maps, and behind `=>` what is
 //! told of it.
 
-ghost use Rattle.bpf_step_sound.specs.Soundness.{IsKnownCall};
+ghost use Rattle.bpf_verify_sound.specs.Soundness.{IsKnownCall};
 
 use crate::reports::{loop_report, report};
-use loop_core_law::Test;
-use loop_split::NoGate;
+use loop_core_model::Test;
+use loop_core_split::NoGate;
 use spec_run::Plan;
 use std::alloc::Global;
 use std::process::Abort;

@@ -1,13 +1,13 @@
 //! What is told of a row that is run by a plan: of its first loop alone, of its program, and of it as an input.
 
-ghost use Rattle.bpf_step_sound.specs.Soundness.{IsKnownCall};
+ghost use Rattle.bpf_verify_sound.specs.Soundness.{IsKnownCall};
 
-use bpfspec_answers::{print_replay, print_report};
+use bpfspec_output::{print_replay, print_report};
 use bpfspec_serve::{Counted, UnitForm, serve_run};
-use loop_core_law::LoopReport;
-use loop_run::run_loop;
-use loop_split::{Gate, Split};
+use loop_core_model::LoopReport;
+use loop_core_split::{Gate, Split};
 use spec_run::{Plan, run};
+use spec_run_loop::run_loop;
 use std::alloc::Global;
 use std::test::Fail;
 use std::thread::Threads;

@@ -1,7 +1,7 @@
 //! What the verifier says of units that no text spells, and what is told of an accepted one.
 
-use bpf_insn_form::{AluOp, Callee, ImmKind, Insn, Operand, Reg, Size, Unit, Width};
-use bpf_text_units::print_unit;
+use bpf_insn_types::{AluOp, Callee, ImmKind, Insn, Operand, Reg, Size, Unit, Width};
+use bpf_text_asm::print_unit;
 use bpf_verify::{Rule, Verified, VerifyError, verify};
 use std::alloc::Global;
 use std::process::Abort;

@@ -1,7 +1,7 @@
 //! The examples at the heads of `value_range` and `bpf_verify`.
 
-use bpf_insn_form::{AluOp, Compare, Width};
-use bpf_text_units::parse_unit;
+use bpf_insn_types::{AluOp, Compare, Width};
+use bpf_text_asm::parse_unit;
 use bpf_verify::{Rule, VerifyError, verify};
 use std::test::Fail;
 use value_range::{Condition, Operation, alu, exact, refine, top};

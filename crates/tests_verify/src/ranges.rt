@@ -6,7 +6,7 @@
 ghost use Rattle.std.specs.Prelude.{◌<◌};
 
 use crate::rows::{read_insn, read_pair, read_word, row_parts};
-use bpf_insn_form::{Insn, Width};
+use bpf_insn_types::{Insn, Width};
 use std::alloc::Global;
 use std::process::Abort;
 use std::test::Fail;

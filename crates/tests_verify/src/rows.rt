@@ -1,8 +1,8 @@
 //! How the rows of tables are read. A row of words or ranges is
 //! an instruction, ` | `, what R1 and R2 have, ` => `, and what is wanted.
 
-use bpf_insn_form::Insn;
-use bpf_text_units::parse_unit;
+use bpf_insn_types::Insn;
+use bpf_text_asm::parse_unit;
 use std::alloc::Global;
 use std::test::Fail;
 

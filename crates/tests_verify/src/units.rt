@@ -2,8 +2,8 @@
 //!
 //! In the tables ` | ` parts the lines of a unit and of an answer.
 
-use bpf_text_lines::TextError;
-use bpf_text_units::parse_unit;
+use bpf_text_asm::parse_unit;
+use bpf_text_lex::TextError;
 use bpf_verify::{Verified, VerifyError, verify};
 use std::alloc::{AllocError, Global};
 use std::process::Abort;

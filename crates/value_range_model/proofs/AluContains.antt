@@ -4,18 +4,18 @@ use Rattle.std.specs.Prelude.{nat_lt, if◌then◌else◌}
 use Rattle.std.proofs.Math.Nat.{mod-eq_of_lt, mod-mod}
 use Rattle.std.proofs.lemmas.Nat.{mod_below}
 use Rattle.std.proofs.lemmas.Bool.{ltb-true, and_parts, cond-true, lt-ltb}
-use Rattle.bpf_insn_form.specs.declared.insn.Width.{Width}
-use Rattle.bpf_insn_form.specs.declared.insn.Width.TheVariants.{W32, W64}
-use Rattle.bpf_insn_form.specs.declared.insn.AluOp.{AluOp}
-use Rattle.bpf_insn_form.specs.declared.insn.AluOp.TheVariants.{Add, Sub, Mul, Div, Sdiv, Or, And, Lsh, Rsh, Mod, Smod, Xor, Mov, Arsh}
-use Rattle.bpf_insn_form.specs.declared.insn.ByteOrder.{ByteOrder}
-use Rattle.bpf_insn_form.specs.declared.insn.ByteOrder.TheVariants.{Le, Be, Swap}
-use Rattle.bpf_insn_form.specs.declared.insn.EndianBits.{EndianBits}
-use Rattle.bpf_insn_form.specs.declared.insn.MovsxBits.{MovsxBits}
-use Rattle.bpf_insn_form.specs.declared.insn.MovsxBits.TheVariants.{B8, B16 as Low16, B32 as Low32}
-use Rattle.bpf_insn_words.specs.Words.{modulus, computed, alu, negated, moved_signed, sign_extended, in_order, low_modulus, endian_modulus}
-use Rattle.bpf_insn_words.specs.WordBounds.{ResultsFit}
-use Rattle.bpf_insn_words.proofs.WordLaws.{modulus-positive}
+use Rattle.bpf_insn_types.specs.declared.insn.Width.{Width}
+use Rattle.bpf_insn_types.specs.declared.insn.Width.TheVariants.{W32, W64}
+use Rattle.bpf_insn_types.specs.declared.insn.AluOp.{AluOp}
+use Rattle.bpf_insn_types.specs.declared.insn.AluOp.TheVariants.{Add, Sub, Mul, Div, Sdiv, Or, And, Lsh, Rsh, Mod, Smod, Xor, Mov, Arsh}
+use Rattle.bpf_insn_types.specs.declared.insn.ByteOrder.{ByteOrder}
+use Rattle.bpf_insn_types.specs.declared.insn.ByteOrder.TheVariants.{Le, Be, Swap}
+use Rattle.bpf_insn_types.specs.declared.insn.EndianBits.{EndianBits}
+use Rattle.bpf_insn_types.specs.declared.insn.MovsxBits.{MovsxBits}
+use Rattle.bpf_insn_types.specs.declared.insn.MovsxBits.TheVariants.{B8, B16 as Low16, B32 as Low32}
+use Rattle.bpf_insn_alu.specs.Words.{modulus, computed, alu, negated, moved_signed, sign_extended, in_order, low_modulus, endian_modulus}
+use Rattle.bpf_insn_alu.specs.WordBounds.{ResultsFit}
+use Rattle.bpf_insn_alu.proofs.WordLaws.{modulus-positive}
 use Rattle.value_range_model.specs.Spans.{Span, IsSpan, Contains, is_exact, exact, top, norm}
 use Rattle.value_range_model.proofs.Multiples.{multiple-zero, zero-multiple}
 use Rattle.value_range_model.proofs.SpanLaws.{contains_by_test, exact-contains, exact-number, top-contains, number-word}

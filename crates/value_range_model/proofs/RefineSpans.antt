@@ -4,9 +4,9 @@ use Rattle.std.specs.Prelude.{◌==◌, nat_lt, nat_le, if◌then◌else◌}
 use Rattle.std.specs.declared.option.Option.TheVariants.{None, Some}
 use Rattle.std.proofs.Math.Nat.{le-min, max-le, min-le_left}
 use Rattle.std.proofs.lemmas.Bool.{cases_lt, ltb-false, leb-false, eqb-false}
-use Rattle.bpf_insn_form.specs.declared.insn.Width.{Width}
-use Rattle.bpf_insn_form.specs.declared.insn.Width.TheVariants.{W32, W64}
-use Rattle.bpf_insn_form.specs.declared.insn.Compare.TheVariants.{Eq, Gt, Ge, Set, Ne, Sgt, Sge, Lt, Le, Slt, Sle}
+use Rattle.bpf_insn_types.specs.declared.insn.Width.{Width}
+use Rattle.bpf_insn_types.specs.declared.insn.Width.TheVariants.{W32, W64}
+use Rattle.bpf_insn_types.specs.declared.insn.Compare.TheVariants.{Eq, Gt, Ge, Set, Ne, Sgt, Sge, Lt, Le, Slt, Sle}
 use Rattle.value_range_model.specs.Spans.{Span, IsSpan, is_exact, rounded_up, rounded_down, norm}
 use Rattle.value_range_model.proofs.Multiples.{multiple-add, pow-multiple, apart as step-between, up-multiple, up-most, down-most}
 use Rattle.value_range_model.proofs.SpanLaws.{is_by_test, norm-span, norm-some}

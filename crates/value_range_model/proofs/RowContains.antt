@@ -5,12 +5,12 @@ use Rattle.std.proofs.Math.Nat.{mod-eq_of_lt, add-mul-mod_self_left, add-mod_lef
 use Rattle.std.proofs.lemmas.Nat.{pow_pos, mod_below, shr_le}
 use Rattle.std.proofs.Math.Nat.{div-le_self, mod-le}
 use Rattle.std.proofs.lemmas.Bool.{ltb-true, leb-true, eqb-true, eqb-false, cond-true, cond-false, lt-ltb, ne_eqb}
-use Rattle.bpf_insn_form.specs.declared.insn.Width.{Width}
-use Rattle.bpf_insn_form.specs.declared.insn.Width.TheVariants.{W32, W64}
-use Rattle.bpf_insn_form.specs.declared.insn.AluOp.{AluOp}
-use Rattle.bpf_insn_form.specs.declared.insn.AluOp.TheVariants.{Add, Sub, Mul, Div, Sdiv, Or, And, Lsh, Rsh, Mod, Smod, Xor, Mov, Arsh}
-use Rattle.bpf_insn_words.specs.Words.{modulus, shift, quotient, remainder, arithmetic_shift, computed}
-use Rattle.bpf_insn_words.proofs.WordLaws.{modulus-positive}
+use Rattle.bpf_insn_types.specs.declared.insn.Width.{Width}
+use Rattle.bpf_insn_types.specs.declared.insn.Width.TheVariants.{W32, W64}
+use Rattle.bpf_insn_types.specs.declared.insn.AluOp.{AluOp}
+use Rattle.bpf_insn_types.specs.declared.insn.AluOp.TheVariants.{Add, Sub, Mul, Div, Sdiv, Or, And, Lsh, Rsh, Mod, Smod, Xor, Mov, Arsh}
+use Rattle.bpf_insn_alu.specs.Words.{modulus, shift, quotient, remainder, arithmetic_shift, computed}
+use Rattle.bpf_insn_alu.proofs.WordLaws.{modulus-positive}
 use Rattle.value_range_model.specs.Spans.{Span, IsSpan, Contains, is_exact, exact, top, norm}
 use Rattle.value_range_model.proofs.Multiples.{coarser, min-first, min-second, multiple-zero, multiple-add, multiple-sub, multiple-mul, multiple-wrap, pow-multiple}
 use Rattle.value_range_model.proofs.SpanLaws.{contains_by_test, norm-contains, exact-contains, exact-number, top-contains}

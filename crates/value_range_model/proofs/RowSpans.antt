@@ -4,17 +4,17 @@ use Rattle.std.specs.Prelude.{◌==◌, nat_lt, nat_le, if◌then◌else◌, bit
 use Rattle.std.proofs.Math.Nat.{div-le_self, min-le_left, min-le_right, max-le}
 use Rattle.std.proofs.lemmas.Nat.{shr_le}
 use Rattle.std.proofs.lemmas.Bool.{ltb-true, eqb-false}
-use Rattle.bpf_insn_form.specs.declared.insn.Width.{Width}
-use Rattle.bpf_insn_form.specs.declared.insn.Width.TheVariants.{W32, W64}
-use Rattle.bpf_insn_form.specs.declared.insn.AluOp.{AluOp}
-use Rattle.bpf_insn_form.specs.declared.insn.AluOp.TheVariants.{Add, Sub, Mul, Div, Sdiv, Or, And, Lsh, Rsh, Mod, Smod, Xor, Mov, Arsh}
-use Rattle.bpf_insn_form.specs.declared.insn.ByteOrder.{ByteOrder}
-use Rattle.bpf_insn_form.specs.declared.insn.ByteOrder.TheVariants.{Le, Be, Swap}
-use Rattle.bpf_insn_form.specs.declared.insn.EndianBits.{EndianBits}
-use Rattle.bpf_insn_form.specs.declared.insn.EndianBits.TheVariants.{B16, B32, B64}
-use Rattle.bpf_insn_words.specs.Words.{modulus, shift, low_modulus, endian_modulus}
-use Rattle.bpf_insn_words.specs.WordBounds.{ResultsFit}
-use Rattle.bpf_insn_words.proofs.WordLaws.{modulus-most}
+use Rattle.bpf_insn_types.specs.declared.insn.Width.{Width}
+use Rattle.bpf_insn_types.specs.declared.insn.Width.TheVariants.{W32, W64}
+use Rattle.bpf_insn_types.specs.declared.insn.AluOp.{AluOp}
+use Rattle.bpf_insn_types.specs.declared.insn.AluOp.TheVariants.{Add, Sub, Mul, Div, Sdiv, Or, And, Lsh, Rsh, Mod, Smod, Xor, Mov, Arsh}
+use Rattle.bpf_insn_types.specs.declared.insn.ByteOrder.{ByteOrder}
+use Rattle.bpf_insn_types.specs.declared.insn.ByteOrder.TheVariants.{Le, Be, Swap}
+use Rattle.bpf_insn_types.specs.declared.insn.EndianBits.{EndianBits}
+use Rattle.bpf_insn_types.specs.declared.insn.EndianBits.TheVariants.{B16, B32, B64}
+use Rattle.bpf_insn_alu.specs.Words.{modulus, shift, low_modulus, endian_modulus}
+use Rattle.bpf_insn_alu.specs.WordBounds.{ResultsFit}
+use Rattle.bpf_insn_alu.proofs.WordLaws.{modulus-most}
 use Rattle.value_range_model.specs.Spans.{Span, IsSpan, is_exact, exact, top, norm}
 use Rattle.value_range_model.proofs.SpanLaws.{is_by_test, exact-span, norm-span, top-span}
 use Rattle.value_range_model.specs.declared.operation.Operation.{Operation}

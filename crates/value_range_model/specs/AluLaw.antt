@@ -1,6 +1,6 @@
 -- The law of operations on spans.
 use Rattle.std.specs.Prelude.{ℕ}
-use Rattle.bpf_insn_form.specs.declared.insn.Width.{Width}
+use Rattle.bpf_insn_types.specs.declared.insn.Width.{Width}
 use Rattle.value_range_model.specs.Spans.{Span, IsSpan, Contains}
 use Rattle.value_range_model.specs.declared.operation.Operation.{Operation}
 use Rattle.value_range_model.specs.AluRows.{meant, span_of}

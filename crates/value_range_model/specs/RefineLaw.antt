@@ -1,7 +1,7 @@
 -- The law of conditions on spans.
 use Rattle.std.specs.Prelude.{◌≡◌, ℕ, true}
 use Rattle.std.specs.declared.option.Option.TheVariants.{None, Some}
-use Rattle.bpf_insn_form.specs.declared.insn.Width.{Width}
+use Rattle.bpf_insn_types.specs.declared.insn.Width.{Width}
 use Rattle.value_range_model.specs.Spans.{Span, IsSpan, Contains}
 use Rattle.value_range_model.specs.declared.condition.Condition.{Condition}
 use Rattle.value_range_model.specs.RefineRows.{Refined, says, refined}

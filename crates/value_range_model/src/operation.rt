@@ -1,6 +1,6 @@
 //! The operations on ranges.
 
-use bpf_insn_form::{AluOp, ByteOrder, EndianBits, MovsxBits};
+use bpf_insn_types::{AluOp, ByteOrder, EndianBits, MovsxBits};
 
 /// An operation on two operands, a and b.
 #[derive(Clone, Copy)]

@@ -4,7 +4,7 @@ ghost use Rattle.std.specs.Prelude.{◌≡◌, ℕ, ◌≤◌};
 ghost use Rattle.value_range_model.specs.Spans.{Span, IsSpan, Contains, exact, top, norm, join, rounded_up};
 
 use crate::bounds::{round_down, round_up};
-use bpf_insn_form::Width;
+use bpf_insn_types::Width;
 use std::marker::Model;
 
 /// The words from a least to a greatest that are multiples of a power of two.

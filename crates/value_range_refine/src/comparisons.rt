@@ -3,7 +3,7 @@
 ghost use Rattle.std.specs.Prelude.{◌≡◌, ◌≢◌};
 ghost use Rattle.value_range_model.specs.RefineRows.{equal, without, different, greater, not_less, exchanged, tested};
 
-use bpf_insn_form::Width;
+use bpf_insn_types::Width;
 use value_range_model::{Condition, Range, norm, round_down};
 
 /// Equal: what both have in common.

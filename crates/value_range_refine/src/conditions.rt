@@ -5,7 +5,7 @@ ghost use Rattle.value_range_model.specs.Spans.{IsSpan, Contains};
 ghost use Rattle.value_range_model.specs.RefineRows.{says, refine_row, refined};
 
 use crate::comparisons::{different, equal, exchanged, greater, not_less, tested};
-use bpf_insn_form::{Compare, Width};
+use bpf_insn_types::{Compare, Width};
 use value_range_model::{Condition, Range};
 
 /// The ranges of both operands where the condition holds. They contain every pair of words of a and b

@@ -1,11 +1,11 @@
 //! Operations of one operand.
 
 ghost use Rattle.std.specs.Prelude.{◌≡◌, ◌/◌};
-ghost use Rattle.bpf_insn_words.specs.Words.{low_modulus, endian_modulus};
+ghost use Rattle.bpf_insn_alu.specs.Words.{low_modulus, endian_modulus};
 ghost use Rattle.value_range_model.specs.AluRows.{low32, negative, extended, little, ordered, top_bits};
 
 use crate::widths::spread;
-use bpf_insn_form::{ByteOrder, EndianBits, MovsxBits, Width};
+use bpf_insn_types::{ByteOrder, EndianBits, MovsxBits, Width};
 use value_range_model::{Range, exact, norm, top};
 
 /// Numbers of 32 bits in place of those that may be greater.

@@ -1,11 +1,11 @@
 //! Sums, differences and products.
 
 ghost use Rattle.std.specs.Prelude.{◌≡◌, ◌<◌};
-ghost use Rattle.bpf_insn_words.specs.Words.{modulus};
+ghost use Rattle.bpf_insn_alu.specs.Words.{modulus};
 ghost use Rattle.value_range_model.specs.AluRows.{added, subtracted, multiplied};
 
 use crate::widths::{spread, within};
-use bpf_insn_form::Width;
+use bpf_insn_types::Width;
 use value_range_model::{Range, norm};
 
 /// Where no sum wraps, from the least to the greatest.

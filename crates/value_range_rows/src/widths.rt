@@ -1,10 +1,10 @@
 //! What depends on the width of an operation alone.
 
 ghost use Rattle.std.specs.Prelude.{◌≡◌, ◌-◌, ◌<◌, ◌≤◌, IfSome, IfNone};
-ghost use Rattle.bpf_insn_words.specs.Words.{modulus};
+ghost use Rattle.bpf_insn_alu.specs.Words.{modulus};
 ghost use Rattle.value_range_model.specs.Spans.{norm};
 
-use bpf_insn_form::Width;
+use bpf_insn_types::Width;
 use value_range_model::{Range, norm, top};
 
 /// The number, where it is one of the width.

@@ -1,6 +1,6 @@
 -- Each row is computed.
 use Rattle.std.proofs.Common.{refl}
-use Rattle.bpf_insn_words.specs.Words.{alu, holds, negated, moved_signed, in_order}
+use Rattle.bpf_insn_alu.specs.Words.{alu, holds, negated, moved_signed, in_order}
 use Rattle.bpf_step_model.specs.Step.{step}
 use Rattle.bpf_step_model.specs.ProgramInOrder.{program_in_order}
 use Rattle.bpf_step_model.specs.ProgramRows.{ArithmeticRows, OtherRows, MemoryRows}

@@ -1,7 +1,7 @@
 -- Each row is computed.
 use Rattle.std.proofs.Common.{refl}
 use Rattle.std.specs.Int.Count.{ones_in, ones, count_trailing_zeros}
-use Rattle.bpf_insn_words.specs.Words.{alu, holds}
+use Rattle.bpf_insn_alu.specs.Words.{alu, holds}
 use Rattle.array_maps.specs.Accesses.{combined}
 use Rattle.bpf_step_model.specs.Step.{step}
 use Rattle.bpf_step_model.specs.Iteration.{iteration}

@@ -1,11 +1,11 @@
 -- Each row is computed.
 use Rattle.std.proofs.Common.{refl}
-use Rattle.bpf_insn_words.specs.Words.{alu, holds}
+use Rattle.bpf_insn_alu.specs.Words.{alu, holds}
 use Rattle.array_maps.specs.Accesses.{combined}
 use Rattle.bpf_step_model.specs.Step.{step}
 use Rattle.bpf_step_model.specs.Iteration.{iteration}
-use Rattle.loop_core_law.specs.declared.loop_test.Test.{Test}
-use Rattle.loop_core_law.specs.declared.loop_test.Test.TheVariants.{Lrpd, Flow}
+use Rattle.loop_core_model.specs.declared.loop_test.Test.{Test}
+use Rattle.loop_core_model.specs.declared.loop_test.Test.TheVariants.{Lrpd, Flow}
 use Rattle.loop_core_schedule.specs.ReplayRows.{EndedRows, LeftRows, RefusedRows}
 use Rattle.loop_core_schedule.proofs.worked_replays.Goals as goal
 

@@ -1,5 +1,5 @@
 use Rattle.std.proofs.Common.{arith, subst}
-use Rattle.bpf_insn_form.specs.Outcome.{Gives}
+use Rattle.bpf_insn_types.specs.Outcome.{Gives}
 use Rattle.bpf_insn.specs.CodecRefusal.{codec_refusal}
 use Rattle.bpf_insn.proofs.Programs.{reading_again}
 use Rattle.bpf_insn.proofs.Decoded.{if_found}

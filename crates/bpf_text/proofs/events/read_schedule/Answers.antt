@@ -1,6 +1,6 @@
 use Rattle.std.proofs.Common.{sym, ◌∙◌}
 use Rattle.std.proofs.lemmas.Result.{err_from_is_err_and}
-use Rattle.bpf_text_lines.specs.Lines.{contents_of}
+use Rattle.bpf_text_lex.specs.Lines.{contents_of}
 use Rattle.bpf_text.proofs.EventLaws.{no_bounds, bounds_fail, events_fail, events_read}
 use Rattle.bpf_text.proofs.events.read_schedule.Goals as goal
 

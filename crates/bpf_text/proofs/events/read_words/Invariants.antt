@@ -1,6 +1,6 @@
 use Rattle.std.proofs.Common.{◌≡◌, length}
 use Rattle.bpf_text.specs.EventsText.{events_in}
-use Rattle.bpf_text_lines.proofs.RefusalLaws.{with_front}
+use Rattle.bpf_text_lex.proofs.RefusalLaws.{with_front}
 use Rattle.bpf_text.proofs.events.read_words.Given as goal
 
 abbrev pub invariant-loop-word : goal.invariant-loop-word

@@ -1,5 +1,5 @@
 use Rattle.std.proofs.Common.{◌≡◌, ◌≤◌, [], length}
-use Rattle.bpf_text_lines.specs.Lines.{contents_of}
+use Rattle.bpf_text_lex.specs.Lines.{contents_of}
 use Rattle.bpf_text.specs.MapsText.{lists, values_held, maps_behind}
 use Rattle.bpf_text.proofs.maps.read_maps.Given as goal
 

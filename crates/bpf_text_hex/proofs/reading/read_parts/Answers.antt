@@ -1,6 +1,6 @@
 use Rattle.std.proofs.Common.{sym, ◌∙◌}
 use Rattle.std.proofs.lemmas.Result.{err_from_is_err_and}
-use Rattle.bpf_text_lines.specs.Lines.{contents_of}
+use Rattle.bpf_text_lex.specs.Lines.{contents_of}
 use Rattle.bpf_text_hex.proofs.HexLaws.{no_head, head_fails, bytes_fail, bytes_read}
 use Rattle.bpf_text_hex.proofs.reading.read_parts.Goals as goal
 

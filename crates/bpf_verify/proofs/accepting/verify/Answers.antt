@@ -1,11 +1,11 @@
 use Rattle.std.proofs.Common.{◌≡◌, ℕ, ◌∷◌, List, Option, map, length, refl, ap, sym, ◌∙◌, subst, arith}
-use Rattle.bpf_insn_form.specs.declared.insn.Insn.{Insn}
-use Rattle.bpf_insn_form.specs.Values.{AreInsns}
-use Rattle.bpf_insn_form.specs.Limits.{AreSizes}
-use Rattle.bpf_insn_form.specs.Program.{Program, slot_count, callback_starts}
+use Rattle.bpf_insn_types.specs.declared.insn.Insn.{Insn}
+use Rattle.bpf_insn_types.specs.Values.{AreInsns}
+use Rattle.bpf_insn_types.specs.Limits.{AreSizes}
+use Rattle.bpf_insn_types.specs.Program.{Program, slot_count, callback_starts}
 use Rattle.bpf_verify_model.specs.Accepted.{BrokenRule, fault_within}
 use Rattle.bpf_verify_model.specs.Count.{longest}
-use Rattle.bpf_ops.specs.Translation.{AreOps}
+use Rattle.bpf_step_ir.specs.Translation.{AreOps}
 use Rattle.bpf_verify.specs.Passing.{IsFault}
 use Rattle.bpf_verify_model.specs.Count.{JumpsForward}
 use Rattle.bpf_verify.proofs.StartLaws.{starts-few}

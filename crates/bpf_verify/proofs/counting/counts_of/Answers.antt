@@ -1,5 +1,5 @@
 use Rattle.std.proofs.Common.{ℕ, List, get_or, ap, arith}
-use Rattle.bpf_insn_form.specs.Program.{slot_count}
+use Rattle.bpf_insn_types.specs.Program.{slot_count}
 use Rattle.bpf_verify_model.proofs.LongestLaws.{longest-small}
 use Rattle.bpf_verify.proofs.counting.counts_of.Goals as goal
 

@@ -1,5 +1,5 @@
 use Rattle.std.proofs.Common.{◌≡◌, ◌∷◌, map, take}
-use Rattle.bpf_insn_form.specs.Program.{slot_count}
+use Rattle.bpf_insn_types.specs.Program.{slot_count}
 use Rattle.bpf_verify_model.specs.Count.{longest}
 use Rattle.bpf_verify.proofs.counting.counts_of.Given as goal
 

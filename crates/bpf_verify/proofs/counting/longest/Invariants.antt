@@ -1,5 +1,5 @@
 use Rattle.std.proofs.Common.{◌≡◌, ◌≤◌, length, take}
-use Rattle.bpf_insn_form.specs.Program.{slot_count}
+use Rattle.bpf_insn_types.specs.Program.{slot_count}
 use Rattle.bpf_verify.proofs.CountLaws.{CountsFrom}
 use Rattle.bpf_verify.proofs.counting.longest.Given as goal
 

@@ -1,5 +1,5 @@
 use Rattle.std.proofs.Common.{take}
-use Rattle.bpf_insn_form.specs.Values.{AreInsns}
+use Rattle.bpf_insn_types.specs.Values.{AreInsns}
 use Rattle.bpf_verify.proofs.fields.insns_fit.Given as goal
 
 abbrev pub invariant-loop-insn : goal.invariant-loop-insn

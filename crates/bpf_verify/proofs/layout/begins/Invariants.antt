@@ -1,5 +1,5 @@
 use Rattle.std.proofs.Common.{◌≡◌, ℕ, false, take, length, get_or, is_some}
-use Rattle.bpf_insn_form.specs.Program.{slot_count, insn_at}
+use Rattle.bpf_insn_types.specs.Program.{slot_count, insn_at}
 use Rattle.bpf_verify.proofs.layout.begins.Given as goal
 
 abbrev pub invariant-loop-insn : goal.invariant-loop-insn

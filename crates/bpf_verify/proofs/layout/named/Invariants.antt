@@ -1,7 +1,7 @@
 use Rattle.std.proofs.Common.{◌≡◌, ℕ, ◌<◌, false, take, length, get_or}
 use Rattle.std.specs.Prelude.{nat_eq}
 use Rattle.std.specs.List.{list_any}
-use Rattle.bpf_insn_form.specs.Program.{slot_count, named_from}
+use Rattle.bpf_insn_types.specs.Program.{slot_count, named_from}
 use Rattle.bpf_verify.proofs.layout.named.Given as goal
 
 abbrev pub invariant-loop-insn : goal.invariant-loop-insn

@@ -1,10 +1,10 @@
 use Rattle.std.proofs.Common.{ℕ, ◌+◌, ◌<◌, ◌≤◌, ◌≡◌, length, List, refl, ap, sym, ◌∙◌, subst, arith}
 use Rattle.std.proofs.Math.ListN.{length-set}
 use Rattle.std.proofs.lemmas.List.{length-replicate}
-use Rattle.bpf_ops.specs.declared.plain_op.PlainOp.TheVariants.{Stop}
-use Rattle.bpf_ops.specs.Translation.{op_at}
-use Rattle.bpf_insn_form.specs.Program.{slot_count}
-use Rattle.bpf_insn_form.proofs.ProgramLaws.{take-whole}
+use Rattle.bpf_step_ir.specs.declared.plain_op.PlainOp.TheVariants.{Stop}
+use Rattle.bpf_step_ir.specs.Translation.{op_at}
+use Rattle.bpf_insn_types.specs.Program.{slot_count}
+use Rattle.bpf_insn_types.proofs.ProgramLaws.{take-whole}
 use Rattle.bpf_verify.specs.Passing.{program_of, Passed, Translated}
 use Rattle.bpf_verify.proofs.PassLaws.{passed-none, passed-over, at-index, At, fault-later}
 use Rattle.bpf_verify.proofs.OpLaws.{translated-none, translated-more, are-ops}

@@ -1,5 +1,5 @@
 use Rattle.std.proofs.Common.{◌≡◌, take, length}
-use Rattle.bpf_insn_form.specs.Program.{slot_count}
+use Rattle.bpf_insn_types.specs.Program.{slot_count}
 use Rattle.bpf_verify.specs.Passing.{program_of, Passed, Translated}
 use Rattle.bpf_verify.proofs.passing.pass.Given as goal
 

@@ -1,7 +1,7 @@
 use Rattle.std.proofs.Common.{List, ap, ◌∙◌}
-use Rattle.loop_core_law.specs.declared.verdict.LoopReport.{LoopReport}
-use Rattle.loop_core_law.specs.Report.{Reported}
-use Rattle.bpfspec_answers.specs.ReportText.{report_text}
+use Rattle.loop_core_model.specs.declared.verdict.LoopReport.{LoopReport}
+use Rattle.loop_core_model.specs.Report.{Reported}
+use Rattle.bpfspec_output.specs.ReportText.{report_text}
 use Rattle.bpfspec_serve.proofs.OutputLaws.{printed}
 use Rattle.bpfspec_serve.proofs.answering.run_on.Goals as goal
 

@@ -1,5 +1,5 @@
-use Rattle.bpf_step_sound.specs.Soundness.{most_from}
-use Rattle.loop_core_law.specs.Report.{loop_report_in_order, report_in_order}
+use Rattle.bpf_verify_sound.specs.Soundness.{most_from}
+use Rattle.loop_core_model.specs.Report.{loop_report_in_order, report_in_order}
 use Rattle.spec_run.proofs.Turns.{StillRuns}
 use Rattle.spec_run.proofs.running.run_on.Given as goal
 

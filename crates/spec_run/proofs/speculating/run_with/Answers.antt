@@ -1,7 +1,7 @@
 use Rattle.std.proofs.Common.{rules, w64, ◌∙◌, refl}
 use Rattle.std.proofs.lemmas.Int.{to_z-of_z}
 use Rattle.bpf_step.proofs.Limits.{iterations_end}
-use Rattle.loop_core_law.specs.Report.{loop_report}
+use Rattle.loop_core_model.specs.Report.{loop_report}
 use Rattle.spec_run.proofs.CallLaws.{call_by_test}
 use Rattle.spec_run.proofs.Turns.{Laws, program_ends, starts, few_left, exits, refuses, refusal_lessens, call_sizes, loops, loop_lessens}
 use Rattle.spec_run.proofs.speculating.run_with.Goals as goal

@@ -1,6 +1,6 @@
 use Rattle.std.proofs.Common.{All, IfOk, Vec, Global, subst}
-use Rattle.loop_block.specs.declared.block.Block.{Block}
-use Rattle.loop_core_law.specs.declared.loop_test.Test.TheVariants.{Flow}
+use Rattle.loop_core_block.specs.declared.block.Block.{Block}
+use Rattle.loop_core_model.specs.declared.loop_test.Test.TheVariants.{Flow}
 use Rattle.tests_blocks.specs.Stages.{IsRunOn}
 use Rattle.tests_blocks.proofs.AllLaws.{appended, popped}
 use Rattle.tests_blocks.proofs.workers.joined.Goals as goal

@@ -1,5 +1,5 @@
 use Rattle.std.proofs.Common.{All, IfOk, vec_len}
-use Rattle.loop_core_law.specs.declared.loop_test.Test.TheVariants.{Flow}
+use Rattle.loop_core_model.specs.declared.loop_test.Test.TheVariants.{Flow}
 use Rattle.tests_blocks.specs.Stages.{IsRunOn}
 use Rattle.tests_blocks.proofs.workers.joined.Given as goal
 

@@ -1,9 +1,9 @@
 use Rattle.std.proofs.Common.{◌≤◌, ◌∙◌, sym, subst}
-use Rattle.bpf_insn_form.specs.Program.{Program}
+use Rattle.bpf_insn_types.specs.Program.{Program}
 use Rattle.bpf_step_model.specs.State.{main_entry}
-use Rattle.bpf_step_sound.specs.Soundness.{IsKnownCall, most_from}
+use Rattle.bpf_verify_sound.specs.Soundness.{IsKnownCall, most_from}
 use Rattle.bpf_step.proofs.Limits.{few_steps}
-use Rattle.loop_core_order.proofs.MapEffects.{sizes_kept}
+use Rattle.loop_core_sequential.proofs.MapEffects.{sizes_kept}
 use Rattle.tests_replay.proofs.CallLaws.{known_call}
 use Rattle.tests_replay.proofs.stage.first_call.Goals as goal
 

@@ -1,9 +1,0 @@
-use Rattle.std.proofs.Common.{◌≡◌, ◌≤◌, take}
-use Rattle.bpf_insn_form.specs.Program.{slot_count}
-use Rattle.bpf_insn_form.proofs.limits.slot_count.Given as goal
-
-abbrev pub invariant-loop-insn : goal.invariant-loop-insn
-invariant-loop-insn l = record {
-  so_far : l.total ≡ slot_count (take l.insn-index l.insns);
-  few : l.total ≤ 4096;
-}

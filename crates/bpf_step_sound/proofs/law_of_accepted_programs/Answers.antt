@@ -1,6 +1,0 @@
--- Iterations, loops and programs end.
-use Rattle.bpf_step_sound.proofs.ProgramEndings.{each-ends}
-use Rattle.bpf_step_sound.proofs.law_of_accepted_programs.Goals as goal
-
-pub returns : goal.returns
-returns c = each-ends c.results_fit.ensures

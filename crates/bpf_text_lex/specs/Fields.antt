@@ -1,0 +1,31 @@
+-- Lines of numbers.
+use Rattle.std.specs.Prelude.{ℕ, if◌then◌else◌, List, [], ◌∷◌, Result, Ok, Err}
+use Rattle.std.specs.List.{list_all}
+use Rattle.bpf_text_lex.specs.declared.numbers.NumberError.{NumberError}
+use Rattle.bpf_text_lex.specs.declared.numbers.NumberError.TheVariants as numbers
+use Rattle.bpf_text_lex.specs.Numbers.{is_number, number_in}
+use Rattle.bpf_text_lex.specs.declared.text_error.TextFault.{TextFault}
+use Rattle.bpf_text_lex.specs.declared.text_error.TextFault.TheVariants as faults
+use Rattle.bpf_text_lex.specs.Refusals.{with_first}
+
+-- what is wrong with a word that is no number of its field
+abbrev pub fault_of : NumberError → TextFault
+fault_of numbers.Form = faults.Form
+fault_of numbers.Field = faults.Field
+
+-- the number of a word in a field of 0 to limit
+abbrev pub as_field : Result ℕ NumberError → Result ℕ TextFault
+as_field (Ok n) = Ok n
+as_field (Err error) = Err (fault_of error)
+
+abbrev pub field_of : ℕ → List ℕ → Result ℕ TextFault
+field_of limit word = as_field (number_in limit word)
+
+-- the numbers of words, each in a field of 0 to limit
+abbrev pub numbers_in : ℕ → List (List ℕ) → Result (List ℕ) TextFault
+numbers_in limit [] = Ok []
+numbers_in limit (word ∷ words) = with_first (field_of limit word) (numbers_in limit words)
+
+-- the same, where a word that is no number comes before one outside its field
+abbrev pub fields_of : ℕ → List (List ℕ) → Result (List ℕ) TextFault
+fields_of limit words = if list_all is_number words then numbers_in limit words else Err faults.Form

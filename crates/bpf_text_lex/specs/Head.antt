@@ -1,0 +1,17 @@
+-- The first line of a unit: `maps` and the number of elements of each map.
+use Rattle.std.specs.Prelude.{ℕ, ◌-◌, ◌^◌, if◌then◌else◌, List, [], ◌∷◌, codes, Result, Ok, Err}
+use Rattle.std.specs.Str.{bytes_eq}
+use Rattle.bpf_insn_types.specs.Limits.{sizes_fit}
+use Rattle.bpf_text_lex.specs.declared.text_error.TextFault.{TextFault}
+use Rattle.bpf_text_lex.specs.declared.text_error.TextFault.TheVariants as faults
+use Rattle.bpf_text_lex.specs.Fields.{fields_of}
+
+-- numbers as the sizes of maps
+abbrev pub as_sizes : Result (List ℕ) TextFault → Result (List ℕ) TextFault
+as_sizes (Err fault) = Err fault
+as_sizes (Ok sizes) = if sizes_fit sizes then Ok sizes else Err faults.Limits
+
+-- the sizes that the words of a first line give
+abbrev pub head_of : List (List ℕ) → Result (List ℕ) TextFault
+head_of [] = Err faults.Form
+head_of (word ∷ words) = if bytes_eq word (codes "maps") then as_sizes (fields_of (2 ^ 32 - 1) words) else Err faults.Form

@@ -1,0 +1,29 @@
+//! The first line of a unit: `maps` and the number of elements of each map.
+
+ghost use Rattle.bpf_insn_types.specs.Outcome.{Gives};
+ghost use Rattle.bpf_text_lex.specs.Words.{words_of};
+ghost use Rattle.bpf_text_lex.specs.Refusals.{at_line, text_refusal};
+ghost use Rattle.bpf_text_lex.specs.Head.{head_of};
+
+use crate::fields::read_u32_fields;
+use crate::text_error::{TextError, TextFault};
+use crate::words::next_word;
+use bpf_insn_types::elements_of;
+use std::alloc::Global;
+
+/// The sizes of maps that a unit's first line, whose number this is, gives, or its fault.
+pub fn read_head(alloc: Global, content: &[u8], line: u32) -> Result<Vec<u32>, TextError>
+    ensures { Gives text_refusal (λ v. v.items) result (at_line line (head_of (words_of content.now))) }
+{
+    let Some((word, rest)) = next_word(content) else {
+        return Err(TextFault::Form.at(line));
+    };
+    if word != b"maps".as_slice() {
+        return Err(TextFault::Form.at(line));
+    }
+    let sizes = read_u32_fields(alloc, rest, line)?;
+    if elements_of(&sizes).is_none() {
+        return Err(TextFault::Limits.at(line));
+    }
+    Ok(sizes)
+}

@@ -1,0 +1,176 @@
+//! Lines: where they end, where their comments begin, and the blanks round them.
+
+ghost use Rattle.std.specs.Prelude.{◌≡◌, ◌+◌, ◌<◌, ◌≤◌, ◌^◌, ◌==◌, [], ◌∷◌, length, position, not, ◌||◌, IfSome, IfNone};
+ghost use Rattle.bpf_text_lex.specs.Lines.{lines_of, before_comment, is_blank, trim_start, trim_end, trim, content_of, contents_of, contents_from};
+
+use crate::words::is_blank;
+use std::marker::Model;
+
+/// A line that isn't empty.
+#[derive(Clone, Copy)]
+pub struct Line<'a> {
+    /// The line's number. A text's first line is line 1.
+    pub number: u32,
+    /// What the line says, without its comment and without the blanks round it.
+    pub content: &'a [u8],
+}
+
+/// Where the first newline of a text stands.
+pub fn newline_at(text: &[u8]) -> Option<usize>
+    ensures { result ≡ position (λ b. b == 10) text.now }
+{
+    text.iter().position(|b| *b == b'\n')
+}
+
+/// The first line of a text that isn't empty, without its newline, and the text behind that newline.
+pub fn split_line(text: &[u8]) -> (&[u8], &[u8])
+    requires { 0 < length text.now }
+    ensures lines { lines_of text.now ≡ result.0.now ∷ lines_of result.1.now }
+    ensures shorter { length result.1.now < length text.now }
+{
+    match newline_at(text) {
+        Some(end) => (&text[..end], &text[end + 1..]),
+        None => (text, &[]),
+    }
+}
+
+/// Where the first semicolon stands.
+fn comment_at(line: &[u8]) -> Option<usize>
+    ensures { result ≡ position (λ b. b == 59) line.now }
+{
+    line.iter().position(|b| *b == b';')
+}
+
+/// A line up to its comment, which begins at the first semicolon.
+pub fn before_comment(line: &[u8]) -> &[u8]
+    ensures { result.now ≡ before_comment line.now }
+{
+    match comment_at(line) {
+        Some(end) => &line[..end],
+        None => line,
+    }
+}
+
+/// Where the first byte stands that is no blank.
+fn text_at(bytes: &[u8]) -> Option<usize>
+    ensures { result ≡ position (λ b. not (is_blank b)) bytes.now }
+{
+    bytes.iter().position(|b| !is_blank(*b))
+}
+
+/// Without the blanks at the front.
+pub fn trim_start(bytes: &[u8]) -> &[u8]
+    ensures trimmed { result.now ≡ trim_start bytes.now }
+    ensures len { length result.now ≤ length bytes.now }
+{
+    match text_at(bytes) {
+        Some(start) => &bytes[start..],
+        None => &[],
+    }
+}
+
+/// Without the blanks at the end.
+pub fn trim_end(bytes: &[u8]) -> &[u8]
+    ensures { result.now ≡ trim_end bytes.now }
+{
+    let mut end = bytes.len();
+    while end > 0 {
+        if !is_blank(bytes[end - 1]) {
+            return &bytes[..end];
+        }
+        end -= 1;
+    }
+    &[]
+}
+
+/// Without the blanks at both ends.
+pub fn trim(bytes: &[u8]) -> &[u8]
+    ensures { result.now ≡ trim bytes.now }
+{
+    trim_end(trim_start(bytes))
+}
+
+/// What a line says: without its comment and without the blanks round it.
+pub fn content(line: &[u8]) -> &[u8]
+    ensures { result.now ≡ content_of line.now }
+{
+    trim(before_comment(line))
+}
+
+/// The first line that isn't empty, of a text whose first line has this number, and the text behind
+/// it, or None where all lines are empty.
+fn next_line<'a>(text: &'a [u8], number: u32) -> Option<(Line<'a>, &'a [u8])>
+    requires { number + length text.now < 2 ^ 32 }
+    ensures none { IfNone result (contents_from number (lines_of text.now) ≡ []) }
+    ensures some { IfSome result (λ x. contents_from number (lines_of text.now)
+        ≡ (x.0.number, x.0.content.now) ∷ contents_from (x.0.number + 1) (lines_of x.1.now)) }
+    ensures shorter { IfSome result (λ x. x.0.number + length x.1.now < number + length text.now) }
+{
+    let mut rest = text;
+    let mut number = number;
+    while !rest.is_empty() {
+        let (line, behind) = split_line(rest);
+        let content = content(line);
+        if !content.is_empty() {
+            return Some((Line { number, content }, behind));
+        }
+        rest = behind;
+        number += 1;
+    }
+    None
+}
+
+/// The lines of a text that aren't empty and are left, each with its number. In contracts they are the
+/// list of these numbers and of what the lines say.
+#[derive(Drop)]
+pub struct Lines<'a> {
+    text: &'a [u8],
+    number: u32,
+}
+
+impl<'a> Model for Lines<'a> {
+    ghost use Rattle.std.specs.Prelude.{ℕ, List, ◌+◌, ◌<◌, ◌^◌, length};
+    ghost use Rattle.bpf_text_lex.specs.Lines.{contents_from, lines_of};
+
+    ghost Value = { List (ℕ × List ℕ) };
+
+    ghost view = { λ l. contents_from l.number (lines_of l.text.now) };
+
+    ghost invariant = { λ l. l.number + length l.text.now < 2 ^ 32 };
+}
+
+impl<'a> Lines<'a> {
+    /// All lines of a text that aren't empty.
+    pub fn of(text: &'a [u8]) -> Lines<'a>
+        requires { length text.now ≤ 1048576 }
+        ensures lines { result ≡ contents_of text.now }
+        ensures few { length result ≤ 1048576 }
+    {
+        Lines { text, number: 1 }
+    }
+
+    /// The same lines once more.
+    pub fn again(&self) -> Lines<'a>
+        ensures { result ≡ self.now }
+    {
+        Lines {
+            text: self.text,
+            number: self.number,
+        }
+    }
+
+    /// The first line, and what is left is behind it.
+    pub fn next(&mut self) -> Option<Line<'a>>
+        ensures some { IfSome result (λ l. self.old ≡ (l.number, l.content.now) ∷ self.new) }
+        ensures none { IfNone result (self.old ≡ []) }
+    {
+        match next_line(self.text, self.number) {
+            Some((line, rest)) => {
+                self.text = rest;
+                self.number = line.number + 1;
+                Some(line)
+            }
+            None => None,
+        }
+    }
+}

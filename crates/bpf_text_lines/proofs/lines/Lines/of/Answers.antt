@@ -1,6 +1,0 @@
-use Rattle.std.proofs.Common.{arith}
-use Rattle.bpf_text_lines.proofs.LineLaws.{length-contents_of}
-use Rattle.bpf_text_lines.proofs.lines.Lines.of.Goals as goal
-
-pub returns-clause-few : goal.returns-clause-few
-returns-clause-few c = omega (arith, length-contents_of c.args.text.now)

@@ -1,0 +1,65 @@
+-- A function that ends does so well.
+use Rattle.std.proofs.Common.{◌≡◌, ℕ, zero, suc, ◌≤◌, Bool, true, false, Option, Some, None, is_some, refl, sym, subst, arith}
+use Rattle.std.specs.Prelude.{nat_lt, nat_le, if◌then◌else◌}
+use Rattle.std.proofs.lemmas.Bool.Decides.{nat_tests}
+use Rattle.bpf_insn_types.specs.declared.insn.Insn.TheVariants.{Exit}
+use Rattle.bpf_insn_types.specs.Program.{Program, function_of}
+use Rattle.bpf_verify_model.specs.declared.abstract_value.AbstractValue.{AbstractValue}
+use Rattle.bpf_verify_model.specs.declared.abstract_value.AbstractValue.TheVariants as known
+use Rattle.bpf_verify_model.specs.declared.outflow.Outflow.{Outflow}
+use Rattle.bpf_verify_model.specs.declared.rule.Rule.{Rule}
+use Rattle.bpf_verify_model.specs.declared.state.State.{State}
+use Rattle.bpf_verify_model.specs.States.{known_register}
+use Rattle.bpf_verify_model.specs.Values.{is_number}
+use Rattle.bpf_verify_model.specs.Rules.{is_bit, end_fault}
+use Rattle.bpf_verify_model.specs.Flow.{flow}
+use Rattle.bpf_step_model.specs.State.{Value, Word, Bytes, Machine, register}
+use Rattle.bpf_step_model.specs.SoundMachine.{SoundMachine}
+use Rattle.bpf_step_model.specs.Step.{NoStep, Exits, ends_with, ends, acts}
+use Rattle.bpf_verify_sound.specs.Containment.{ContainsValue, Contained}
+use Rattle.bpf_verify_sound.specs.Standing.{KeepsRules}
+use Rattle.bpf_verify_sound.specs.Ways.{MoveFlows}
+use Rattle.bpf_verify_sound.proofs.Operands.{register-known}
+use Rattle.bpf_verify_sound.proofs.AtomicForms.{number-word_of}
+
+kept : (test : Bool) (rule : Rule) → (if test then None else Some rule) ≡ None → test ≡ true
+kept true rule e = refl
+kept false rule e = absurd cc
+
+-- a bit is a number
+bit-number : (x : AbstractValue) → is_bit x ≡ true → is_number x ≡ true
+bit-number (known.Number a) e = refl
+bit-number x e = absurd cc
+
+end-number : (function : ℕ) (x : AbstractValue) → end_fault function x ≡ None → is_number x ≡ true
+end-number zero x e = kept (is_number x) _ e
+end-number (suc f) x e = bit-number x (kept (is_bit x) _ e)
+
+bit-small : (x : AbstractValue) (n : ℕ) → is_bit x ≡ true → ContainsValue x (Word n) → n ≤ 1
+bit-small (known.Number a) n e c =
+    let most : a.hi ≤ 1 = grind (arith, nat_tests) in
+    omega (arith, c.below)
+bit-small x n e c = absurd cc
+
+small-ends : (program : Program) (slot : ℕ) (out : Outflow) (n : ℕ) (test : Bool) → test ≡ true → MoveFlows program slot out (if test then Exits n else NoStep)
+small-ends program slot out n true e = tt
+small-ends program slot out n false e = absurd cc
+
+word-ends : (program : Program) (slot : ℕ) (out : Outflow) (function : ℕ) (x : AbstractValue) (n : ℕ) (caller : Option Bytes) → is_some caller ≡ nat_lt 0 function → end_fault function x ≡ None →
+    ContainsValue x (Word n) → MoveFlows program slot out (ends_with caller n)
+word-ends program slot out function x n None there e c = tt
+word-ends program slot out zero x n (Some frame) there e c = absurd cc
+word-ends program slot out (suc f) x n (Some frame) there e c =
+    let small : n ≤ 1 = bit-small x n (kept (is_bit x) _ e) c in
+    small-ends program slot out n (nat_le n 1) (grind (arith, nat_tests))
+
+pub exit-flows : (program : Program) (m : Machine) (state : State) → KeepsRules program m.slot Exit state → SoundMachine program m → Contained state m →
+    MoveFlows program m.slot (flow program.sizes m.slot state Exit) (acts program m Exit)
+unfolding flow
+exit-flows program m state keeps sound c =
+    let function = function_of program.insns m.slot in
+    let x = known_register state 0 in
+    let word = number-word_of x (register m 0) (end-number function x keeps.end) (register-known state m 0 c) in
+    subst (λ (v : Value). MoveFlows program m.slot (record { ahead = None; aside = None }) (ends m v)) (sym word.1)
+    (word-ends program m.slot (record { ahead = None; aside = None }) function x word.0 m.caller sound.in_callback keeps.end
+    (subst (ContainsValue x) word.1 (register-known state m 0 c)))

@@ -1,0 +1,15 @@
+-- Main starts as is known, each step goes on so, and what is known before a slot is of so many registers and bytes.
+use Rattle.bpf_verify_sound.proofs.EntryLaws.{main-contained}
+use Rattle.bpf_verify_sound.proofs.SoundLaws.{entry-sound, call-sound, step-sound}
+use Rattle.bpf_verify_sound.proofs.RunLaws.{step-known}
+use Rattle.bpf_verify_sound.proofs.KnownLaws.{incoming-known}
+use Rattle.bpf_verify_sound.proofs.RuleLaws.{accepted-sizes}
+use Rattle.bpf_verify_sound.proofs.law_of_steps.Goals as goal
+
+pub returns : goal.returns
+returns c = record {
+  entry = λ program sound argument h. record { sound = entry-sound program argument h; contained = main-contained program argument sound.accepted h };
+  step = step-known c.results_fit.ensures;
+  machines = record { main = entry-sound; callbacks = call-sound; steps = step-sound c.results_fit.ensures };
+  states = λ program sound slot. incoming-known c.results_fit.ensures program (accepted-sizes program sound.accepted) sound.fits slot slot;
+}

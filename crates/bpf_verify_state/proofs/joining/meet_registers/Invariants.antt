@@ -1,7 +1,0 @@
-use Rattle.std.proofs.Common.{◌≡◌}
-use Rattle.bpf_verify_model.specs.States.{joined_values}
-use Rattle.written_bytes.proofs.MeetLaws.{met_to}
-use Rattle.bpf_verify_state.proofs.joining.meet_registers.Given as goal
-
-abbrev pub invariant-loop-number : goal.invariant-loop-number
-invariant-loop-number l = l.registers ≡ met_to joined_values l.initial.registers l.others l.number

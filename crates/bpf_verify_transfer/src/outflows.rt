@@ -1,0 +1,112 @@
+//! The ways out of an instruction.
+
+ghost use Rattle.std.specs.Prelude.{◌≡◌, ◌≤◌, ◌+◌};
+ghost use Rattle.bpf_insn_types.specs.Slots.{slots_of};
+ghost use Rattle.bpf_insn_types.specs.Program.{moved};
+ghost use Rattle.bpf_verify_model.specs.States.{known_register};
+ghost use Rattle.bpf_verify_model.specs.Flow.{way, branch_outflow, jump_outflow, ahead_outflow, enters, calls_back, known_behind, flow};
+
+use crate::behind_insn::behind;
+use crate::comparisons::ways_of;
+use crate::entries::callback_entry;
+use bpf_insn_types::{Insn, slots};
+use bpf_verify_model::{AbstractValue, Edge, Helper, Outflow, State, Ways, reg};
+use bpf_verify_values::{helper_of, slot_beyond};
+
+/// A way to a slot, if it is followed.
+fn way(target: Option<u32>, state: Option<State>) -> Option<Edge>
+    ensures { result ≡ way target state }
+{
+    let (Some(target), Some(state)) = (target, state) else {
+        return None;
+    };
+    Some(Edge { target, state })
+}
+
+/// The ways out of a comparison.
+fn branch_outflow(slot: u32, offset: i16, ways: Ways) -> Outflow
+    requires { slot ≤ 4096 }
+    ensures { result ≡ branch_outflow slot offset ways }
+{
+    Outflow {
+        ahead: way(Some(slot + 1), ways.fails),
+        aside: way(slot_beyond(slot, offset as i32), ways.holds),
+    }
+}
+
+/// A jump's one way.
+fn jump_outflow(slot: u32, distance: i32, state: &State) -> Outflow
+    requires { slot ≤ 4096 }
+    ensures { result ≡ jump_outflow slot distance state.now }
+{
+    Outflow {
+        ahead: None,
+        aside: way(slot_beyond(slot, distance), Some(*state)),
+    }
+}
+
+/// The way to a loop's callback.
+fn enters(state: &State) -> Option<Edge>
+    ensures { result ≡ enters state.now (known_register state.now 2) }
+{
+    match state.register(reg(2)) {
+        AbstractValue::Code(target) => Some(Edge {
+            target,
+            state: callback_entry(state),
+        }),
+        _ => None,
+    }
+}
+
+fn calls_back(state: &State, helper: Option<Helper>) -> Option<Edge>
+    ensures { result ≡ calls_back state.now helper }
+{
+    match helper {
+        Some(Helper::Loop) => enters(state),
+        _ => None,
+    }
+}
+
+/// The way ahead, past an instruction's slots.
+fn ahead(sizes: &[u32], slot: u32, state: &State, insn: Insn) -> Option<Edge>
+    requires { slot ≤ 4096 }
+    ensures { result ≡ way (Some (slot + slots_of insn)) (Some (known_behind sizes.now slot state.now insn)) }
+{
+    let mut after = *state;
+    behind(sizes, slot, &mut after, insn);
+    Some(Edge {
+        target: slot + slots(&insn),
+        state: after,
+    })
+}
+
+/// The ways out of an instruction at a slot, with what is known on each.
+#[tactic(auto, unfolding(bpf_verify_model::specs::Flow::flow))]
+pub fn flow(sizes: &[u32], slot: u32, state: &State, insn: Insn) -> Outflow
+    requires { slot ≤ 4096 }
+    ensures { result ≡ flow sizes.now slot state.now insn }
+{
+    match insn {
+        Insn::Ja { offset } => jump_outflow(slot, offset as i32, state),
+        Insn::Ja32 { imm } => jump_outflow(slot, imm, state),
+        Insn::Jump {
+            width,
+            compare,
+            dst,
+            operand,
+            offset,
+        } => branch_outflow(slot, offset, ways_of(state, width, compare, dst, operand)),
+        Insn::Exit => Outflow {
+            ahead: None,
+            aside: None,
+        },
+        Insn::Call { callee, imm } => Outflow {
+            ahead: ahead(sizes, slot, state, Insn::Call { callee, imm }),
+            aside: calls_back(state, helper_of(callee, imm)),
+        },
+        other => Outflow {
+            ahead: ahead(sizes, slot, state, other),
+            aside: None,
+        },
+    }
+}

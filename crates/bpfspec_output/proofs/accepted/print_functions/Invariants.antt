@@ -1,0 +1,9 @@
+use Rattle.std.proofs.Common.{◌≡◌, ◌++◌, drop}
+use Rattle.std.specs.String.{string_bytes}
+use Rattle.bpfspec_output.specs.AcceptedText.{function_line}
+use Rattle.bpfspec_output.specs.NumberedLines.{numbered_lines}
+use Rattle.bpfspec_output.proofs.accepted.print_functions.Given as goal
+
+abbrev pub invariant-loop-number : goal.invariant-loop-number
+invariant-loop-number l =
+    string_bytes l.out ++ numbered_lines function_line l.number (drop l.number l.functions) ≡ string_bytes l.initial.out ++ numbered_lines function_line 0 l.functions

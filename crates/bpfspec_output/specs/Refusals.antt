@@ -1,0 +1,51 @@
+-- The line that tells why an input has no result.
+use Rattle.std.specs.Prelude.{ℕ, List, ◌++◌, codes}
+use Rattle.std.specs.Fmt.{decimal}
+use Rattle.bpf_insn.specs.FaultNumbers.{fault_number as codec_fault_number}
+use Rattle.bpf_text_lex.specs.FaultNumbers.{fault_number as text_fault_number}
+use Rattle.bpf_verify_model.specs.RuleNumbers.{rule_number}
+use Rattle.loop_core_blocks.specs.declared.faults.SplitFault.{SplitFault}
+use Rattle.loop_core_blocks.specs.declared.faults.SplitFault.TheVariants as splits
+use Rattle.loop_core_schedule.specs.declared.replay_fault.ReplayFault.{ReplayFault}
+use Rattle.loop_core_schedule.specs.declared.replay_fault.ReplayFault.TheVariants as schedules
+use Rattle.bpfspec_output.specs.declared.refusal.Section.{Section}
+use Rattle.bpfspec_output.specs.declared.refusal.Section.TheVariants as sections
+use Rattle.bpfspec_output.specs.declared.refusal.Refusal.{Refusal}
+use Rattle.bpfspec_output.specs.declared.refusal.Refusal.TheVariants as refusals
+
+-- a section's name
+abbrev pub section_name : Section → List ℕ
+section_name sections.Unit = codes "unit"
+section_name sections.Maps = codes "maps"
+section_name sections.Events = codes "events"
+
+-- the number of a split's fault
+abbrev pub split_fault_number : SplitFault → ℕ
+split_fault_number splits.Falling = 1
+split_fault_number splits.Number = 2
+split_fault_number splits.Ends = 3
+
+-- the fault of a list of events: its number, and the event at which it stands, or how many events there are
+abbrev pub schedule_fault_text : ReplayFault → List ℕ
+schedule_fault_text (schedules.NoSuchWorker event) = codes "E1 at event " ++ decimal event
+schedule_fault_text (schedules.NotEnabled event) = codes "E2 at event " ++ decimal event
+schedule_fault_text (schedules.NotEnded events) = codes "E3 at event " ++ decimal events
+
+-- a refusal without what all have in common
+abbrev pub what_is_refused : Refusal → List ℕ
+what_is_refused (refusals.Text fault section line) = codes "A" ++ decimal (text_fault_number fault) ++ codes " at " ++ section_name section ++ codes " line " ++ decimal line
+what_is_refused (refusals.Codec fault slot) = codes "I" ++ decimal (codec_fault_number fault) ++ codes " at slot " ++ decimal slot
+what_is_refused (refusals.Rule rule slot) = codes "V" ++ decimal (rule_number rule) ++ codes " at slot " ++ decimal slot
+what_is_refused refusals.Sizes = codes "P1"
+what_is_refused refusals.Plan = codes "P2"
+what_is_refused refusals.NoLoop = codes "no loop"
+what_is_refused (refusals.Split fault) = codes "S" ++ decimal (split_fault_number fault)
+what_is_refused (refusals.Schedule fault) = schedule_fault_text fault
+
+-- the line of a refusal
+abbrev pub refusal_line : Refusal → List ℕ
+refusal_line refusal = codes "refused " ++ what_is_refused refusal ++ codes "\n"
+
+-- the line where memory ran out
+abbrev pub memory_line : List ℕ
+memory_line = codes "refused memory\n"

@@ -1,0 +1,39 @@
+-- What is printed of a program that ran, and of a loop that was replayed.
+use Rattle.std.specs.Prelude.{ℕ, List, [], ◌∷◌, ◌++◌, take, drop, codes}
+use Rattle.std.specs.Fmt.{decimal, signed_decimal}
+use Rattle.bpf_text.specs.MapsText.{maps_spelling}
+use Rattle.loop_core_model.specs.declared.verdict.Verdict.{Verdict}
+use Rattle.loop_core_model.specs.declared.verdict.Verdict.TheVariants.{Parallel, Conflict, Refused, InOrder}
+use Rattle.loop_core_model.specs.declared.verdict.LoopReport.{LoopReport}
+use Rattle.loop_core_model.specs.Report.{Reported}
+use Rattle.bpfspec_output.specs.NumberedLines.{numbered_lines}
+
+-- the words of each map
+abbrev pub values_of : List ℕ → List ℕ → List (List ℕ)
+values_of [] words = []
+values_of (size ∷ sizes) words = take size words ∷ values_of sizes (drop size words)
+
+-- how a loop was carried out
+abbrev pub verdict_text : Verdict → List ℕ
+verdict_text Parallel = codes "parallel"
+verdict_text (Conflict count least) = codes "conflict " ++ decimal count ++ codes " least " ++ decimal least
+verdict_text Refused = codes "refused"
+verdict_text InOrder = codes "in order"
+
+-- the line of a loop call, which has this number
+abbrev pub loop_line : ℕ → LoopReport → List ℕ
+loop_line number told =
+    codes "loop " ++ decimal number ++ codes " at " ++ decimal told.slot ++ codes ": answer " ++ signed_decimal told.answer ++ codes ", "
+    ++ verdict_text told.verdict ++ codes "\n"
+
+-- the line of a return value
+abbrev pub return_line : ℕ → List ℕ
+return_line ret = codes "return " ++ decimal ret ++ codes "\n"
+
+-- the return value, the loop calls, and the maps of these sizes
+abbrev pub report_text : List ℕ → Reported → List ℕ
+report_text sizes told = return_line told.ret ++ numbered_lines loop_line 0 told.loops ++ maps_spelling (values_of sizes told.words)
+
+-- the line of a loop call, which has this number, and the maps of these sizes after it
+abbrev pub replay_text : List ℕ → ℕ → LoopReport → List ℕ → List ℕ
+replay_text sizes number told words = loop_line number told ++ maps_spelling (values_of sizes words)

@@ -1,0 +1,102 @@
+//! What is printed of a program that ran, and of a loop that was replayed.
+
+ghost use Rattle.std.specs.Prelude.{◌≡◌, ◌++◌, IfOk, OnOk, length};
+ghost use Rattle.std.specs.List.{sum};
+ghost use Rattle.std.specs.String.{string_bytes};
+ghost use Rattle.loop_core_model.specs.declared.verdict.Verdict.TheVariants.{Conflict};
+ghost use Rattle.bpf_text.specs.MapsText.{lists, maps_spelling};
+ghost use Rattle.bpfspec_output.specs.ReportText.{values_of, verdict_text, loop_line, return_line, report_text, replay_text};
+ghost use Rattle.bpfspec_output.specs.NumberedLines.{numbered_lines};
+
+use array_maps::Maps;
+use bpf_text::print_maps;
+use loop_core_model::{LoopReport, Verdict};
+use std::alloc::{AllocError, Global};
+
+/// Adds how a loop was carried out.
+fn print_verdict(out: &mut String, verdict: Verdict) -> Result<(), AllocError>
+    ensures { OnOk result (string_bytes out.new ≡ string_bytes out.old ++ verdict_text verdict) }
+{
+    match verdict {
+        Verdict::Parallel => out.push_str("parallel"),
+        Verdict::Conflict { count, least } => write!(out, "conflict {count} least {least}"),
+        Verdict::Refused => out.push_str("refused"),
+        Verdict::InOrder => out.push_str("in order"),
+    }
+}
+
+/// Adds the line of a loop call, which has this number.
+fn print_loop(out: &mut String, number: usize, told: &LoopReport) -> Result<(), AllocError>
+    ensures { OnOk result (string_bytes out.new ≡ string_bytes out.old ++ loop_line number told.now) }
+{
+    let slot = told.slot;
+    let answer = told.answer;
+    write!(out, "loop {number} at {slot}: answer {answer}, ")?;
+    print_verdict(out, told.verdict)?;
+    out.push_str("\n")
+}
+
+/// Adds the lines of loop calls.
+fn print_loops(out: &mut String, loops: &[LoopReport]) -> Result<(), AllocError>
+    ensures { OnOk result (string_bytes out.new ≡ string_bytes out.old ++ numbered_lines loop_line 0 loops.now) }
+{
+    for (number, told) in loops.iter().enumerate() {
+        print_loop(out, number, told)?;
+    }
+    Ok(())
+}
+
+/// The values of each map.
+fn values_of(alloc: Global, maps: &Maps) -> Result<Vec<Vec<u64>>, AllocError>
+    ensures { IfOk result (λ values. lists values.items ≡ values_of maps.now.sizes maps.now.words) }
+{
+    let mut values = Vec::new(alloc);
+    for map in 0..maps.sizes().len() {
+        values.push(maps.values(map).to_vec(alloc)?)?;
+    }
+    Ok(values)
+}
+
+/// Adds the maps.
+fn print_values(alloc: Global, out: &mut String, maps: &Maps) -> Result<(), AllocError>
+    ensures { OnOk result (string_bytes out.new ≡ string_bytes out.old ++ maps_spelling (values_of maps.now.sizes maps.now.words)) }
+{
+    let values = values_of(alloc, maps)?;
+    out.push_str(&print_maps(alloc, &values)?)
+}
+
+/// What is printed of a loop that was replayed: its line, with its number among the program's loop calls,
+/// and the maps after it.
+pub fn print_replay(
+    alloc: Global,
+    number: usize,
+    told: &LoopReport,
+    maps: &Maps,
+) -> Result<String, AllocError>
+    ensures { IfOk result (λ text. string_bytes text ≡ replay_text maps.now.sizes number told.now maps.now.words) }
+{
+    let mut out = String::new(alloc);
+    print_loop(&mut out, number, told)?;
+    print_values(alloc, &mut out, maps)?;
+    Ok(out)
+}
+
+/// What is printed of a program that ran: its return value, its loop calls and the maps after it.
+pub fn print_report(
+    alloc: Global,
+    ret: u64,
+    loops: &[LoopReport],
+    maps: &Maps,
+) -> Result<String, AllocError>
+    ensures { IfOk result (λ text. string_bytes text ≡ report_text maps.now.sizes (record {
+      ret = ret;
+      loops = loops.now;
+      words = maps.now.words;
+    })) }
+{
+    let mut out = String::new(alloc);
+    writeln!(out, "return {ret}")?;
+    print_loops(&mut out, loops)?;
+    print_values(alloc, &mut out, maps)?;
+    Ok(out)
+}

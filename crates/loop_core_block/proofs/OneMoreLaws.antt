@@ -1,0 +1,71 @@
+-- One iteration more.
+use Rattle.std.proofs.Common.{◌≡◌, ℕ, ◌+◌, ◌==◌, List, [], ◌∷◌, ◌++◌, length, sym, ◌∙◌, ap, subst, arith}
+use Rattle.std.proofs.lemmas.List.{map-append, length-map, length-append}
+use Rattle.array_maps.specs.Accesses.{Access}
+use Rattle.array_maps.specs.Store.{Effects}
+use Rattle.bpf_step_model.specs.Iteration.{Iterated, iteration}
+use Rattle.bpf_step.specs.Iterations.{RanCallback}
+use Rattle.loop_core_model.specs.LeastBreak.{accesses_of_each}
+use Rattle.shadow_marks.specs.Standing.{StandFor}
+use Rattle.shadow_marks.specs.Ending.{KeepsShape}
+use Rattle.private_copy.specs.declared.private.Private.{Private}
+use Rattle.private_copy.specs.Copies.{StandsFor, StandsWithin}
+use Rattle.private_copy.specs.CopyLaw.{Follows, AccessesFollow}
+use Rattle.private_copy.specs.Shown.{copy_of, IsBegun, IsEnded}
+use Rattle.private_copy.specs.Visits.{visits_of}
+use Rattle.loop_core_block.specs.declared.runner.Runner.{Runner}
+use Rattle.loop_core_block.specs.Runs.{start_words, HasRun, RanOneMore}
+
+-- accesses don't end the iteration under way
+pub still_under_way : (old new : Private) (more : List Access) → Effects Follows old more new → (copy_of new).under_way ≡ (copy_of old).under_way
+still_under_way old new [] same = ap (λ (p : Private). (copy_of p).under_way) same
+still_under_way old new (access ∷ more) effects = still_under_way effects.0 new more effects.2 ∙ effects.1.under_way
+
+-- the accesses of one iteration more
+accesses_more : (ran : List Iterated) (it : Iterated) → accesses_of_each (ran ++ it ∷ []) ≡ accesses_of_each ran ++ it.accesses ∷ []
+accesses_more ran it = map-append (λ (i : Iterated). i.accesses) ran (it ∷ [])
+
+-- an iteration that was begun, run and ended
+module _ (law : AccessesFollow) (old new : Runner) (index : ℕ) (begun run : Private) (ret steps : ℕ)
+    (begins : IsBegun (copy_of old.copy) old.most (copy_of begun))
+    (within : (runs : List (List Access)) → StandsFor (copy_of old.copy) runs → StandsWithin (copy_of begun) runs [])
+    (ran : RanCallback (λ (copy : Private). (copy_of copy).words) Follows old.callback.program old.callback.call index begun ret steps run)
+    (callback : new.callback ≡ old.callback) (most : new.most ≡ old.most)
+    (ended : IsEnded (copy_of run) (copy_of new.copy)) (shape : KeepsShape old.planes new.planes)
+    (planes : (first : ℕ) (runs : List (List Access)) (accesses : List Access) → index ≡ first + length runs → StandsWithin (copy_of run) runs accesses →
+    StandFor old.planes (visits_of first runs) → StandFor new.planes (visits_of first (runs ++ accesses ∷ [])))
+    (stands : (runs : List (List Access)) (accesses : List Access) → StandsWithin (copy_of run) runs accesses → StandsFor (copy_of new.copy) (runs ++ accesses ∷ [])) where
+  same_start : start_words new ≡ start_words old
+  same_start = ended.start ∙ law.start begun run ran.iterated.accesses ran.effects ∙ begins.start
+
+  one_begun : (copy_of new.copy).begun ≡ (copy_of old.copy).begun + 1
+  one_begun = ended.begun ∙ law.begun begun run ran.iterated.accesses ran.effects ∙ begins.begun
+
+  has_run : (first : ℕ) (before : List Iterated) → HasRun first index before old → HasRun first (index + 1) (before ++ ran.iterated ∷ []) new
+  has_run first before has =
+      let runs : List (List Access) = accesses_of_each before in
+      let it = ran.iterated in
+      let here : StandsWithin (copy_of run) runs it.accesses = law.stands begun run runs [] it.accesses (within runs has.copy) ran.effects in
+      let many = length-map before (λ (i : Iterated). i.accesses) in
+      let reached = has.reached in
+      let was = has.begun in
+      let one = one_begun in
+      let long : length (before ++ it ∷ []) ≡ length before + 1 = simp length-append (omega arith) in
+      let there : index ≡ first + length runs = omega (arith, many, reached) in
+      record {
+        reached = omega (arith, reached, long);
+        begun = omega (arith, was, one, long);
+        copy = subst (λ (l : List (List Access)). StandsFor (copy_of new.copy) l) (sym (accesses_more before it)) (stands runs it.accesses here);
+        elements = shape.elements ∙ has.elements ∙ ap length (sym same_start);
+        planes = subst (λ (l : List (List Access)). StandFor new.planes (visits_of first l)) (sym (accesses_more before it))
+            (planes first runs it.accesses there here has.planes);
+      }
+
+  pub one_more : RanOneMore index old new (ret == 1)
+  one_more = record {
+    same = record { callback = callback; most = most; start = same_start; test = shape.test };
+    iterated = ran.iterated;
+    told = ap (iteration old.callback.program 4096 old.callback.call index) (sym begins.words) ∙ ran.told;
+    broke_is = ap (λ (r : ℕ). r == 1) ran.ret_is;
+    has_run = has_run;
+  }

@@ -1,0 +1,90 @@
+//! A block that was run.
+
+ghost use Rattle.std.specs.Prelude.{◌≡◌, ◌<◌, length, slice_get};
+ghost use Rattle.private_copy.specs.Reductions.{combination};
+
+use array_maps::Op;
+use private_copy::Private;
+use shadow_marks::Planes;
+
+/// A block of a loop that was run up to its first break or to its end, each iteration on the loop's start words:
+/// the marks that its iterations left, and at each element what they kept.
+#[derive(Drop)]
+pub struct Block<'a> {
+    pub(crate) number: u32,
+    pub(crate) first: u32,
+    pub(crate) past: u32,
+    pub(crate) broke: Option<u32>,
+    pub(crate) planes: Planes,
+    pub(crate) copy: Private<'a>,
+}
+
+impl<'a> Block<'a> {
+    ghost use Rattle.loop_core_block.specs.Shown.{shown};
+
+    /// Its number in the split.
+    pub fn number(&self) -> u32
+        ensures { result ≡ (shown self.now).number }
+    {
+        self.number
+    }
+
+    /// Its first index.
+    pub fn first(&self) -> u32
+        ensures { result ≡ (shown self.now).first }
+    {
+        self.first
+    }
+
+    /// The index behind its last one: its first one where it is empty.
+    pub fn past(&self) -> u32
+        ensures { result ≡ (shown self.now).past }
+    {
+        self.past
+    }
+
+    /// The index at which it broke.
+    pub fn broke(&self) -> Option<u32>
+        ensures { result ≡ (shown self.now).broke }
+    {
+        self.broke
+    }
+
+    /// The marks of its iterations.
+    pub fn planes(&self) -> &Planes
+        ensures { result.now ≡ (shown self.now).planes }
+    {
+        &self.planes
+    }
+
+    /// The number of pages, of 64 elements, that its iterations accessed.
+    pub fn pages(&self) -> u32
+        ensures { result ≡ length (shown self.now).copy.pages }
+    {
+        self.copy.pages()
+    }
+
+    /// The number of a page that was accessed, by its place in the order of first access, from 0 on.
+    pub fn page(&self, k: u32) -> Option<u32>
+        ensures { result ≡ slice_get (shown self.now).copy.pages k }
+    {
+        self.copy.page(k)
+    }
+
+    /// What its last iteration that writes an element left there; `None` where none does. The element is in range.
+    pub fn last_value(&self, e: u32) -> Option<u64>
+        requires { e < length (shown self.now).copy.start }
+        ensures { result ≡ (shown self.now).copy.last e }
+    {
+        self.copy.last_value(e)
+    }
+
+    /// The operator by which an element was reduced and its operands combined, beginning with the first, where its
+    /// iterations accessed it by reduces of one operator alone. The element is in range.
+    pub fn partial(&self, e: u32) -> Option<(Op, u64)>
+        requires { e < length (shown self.now).copy.start }
+        ensures { result ≡ combination ((shown self.now).copy.reduction e) }
+    {
+        self.copy.partial(e)
+    }
+}

@@ -1,0 +1,109 @@
+//! Running iterations one after another.
+
+ghost use Rattle.std.specs.Prelude.{◌≡◌, ◌<◌, ◌≤◌, ℕ, List, [], IfOk};
+ghost use Rattle.bpf_step_model.specs.Iteration.{Iterated};
+ghost use Rattle.bpf_verify_sound.specs.Soundness.{IsKnownCall, most_from};
+ghost use Rattle.shadow_marks.specs.Standing.{test_of};
+ghost use Rattle.loop_core_block.specs.Runs.{start_words, IsReady, HasRun, RanOneMore, RanUpTo};
+
+use array_maps::Maps;
+use bpf_step::{Callback, LoopCall};
+use bpf_verify::Verified;
+use loop_core_model::Test;
+use loop_core_split::Gate;
+use private_copy::{MAX_ACCESSES, Private, law_of_accesses};
+use shadow_marks::Planes;
+use std::alloc::{AllocError, Global};
+
+/// Runs iterations of a loop call by rising index, each on the start words, and keeps what they did.
+#[derive(Drop)]
+pub(crate) struct Runner<'c, 'a> {
+    callback: Callback<'c>,
+    /// The most instructions of an iteration, so the most accesses: at most 4,096.
+    most: u32,
+    pub(crate) copy: Private<'a>,
+    pub(crate) planes: Planes,
+}
+
+/// The most instructions of the callback that starts at a slot; 4,096 where none does.
+fn most_instructions(program: &Verified, slot: u32) -> u32
+    ensures enough { most_from program.now slot ≤ result }
+    ensures few { result ≤ 4096 }
+{
+    // This tells the proof that the program is accepted.
+    let _unit = program.unit();
+    for function in 1..=program.callbacks() {
+        if program.start(function) == slot {
+            return program.count(function);
+        }
+    }
+    MAX_ACCESSES
+}
+
+impl<'c, 'a> Runner<'c, 'a> {
+    /// A runner of a loop call that main of this program made, which has run no iteration. The maps are of the
+    /// program's sizes.
+    pub(crate) fn try_new(
+        alloc: Global,
+        program: &'c Verified,
+        call: &'c LoopCall,
+        start: &'a Maps,
+        test: Test,
+    ) -> Result<Runner<'c, 'a>, AllocError>
+        requires known { IsKnownCall program.now call.now }
+        requires sizes { start.now.sizes ≡ program.now.sizes }
+        ensures ready { IfOk result IsReady }
+        ensures program { IfOk result (λ r. r.callback.program ≡ program.now) }
+        ensures call { IfOk result (λ r. r.callback.call ≡ call.now) }
+        ensures start { IfOk result (λ r. start_words r ≡ start.now.words) }
+        ensures test { IfOk result (λ r. test_of r.planes.tested ≡ test) }
+        ensures none { IfOk result (λ r. (first : ℕ) → HasRun first first [] r) }
+    {
+        // This tells the proof how many words the maps have.
+        let _sizes = start.sizes();
+        let elements = start.words().len() as u32;
+        Ok(Runner {
+            callback: Callback::new(program, call),
+            most: most_instructions(program, call.callback()),
+            copy: Private::try_new(alloc, start)?,
+            planes: Planes::try_new(alloc, elements, test)?,
+        })
+    }
+
+    /// Runs the iterations from a first index up to, and not with, another, or up to the first that breaks. Tells
+    /// the index at which it broke. The gate's `turn` is called before each iteration.
+    pub(crate) fn run<G: Gate>(
+        &mut self,
+        alloc: Global,
+        first: u32,
+        past: u32,
+        gate: &G,
+    ) -> Result<Option<u32>, AllocError>
+        requires ready { IsReady self.old }
+        requires within { past ≤ self.old.callback.call.n }
+        requires none { HasRun first first [] self.old }
+        ensures ran { IfOk result (RanUpTo first past self.old self.new) }
+    {
+        for index in first..past {
+            gate.turn(index);
+            if self.iterate(alloc, index)? {
+                return Ok(Some(index));
+            }
+        }
+        Ok(None)
+    }
+
+    /// Runs the iteration of an index, up to which iterations were run, and tells whether it broke.
+    fn iterate(&mut self, alloc: Global, index: u32) -> Result<bool, AllocError>
+        requires ready { IsReady self.old }
+        requires below { index < self.old.callback.call.n }
+        requires so_far { (first : ℕ) × (ran : List Iterated) × HasRun first index ran self.old }
+        ensures ran { IfOk result (RanOneMore index self.old self.new) }
+    {
+        law_of_accesses();
+        self.copy.begin(alloc, self.most)?;
+        let done = self.callback.run(index, &mut self.copy);
+        self.copy.end(&mut self.planes, index);
+        Ok(done.ret == 1)
+    }
+}

@@ -1,0 +1,54 @@
+//! Running a block.
+
+ghost use Rattle.std.specs.Prelude.{◌≡◌, ◌<◌, None, IfOk};
+ghost use Rattle.bpf_verify_sound.specs.Soundness.{IsKnownCall};
+ghost use Rattle.loop_core_blocks.specs.Split.{split_fault};
+ghost use Rattle.loop_core_schedule.specs.Intervals.{blocks_of, start_of, end_of};
+ghost use Rattle.loop_core_block.specs.Shown.{shown};
+ghost use Rattle.loop_core_block.specs.Ran.{IsRunOf};
+
+use crate::block::Block;
+use crate::runner::Runner;
+use array_maps::Maps;
+use bpf_step::LoopCall;
+use bpf_verify::Verified;
+use loop_core_model::Test;
+use loop_core_split::{Gate, Split};
+use std::alloc::{AllocError, Global};
+
+/// Runs a block of a loop call that main of this program made: its iterations from its start on, up to the first
+/// that returns 1, or all, each on the start maps. The gate's `turn` is called before each iteration. The maps are
+/// of the program's sizes, and the split, which has this block, is of the call's iterations.
+pub fn run_block<'a, G: Gate>(
+    alloc: Global,
+    program: &Verified,
+    call: &LoopCall,
+    start: &'a Maps,
+    split: &Split,
+    number: u32,
+    gate: &G,
+    test: Test,
+) -> Result<Block<'a>, AllocError>
+    requires known { IsKnownCall program.now call.now }
+    requires sizes { start.now.sizes ≡ program.now.sizes }
+    requires split { split_fault split.now call.now.n ≡ None }
+    requires within { number < blocks_of split.now }
+    ensures number { IfOk result (λ b. (shown b).number ≡ number) }
+    ensures first { IfOk result (λ b. (shown b).first ≡ start_of split.now number) }
+    ensures past { IfOk result (λ b. (shown b).past ≡ end_of split.now number) }
+    ensures ran { IfOk result (λ b. IsRunOf test program.now call.now start.now.words (shown b)) }
+{
+    let first = split.start(number);
+    let past = split.end(number);
+    let mut runner = Runner::try_new(alloc, program, call, start, test)?;
+    let broke = runner.run(alloc, first, past, gate)?;
+    let Runner { copy, planes, .. } = runner;
+    Ok(Block {
+        number,
+        first,
+        past,
+        broke,
+        planes,
+        copy,
+    })
+}

@@ -1,0 +1,29 @@
+-- What gathered blocks tell of a loop.
+use Rattle.std.specs.Prelude.{◌≡◌, ℕ, List, map, length}
+use Rattle.array_maps.specs.MapList.{MapList}
+use Rattle.bpf_insn_types.specs.Program.{Program}
+use Rattle.bpf_step_model.specs.State.{LoopCall}
+use Rattle.bpf_step_model.specs.Run.{Ended}
+use Rattle.loop_core_model.specs.declared.loop_test.Test.{Test}
+use Rattle.loop_core_model.specs.declared.verdict.Verdict.{Verdict}
+use Rattle.loop_core_model.specs.declared.verdict.Verdict.TheVariants.{Parallel}
+use Rattle.loop_core_model.specs.Report.{verdict}
+use Rattle.loop_core_blocks.specs.Gather.{Block}
+use Rattle.loop_core_schedule.specs.Outcome.{Outcome, outcome}
+use Rattle.loop_core_block.specs.Blocks.{BlockOf}
+use Rattle.loop_core_block.specs.Ran.{as_gathered}
+
+-- blocks as they are gathered
+abbrev pub all_gathered : Program → LoopCall → List ℕ → List BlockOf → List Block
+all_gathered program call words blocks = map (as_gathered program call words) blocks
+
+-- the verdict is the loop's; and where it passes, the answer and the words are those of its outcome
+pub record Tells (test : Test) (program : Program) (call : LoopCall) (words : List ℕ) (o : Outcome) : Type 0 where
+  pub told : verdict test program 4096 call words ≡ Ended o.verdict
+  pub passes : o.verdict ≡ Parallel → outcome test program 4096 call words ≡ Ended o
+  pub count : length o.words ≡ length words
+
+-- the outcome of a loop call from these maps: the verdict, the answer, and the maps after it, which are of the same sizes
+pub record IsOutcome (test : Test) (program : Program) (call : LoopCall) (start : MapList) (told : Verdict) (answer : ℕ) (left : MapList) : Type 0 where
+  pub outcome_is : outcome test program 4096 call start.words ≡ Ended (record { verdict = told; answer = answer; words = left.words })
+  pub sizes : left.sizes ≡ start.sizes

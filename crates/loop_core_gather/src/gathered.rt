@@ -1,0 +1,92 @@
+//! What gathered blocks tell of a loop.
+
+ghost use Rattle.std.specs.Prelude.{◌≡◌, ◌<◌, length, slice_index, IfOk};
+
+use crate::committing::commit;
+use crate::kept::{combined, last_written};
+use crate::merged::is_reduction;
+use crate::order::MOST_BLOCKS;
+use arrayvec::ArrayVec;
+use loop_core_block::Block;
+use loop_core_model::Verdict;
+use shadow_marks::Planes;
+use std::alloc::{AllocError, Global};
+use std::marker::Model;
+
+/// Blocks of a loop, gathered: the loop's verdict, and after a pass what it answers and leaves. In contracts it is
+/// the outcome of a pass.
+#[derive(Drop)]
+pub struct Gathered<'a> {
+    pub(crate) verdict: Verdict,
+    pub(crate) answer: u32,
+    pub(crate) start: &'a [u64],
+    pub(crate) blocks: Vec<Block<'a>>,
+    /// The places of the blocks that count, in order.
+    pub(crate) counting: ArrayVec<usize, MOST_BLOCKS>,
+    /// The planes of those blocks, merged.
+    pub(crate) planes: Planes,
+    /// A word for each page of 64 elements: a bit for each of those blocks that touched it.
+    pub(crate) touched: Vec<u64>,
+}
+
+impl<'a> Model for Gathered<'a> {
+    ghost use Rattle.std.specs.Prelude.{map, length};
+    ghost use Rattle.loop_core_block.specs.Shown.{shown};
+    ghost use Rattle.loop_core_schedule.specs.Outcome.{Outcome};
+    ghost use Rattle.loop_core_gather.specs.Held.{chosen, left_words, AreHeld};
+
+    ghost Value = { Outcome };
+
+    ghost view = { λ g. record { verdict = g.verdict; answer = g.answer; words = left_words g.planes (chosen g.counting.items (map shown g.blocks.items)) g.start.now } };
+
+    ghost invariant = { λ g. AreHeld (length g.start.now) (map shown g.blocks.items) g.counting.items g.planes g.touched.items };
+}
+
+impl<'a> Gathered<'a> {
+    /// The verdict on the loop: `Parallel` where it passes, else `Conflict`.
+    pub fn verdict(&self) -> Verdict
+        ensures { result ≡ self.now.verdict }
+    {
+        self.verdict
+    }
+
+    /// What the loop answers after a pass: how many iterations count.
+    pub fn answer(&self) -> u32
+        ensures { result ≡ self.now.answer }
+    {
+        self.answer
+    }
+
+    /// The number of elements, at most 65,536.
+    pub fn elements(&self) -> u32
+        ensures { result ≡ length self.now.words }
+    {
+        self.start.len() as u32
+    }
+
+    /// What the loop leaves at an element after a pass. The element is in range.
+    pub fn element(&self, e: u32) -> u64
+        requires { e < length self.now.words }
+        ensures { result ≡ slice_index self.now.words e }
+    {
+        let word = self.start[e as usize];
+        let touched = self.touched[e as usize / 64];
+        if touched == 0 {
+            word
+        } else if is_reduction(&self.planes, e) {
+            combined(&self.blocks, &self.counting, touched, e, word)
+        } else {
+            last_written(&self.blocks, &self.counting, touched, e, word)
+        }
+    }
+
+    /// What the loop leaves at each element after a pass, in order. Only elements of pages that were touched are
+    /// worked out.
+    pub(crate) fn left_words(&self, alloc: Global) -> Result<Vec<u64>, AllocError>
+        ensures { IfOk result (λ words. words.items ≡ self.now.words) }
+    {
+        let mut words = self.start.to_vec(alloc)?;
+        commit(words.as_mut_slice(), self.touched.as_slice(), self);
+        Ok(words)
+    }
+}

@@ -1,0 +1,104 @@
+//! The marks of several blocks together, and what they tell.
+
+ghost use Rattle.std.specs.Prelude.{◌≡◌, ◌+◌, ◌<◌, ◌≤◌, ◌/◌, ℕ, List, map, length, IfOk};
+ghost use Rattle.std.specs.List.{All, filter, range_with_len, count_by};
+ghost use Rattle.array_maps.specs.MapList.{AreWords};
+ghost use Rattle.array_maps.specs.declared.access.Op.{Op as Operator};
+ghost use Rattle.array_maps.specs.Accesses.{operators};
+ghost use Rattle.loop_core_block.specs.Blocks.{BlockOf};
+ghost use Rattle.loop_core_block.specs.Shown.{shown};
+ghost use Rattle.loop_core_marks.specs.Marks.{Visit, marks_of, marked_conflict};
+ghost use Rattle.loop_core_marks.specs.Planes.{bit_of, elements_of, plane_verdict};
+ghost use Rattle.shadow_marks.specs.Standing.{StandFor, ArePlanes, test_of, plane_by};
+ghost use Rattle.lane_planes.specs.Merged.{StandForSome};
+ghost use Rattle.loop_core_gather.specs.Held.{chosen, visits_at, is_reduction as is_reduced, HavePlanes};
+
+use array_maps::are_words;
+use lane_planes::{conflicts_touched, count_bits, first_bit, merge_touched};
+use loop_core_block::Block;
+use loop_core_model::{Test, Verdict};
+use shadow_marks::{OperatorPlanes, Planes};
+use std::alloc::{AllocError, Global};
+
+/// The lanes of a vector.
+const LANES: usize = 8;
+
+/// The planes of the blocks at these places, merged. All are for so many elements and one test.
+pub(crate) fn merged_planes(
+    alloc: Global,
+    elements: u32,
+    test: Test,
+    blocks: &[Block],
+    places: &[usize],
+) -> Result<Planes, AllocError>
+    requires places { All (λ place. place < length blocks.now) places.now }
+    requires planes { All (λ b. HavePlanes elements test (shown b)) blocks.now }
+    ensures elements { IfOk result (λ planes. planes.elements ≡ elements) }
+    ensures test { IfOk result (λ planes. test_of planes.tested ≡ test) }
+    ensures whole { IfOk result ArePlanes }
+    ensures stand { IfOk result StandForSome }
+    ensures visits { IfOk result (λ planes. (each : BlockOf → ℕ → List Visit) → All (λ b. StandFor b.planes (each b)) (map shown blocks.now) → StandFor planes (visits_at each (chosen places.now (map shown blocks.now)))) }
+{
+    let mut planes = Planes::try_new(alloc, elements, test)?;
+    for place in places {
+        merge_touched::<LANES>(&mut planes, blocks[*place].planes());
+    }
+    Ok(planes)
+}
+
+/// The plane of elements that conflict, of planes for at most 65,536 elements.
+pub(crate) fn conflicting_plane(alloc: Global, planes: &Planes) -> Result<Vec<u64>, AllocError>
+    requires stand { StandForSome planes.now }
+    requires few { planes.now.elements ≤ 65536 }
+    ensures few { IfOk result (λ plane. length plane.items ≤ 1024) }
+    ensures words { IfOk result (λ plane. AreWords plane.items) }
+    ensures elements { IfOk result (λ plane. (visits : ℕ → List Visit) → StandFor planes.now visits → elements_of plane.items ≡ filter (λ e. marked_conflict (test_of planes.now.tested) (marks_of (visits e))) (range_with_len 0 planes.now.elements)) }
+{
+    let mut plane = vec![in alloc; 0u64; (planes.elements as usize + 63) / 64]?;
+    conflicts_touched::<LANES>(planes, plane.as_mut_slice());
+    are_words(plane.as_slice());
+    Ok(plane)
+}
+
+/// The verdict on a loop of which these elements conflict, in a plane of at most 1,024 words.
+pub(crate) fn verdict_of(plane: &[u64]) -> Verdict
+    requires { length plane.now ≤ 1024 }
+    ensures { result ≡ plane_verdict plane.now }
+{
+    match first_bit::<LANES>(plane) {
+        Some(least) => Verdict::Conflict {
+            count: count_bits::<LANES>(plane),
+            least,
+        },
+        None => Verdict::Parallel,
+    }
+}
+
+/// Whether an element is reduction-only: no plain access was made of it, and it was reduced by one operator.
+pub(crate) fn is_reduction(planes: &Planes, e: u32) -> bool
+    requires whole { ArePlanes planes.now }
+    requires within { e < planes.now.elements }
+    ensures { result ≡ is_reduced planes.now e }
+{
+    !is_set(planes.plain.as_slice(), e) && operators_at(&planes.operators, e) == 1
+}
+
+/// By how many operators an element was reduced.
+fn operators_at(planes: &OperatorPlanes, e: u32) -> u32
+    requires { (op : Operator) → e / 64 < length (plane_by planes.now op) }
+    ensures { result ≡ count_by (λ op. bit_of (plane_by planes.now op) e) operators }
+{
+    u32::from(is_set(planes.add.as_slice(), e))
+        + u32::from(is_set(planes.or.as_slice(), e))
+        + u32::from(is_set(planes.and.as_slice(), e))
+        + u32::from(is_set(planes.xor.as_slice(), e))
+        + u32::from(is_set(planes.addh.as_slice(), e))
+}
+
+/// Whether an element's bit is set in a plane.
+fn is_set(plane: &[u64], e: u32) -> bool
+    requires { e / 64 < length plane.now }
+    ensures { result ≡ bit_of plane.now e }
+{
+    plane[e as usize / 64] >> (e % 64) & 1 == 1
+}

@@ -1,0 +1,55 @@
+//! What a gathered loop comes to.
+
+ghost use Rattle.std.specs.Prelude.{◌≡◌, IfOk};
+ghost use Rattle.bpf_verify_sound.specs.Soundness.{IsKnownCall};
+ghost use Rattle.loop_core_gather.specs.Gathered.{Tells, IsOutcome};
+
+use crate::gathered::Gathered;
+use array_maps::Maps;
+use bpf_step::LoopCall;
+use bpf_verify::Verified;
+use loop_core_model::{Test, Verdict};
+use loop_core_sequential::in_order;
+use std::alloc::{AllocError, Global};
+
+/// What a loop comes to.
+#[derive(Drop)]
+pub struct LoopOutcome {
+    /// Whether it passed the test.
+    pub verdict: Verdict,
+    /// What the call answers: how many iterations ran in order, or would have.
+    pub answer: u32,
+    /// The maps after it.
+    pub maps: Maps,
+}
+
+/// What a loop call comes to that main of this program made, and whose blocks were gathered for this test: after a
+/// pass, what the blocks tell; else the loop is run in order on a copy of the start maps, which are of the program's
+/// sizes. They don't change.
+pub fn settle(
+    alloc: Global,
+    program: &Verified,
+    call: &LoopCall,
+    start: &Maps,
+    gathered: &Gathered,
+    test: Test,
+) -> Result<LoopOutcome, AllocError>
+    requires known { IsKnownCall program.now call.now }
+    requires sizes { start.now.sizes ≡ program.now.sizes }
+    requires told { Tells test program.now call.now start.now.words gathered.now }
+    ensures { IfOk result (λ o. IsOutcome test program.now call.now start.now o.verdict o.answer o.maps) }
+{
+    let mut maps = start.try_copy(alloc)?;
+    let verdict = gathered.verdict();
+    let answer = if verdict == Verdict::Parallel {
+        maps.set_words(gathered.left_words(alloc)?);
+        gathered.answer()
+    } else {
+        in_order(program, call, &mut maps)
+    };
+    Ok(LoopOutcome {
+        verdict,
+        answer,
+        maps,
+    })
+}

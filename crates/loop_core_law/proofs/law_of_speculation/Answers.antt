@@ -1,5 +1,0 @@
-use Rattle.loop_core_law.proofs.LoopAgain.{loop_law}
-use Rattle.loop_core_law.proofs.law_of_speculation.Goals as goal
-
-pub returns : goal.returns
-returns c = loop_law

@@ -1,5 +1,0 @@
-use Rattle.loop_core_law.proofs.VerdictLaws.{verdicts_agree}
-use Rattle.loop_core_law.proofs.law_of_verdict_bounds.Goals as goal
-
-pub returns : goal.returns
-returns c = verdicts_agree

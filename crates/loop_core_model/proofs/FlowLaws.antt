@@ -1,0 +1,34 @@
+-- What conflicts by the flow test conflicts by the other too.
+use Rattle.std.proofs.Common.{◌≡◌, ℕ, Bool, true, false, List, [], ◌∷◌, refl, ◌∙◌, ap}
+use Rattle.std.specs.Prelude.{is_none, cond}
+use Rattle.std.specs.List.{filter, range_with_len}
+use Rattle.array_maps.specs.Accesses.{Action, Access}
+use Rattle.loop_core_model.specs.declared.loop_test.Test.TheVariants.{Lrpd, Flow}
+use Rattle.loop_core_model.specs.Actions.{joined, only_operator}
+use Rattle.loop_core_model.specs.Conflict.{clash, harm, conflicts, at_element, conflicting, FlowPassesMore}
+use Rattle.loop_core_model.proofs.OneElement.{and_false, harm-clash}
+
+-- what both tests keep is what the narrower one keeps
+filter_both : (wide narrow : ℕ → Bool) → ((e : ℕ) → wide e ≡ false → narrow e ≡ false) → (xs : List ℕ) → filter narrow xs ≡ filter narrow (filter wide xs)
+filter_both wide narrow only [] = refl
+filter_both wide narrow only (x ∷ xs) = go (wide x) (only x) (filter_both wide narrow only xs)
+  where
+    go : (w : Bool) → (w ≡ false → narrow x ≡ false) → filter narrow xs ≡ filter narrow (filter wide xs) →
+        cond (narrow x) (x ∷ filter narrow xs) (filter narrow xs) ≡ filter narrow (cond w (x ∷ filter wide xs) (filter wide xs))
+    go true later rest = ap (λ kept. cond (narrow x) (x ∷ kept) kept) rest
+    go false later rest = rw (later refl) rest
+
+narrower : (iterations : List (List Action)) → conflicts Lrpd iterations ≡ false → conflicts Flow iterations ≡ false
+narrower iterations h =
+    and_false (is_none (only_operator (joined iterations))) (clash iterations) (harm iterations) (harm-clash iterations) h
+
+flow_elements : (runs : List (List Access)) (elements : ℕ) →
+    conflicting Flow runs elements ≡ filter (λ e. conflicts Flow (at_element e runs)) (conflicting Lrpd runs elements)
+flow_elements runs elements =
+    filter_both (λ e. conflicts Lrpd (at_element e runs)) (λ e. conflicts Flow (at_element e runs)) (λ e. narrower (at_element e runs)) (range_with_len 0 elements)
+
+pub flow_passes_more : FlowPassesMore
+flow_passes_more = record {
+  elements = flow_elements;
+  passes = λ runs elements none. flow_elements runs elements ∙ ap (filter (λ e. conflicts Flow (at_element e runs))) none;
+}

@@ -1,0 +1,125 @@
+//! A replay, event by event.
+
+ghost use Rattle.std.specs.Prelude.{◌≡◌, ◌+◌, ◌<◌, List, length, slice_get, Some, Err, IfOk, IfErr, OnOk};
+ghost use Rattle.loop_core_blocks.specs.Gather.{is_bound};
+ghost use Rattle.loop_core_event.specs.declared.event.EventKind.TheVariants as kinds;
+ghost use Rattle.loop_core_schedule.specs.Schedule.{replay};
+ghost use Rattle.loop_core_workers.specs.Steps.{IsBefore};
+ghost use Rattle.loop_core_replay.specs.Settings.{breaks_of};
+ghost use Rattle.loop_core_replay.specs.Replays.{HasCome, IsLeft};
+
+use crate::blocks::Blocks;
+use crate::error::ReplayError;
+use crate::setting::Setting;
+use loop_core_block::Block;
+use loop_core_event::Event;
+use loop_core_schedule::ReplayFault;
+use loop_core_workers::{Step, Turn, Workers, law_of_events_in_turn};
+use std::alloc::AllocError;
+use std::marker::Model;
+
+/// What the workers of a replay do, and the blocks that they run.
+#[derive(Drop)]
+struct Replay<'a> {
+    workers: Workers,
+    blocks: Blocks<'a>,
+}
+
+impl<'a> Model for Replay<'a> {
+    ghost use Rattle.loop_core_replay.specs.Replays.{ReplayOf};
+
+    ghost Value = { ReplayOf };
+
+    ghost view = { λ r. record { workers = r.workers; blocks = r.blocks } };
+}
+
+/// Whether a break is at this index.
+fn is_at(broke: Option<u32>, index: u32) -> bool
+    ensures { result ≡ is_bound broke index }
+{
+    match broke {
+        Some(at) => at == index,
+        None => false,
+    }
+}
+
+impl<'a> Replay<'a> {
+    fn try_new(of: &Setting<'a>) -> Result<Replay<'a>, AllocError>
+        ensures { IfOk result (λ r. (events : List Event) → HasCome of.now events 0 r) }
+    {
+        Ok(Replay {
+            workers: Workers::new(),
+            blocks: Blocks::try_new(of.alloc, of.split)?,
+        })
+    }
+
+    /// A worker has its turn, which is the event at this place.
+    fn turn(
+        &mut self,
+        of: &Setting<'a>,
+        events: &[Event],
+        place: usize,
+        turn: Turn,
+    ) -> Result<(), AllocError>
+        requires come { HasCome of.now events.now place self.old }
+        requires event { slice_get events.now place ≡ Some (record { kind = kinds.Turn; worker = turn.worker }) }
+        requires before { IsBefore self.old.workers turn }
+        ensures { OnOk result (HasCome of.now events.now (place + 1) self.new) }
+    {
+        law_of_events_in_turn();
+        let broke = self.blocks.begin(of, turn.block)?;
+        let breaks = is_at(broke, turn.index);
+        match self.workers.finish(of.split, turn, breaks) {
+            Some(block) => self.blocks.end(block),
+            None => Ok(()),
+        }
+    }
+
+    /// Does the event at this place.
+    fn step(&mut self, of: &Setting<'a>, events: &[Event], place: usize) -> Result<(), ReplayError>
+        requires place { place < length events.now }
+        requires come { HasCome of.now events.now place self.old }
+        ensures come { OnOk result (HasCome of.now events.now (place + 1) self.new) }
+        ensures fault { (fault : ReplayFault) → result ≡ Err (ReplayError.Fault fault) → replay (breaks_of of.now) of.now.bounds events.now ≡ Err fault }
+    {
+        law_of_events_in_turn();
+        match self.workers.begin(of.split, events[place], place) {
+            Ok(Step::Done) => Ok(()),
+            Ok(Step::Ran { block }) => Ok(self.blocks.pass(of, block)?),
+            Ok(Step::Turn(turn)) => Ok(self.turn(of, events, place, turn)?),
+            Err(fault) => Err(ReplayError::Fault(fault)),
+        }
+    }
+
+    /// The blocks that were run, where the list has ended.
+    fn end(self, of: &Setting<'a>, events: &[Event]) -> Result<Vec<Block<'a>>, ReplayFault>
+        requires { HasCome of.now events.now (length events.now) self }
+        ensures left { IfOk result (λ ran. IsLeft of.now events.now ran.items) }
+        ensures fault { IfErr result (λ fault. replay (breaks_of of.now) of.now.bounds events.now ≡ Err fault) }
+    {
+        law_of_events_in_turn();
+        let Replay { workers, blocks } = self;
+        match workers.end(events) {
+            Ok(()) => Ok(blocks.into_ran()),
+            Err(fault) => Err(fault),
+        }
+    }
+}
+
+/// Does all events of a list, and gives the blocks that were run where it has ended.
+pub(crate) fn run_events<'a>(
+    of: &Setting<'a>,
+    events: &[Event],
+) -> Result<Vec<Block<'a>>, ReplayError>
+    ensures left { IfOk result (λ ran. IsLeft of.now events.now ran.items) }
+    ensures fault { (fault : ReplayFault) → result ≡ Err (ReplayError.Fault fault) → replay (breaks_of of.now) of.now.bounds events.now ≡ Err fault }
+{
+    let mut replay = Replay::try_new(of)?;
+    for place in 0..events.len() {
+        replay.step(of, events, place)?;
+    }
+    match replay.end(of, events) {
+        Ok(ran) => Ok(ran),
+        Err(fault) => Err(ReplayError::Fault(fault)),
+    }
+}

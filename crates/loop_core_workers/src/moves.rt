@@ -1,0 +1,152 @@
+//! What each event does to a worker and to what it shares.
+
+ghost use Rattle.std.specs.Prelude.{◌≡◌, ◌<◌, ◌≤◌, ℕ, Bool, List, IfSome, IfNone, Some, None};
+ghost use Rattle.loop_core_schedule.specs.Intervals.{blocks_of, end_of};
+ghost use Rattle.loop_core_schedule.specs.Events.{claims, looks, iterates, posts};
+ghost use Rattle.loop_core_workers.specs.Standing.{seen, shared_of, WorkerFits};
+ghost use Rattle.loop_core_workers.specs.Moves.{MoveFits, moved_of, Asks, IsNeverEnabled};
+
+use crate::worker::{Shared, Worker};
+use loop_core_event::EventKind;
+use loop_core_split::{Split, is_late, lesser};
+
+/// What a worker and what it shares become, and the block that was run to its break or its end with it.
+#[derive(Clone, Copy)]
+pub(crate) struct Move {
+    pub(crate) worker: Worker,
+    pub(crate) shared: Shared,
+    pub(crate) ran: Option<u32>,
+}
+
+/// What an enabled event is.
+#[derive(Clone, Copy)]
+pub(crate) enum Asked {
+    Moves(Move),
+    Iteration { block: u32, index: u32 },
+}
+
+fn becomes(worker: Worker, shared: Shared) -> Move
+    ensures { result ≡ record { worker = worker; shared = shared; ran = None } }
+{
+    Move {
+        worker,
+        shared,
+        ran: None,
+    }
+}
+
+fn having_run(block: u32, worker: Worker, shared: Shared) -> Move
+    ensures { result ≡ record { worker = worker; shared = shared; ran = Some block } }
+{
+    Move {
+        worker,
+        shared,
+        ran: Some(block),
+    }
+}
+
+fn claim(split: &Split, shared: Shared) -> Move
+    requires { shared.next ≤ blocks_of split.now }
+    ensures fits { MoveFits split.now result }
+    ensures claims { (runs : List ℕ) → claims split.now (shared_of shared runs) ≡ moved_of result runs }
+{
+    if shared.next < split.blocks() {
+        let next = shared.next + 1;
+        becomes(
+            Worker::Holding { block: shared.next },
+            Shared { next, ..shared },
+        )
+    } else {
+        becomes(Worker::Drained, shared)
+    }
+}
+
+fn look(split: &Split, block: u32, shared: Shared) -> Move
+    requires next { shared.next ≤ blocks_of split.now }
+    requires block { block < blocks_of split.now }
+    ensures fits { MoveFits split.now result }
+    ensures looks { (runs : List ℕ) → looks split.now block (shared_of shared runs) ≡ moved_of result runs }
+{
+    let start = split.start(block);
+    if is_late(shared.least, start) {
+        becomes(Worker::Idle, shared)
+    } else if start == split.end(block) {
+        having_run(block, Worker::Idle, shared)
+    } else {
+        becomes(
+            Worker::Running {
+                block,
+                index: start,
+            },
+            shared,
+        )
+    }
+}
+
+/// What comes of the iteration of this index, which broke or not.
+pub(crate) fn iterate(split: &Split, block: u32, index: u32, broke: bool, shared: Shared) -> Move
+    requires next { shared.next ≤ blocks_of split.now }
+    requires block { block < blocks_of split.now }
+    requires index { index < end_of split.now block }
+    ensures fits { MoveFits split.now result }
+    ensures ran { IfSome result.ran (λ ran. ran ≡ block) }
+    ensures iterates { (breaks : ℕ → Bool) (runs : List ℕ) → breaks index ≡ broke →
+        iterates breaks split.now block index (shared_of shared runs) ≡ moved_of result runs }
+{
+    let end = split.end(block);
+    if broke {
+        having_run(block, Worker::Posting { index }, shared)
+    } else if index + 1 == end {
+        having_run(block, Worker::Idle, shared)
+    } else {
+        becomes(
+            Worker::Running {
+                block,
+                index: index + 1,
+            },
+            shared,
+        )
+    }
+}
+
+fn post(split: &Split, index: u32, shared: Shared) -> Move
+    requires { shared.next ≤ blocks_of split.now }
+    ensures fits { MoveFits split.now result }
+    ensures posts { (runs : List ℕ) → posts index (shared_of shared runs) ≡ moved_of result runs }
+{
+    becomes(
+        Worker::Idle,
+        Shared {
+            least: lesser(Some(index), shared.least),
+            ..shared
+        },
+    )
+}
+
+/// What an event of this kind is for a worker, or `None` where it isn't enabled.
+pub(crate) fn asked_of(
+    split: &Split,
+    kind: EventKind,
+    worker: Worker,
+    shared: Shared,
+) -> Option<Asked>
+    requires next { shared.next ≤ blocks_of split.now }
+    requires worker { WorkerFits split.now worker }
+    ensures some { IfSome result (Asks split.now kind worker shared) }
+    ensures none { IfNone result (IsNeverEnabled split.now kind worker shared) }
+{
+    match (kind, worker) {
+        (EventKind::Claim, Worker::Idle) => Some(Asked::Moves(claim(split, shared))),
+        (EventKind::Look, Worker::Holding { block }) => {
+            Some(Asked::Moves(look(split, block, shared)))
+        }
+        (EventKind::Turn, Worker::Running { block, index }) => {
+            Some(Asked::Iteration { block, index })
+        }
+        (EventKind::Post, Worker::Posting { index }) => Some(Asked::Moves(post(
+            split, index, shared,
+        ))),
+        (EventKind::Stop, Worker::Drained) => Some(Asked::Moves(becomes(Worker::Stopped, shared))),
+        _ => None,
+    }
+}

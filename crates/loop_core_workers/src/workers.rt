@@ -1,0 +1,163 @@
+//! The workers of a replayed schedule.
+
+ghost use Rattle.std.specs.Prelude.{◌≡◌, ◌<◌, ◌≤◌, ℕ, Bool, true, false, List, [], length, IfSome, IfOk, IfErr, OnOk, OnErr};
+ghost use Rattle.std.specs.List.{list_all};
+ghost use Rattle.loop_core_schedule.specs.declared.replay_fault.ReplayFault.TheVariants.{NotEnded};
+ghost use Rattle.loop_core_schedule.specs.Schedule.{at_first, has_ended, is_stopped, worker_of};
+ghost use Rattle.loop_core_workers.specs.Standing.{Fits, state};
+ghost use Rattle.loop_core_workers.specs.Moves.{after_move};
+ghost use Rattle.loop_core_workers.specs.Steps.{IsStepOf, StepFits, Follows, Faults, IsBefore, Turned};
+
+use crate::moves::{Asked, Move, asked_of, iterate};
+use crate::worker::{Shared, Step, Turn, Worker};
+use loop_core_event::Event;
+use loop_core_schedule::ReplayFault;
+use loop_core_split::Split;
+use std::marker::Model;
+
+const MOST_WORKERS: usize = 16;
+
+/// Sixteen workers that share the blocks of a split, while a list of events goes by. They take no memory.
+#[derive(Drop)]
+pub struct Workers {
+    shared: Shared,
+    workers: [Worker; MOST_WORKERS],
+}
+
+impl Model for Workers {
+    ghost use Rattle.std.specs.Prelude.{◌≡◌, length};
+    ghost use Rattle.loop_core_workers.specs.Standing.{Standing};
+
+    ghost Value = { Standing };
+
+    ghost view = { λ w. record { shared = w.shared; workers = w.workers } };
+
+    ghost invariant = { λ w. length w.workers ≡ 16 };
+}
+
+fn step_of(ran: Option<u32>) -> Step
+    ensures { IsStepOf ran result }
+{
+    match ran {
+        None => Step::Done,
+        Some(block) => Step::Ran { block },
+    }
+}
+
+impl Default for Workers {
+    ghost use Rattle.std.specs.Prelude.{◌≡◌, []};
+    ghost use Rattle.loop_core_schedule.specs.Schedule.{at_first};
+    ghost use Rattle.loop_core_workers.specs.Standing.{state};
+
+    ghost is_default = { λ w. state w [] ≡ at_first };
+
+    fn default() -> Workers {
+        Workers::new()
+    }
+}
+
+impl Workers {
+    /// Workers that haven't done anything.
+    pub fn new() -> Workers
+        ensures first { state result [] ≡ at_first }
+        ensures fits { (bounds : List ℕ) → Fits bounds result }
+    {
+        Workers {
+            shared: Shared {
+                next: 0,
+                least: None,
+            },
+            workers: [Worker::Idle; MOST_WORKERS],
+        }
+    }
+
+    /// Does the event that stands at this place of a list, or tells which iteration is to be run first, and then
+    /// changes nothing.
+    ///
+    /// E1 (`NoSuchWorker`) a worker above 15, E2 (`NotEnabled`) an event that isn't enabled, each with the place;
+    /// nothing has changed then. The split is the one that these workers share.
+    pub fn begin(&mut self, split: &Split, event: Event, place: usize) -> Result<Step, ReplayFault>
+        requires { Fits split.now self.old }
+        ensures fits { Fits split.now self.new }
+        ensures within { IfOk result (StepFits split.now) }
+        ensures follows { IfOk result (Follows split.now event place self.old self.new) }
+        ensures fault { IfErr result (Faults split.now event place self.old) }
+        ensures kept { OnErr result (self.new ≡ self.old) }
+    {
+        let number = usize::from(event.worker);
+        if number >= MOST_WORKERS {
+            return Err(ReplayFault::NoSuchWorker { event: place });
+        }
+        match asked_of(split, event.kind, self.workers[number], self.shared) {
+            None => Err(ReplayFault::NotEnabled { event: place }),
+            Some(Asked::Iteration { block, index }) => Ok(Step::Turn(Turn {
+                worker: event.worker,
+                block,
+                index,
+            })),
+            Some(Asked::Moves(change)) => {
+                self.make(number, change);
+                Ok(step_of(change.ran))
+            }
+        }
+    }
+
+    /// Does a turn that `begin` told, whose iteration broke or not, and tells the block where it was run to its
+    /// break or its end with it. The split is the one that these workers share.
+    pub fn finish(&mut self, split: &Split, turn: Turn, broke: bool) -> Option<u32>
+        requires fits { Fits split.now self.old }
+        requires before { IsBefore self.old turn }
+        ensures fits { Fits split.now self.new }
+        ensures ran { IfSome result (λ block. block ≡ turn.block) }
+        ensures turned { Turned split.now turn broke self.old self.new result }
+    {
+        let change = iterate(split, turn.block, turn.index, broke, self.shared);
+        self.make(usize::from(turn.worker), change);
+        change.ran
+    }
+
+    /// Whether these events have ended: some worker stands in them, and each that does has stopped.
+    /// E3 (`NotEnded`) with the number of events where they haven't.
+    pub fn end(&self, events: &[Event]) -> Result<(), ReplayFault>
+        ensures ended { OnOk result ((runs : List ℕ) → has_ended events.now (state self.now runs) ≡ true) }
+        ensures not_ended { OnErr result ((runs : List ℕ) → has_ended events.now (state self.now runs) ≡ false) }
+        ensures fault { IfErr result (λ f. f ≡ NotEnded (length events.now)) }
+    {
+        if !events.is_empty() && self.have_stopped(events) {
+            Ok(())
+        } else {
+            Err(ReplayFault::NotEnded {
+                events: events.len(),
+            })
+        }
+    }
+
+    fn make(&mut self, number: usize, change: Move)
+        requires { number < 16 }
+        ensures { self.new ≡ after_move self.old number change }
+    {
+        self.workers[number] = change.worker;
+        self.shared = change.shared;
+    }
+
+    fn has_stopped(&self, number: u8) -> bool
+        ensures { result ≡ is_stopped (worker_of (state self.now []) number) }
+    {
+        match self.workers.get(usize::from(number)) {
+            Some(Worker::Stopped) => true,
+            _ => false,
+        }
+    }
+
+    /// Whether each worker of these events has stopped.
+    fn have_stopped(&self, events: &[Event]) -> bool
+        ensures { result ≡ list_all (λ e. is_stopped (worker_of (state self.now []) e.worker)) events.now }
+    {
+        for event in events {
+            if !self.has_stopped(event.worker) {
+                return false;
+            }
+        }
+        true
+    }
+}

@@ -1,7 +1,0 @@
-use Rattle.std.proofs.Common.{◌≡◌, drop}
-use Rattle.loop_gather.specs.Told.{twice_told}
-use Rattle.loop_gather.proofs.order.has_twins.Given as goal
-
--- no number before stands twice
-abbrev pub invariant-loop-place : goal.invariant-loop-place
-invariant-loop-place l = twice_told l.blocks ≡ twice_told (drop l.place l.blocks)

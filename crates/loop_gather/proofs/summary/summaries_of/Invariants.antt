@@ -1,7 +1,0 @@
-use Rattle.std.proofs.Common.{◌≡◌, map, take}
-use Rattle.loop_block.specs.Shown.{shown}
-use Rattle.loop_gather.specs.Held.{told_of}
-use Rattle.loop_gather.proofs.summary.summaries_of.Given as goal
-
-abbrev pub invariant-loop-block : goal.invariant-loop-block
-invariant-loop-block l = l.summaries.items ≡ map told_of (map shown (take l.block-index l.blocks))

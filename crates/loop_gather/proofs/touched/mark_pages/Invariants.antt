@@ -1,6 +1,0 @@
-use Rattle.loop_block.specs.Shown.{shown}
-use Rattle.loop_gather.proofs.TouchedLaws.{MarkedSoFar}
-use Rattle.loop_gather.proofs.touched.mark_pages.Given as goal
-
-abbrev pub invariant-loop-k : goal.invariant-loop-k
-invariant-loop-k l = MarkedSoFar l.fn.touched l.touched (shown l.block).copy.pages l.bit l.k

@@ -1,5 +1,0 @@
-use Rattle.loop_replay.specs.Replays.{HasCome}
-use Rattle.loop_replay.proofs.replay.run_events.Given as goal
-
-abbrev pub invariant-loop-place : goal.invariant-loop-place
-invariant-loop-place l = HasCome l.of l.events l.place l.replay

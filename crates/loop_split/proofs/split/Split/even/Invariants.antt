@@ -1,8 +1,0 @@
-use Rattle.std.proofs.Common.{◌≡◌, ◌*◌, ◌/◌}
-use Rattle.std.specs.Prelude.{map}
-use Rattle.std.specs.List.{range_with_len}
-use Rattle.loop_split.proofs.split.Split.even.Given as goal
-
--- the bounds so far
-abbrev pub invariant-loop-k : goal.invariant-loop-k
-invariant-loop-k l = l.bounds.items ≡ map (λ k. k * l.n / l.blocks) (range_with_len 0 l.k)

@@ -1,0 +1,12 @@
+//! A loop call by several workers: each in a thread of its own, over one board; what they ran is gathered, and
+//! committed by several threads, or the loop is run in order.
+#![tactic(auto)]
+
+mod committing;
+mod error;
+mod looping;
+mod worker;
+
+pub use error::RunError;
+pub use loop_core_gather::LoopOutcome;
+pub use looping::run_loop;

@@ -1,0 +1,30 @@
+//! How the loops of a program are run.
+
+ghost use Rattle.std.specs.Prelude.{◌↔◌, IsTrue};
+ghost use Rattle.spec_run_plan.specs.Plans.{IsPlan};
+
+use loop_core_model::Test;
+
+const MOST_WORKERS: u32 = 16;
+
+const MOST_BLOCKS: u32 = 64;
+
+/// How the loops of a program are run.
+#[derive(Clone, Copy, Debug)]
+pub struct Plan {
+    /// The number of workers, 1 to 16.
+    pub workers: u32,
+    /// The number of blocks, 1 to 64, into which each loop is split evenly.
+    pub blocks: u32,
+    /// The test by which a loop passes.
+    pub test: Test,
+}
+
+impl Plan {
+    /// Whether the numbers of workers and of blocks are within their limits.
+    pub fn is_within_limits(&self) -> bool
+        ensures { IsTrue result ↔ IsPlan self.now }
+    {
+        (1..=MOST_WORKERS).contains(&self.workers) && (1..=MOST_BLOCKS).contains(&self.blocks)
+    }
+}

@@ -1,0 +1,64 @@
+-- What the replay of a program's first valid loop call comes to.
+use Rattle.std.specs.Prelude.{◌≡◌, ℕ, pos, List, Option, Some, None, Result, Ok, Err}
+use Rattle.bpf_insn_types.specs.Program.{Program}
+use Rattle.bpf_step_model.specs.Run.{Ending, Ended, mapped}
+use Rattle.loop_core_event.specs.declared.event.Event.{Event}
+use Rattle.loop_core_model.specs.declared.loop_test.Test.{Test}
+use Rattle.loop_core_model.specs.declared.verdict.LoopReport.{LoopReport}
+use Rattle.loop_core_blocks.specs.declared.faults.SplitFault.{SplitFault}
+use Rattle.loop_core_blocks.specs.Split.{split_fault}
+use Rattle.loop_core_schedule.specs.declared.replay_fault.ReplayFault.{ReplayFault}
+use Rattle.loop_core_schedule.specs.Outcome.{Outcome, replayed}
+use Rattle.spec_run_replay.specs.declared.replaying.ReplayRefusal.{ReplayRefusal}
+use Rattle.spec_run_replay.specs.declared.replaying.ReplayRefusal.TheVariants.{NoLoop, Split, Schedule}
+use Rattle.spec_run_replay.specs.declared.replaying.Replayed.{Replayed}
+use Rattle.spec_run_replay.specs.declared.replaying.NoReplay.{NoReplay}
+use Rattle.spec_run_replay.specs.declared.replaying.NoReplay.TheVariants.{Refused, Memory}
+use Rattle.spec_run_replay.specs.FirstLoop.{ValidLoop, first_loop}
+
+-- a loop that was replayed: its number among the program's loop calls, its line, and the words after it
+pub record LoopReplay : Type 0 where
+  pub number : ℕ
+  pub told : LoopReport
+  pub words : List ℕ
+
+-- a loop with its outcome
+abbrev pub with_outcome : ValidLoop → Outcome → LoopReplay
+with_outcome valid o = record {
+  number = valid.number;
+  told = record { slot = valid.call.slot; answer = pos o.answer; verdict = o.verdict };
+  words = o.words;
+}
+
+-- the loop's outcome where the events are a schedule of it
+abbrev pub of_schedule : ValidLoop → Result (Ending Outcome) ReplayFault → Result (Ending LoopReplay) ReplayRefusal
+of_schedule valid (Err fault) = Err (Schedule fault)
+of_schedule valid (Ok outcome) = Ok (mapped (with_outcome valid) outcome)
+
+-- the same where the bounds are a split of it
+abbrev pub of_split : Result (Ending LoopReplay) ReplayRefusal → Option SplitFault → Result (Ending LoopReplay) ReplayRefusal
+of_split scheduled (Some fault) = Err (Split fault)
+of_split scheduled None = scheduled
+
+-- the replay of a program's first valid loop, if it has one: the refusal by its split comes before that by its schedule
+abbrev pub of_loop : Test → Program → ℕ → (bounds : List ℕ) → List Event → Option ValidLoop → Result (Ending LoopReplay) ReplayRefusal
+of_loop test program bound bounds events None = Err NoLoop
+of_loop test program bound bounds events (Some valid) =
+    of_split (of_schedule valid (replayed test program bound valid.call valid.words bounds events)) (split_fault bounds valid.call.n)
+
+-- what ended with a value, or was refused
+abbrev pub ended : {A : Type 0} → Result A ReplayRefusal → Result (Ending A) ReplayRefusal
+ended (Ok value) = Ok (Ended value)
+ended (Err refusal) = Err refusal
+
+-- from these words a program comes to its first valid loop, or to its end, and the replay to this
+pub record ComesTo (test : Test) (program : Program) (argument : ℕ) (words bounds : List ℕ) (events : List Event) (comes : Result LoopReplay ReplayRefusal) : Type 0 where
+  pub valid : Option ValidLoop
+  pub first : first_loop program 4096 argument words ≡ Ended valid
+  pub replays : of_loop test program 4096 bounds events valid ≡ ended comes
+
+-- what is given or refused is as wanted, or memory ran out
+abbrev pub Gives : (Result LoopReplay ReplayRefusal → Type 0) → Result Replayed NoReplay → Type 0
+Gives wanted (Ok r) = wanted (Ok (record { number = r.number; told = r.told; words = r.maps.words }))
+Gives wanted (Err (Refused refusal)) = wanted (Err refusal)
+Gives wanted (Err Memory) = Unit {0}
