@@ -23,6 +23,7 @@ LDDW = LD | DOUBLE_SIZE
 NEG, END, JA, CALL, EXIT = 0x80, 0xD0, 0x00, 0x80, 0x90
 END_LE, END_BE = ALU | END, ALU | END | REGISTER_SOURCE
 CALL_OPCODE = JMP | CALL
+CALL_REGISTER = CALL_OPCODE | REGISTER_SOURCE
 
 # What the source register's field says of a load of two slots, and of a call.
 KIND_NUMBER, KIND_CODE, KIND_MAP, KIND_MAP_VALUE = 0, 4, 5, 6
@@ -86,6 +87,8 @@ def line_of(insn: Insn, target: str) -> str:
     """An instruction's line; the target is how the line names the place that it leads to."""
     opcode = f"opcode {insn.opcode:#04x}"
     form = FORMS.get(insn.opcode)
+    if insn.opcode == CALL_REGISTER:
+        raise Refused(f"a call through a register ({opcode}): of a function pointer, or not compiled with -O2")
     if form is None:
         raise Refused(f"no instruction has {opcode}")
     fields = vars(insn)

@@ -1,1 +1,2 @@
 pub mod CommandLaws
+pub mod HelpLaws

@@ -67,9 +67,9 @@ run_app = with_rule (with_rule (with_rule (with_rule (with_rule (new_app (codes 
 abbrev pub replay_app : App
 replay_app = with_rule (with_rule (with_rule (new_app (codes "replay")) hex_rule) arg_rule) test_rule
 
--- the program without its subcommands, of which one is wanted
+-- the program without its subcommands, of which one is wanted; it has a version
 abbrev pub top_app : App
-top_app = record { top = record (new_app (codes "bpfspec")).top { subcommand_required = true }; subs = [] }
+top_app = record { top = record (new_app (codes "bpfspec")).top { has_version = true; subcommand_required = true }; subs = [] }
 
 -- the program's command line
 abbrev pub bpfspec_app : App

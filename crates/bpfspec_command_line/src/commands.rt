@@ -122,11 +122,27 @@ pub fn replay_command<'a>(alloc: Global) -> Result<Command<'a>, AllocError>
         .arg(test_option(alloc))
 }
 
+/// What help says of the program's streams and its exit status.
+const STREAMS: &str = "\
+It reads a program, the values of its maps and a list of events from standard input, and writes to standard output.
+
+Exit status:
+  0  done
+  1  the program, its values or its events are refused
+  2  a text is refused
+  3  the words are no command
+  4  memory ran out
+  5  a read or a write failed";
+
 /// The program without its subcommands, of which one is wanted.
 fn top_command<'a>(alloc: Global) -> Command<'a>
     ensures { IsCommand top_app result }
 {
-    Command::new(alloc, "bpfspec").subcommand_required(true)
+    Command::new(alloc, "bpfspec")
+        .version("0.1.0")
+        .about("Runs untrusted BPF programs over array maps, each loop speculatively in parallel")
+        .after_help(STREAMS)
+        .subcommand_required(true)
 }
 
 pub fn bpfspec_command<'a>(alloc: Global) -> Result<Command<'a>, AllocError>

@@ -1,9 +1,10 @@
-//! Why a command line asks for nothing, as it is told.
+//! Why a command line asks for no job, as it is told.
 
-ghost use Rattle.std.specs.Prelude.{◌≡◌};
+ghost use Rattle.std.specs.Prelude.{◌≡◌, IsTrue, IfOk, true, false};
 ghost use Rattle.std.specs.IoError.{error_kind};
 ghost use Rattle.std.specs.declared.io.ErrorKind.TheVariants as io_errors;
 ghost use Rattle.clap.specs.Words.{kind_of};
+ghost use Rattle.bpfspec_command_line.specs.Help.{Shows, is_help};
 
 use crate::commands::{bpfspec_command, order_command, replay_command, run_command};
 use crate::job::LineFault;
@@ -13,23 +14,37 @@ use clap::{ArgMatches, Command};
 use std::alloc::{AllocError, Global};
 use std::io;
 
-/// The fault that clap tells of.
+/// Whether an error of this kind is help or the version, which words asked for.
+fn is_asked_for(kind: ErrorKind) -> bool
+    ensures { IsTrue result → Shows kind }
+{
+    kind == ErrorKind::DisplayHelp || kind == ErrorKind::DisplayVersion
+}
+
+/// What clap tells of words: that they are wrong, or the help or the version that they ask for.
 pub fn fault_of(alloc: Global, error: &clap::Error) -> LineFault
-    ensures { kind_of error.now ≡ ErrorKind.OutOfMemory → result ≡ LineFault.Memory }
+    ensures memory { kind_of error.now ≡ ErrorKind.OutOfMemory → result ≡ LineFault.Memory }
+    ensures help { is_help result ≡ true → Shows (kind_of error.now) }
 {
     if error.kind() == ErrorKind::OutOfMemory {
         return LineFault::Memory;
     }
     match error.to_string(alloc) {
+        Ok(text) if is_asked_for(error.kind()) => LineFault::Help(text),
         Ok(text) => LineFault::Usage(text),
         Err(_) => LineFault::Memory,
     }
 }
 
 /// The fault of words that are wrong in a way that clap doesn't judge, told as clap tells its own.
-fn own_fault(alloc: Global, command: &mut Command<'_>, wrong: &str) -> LineFault {
-    match command.error(ErrorKind::ValueValidation, wrong) {
-        Ok(error) => fault_of(alloc, &error),
+fn own_fault(alloc: Global, command: &mut Command<'_>, wrong: &str) -> LineFault
+    ensures { is_help result ≡ false }
+{
+    let Ok(error) = command.error(ErrorKind::ValueValidation, wrong) else {
+        return LineFault::Memory;
+    };
+    match error.to_string(alloc) {
+        Ok(text) => LineFault::Usage(text),
         Err(_) => LineFault::Memory,
     }
 }
@@ -84,28 +99,38 @@ fn subcommand_fault(
     command: Command<'_>,
     name: &str,
     wrong: &str,
-) -> Result<LineFault, AllocError> {
+) -> Result<LineFault, AllocError>
+    ensures { IfOk result (λ fault. is_help fault ≡ false) }
+{
     let mut command = command.bin_name(name)?;
     Ok(own_fault(alloc, &mut command, wrong))
 }
 
-fn run_fault(alloc: Global, run: &ArgMatches<'_>) -> Result<LineFault, AllocError> {
+fn run_fault(alloc: Global, run: &ArgMatches<'_>) -> Result<LineFault, AllocError>
+    ensures { IfOk result (λ fault. is_help fault ≡ false) }
+{
     let wrong = wrong_plan(alloc, run)?;
     subcommand_fault(alloc, run_command(alloc)?, "bpfspec run", &wrong)
 }
 
-fn replay_fault(alloc: Global, replay: &ArgMatches<'_>) -> Result<LineFault, AllocError> {
+fn replay_fault(alloc: Global, replay: &ArgMatches<'_>) -> Result<LineFault, AllocError>
+    ensures { IfOk result (λ fault. is_help fault ≡ false) }
+{
     let wrong = wrong_value(alloc, replay)?;
     subcommand_fault(alloc, replay_command(alloc)?, "bpfspec replay", &wrong)
 }
 
-fn order_fault(alloc: Global, order: &ArgMatches<'_>) -> Result<LineFault, AllocError> {
+fn order_fault(alloc: Global, order: &ArgMatches<'_>) -> Result<LineFault, AllocError>
+    ensures { IfOk result (λ fault. is_help fault ≡ false) }
+{
     let wrong = wrong_value(alloc, order)?;
     subcommand_fault(alloc, order_command(alloc)?, "bpfspec order", &wrong)
 }
 
 /// The fault of a value that clap takes and the program doesn't, with the usage of its subcommand.
-pub fn value_fault(alloc: Global, matches: &ArgMatches<'_>) -> Result<LineFault, AllocError> {
+pub fn value_fault(alloc: Global, matches: &ArgMatches<'_>) -> Result<LineFault, AllocError>
+    ensures { IfOk result (λ fault. is_help fault ≡ false) }
+{
     if let Some(run) = matches.subcommand_matches("run") {
         return run_fault(alloc, run);
     }
@@ -120,7 +145,8 @@ pub fn value_fault(alloc: Global, matches: &ArgMatches<'_>) -> Result<LineFault,
 
 /// The fault of words that the system doesn't give.
 pub fn words_fault(alloc: Global, error: &io::Error) -> LineFault
-    ensures { error_kind error.now ≡ io_errors.OutOfMemory → result ≡ LineFault.Memory }
+    ensures memory { error_kind error.now ≡ io_errors.OutOfMemory → result ≡ LineFault.Memory }
+    ensures words { is_help result ≡ false }
 {
     if error.kind() == io::ErrorKind::OutOfMemory {
         return LineFault::Memory;

@@ -54,13 +54,15 @@ pub enum Job {
     },
 }
 
-/// Why a command line asks for nothing.
+/// Why a command line asks for no job.
 #[derive(Debug, Drop, Error)]
 pub enum LineFault {
-    /// The words are no command, or ask for help. The text says what is wrong with them, or what can
-    /// be asked for.
+    /// The words are no command. The text says what is wrong with them.
     #[error("{0}")]
     Usage(String),
+    /// The words ask for help, or for the version: this text.
+    #[error("{0}")]
+    Help(String),
     /// There was no memory to read the words.
     #[error("out of memory")]
     Memory,

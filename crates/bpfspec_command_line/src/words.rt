@@ -1,8 +1,9 @@
 //! The words of a command line, as the job that they ask for.
 
-ghost use Rattle.std.specs.Prelude.{◌≡◌, ℕ, List, map, IfOk, IfSome};
+ghost use Rattle.std.specs.Prelude.{◌≡◌, ℕ, List, map, true, IfOk, IfErr, IfSome};
 ghost use Rattle.clap.specs.Words.{subcommand_of, subcommand_rows_of};
 ghost use Rattle.bpfspec_command_line.specs.CommandLine.{AsksFor, AsksForJob, bpfspec_app};
+ghost use Rattle.bpfspec_command_line.specs.Help.{AsksForHelp, is_help};
 
 use crate::commands::bpfspec_command;
 use crate::faults::{fault_of, value_fault, words_fault};
@@ -60,12 +61,14 @@ fn job_of(matches: &ArgMatches<'_>) -> Option<Job>
 
 /// Reads the words of a command line, the program's name first.
 ///
-/// It fails with `Usage` where they aren't `verify [--hex]`, `order [--hex] [--arg N]`,
+/// It fails with `Help` where they ask for help or the version (`--help`, `-h`, `help`, `--version`, `-V`), and with the
+/// text that they ask for; with `Usage` where they aren't `verify [--hex]`, `order [--hex] [--arg N]`,
 /// `run [--hex] [--arg N] [--workers W] [--blocks B] [--test flow|lrpd]`,
 /// `replay [--hex] [--arg N] [--test flow|lrpd]`, N from 0 to 18446744073709551615, W from 1 to 16, B from
-/// 1 to 64, `asm` or `disasm`, and where they ask for help; and with `Memory` where there is no memory.
+/// 1 to 64, `asm` or `disasm`; and with `Memory` where there is no memory.
 pub fn read_words<S: AsStr>(alloc: Global, words: &[S]) -> Result<Job, LineFault>
-    ensures { IfOk result (AsksForJob (subcommand_of bpfspec_app (map S.text words.now))) }
+    ensures job { IfOk result (AsksForJob (subcommand_of bpfspec_app (map S.text words.now))) }
+    ensures help { IfErr result (λ fault. is_help fault ≡ true → AsksForHelp (map S.text words.now)) }
 {
     let mut command = bpfspec_command(alloc)?;
     let matches = match command.try_get_matches_from_mut(words) {
@@ -81,7 +84,8 @@ pub fn read_words<S: AsStr>(alloc: Global, words: &[S]) -> Result<Job, LineFault
 /// Reads the words that the process was started with. It fails as `read_words` does, and with `Usage`
 /// where one of them isn't UTF-8.
 pub fn read_command_line<R: Env + AllocGlobal>(rt: &R) -> Result<Job, LineFault>
-    ensures { IfOk result (λ job. (words : List (List ℕ)) × AsksForJob (subcommand_of bpfspec_app words) job) }
+    ensures job { IfOk result (λ job. (words : List (List ℕ)) × AsksForJob (subcommand_of bpfspec_app words) job) }
+    ensures help { IfErr result (λ fault. is_help fault ≡ true → (words : List (List ℕ)) × AsksForHelp words) }
 {
     let alloc = rt.alloc();
     let arguments = match env::args(rt) {

@@ -36,8 +36,8 @@ fn serve_job<R: AllocGlobal + Threads + Sync, S: Source, W: Sink>(
     }
 }
 
-/// Serves an input as the command line asks, or tells why it asks for nothing: its usage on
-/// `messages`, or on `output` that memory ran out.
+/// Serves an input as the command line asks, or tells the help or the version that it asks for; or why it asks for
+/// nothing: its usage on `messages`, or on `output` that memory ran out.
 fn carry_out<R: Env + AllocGlobal + Threads + Sync, S: Source, W: Sink, M: Sink>(
     rt: &R,
     input: &mut S,
@@ -53,6 +53,9 @@ fn carry_out<R: Env + AllocGlobal + Threads + Sync, S: Source, W: Sink, M: Sink>
 {
     match read_command_line(rt) {
         Ok(job) => ProgramEnd::Served(serve_job(rt, &job, input, output)),
+        Err(LineFault::Help(text)) => {
+            ProgramEnd::Served(write(output, text.as_bytes(), Served::Done))
+        }
         Err(LineFault::Usage(text)) => {
             let _ = write_all(messages, text.as_bytes());
             ProgramEnd::Usage

@@ -8,7 +8,7 @@ use crate::serving::Served;
 /// How the program ends.
 #[derive(Clone, Copy)]
 pub enum ProgramEnd {
-    /// An input was served.
+    /// An input was served, or help or the version told.
     Served(Served),
     /// The command line asks for nothing; its usage was told.
     Usage,

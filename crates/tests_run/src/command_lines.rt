@@ -42,14 +42,10 @@ fn a_command_and_its_arguments_are_read(rt: HostRuntime) -> Result<(), Fail> {
     Ok(())
 }
 
-/// Command lines that ask for nothing, and what is told.
-const USAGE: &str = "
-    => 3 !error: 'bpfspec' requires a subcommand but one was not provided | \
-        \x20 [subcommands: verify, order, run, replay, asm, disasm, help] |  | Usage: bpfspec <COMMAND> |  | \
-        For more information, try '--help'.
-    link => 3 !error: unrecognized subcommand 'link' |  | Usage: bpfspec <COMMAND> |  | \
-        For more information, try '--help'.
-    --help => 3 !Usage: bpfspec <COMMAND> |  | Commands: | \
+/// Command lines that ask for help or the version, and what is told.
+const HELP: &str = "
+    --help => 0 Runs untrusted BPF programs over array maps, each loop speculatively in parallel |  | \
+        Usage: bpfspec <COMMAND> |  | Commands: | \
         \x20 verify  Tells whether a program is accepted | \
         \x20 order   Runs a program in order | \
         \x20 run     Runs a program, its loops in parallel | \
@@ -57,7 +53,33 @@ const USAGE: &str = "
         \x20 asm     Writes assembler text in hex form | \
         \x20 disasm  Writes the hex form as assembler text | \
         \x20 help    Print this message or the help of the given subcommand(s) |  | \
-        Options: |   -h, --help  Print help
+        Options: |   -h, --help     Print help |   -V, --version  Print version |  | \
+        It reads a program, the values of its maps and a list of events from standard input, and writes to standard \
+        output. |  | Exit status: |   0  done |   1  the program, its values or its events are refused | \
+        \x20 2  a text is refused |   3  the words are no command |   4  memory ran out |   5  a read or a write failed
+    verify -h => 0 Tells whether a program is accepted |  | Usage: bpfspec verify [OPTIONS] |  | \
+        Options: |       --hex   The unit is in hex form |   -h, --help  Print help
+    help asm => 0 Writes assembler text in hex form |  | Usage: bpfspec asm |  | Options: |   -h, --help  Print help
+    --version => 0 bpfspec 0.1.0
+    -V => 0 bpfspec 0.1.0
+";
+
+#[test]
+fn help_is_told(rt: HostRuntime) -> Result<(), Fail> {
+    for row in HELP.trim().lines() {
+        let (line, text) = row.split_once("=>").ok_or("a row has a text")?;
+        is_answered(&rt, rt.alloc(), line, "", text)?;
+    }
+    Ok(())
+}
+
+/// Command lines that ask for nothing, and what is told.
+const USAGE: &str = "
+    => 3 !error: 'bpfspec' requires a subcommand but one was not provided | \
+        \x20 [subcommands: verify, order, run, replay, asm, disasm, help] |  | Usage: bpfspec <COMMAND> |  | \
+        For more information, try '--help'.
+    link => 3 !error: unrecognized subcommand 'link' |  | Usage: bpfspec <COMMAND> |  | \
+        For more information, try '--help'.
     order --arg many => 3 !error: invalid value 'many' for '--arg <N>': \
         not a number from 0 to 18446744073709551615 |  | Usage: bpfspec order [OPTIONS] |  | \
         For more information, try '--help'.
@@ -65,6 +87,8 @@ const USAGE: &str = "
         not a number from 0 to 18446744073709551615 |  | Usage: bpfspec replay [OPTIONS] |  | \
         For more information, try '--help'.
     run --workers 17 --blocks 65 => 3 !error: invalid value '17' for '--workers <N>': \
+        not a number from 1 to 16 |  | Usage: bpfspec run [OPTIONS] |  | For more information, try '--help'.
+    run --workers 99999999999 => 3 !error: invalid value '99999999999' for '--workers <N>': \
         not a number from 1 to 16 |  | Usage: bpfspec run [OPTIONS] |  | For more information, try '--help'.
     run --blocks 0 --arg many => 3 !error: invalid value '0' for '--blocks <N>': \
         not a number from 1 to 64 |  | Usage: bpfspec run [OPTIONS] |  | For more information, try '--help'.
@@ -87,7 +111,7 @@ fn what_is_wrong_is_told(rt: HostRuntime) -> Result<(), Fail> {
 }
 
 const OTHER_FAULTS: &str = "
-    help
+    help link
     ordre
     asm --hex
     disasm --arg 1
