@@ -3,12 +3,12 @@
 
 use array_maps::Maps;
 use loop_core_model::{LoopReport, Test, Verdict};
-use spec_run::{Plan, Report, RunError, run, run_in_order};
+use spec_run::{Gate, Plan, Report, RunError, run, run_in_order};
 use std::alloc::Global;
 use std::process::Abort;
 use std::test::Fail;
 use std::thread::Threads;
-use tests_rows::{OpenGate, Row, read_row};
+use tests_rows::{Holds, MeetingGate, OpenGate, Row, read_row};
 
 /// A row with the words of its maps, and what comes of it: its return value, its loops, and the words after it.
 #[derive(Clone, Copy)]
@@ -114,12 +114,17 @@ fn is_run(rt: &impl Abort, case: &Case, report: &Report, maps: &Maps) {
     assert_eq!(rt; maps.words(), case.left);
 }
 
-/// Runs a case by workers, again where memory was refused.
-fn runs_at_last<R: Threads + Sync + Abort>(rt: &R, alloc: Global, case: &Case) -> Result<(), Fail> {
+/// Runs a case by workers that pass a gate, again where memory was refused.
+fn runs_at_last<R: Threads + Sync + Abort, G: Gate>(
+    rt: &R,
+    alloc: Global,
+    case: &Case,
+    gate: &G,
+) -> Result<(), Fail> {
     let Row { program, mut maps } = row_of(alloc, case)?;
-    let mut told = run(rt, alloc, &program, &mut maps, 0, &PLAN, &OpenGate);
+    let mut told = run(rt, alloc, &program, &mut maps, 0, &PLAN, gate);
     if is_refused(rt, case, &told, &maps) {
-        told = run(rt, alloc, &program, &mut maps, 0, &PLAN, &OpenGate);
+        told = run(rt, alloc, &program, &mut maps, 0, &PLAN, gate);
     }
     is_run(rt, case, &told?, &maps);
     Ok(())
@@ -127,22 +132,34 @@ fn runs_at_last<R: Threads + Sync + Abort>(rt: &R, alloc: Global, case: &Case) -
 
 #[test]
 fn maps_stay_where_a_loop_is_refused(rt: HostRuntime) -> Result<(), Fail> {
-    runs_at_last(&rt, rt.alloc(), &BREAKS_AT_5)
+    runs_at_last(&rt, rt.alloc(), &BREAKS_AT_5, &OpenGate)
 }
 
 #[test]
 fn maps_stay_where_a_second_loop_is_refused(rt: HostRuntime) -> Result<(), Fail> {
-    runs_at_last(&rt, rt.alloc(), &TWO_LOOPS)
+    runs_at_last(&rt, rt.alloc(), &TWO_LOOPS, &OpenGate)
 }
 
 #[test]
 fn maps_stay_where_a_discarded_loop_is_refused(rt: HostRuntime) -> Result<(), Fail> {
-    runs_at_last(&rt, rt.alloc(), &COPIES_ON)
+    runs_at_last(&rt, rt.alloc(), &COPIES_ON, &OpenGate)
 }
 
 #[test]
 fn maps_stay_where_halves_are_refused(rt: HostRuntime) -> Result<(), Fail> {
-    runs_at_last(&rt, rt.alloc(), &ADDS_TO_HALVES)
+    runs_at_last(&rt, rt.alloc(), &ADDS_TO_HALVES, &OpenGate)
+}
+
+/// The block that breaks waits until the last one has begun.
+const LAST_BLOCK_FIRST: Holds = Holds {
+    blocks: &[(1, 3)],
+    turns: &[],
+};
+
+#[test]
+fn maps_stay_where_a_worker_past_the_break_is_refused(rt: HostRuntime) -> Result<(), Fail> {
+    let gate = MeetingGate::new(LAST_BLOCK_FIRST);
+    runs_at_last(&rt, rt.alloc(), &BREAKS_AT_5, &gate)
 }
 
 /// The same in order.
