@@ -10,10 +10,10 @@ use Rattle.bpf_insn.specs.declared.codec_error.CodecError.{CodecError}
 use Rattle.bpf_insn.specs.declared.codec_error.CodecError.TheVariants.{Refused, Memory}
 use Rattle.bpf_insn_types.specs.Slots.{slots_of}
 use Rattle.bpf_insn.specs.SlotBytes.{slot_at}
-use Rattle.bpf_insn.specs.Reading.{insn_of_slot, front_slot, first_insn, FailsFirst, slots_in, first, more_of, before, ended, insns_in, reading}
+use Rattle.bpf_insn.specs.Reading.{insn_of_slot, front_slot, first_insn, FailsFirst, slots_in, first, more_of, insn_before, end_of_bytes, insns_in, reading}
 use Rattle.std.specs.Prelude.{IfOk}
 use Rattle.std.specs.Global.{Vec}
-use Rattle.bpf_insn_types.specs.Outcome.{Refuses, Gives}
+use Rattle.bpf_insn_types.specs.Outcome.{RefusalMatches, MatchesUnlessMemory}
 use Rattle.bpf_insn.specs.CodecRefusal.{codec_refusal}
 use Rattle.bpf_insn_types.specs.Values.{AreInsns}
 use Rattle.bpf_insn.specs.Spelling.{program_spelling}
@@ -99,24 +99,24 @@ some_long bytes t e =
 
 -- an instruction at the front of bytes, and where the rest goes on
 abbrev Goes : ℕ → List ℕ → Insn → ℕ → Type 0
-Goes left bytes i n = (8 * slots_of i ≤ length bytes) × (insns_in left (slots_in bytes) 0 n ≡ before n (Ok i) (insns_in left (slots_in (drop (8 * slots_of i) bytes)) 0 (n + slots_of i)))
+Goes left bytes i n = (8 * slots_of i ≤ length bytes) × (insns_in left (slots_in bytes) 0 n ≡ insn_before n (Ok i) (insns_in left (slots_in (drop (8 * slots_of i) bytes)) 0 (n + slots_of i)))
 
 at_slot : (left : ℕ) (bytes : List ℕ) (i : Insn) (n : ℕ) → 8 ≤ length bytes → insn_of_slot (slot_at bytes) (next_of bytes) ≡ Ok i
-    → insns_in left (slots_in bytes) 0 n ≡ before n (Ok i) (insns_in left (slots_in (drop 8 bytes)) (slots_of i - 1) (n + 1))
+    → insns_in left (slots_in bytes) 0 n ≡ insn_before n (Ok i) (insns_in left (slots_in (drop 8 bytes)) (slots_of i - 1) (n + 1))
 unfolding insns_in
 at_slot left bytes i n h e =
     let r = insn_of_slot (slot_at bytes) (first (slots_in (drop 8 bytes))) in
     ap (λ (x : List Slot). insns_in left x 0 n) (slots_in-front bytes h)
-    ∙ ap (λ (x : Result Insn CodecFault). before n x (insns_in left (slots_in (drop 8 bytes)) (more_of x) (n + 1))) e
+    ∙ ap (λ (x : Result Insn CodecFault). insn_before n x (insns_in left (slots_in (drop 8 bytes)) (more_of x) (n + 1))) e
 
-one_step : (left : ℕ) (bytes : List ℕ) (i : Insn) (n k : ℕ) → k ≡ 1 → before n (Ok i) (insns_in left (slots_in (drop 8 bytes)) (k - 1) (n + 1)) ≡ before n (Ok i) (insns_in left (slots_in (drop (8 * k) bytes)) 0 (n + k))
+one_step : (left : ℕ) (bytes : List ℕ) (i : Insn) (n k : ℕ) → k ≡ 1 → insn_before n (Ok i) (insns_in left (slots_in (drop 8 bytes)) (k - 1) (n + 1)) ≡ insn_before n (Ok i) (insns_in left (slots_in (drop (8 * k) bytes)) 0 (n + k))
 one_step left bytes i n k h = rw h refl
 
-two_steps : (left : ℕ) (bytes : List ℕ) (i : Insn) (n k : ℕ) → k ≡ 2 → 8 ≤ length (drop 8 bytes) → before n (Ok i) (insns_in left (slots_in (drop 8 bytes)) (k - 1) (n + 1)) ≡ before n (Ok i) (insns_in left (slots_in (drop (8 * k) bytes)) 0 (n + k))
+two_steps : (left : ℕ) (bytes : List ℕ) (i : Insn) (n k : ℕ) → k ≡ 2 → 8 ≤ length (drop 8 bytes) → insn_before n (Ok i) (insns_in left (slots_in (drop 8 bytes)) (k - 1) (n + 1)) ≡ insn_before n (Ok i) (insns_in left (slots_in (drop (8 * k) bytes)) 0 (n + k))
 unfolding insns_in
 two_steps left bytes i n k h more =
     let next : n + 1 + 1 ≡ n + 2 = omega arith in
-    rw h (ap (λ (x : List Slot). before n (Ok i) (insns_in left x 1 (n + 1))) (slots_in-front (drop 8 bytes) more) ∙ ap (λ (x : ℕ). before n (Ok i) (insns_in left (slots_in (drop 8 (drop 8 bytes))) 0 x)) next ∙ ap (λ (x : List ℕ). before n (Ok i) (insns_in left (slots_in x) 0 (n + 2))) (drop-drop 8 8 bytes))
+    rw h (ap (λ (x : List Slot). insn_before n (Ok i) (insns_in left x 1 (n + 1))) (slots_in-front (drop 8 bytes) more) ∙ ap (λ (x : ℕ). insn_before n (Ok i) (insns_in left (slots_in (drop 8 (drop 8 bytes))) 0 x)) next ∙ ap (λ (x : List ℕ). insn_before n (Ok i) (insns_in left (slots_in x) 0 (n + 2))) (drop-drop 8 8 bytes))
 
 goes : (left : ℕ) (bytes : List ℕ) (i : Insn) (n : ℕ) → IsBytes bytes → first_insn bytes ≡ Ok i → Goes left bytes i n
 unfolding insns_in
@@ -152,13 +152,13 @@ refuses bytes f n some e =
           ap (λ (x : List Slot). insns_in (length bytes % 8) x 0 n) (slots_in-short bytes h) ∙ cut_off (length bytes % 8) n (omega (arith, h, some)) ∙ ap (λ (x : CodecFault). refused x n) same
       | inr h ↦
           ap (λ (x : List Slot). insns_in (length bytes % 8) x 0 n) (slots_in-front bytes h)
-          ∙ ap (λ (x : Result Insn CodecFault). before n x (insns_in (length bytes % 8) (slots_in (drop 8 bytes)) (more_of x) (n + 1))) (sym (first_insn-long bytes h) ∙ e)
+          ∙ ap (λ (x : Result Insn CodecFault). insn_before n x (insns_in (length bytes % 8) (slots_in (drop 8 bytes)) (more_of x) (n + 1))) (sym (first_insn-long bytes h) ∙ e)
     ]
   where
     refused : CodecFault → ℕ → Result (List Insn) CodecError
     refused x n = Err (Refused x n)
 
-    cut_off : (left n : ℕ) → 0 < left → ended left n ≡ refused faults.Incomplete n
+    cut_off : (left n : ℕ) → 0 < left → end_of_bytes left n ≡ refused faults.Incomplete n
     cut_off zero n h = absurd (omega (arith, h))
     cut_off (suc left) n h = refl
 
@@ -176,7 +176,7 @@ pub record IsPartRead (bytes rest : List ℕ) (is : List Insn) : Type 0 where
   pub left : length rest % 8 ≡ length bytes % 8
   pub goes_on : with_front is (insns_in (length rest % 8) (slots_in rest) 0 ((length bytes - length rest) / 8)) ≡ reading bytes
 
-front_then : (is : List Insn) (n : ℕ) (i : Insn) (later : Result (List Insn) CodecError) → with_front is (before n (Ok i) later) ≡ with_front (is ++ i ∷ []) later
+front_then : (is : List Insn) (n : ℕ) (i : Insn) (later : Result (List Insn) CodecError) → with_front is (insn_before n (Ok i) later) ≡ with_front (is ++ i ∷ []) later
 front_then is n i (Ok l) = ap (λ (x : List Insn). Ok x) (sym (append_assoc is (i ∷ []) l))
 front_then is n i (Err e) = refl
 
@@ -212,7 +212,7 @@ ends bytes rest is f slot some h e at =
     refused f n = Err (Refused f n)
 
 pub fails : (bytes rest : List ℕ) (is : List Insn) (e : CodecError) → 0 < length rest → IsPartRead bytes rest is
-    → FailsFirst rest ((length bytes - length rest) / 8) e → Refuses (codec_refusal e) (reading bytes)
+    → FailsFirst rest ((length bytes - length rest) / 8) e → RefusalMatches (codec_refusal e) (reading bytes)
 fails bytes rest is Memory some h e = tt
 fails bytes rest is (Refused f n) some h e = ends bytes rest is f n some h e.0 e.1
 
@@ -237,6 +237,6 @@ begins bytes fits =
     no_front (Err e) = refl
 
 -- what a program's reading gives is spelled so
-pub if_found : (bytes : List ℕ) (r : Result (Vec Insn) CodecError) → IsBytes bytes → Gives codec_refusal (λ v. v.items) r (reading bytes) → IfOk r (λ v. AreInsns v.items × (program_spelling v.items ≡ Ok bytes))
+pub if_found : (bytes : List ℕ) (r : Result (Vec Insn) CodecError) → IsBytes bytes → MatchesUnlessMemory codec_refusal (λ v. v.items) r (reading bytes) → IfOk r (λ v. AreInsns v.items × (program_spelling v.items ≡ Ok bytes))
 if_found bytes (Ok v) fits given = reading_found bytes v.items fits given
 if_found bytes (Err e) fits given = tt

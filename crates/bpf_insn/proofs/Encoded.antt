@@ -6,7 +6,7 @@ use Rattle.bpf_insn.specs.declared.codec_error.CodecError.{CodecError}
 use Rattle.bpf_insn.specs.declared.codec_error.CodecError.TheVariants.{Refused, Memory}
 use Rattle.bpf_insn_types.specs.Slots.{slots_of}
 use Rattle.bpf_insn.specs.Spelling.{spelling, bytes_at, both_or_refusal, spelling_from, program_spelling, Appends}
-use Rattle.bpf_insn_types.specs.Outcome.{Refuses}
+use Rattle.bpf_insn_types.specs.Outcome.{RefusalMatches}
 use Rattle.bpf_insn.specs.CodecRefusal.{codec_refusal}
 use Rattle.bpf_insn.proofs.Lengths.{spelled_len}
 
@@ -35,7 +35,7 @@ goes_on is k i old new bytes lt e h given whole =
     }
 
 pub ends : (is : List Insn) (k : ℕ) (i : Insn) (old new : List ℕ) (e : CodecError) → k < length is → i ≡ get_or is k i → IsBegun is k old
-    → Appends old new i (Err e) → Refuses (codec_refusal e) (program_spelling is)
+    → Appends old new i (Err e) → RefusalMatches (codec_refusal e) (program_spelling is)
 ends is k i old new Memory lt at h given = tt
 ends is k i old new (Refused fault n) lt at h given =
     let later = spelling_from (length old / 8 + slots_of i) (drop (k + 1) is) in

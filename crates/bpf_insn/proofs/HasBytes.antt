@@ -20,7 +20,7 @@ use Rattle.bpf_insn.specs.declared.form.AluCode.TheVariants as alu
 use Rattle.bpf_insn.specs.declared.form.Form.{Form}
 use Rattle.bpf_insn.specs.declared.form.Form.TheVariants as form
 use Rattle.bpf_insn.specs.SlotBytes.{slot}
-use Rattle.bpf_insn.specs.Spelling.{op_offset, endian_imm, callee_src, atomic_imm, kind_src, has_next, second, both, two, spelling}
+use Rattle.bpf_insn.specs.Spelling.{op_offset, endian_imm, callee_src, atomic_imm, kind_src, has_next, second, both, two_slots, spelling}
 use Rattle.bpf_insn_types.specs.Values.{InsnFits}
 use Rattle.bpf_insn.proofs.Bytes.{HasBytes, HaveBytes}
 use Rattle.bpf_insn.proofs.ReadsBack.{callee_src-le, kind_src-le}
@@ -79,7 +79,7 @@ second_has next h = record { dst = omega arith; src = omega arith; holds = recor
 both_have : (kind : ImmKind) (dst : ℕ) (imm next : ℤ) → dst ≤ 10 → FitsSigned w32 imm → FitsSigned w32 next → IfOk (both kind dst imm next) HaveBytes
 both_have kind dst imm next d i n = (slot_has form.LoadImm dst (kind_src kind) (pos 0) imm d (kind_src-le kind) no_offset i, (second_has next n, tt))
 
-two_have : (kind : ImmKind) (b : Bool) (dst : ℕ) (imm next : ℤ) → dst ≤ 10 → FitsSigned w32 imm → FitsSigned w32 next → IfOk (two kind b dst imm next) HaveBytes
+two_have : (kind : ImmKind) (b : Bool) (dst : ℕ) (imm next : ℤ) → dst ≤ 10 → FitsSigned w32 imm → FitsSigned w32 next → IfOk (two_slots kind b dst imm next) HaveBytes
 two_have kind true dst imm next d i n = both_have kind dst imm next d i n
 two_have kind false dst imm (pos zero) d i n = both_have kind dst imm (pos 0) d i n
 two_have kind false dst imm (pos (suc k)) d i n = tt

@@ -12,13 +12,13 @@ use Rattle.bpf_insn.specs.declared.slot.Slot.{Slot}
 use Rattle.bpf_insn.specs.declared.codec_error.CodecFault.{CodecFault}
 use Rattle.bpf_insn_types.specs.Slots.{slots_of}
 use Rattle.bpf_insn.specs.SlotBytes.{slots_bytes}
-use Rattle.bpf_insn.specs.Spelling.{two, has_next, spelling, bytes_at}
+use Rattle.bpf_insn.specs.Spelling.{two_slots, has_next, spelling, bytes_at}
 
 -- slots of 8 bytes
 abbrev pub TakeSlots : ℕ → Result (List Slot) CodecFault → Type 0
 TakeSlots n r = IfOk r (λ ss. length (slots_bytes ss) ≡ 8 * n)
 
-two_take : (kind : ImmKind) (b : Bool) (dst : ℕ) (imm next : ℤ) → TakeSlots 2 (two kind b dst imm next)
+two_take : (kind : ImmKind) (b : Bool) (dst : ℕ) (imm next : ℤ) → TakeSlots 2 (two_slots kind b dst imm next)
 two_take kind true dst imm next = refl
 two_take kind false dst imm (pos zero) = refl
 two_take kind false dst imm (pos (suc n)) = tt

@@ -10,7 +10,7 @@ use Rattle.bpf_insn_types.specs.Slots.{slots_of}
 use Rattle.bpf_insn.specs.SlotBytes.{slots_bytes}
 use Rattle.bpf_insn.specs.Spelling.{spelling, bytes_at, insn_bytes, both_or_refusal, spelling_from, program_spelling}
 use Rattle.bpf_insn_types.specs.Values.{InsnFits, AreInsns}
-use Rattle.bpf_insn.specs.Reading.{insn_of_slot, first, more_of, before, insns_in, slots_in, reading}
+use Rattle.bpf_insn.specs.Reading.{insn_of_slot, first, more_of, insn_before, insns_in, slots_in, reading}
 use Rattle.bpf_insn.proofs.Lengths.{spelled_len}
 use Rattle.bpf_insn.proofs.Spelled.{Reads}
 use Rattle.bpf_insn.proofs.SlotReads.{NextHolds, slot_reads}
@@ -38,7 +38,7 @@ of_ok P (Err fault) x e h = absurd cc
 
 -- ---- what is read is spelled so
 
-before_ok : (n : ℕ) (r : Result Insn CodecFault) (later : Result (List Insn) CodecError) (p : List Insn) → before n r later ≡ Ok p
+before_ok : (n : ℕ) (r : Result Insn CodecFault) (later : Result (List Insn) CodecError) (p : List Insn) → insn_before n r later ≡ Ok p
     → (i : Insn) × (is : List Insn) × (r ≡ Ok i) × (later ≡ Ok is) × (p ≡ i ∷ is)
 before_ok n (Err fault) later p e = absurd cc
 before_ok n (Ok i) (Err x) p e = absurd cc
@@ -127,26 +127,26 @@ bytes_ok n (Err e) a h = absurd cc
 bytes_ok n (Ok ss) a h = (ss, refl, sym (ok_is (slots_bytes ss) a h))
 
 -- an instruction that is read at slots, and where the rest goes on
-steps : (i : Insn) (ss rest : List Slot) (n : ℕ) → ReadsBack i (Ok ss) → length (slots_bytes ss) ≡ 8 * slots_of i → insns_in 0 (ss ++ rest) 0 n ≡ before n (Ok i) (insns_in 0 rest 0 (n + slots_of i))
+steps : (i : Insn) (ss rest : List Slot) (n : ℕ) → ReadsBack i (Ok ss) → length (slots_bytes ss) ≡ 8 * slots_of i → insns_in 0 (ss ++ rest) 0 n ≡ insn_before n (Ok i) (insns_in 0 rest 0 (n + slots_of i))
 unfolding insns_in
 steps i [] rest n h len = absurd h
 steps i (s ∷ []) rest n h len =
     let read = h (first rest) in
     let more : more_of (insn_of_slot s (first rest)) ≡ 0 = more_is (insn_of_slot s (first rest)) i 0 read (omega (arith, len)) in
     let next : n + 1 ≡ n + slots_of i = omega (arith, len) in
-    ap (λ (x : ℕ). before n (insn_of_slot s (first rest)) (insns_in 0 rest x (n + 1))) more
-    ∙ ap (λ (x : ℕ). before n (insn_of_slot s (first rest)) (insns_in 0 rest 0 x)) next
-    ∙ ap (λ (r : Result Insn CodecFault). before n r (insns_in 0 rest 0 (n + slots_of i))) read
+    ap (λ (x : ℕ). insn_before n (insn_of_slot s (first rest)) (insns_in 0 rest x (n + 1))) more
+    ∙ ap (λ (x : ℕ). insn_before n (insn_of_slot s (first rest)) (insns_in 0 rest 0 x)) next
+    ∙ ap (λ (r : Result Insn CodecFault). insn_before n r (insns_in 0 rest 0 (n + slots_of i))) read
 steps i (s ∷ t ∷ []) rest n h len =
     let more : more_of (insn_of_slot s (Some t)) ≡ 1 = more_is (insn_of_slot s (Some t)) i 1 h (omega (arith, len)) in
     let next : n + 1 + 1 ≡ n + slots_of i = omega (arith, len) in
-    ap (λ (x : ℕ). before n (insn_of_slot s (Some t)) (insns_in 0 (t ∷ rest) x (n + 1))) more
-    ∙ ap (λ (x : ℕ). before n (insn_of_slot s (Some t)) (insns_in 0 rest 0 x)) next
-    ∙ ap (λ (r : Result Insn CodecFault). before n r (insns_in 0 rest 0 (n + slots_of i))) h
+    ap (λ (x : ℕ). insn_before n (insn_of_slot s (Some t)) (insns_in 0 (t ∷ rest) x (n + 1))) more
+    ∙ ap (λ (x : ℕ). insn_before n (insn_of_slot s (Some t)) (insns_in 0 rest 0 x)) next
+    ∙ ap (λ (r : Result Insn CodecFault). insn_before n r (insns_in 0 rest 0 (n + slots_of i))) h
 steps i (s ∷ t ∷ u ∷ ss) rest n h len = absurd h
 
-before_is : (n : ℕ) (i : Insn) (is : List Insn) (later : Result (List Insn) CodecError) → later ≡ Ok is → before n (Ok i) later ≡ Ok (i ∷ is)
-before_is n i is later e = ap (before n (Ok i)) e
+before_is : (n : ℕ) (i : Insn) (is : List Insn) (later : Result (List Insn) CodecError) → later ≡ Ok is → insn_before n (Ok i) later ≡ Ok (i ∷ is)
+before_is n i is later e = ap (insn_before n (Ok i)) e
 
 again_in : (p : List Insn) (n : ℕ) (bytes : List ℕ) → AreInsns p → spelling_from n p ≡ Ok bytes → (insns_in 0 (slots_in bytes) 0 n ≡ Ok p) × (length bytes % 8 ≡ 0)
 unfolding insns_in slots_in
@@ -162,7 +162,7 @@ again_in (i ∷ is) n bytes h e =
     let parts : bytes ≡ slots_bytes ss ++ cut.1 = cut.4 ∙ ap (λ (x : List ℕ). x ++ cut.1) here.2 in
     let total : length bytes ≡ 8 * slots_of i + length cut.1 = ap length parts ∙ length-append (slots_bytes ss) cut.1 ∙ ap (λ (x : ℕ). x + length cut.1) len in
     let slots : slots_in bytes ≡ ss ++ slots_in cut.1 = ap slots_in parts ∙ slots_in-slots_bytes ss cut.1 has in
-    let read : insns_in 0 (slots_in bytes) 0 n ≡ before n (Ok i) (insns_in 0 (slots_in cut.1) 0 (n + slots_of i)) = ap (λ (x : List Slot). insns_in 0 x 0 n) slots ∙ steps i ss (slots_in cut.1) n back len in
+    let read : insns_in 0 (slots_in bytes) 0 n ≡ insn_before n (Ok i) (insns_in 0 (slots_in cut.1) 0 (n + slots_of i)) = ap (λ (x : List Slot). insns_in 0 x 0 n) slots ∙ steps i ss (slots_in cut.1) n back len in
     (read ∙ before_is n i is (insns_in 0 (slots_in cut.1) 0 (n + slots_of i)) rest.0, omega (arith, total, rest.1))
 
 -- what is spelled so is read

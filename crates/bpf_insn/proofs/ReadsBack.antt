@@ -29,9 +29,9 @@ use Rattle.bpf_insn.specs.declared.codec_error.CodecFault.{CodecFault}
 use Rattle.bpf_insn.specs.declared.codec_error.CodecFault.TheVariants as faults
 use Rattle.bpf_insn.specs.Opcode.{opcode, form_at}
 use Rattle.bpf_insn.specs.SlotBytes.{slot}
-use Rattle.bpf_insn.specs.Spelling.{code_of, op_offset, endian_imm, callee_src, atomic_imm, kind_src, has_next, second, two, spelling}
+use Rattle.bpf_insn.specs.Spelling.{code_of, op_offset, endian_imm, callee_src, atomic_imm, kind_src, has_next, second, two_slots, spelling}
 use Rattle.bpf_insn_types.specs.Values.{InsnFits}
-use Rattle.bpf_insn.specs.Reading.{unused_are_zero, op_at, alu_reg, mov_at, endian_at, call_at, atomic_at, kind_at, load_imm_at, insn_of_form, tested, insn_of_slot}
+use Rattle.bpf_insn.specs.Reading.{unused_are_zero, alu_op_at, alu_reg_insn, mov_at, endian_at, call_at, atomic_at, imm_kind_at, load_imm_at, insn_of_form, checked_slot, insn_of_slot}
 use Rattle.bpf_insn.proofs.Forms.{form_at-alu_imm, form_at-alu_reg, form_at-jump_imm, form_at-jump_reg, form_at-neg, form_at-endian, form_at-load, form_at-store_imm, form_at-store, form_at-atomic}
 
 -- the slots of a spelling are read as this instruction
@@ -48,7 +48,7 @@ back : (f : Form) (dst src : ℕ) (offset imm : ℤ) (next : Option Slot) (i : I
     → unused_are_zero f (slot f dst src offset imm) ≡ true → insn_of_form f dst src offset imm next ≡ Ok i → insn_of_slot (slot f dst src offset imm) next ≡ Ok i
 unfolding insn_of_slot
 back f dst src offset imm next i says d s unused read =
-    ap (λ (o : Option Form). tested o (slot f dst src offset imm) next) says
+    ap (λ (o : Option Form). checked_slot o (slot f dst src offset imm) next) says
     ∙ passes (ltb 10 dst) (ltb 10 src) (unused_are_zero f (slot f dst src offset imm)) (insn_of_form f dst src offset imm next) (le-ltb 10 dst d) (le-ltb 10 src s) unused
     ∙ read
 
@@ -86,37 +86,37 @@ reg_unused w op.Xor dst src = refl
 reg_unused w op.Mov dst src = refl
 reg_unused w op.Arsh dst src = refl
 
-op_at-code_of : (o : AluOp) → op_at (code_of o) (op_offset o) ≡ Ok o
-op_at-code_of op.Add = refl
-op_at-code_of op.Sub = refl
-op_at-code_of op.Mul = refl
-op_at-code_of op.Div = refl
-op_at-code_of op.Sdiv = refl
-op_at-code_of op.Or = refl
-op_at-code_of op.And = refl
-op_at-code_of op.Lsh = refl
-op_at-code_of op.Rsh = refl
-op_at-code_of op.Mod = refl
-op_at-code_of op.Smod = refl
-op_at-code_of op.Xor = refl
-op_at-code_of op.Mov = refl
-op_at-code_of op.Arsh = refl
+alu_op_at-code_of : (o : AluOp) → alu_op_at (code_of o) (op_offset o) ≡ Ok o
+alu_op_at-code_of op.Add = refl
+alu_op_at-code_of op.Sub = refl
+alu_op_at-code_of op.Mul = refl
+alu_op_at-code_of op.Div = refl
+alu_op_at-code_of op.Sdiv = refl
+alu_op_at-code_of op.Or = refl
+alu_op_at-code_of op.And = refl
+alu_op_at-code_of op.Lsh = refl
+alu_op_at-code_of op.Rsh = refl
+alu_op_at-code_of op.Mod = refl
+alu_op_at-code_of op.Smod = refl
+alu_op_at-code_of op.Xor = refl
+alu_op_at-code_of op.Mov = refl
+alu_op_at-code_of op.Arsh = refl
 
-alu_reg-code_of : (w : Width) (o : AluOp) (dst src : ℕ) → alu_reg w (code_of o) dst src (op_offset o) ≡ Ok (insn.Alu w o dst (Reg src))
-alu_reg-code_of w op.Add dst src = refl
-alu_reg-code_of w op.Sub dst src = refl
-alu_reg-code_of w op.Mul dst src = refl
-alu_reg-code_of w op.Div dst src = refl
-alu_reg-code_of w op.Sdiv dst src = refl
-alu_reg-code_of w op.Or dst src = refl
-alu_reg-code_of w op.And dst src = refl
-alu_reg-code_of w op.Lsh dst src = refl
-alu_reg-code_of w op.Rsh dst src = refl
-alu_reg-code_of w op.Mod dst src = refl
-alu_reg-code_of w op.Smod dst src = refl
-alu_reg-code_of w op.Xor dst src = refl
-alu_reg-code_of w op.Mov dst src = refl
-alu_reg-code_of w op.Arsh dst src = refl
+alu_reg_insn-code_of : (w : Width) (o : AluOp) (dst src : ℕ) → alu_reg_insn w (code_of o) dst src (op_offset o) ≡ Ok (insn.Alu w o dst (Reg src))
+alu_reg_insn-code_of w op.Add dst src = refl
+alu_reg_insn-code_of w op.Sub dst src = refl
+alu_reg_insn-code_of w op.Mul dst src = refl
+alu_reg_insn-code_of w op.Div dst src = refl
+alu_reg_insn-code_of w op.Sdiv dst src = refl
+alu_reg_insn-code_of w op.Or dst src = refl
+alu_reg_insn-code_of w op.And dst src = refl
+alu_reg_insn-code_of w op.Lsh dst src = refl
+alu_reg_insn-code_of w op.Rsh dst src = refl
+alu_reg_insn-code_of w op.Mod dst src = refl
+alu_reg_insn-code_of w op.Smod dst src = refl
+alu_reg_insn-code_of w op.Xor dst src = refl
+alu_reg_insn-code_of w op.Mov dst src = refl
+alu_reg_insn-code_of w op.Arsh dst src = refl
 
 endian_at-imm : (o : ByteOrder) (b : EndianBits) (dst : ℕ) → endian_at o dst (endian_imm b) ≡ Ok (insn.Endian o b dst)
 endian_at-imm o endian.B16 dst = refl
@@ -145,14 +145,14 @@ atomic_at-imm (Fetch simple.Xor) = refl
 atomic_at-imm Xchg = refl
 atomic_at-imm Cmpxchg = refl
 
-kind_at-src : (k : ImmKind) → kind_at (kind_src k) ≡ Some k
-kind_at-src kind.Number = refl
-kind_at-src kind.MapFd = refl
-kind_at-src kind.MapFdValue = refl
-kind_at-src kind.Variable = refl
-kind_at-src kind.Code = refl
-kind_at-src kind.Map = refl
-kind_at-src kind.MapValue = refl
+imm_kind_at-src : (k : ImmKind) → imm_kind_at (kind_src k) ≡ Some k
+imm_kind_at-src kind.Number = refl
+imm_kind_at-src kind.MapFd = refl
+imm_kind_at-src kind.MapFdValue = refl
+imm_kind_at-src kind.Variable = refl
+imm_kind_at-src kind.Code = refl
+imm_kind_at-src kind.Map = refl
+imm_kind_at-src kind.MapValue = refl
 
 pub kind_src-le : (k : ImmKind) → kind_src k ≤ 10
 kind_src-le kind.Number = omega arith
@@ -170,9 +170,9 @@ load_back : (kind : ImmKind) (dst : ℕ) (imm next : ℤ) → dst ≤ 10 → loa
     → insn_of_slot (slot form.LoadImm dst (kind_src kind) (pos 0) imm) (Some (second next)) ≡ Ok (insn.LoadImm kind dst imm next)
 load_back kind dst imm next d read =
     back form.LoadImm dst (kind_src kind) (pos 0) imm (Some (second next)) (insn.LoadImm kind dst imm next) refl d (kind_src-le kind) refl
-    (ap (λ (o : Option ImmKind). load_imm_at o dst imm (Some (second next))) (kind_at-src kind) ∙ read)
+    (ap (λ (o : Option ImmKind). load_imm_at o dst imm (Some (second next))) (imm_kind_at-src kind) ∙ read)
 
-two_back : (kind : ImmKind) (b : Bool) (dst : ℕ) (imm next : ℤ) → dst ≤ 10 → b ≡ has_next kind → ReadsBack (insn.LoadImm kind dst imm next) (two kind b dst imm next)
+two_back : (kind : ImmKind) (b : Bool) (dst : ℕ) (imm next : ℤ) → dst ≤ 10 → b ≡ has_next kind → ReadsBack (insn.LoadImm kind dst imm next) (two_slots kind b dst imm next)
 two_back kind true dst imm next d h = load_back kind dst imm next d (rw (← h) refl)
 two_back kind false dst imm (pos zero) d h = load_back kind dst imm (pos 0) d (rw (← h) refl)
 two_back kind false dst imm (pos (suc n)) d h = tt
@@ -180,8 +180,8 @@ two_back kind false dst imm (negsuc n) d h = tt
 
 -- the slots that spell an instruction are read as it
 pub reads_back : (i : Insn) → InsnFits i → ReadsBack i (spelling i)
-reads_back (insn.Alu w o dst (Imm imm)) h = λ next. back (form.AluImm w (code_of o)) dst 0 (op_offset o) imm next (insn.Alu w o dst (Imm imm)) (form_at-alu_imm w (code_of o)) h.0 (omega arith) (imm_unused w o dst imm) (rw (op_at-code_of o) refl)
-reads_back (insn.Alu w o dst (Reg src)) h = λ next. back (form.AluReg w (code_of o)) dst src (op_offset o) (pos 0) next (insn.Alu w o dst (Reg src)) (form_at-alu_reg w (code_of o)) h.0 h.1 (reg_unused w o dst src) (alu_reg-code_of w o dst src)
+reads_back (insn.Alu w o dst (Imm imm)) h = λ next. back (form.AluImm w (code_of o)) dst 0 (op_offset o) imm next (insn.Alu w o dst (Imm imm)) (form_at-alu_imm w (code_of o)) h.0 (omega arith) (imm_unused w o dst imm) (rw (alu_op_at-code_of o) refl)
+reads_back (insn.Alu w o dst (Reg src)) h = λ next. back (form.AluReg w (code_of o)) dst src (op_offset o) (pos 0) next (insn.Alu w o dst (Reg src)) (form_at-alu_reg w (code_of o)) h.0 h.1 (reg_unused w o dst src) (alu_reg_insn-code_of w o dst src)
 reads_back (insn.Neg w dst) h = λ next. back (form.Neg w) dst 0 (pos 0) (pos 0) next (insn.Neg w dst) (form_at-neg w) h (omega arith) refl refl
 reads_back (insn.Movsx W32 movsx.B8 dst src) h = λ next. movsx_back W32 dst src (pos 8) next (insn.Movsx W32 movsx.B8 dst src) h.0 h.1 refl
 reads_back (insn.Movsx W32 movsx.B16 dst src) h = λ next. movsx_back W32 dst src (pos 16) next (insn.Movsx W32 movsx.B16 dst src) h.0 h.1 refl

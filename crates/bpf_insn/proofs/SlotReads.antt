@@ -24,8 +24,8 @@ use Rattle.bpf_insn.specs.declared.codec_error.CodecFault.{CodecFault}
 use Rattle.bpf_insn.specs.declared.codec_error.CodecFault.TheVariants as faults
 use Rattle.bpf_insn.specs.Opcode.{opcode, form_at}
 use Rattle.bpf_insn.specs.SlotBytes.{slot}
-use Rattle.bpf_insn.specs.Spelling.{endian_imm, callee_src, atomic_imm, kind_src, has_next, second, both, two}
-use Rattle.bpf_insn.specs.Reading.{is, uses_dst, uses_src, uses_offset, uses_imm, unused_are_zero, endian_at, call_at, atomic_at, atomic_insn, kind_at, is_second, load_imm_at, insn_of_form, tested, insn_of_slot}
+use Rattle.bpf_insn.specs.Spelling.{endian_imm, callee_src, atomic_imm, kind_src, has_next, second, both, two_slots}
+use Rattle.bpf_insn.specs.Reading.{is, uses_dst, uses_src, uses_offset, uses_imm, unused_are_zero, endian_at, call_at, atomic_at, atomic_insn, imm_kind_at, is_second, load_imm_at, insn_of_form, checked_slot, insn_of_slot}
 use Rattle.bpf_insn.proofs.Forms.{opcode-form_at}
 use Rattle.bpf_insn.proofs.Spelled.{Holds, Reads, Passed, if_ok, if_some, and_true, or_false, not_false, is_true, slot_is, one_is, imm_reads, reg_reads, mov_reads}
 
@@ -80,7 +80,7 @@ atomic_if w s next p (Err e) h = tt
 
 -- ---- loads of two slots
 
-kind_is : (src : ℕ) → IfSome (kind_at src) (λ k. kind_src k ≡ src)
+kind_is : (src : ℕ) → IfSome (imm_kind_at src) (λ k. kind_src k ≡ src)
 kind_is src =
     let P : ImmKind → Type 0 = λ k. kind_src k ≡ src in
     let later : ImmKind → ℕ → Option ImmKind → Option ImmKind = λ k n r. cond (eqb src n) (Some k) r in
@@ -94,7 +94,7 @@ kind_is src =
     step kind.Number 0 r1 refl (step kind.MapFd 1 r2 refl (step kind.MapFdValue 2 r3 refl (step kind.Variable 3 r4 refl
     (step kind.Code 4 r5 refl (step kind.Map 5 r6 refl (step kind.MapValue 6 None refl tt))))))
 
-two_is : (kind : ImmKind) (b : Bool) (dst : ℕ) (imm next : ℤ) → (b || is next 0) ≡ true → two kind b dst imm next ≡ both kind dst imm next
+two_is : (kind : ImmKind) (b : Bool) (dst : ℕ) (imm next : ℤ) → (b || is next 0) ≡ true → two_slots kind b dst imm next ≡ both kind dst imm next
 two_is kind true dst imm next h = refl
 two_is kind false dst imm (pos zero) h = refl
 two_is kind false dst imm (pos (suc n)) h = absurd (omega (arith, eqb-true (suc n) 0 h))
@@ -210,9 +210,9 @@ form_reads (form.Store z) s next p n = record {
   fits = (p.dst, p.src, p.holds.offset);
 }
 form_reads (form.Atomic w) s next p n = atomic_if w s next p (atomic_at s.imm) (atomic_is s.imm)
-form_reads form.LoadImm s next p n = load_imm_reads s (kind_at s.src) next p n (kind_is s.src)
+form_reads form.LoadImm s next p n = load_imm_reads s (imm_kind_at s.src) next p n (kind_is s.src)
 
-tested_reads : (o : Option Form) (s : Slot) (next : Option Slot) → form_at s.opcode ≡ o → IfSome o (λ f. opcode f ≡ s.opcode) → Holds s → NextHolds next → IfOk (tested o s next) (Reads s next)
+tested_reads : (o : Option Form) (s : Slot) (next : Option Slot) → form_at s.opcode ≡ o → IfSome o (λ f. opcode f ≡ s.opcode) → Holds s → NextHolds next → IfOk (checked_slot o s next) (Reads s next)
 tested_reads None s next e h a n = tt
 tested_reads (Some f) s next e h a n =
     let read = insn_of_form f s.dst s.src s.offset s.imm next in

@@ -21,9 +21,9 @@ use Rattle.bpf_insn.specs.declared.codec_error.CodecFault.{CodecFault}
 use Rattle.bpf_insn.specs.declared.codec_error.CodecFault.TheVariants as faults
 use Rattle.bpf_insn.specs.Opcode.{opcode, form_at}
 use Rattle.bpf_insn.specs.SlotBytes.{slot}
-use Rattle.bpf_insn.specs.Spelling.{code_of, op_offset, one, spelling}
+use Rattle.bpf_insn.specs.Spelling.{code_of, op_offset, one_slot, spelling}
 use Rattle.bpf_insn_types.specs.Values.{InsnFits}
-use Rattle.bpf_insn.specs.Reading.{is, uses_dst, uses_src, uses_offset, uses_imm, has_signed, signed_at, op_at, alu_insn, movsx_32, mov_at}
+use Rattle.bpf_insn.specs.Reading.{is, uses_dst, uses_src, uses_offset, uses_imm, has_signed, signed_op_at, alu_op_at, alu_insn, movsx_32, mov_at}
 
 -- the signed fields of a slot fit
 pub record Holds (s : Slot) : Type 0 where
@@ -81,7 +81,7 @@ is_true (negsuc m) n h = absurd cc
 pub slot_is : (f : Form) (s : Slot) (dst src : ℕ) (offset imm : ℤ) → opcode f ≡ s.opcode → dst ≡ s.dst → src ≡ s.src → offset ≡ s.offset → imm ≡ s.imm → slot f dst src offset imm ≡ s
 slot_is f s dst src offset imm a b c d e = rw (a, b, c, d, e) refl
 
-pub one_is : (f : Form) (s : Slot) (dst src : ℕ) (offset imm : ℤ) → opcode f ≡ s.opcode → dst ≡ s.dst → src ≡ s.src → offset ≡ s.offset → imm ≡ s.imm → one f dst src offset imm ≡ Ok (s ∷ [])
+pub one_is : (f : Form) (s : Slot) (dst src : ℕ) (offset imm : ℤ) → opcode f ≡ s.opcode → dst ≡ s.dst → src ≡ s.src → offset ≡ s.offset → imm ≡ s.imm → one_slot f dst src offset imm ≡ Ok (s ∷ [])
 one_is f s dst src offset imm a b c d e = ap (λ (x : Slot). Ok (x ∷ [])) (slot_is f s dst src offset imm a b c d e)
 
 -- ---- arithmetic
@@ -89,13 +89,13 @@ one_is f s dst src offset imm a b c d e = ap (λ (x : Slot). Ok (x ∷ [])) (slo
 abbrev IsOp : AluCode → ℤ → AluOp → Type 0
 IsOp c offset o = (code_of o ≡ c) × (op_offset o ≡ offset)
 
-signed_is : (offset : ℤ) (plain signed : AluOp) (c : AluCode) → code_of plain ≡ c → op_offset plain ≡ pos 0 → code_of signed ≡ c → op_offset signed ≡ pos 1 → IfOk (signed_at offset plain signed) (IsOp c offset)
+signed_is : (offset : ℤ) (plain signed : AluOp) (c : AluCode) → code_of plain ≡ c → op_offset plain ≡ pos 0 → code_of signed ≡ c → op_offset signed ≡ pos 1 → IfOk (signed_op_at offset plain signed) (IsOp c offset)
 signed_is offset plain signed c a b d e =
     if_ok (IsOp c offset) (is offset 0) (Ok plain) (cond (is offset 1) (Ok signed) (Err faults.Offset))
     (λ h. (a, b ∙ sym (is_true offset 0 h)))
     (λ _. if_ok (IsOp c offset) (is offset 1) (Ok signed) (Err faults.Offset) (λ h. (d, e ∙ sym (is_true offset 1 h))) (λ _. tt))
 
-op_is : (c : AluCode) (offset : ℤ) → (has_signed c || is offset 0) ≡ true → IfOk (op_at c offset) (IsOp c offset)
+op_is : (c : AluCode) (offset : ℤ) → (has_signed c || is offset 0) ≡ true → IfOk (alu_op_at c offset) (IsOp c offset)
 op_is alu.Add offset h = (refl, sym (is_true offset 0 h))
 op_is alu.Sub offset h = (refl, sym (is_true offset 0 h))
 op_is alu.Mul offset h = (refl, sym (is_true offset 0 h))
@@ -113,31 +113,31 @@ alu_if : (P : Insn → Type 0) (w : Width) (dst : ℕ) (operand : Operand) (Q : 
 alu_if P w dst operand Q (Ok o) q h = h o q
 alu_if P w dst operand Q (Err e) q h = tt
 
-pub imm_reads : (w : Width) (c : AluCode) (s : Slot) (next : Option Slot) → Passed (form.AluImm w c) s → IfOk (alu_insn w s.dst (Imm s.imm) (op_at c s.offset)) (Reads s next)
+pub imm_reads : (w : Width) (c : AluCode) (s : Slot) (next : Option Slot) → Passed (form.AluImm w c) s → IfOk (alu_insn w s.dst (Imm s.imm) (alu_op_at c s.offset)) (Reads s next)
 imm_reads w c s next p =
-    alu_if (Reads s next) w s.dst (Imm s.imm) (IsOp c s.offset) (op_at c s.offset) (op_is c s.offset p.no_offset)
+    alu_if (Reads s next) w s.dst (Imm s.imm) (IsOp c s.offset) (alu_op_at c s.offset) (op_is c s.offset p.no_offset)
     (λ o q. record {
       taken = inl (one_is (form.AluImm w (code_of o)) s s.dst 0 (op_offset o) s.imm (ap (λ (x : AluCode). opcode (form.AluImm w x)) q.0 ∙ p.opcode_is) refl (sym (eqb-true s.src 0 p.no_src)) q.1 refl);
       fits = (p.dst, p.holds.imm);
     })
 
-pub reg_reads : (w : Width) (c : AluCode) (s : Slot) (next : Option Slot) → Passed (form.AluReg w c) s → (has_signed c || is s.offset 0) ≡ true → IfOk (alu_insn w s.dst (Reg s.src) (op_at c s.offset)) (Reads s next)
+pub reg_reads : (w : Width) (c : AluCode) (s : Slot) (next : Option Slot) → Passed (form.AluReg w c) s → (has_signed c || is s.offset 0) ≡ true → IfOk (alu_insn w s.dst (Reg s.src) (alu_op_at c s.offset)) (Reads s next)
 reg_reads w c s next p no_offset =
-    alu_if (Reads s next) w s.dst (Reg s.src) (IsOp c s.offset) (op_at c s.offset) (op_is c s.offset no_offset)
+    alu_if (Reads s next) w s.dst (Reg s.src) (IsOp c s.offset) (alu_op_at c s.offset) (op_is c s.offset no_offset)
     (λ o q. record {
       taken = inl (one_is (form.AluReg w (code_of o)) s s.dst s.src (op_offset o) (pos 0) (ap (λ (x : AluCode). opcode (form.AluReg w x)) q.0 ∙ p.opcode_is) refl refl q.1 (sym (is_true s.imm 0 p.no_imm)));
       fits = (p.dst, p.src);
     })
 
-movsx_8 : (w : Width) (dst src : ℕ) → spelling (insn.Movsx w movsx.B8 dst src) ≡ one (form.AluReg w alu.Mov) dst src (pos 8) (pos 0)
+movsx_8 : (w : Width) (dst src : ℕ) → spelling (insn.Movsx w movsx.B8 dst src) ≡ one_slot (form.AluReg w alu.Mov) dst src (pos 8) (pos 0)
 movsx_8 W32 dst src = refl
 movsx_8 W64 dst src = refl
 
-movsx_16 : (w : Width) (dst src : ℕ) → spelling (insn.Movsx w movsx.B16 dst src) ≡ one (form.AluReg w alu.Mov) dst src (pos 16) (pos 0)
+movsx_16 : (w : Width) (dst src : ℕ) → spelling (insn.Movsx w movsx.B16 dst src) ≡ one_slot (form.AluReg w alu.Mov) dst src (pos 16) (pos 0)
 movsx_16 W32 dst src = refl
 movsx_16 W64 dst src = refl
 
-mov_slot : (w : Width) (s : Slot) (n : ℕ) → Passed (form.AluReg w alu.Mov) s → is s.offset n ≡ true → one (form.AluReg w alu.Mov) s.dst s.src (pos n) (pos 0) ≡ Ok (s ∷ [])
+mov_slot : (w : Width) (s : Slot) (n : ℕ) → Passed (form.AluReg w alu.Mov) s → is s.offset n ≡ true → one_slot (form.AluReg w alu.Mov) s.dst s.src (pos n) (pos 0) ≡ Ok (s ∷ [])
 mov_slot w s n p h = one_is (form.AluReg w alu.Mov) s s.dst s.src (pos n) (pos 0) p.opcode_is refl refl (sym (is_true s.offset n h)) (sym (is_true s.imm 0 p.no_imm))
 
 movsx_32_reads : (w : Width) (s : Slot) (next : Option Slot) → Passed (form.AluReg w alu.Mov) s → is s.offset 32 ≡ true → IfOk (movsx_32 w s.dst s.src) (Reads s next)

@@ -99,23 +99,23 @@ unused_are_zero f s =
     (uses_dst f || s.dst == 0) && (uses_src f || s.src == 0) && (uses_offset f || is s.offset 0) && (uses_imm f || is s.imm 0)
 
 -- plain at offset 0, signed at offset 1
-abbrev pub signed_at : ℤ → AluOp → AluOp → Result AluOp CodecFault
-signed_at offset plain signed = if is offset 0 then Ok plain else if is offset 1 then Ok signed else Err faults.Offset
+abbrev pub signed_op_at : ℤ → AluOp → AluOp → Result AluOp CodecFault
+signed_op_at offset plain signed = if is offset 0 then Ok plain else if is offset 1 then Ok signed else Err faults.Offset
 
 -- the operation of a code and an offset (RFC 9669, section 4.1)
-abbrev pub op_at : AluCode → ℤ → Result AluOp CodecFault
-op_at alu.Add offset = Ok op.Add
-op_at alu.Sub offset = Ok op.Sub
-op_at alu.Mul offset = Ok op.Mul
-op_at alu.Div offset = signed_at offset op.Div op.Sdiv
-op_at alu.Or offset = Ok op.Or
-op_at alu.And offset = Ok op.And
-op_at alu.Lsh offset = Ok op.Lsh
-op_at alu.Rsh offset = Ok op.Rsh
-op_at alu.Mod offset = signed_at offset op.Mod op.Smod
-op_at alu.Xor offset = Ok op.Xor
-op_at alu.Mov offset = Ok op.Mov
-op_at alu.Arsh offset = Ok op.Arsh
+abbrev pub alu_op_at : AluCode → ℤ → Result AluOp CodecFault
+alu_op_at alu.Add offset = Ok op.Add
+alu_op_at alu.Sub offset = Ok op.Sub
+alu_op_at alu.Mul offset = Ok op.Mul
+alu_op_at alu.Div offset = signed_op_at offset op.Div op.Sdiv
+alu_op_at alu.Or offset = Ok op.Or
+alu_op_at alu.And offset = Ok op.And
+alu_op_at alu.Lsh offset = Ok op.Lsh
+alu_op_at alu.Rsh offset = Ok op.Rsh
+alu_op_at alu.Mod offset = signed_op_at offset op.Mod op.Smod
+alu_op_at alu.Xor offset = Ok op.Xor
+alu_op_at alu.Mov offset = Ok op.Mov
+alu_op_at alu.Arsh offset = Ok op.Arsh
 
 -- the instruction of an operation
 abbrev pub alu_insn : Width → ℕ → Operand → Result AluOp CodecFault → Result Insn CodecFault
@@ -137,9 +137,9 @@ mov_at w dst src offset =
     else Err faults.Offset
 
 -- arithmetic on two registers
-abbrev pub alu_reg : Width → AluCode → ℕ → ℕ → ℤ → Result Insn CodecFault
-alu_reg w alu.Mov dst src offset = mov_at w dst src offset
-alu_reg w c dst src offset = alu_insn w dst (Reg src) (op_at c offset)
+abbrev pub alu_reg_insn : Width → AluCode → ℕ → ℕ → ℤ → Result Insn CodecFault
+alu_reg_insn w alu.Mov dst src offset = mov_at w dst src offset
+alu_reg_insn w c dst src offset = alu_insn w dst (Reg src) (alu_op_at c offset)
 
 -- a byte order by its immediate (RFC 9669, section 4.2)
 abbrev pub endian_at : ByteOrder → ℕ → ℤ → Result Insn CodecFault
@@ -173,8 +173,8 @@ atomic_insn w dst src offset (Ok o) = Ok (insn.Atomic w o dst src offset)
 atomic_insn w dst src offset (Err fault) = Err fault
 
 -- the kind of a two-slot load by its source (RFC 9669, section 5.4)
-abbrev pub kind_at : ℕ → Option ImmKind
-kind_at src =
+abbrev pub imm_kind_at : ℕ → Option ImmKind
+imm_kind_at src =
     if src == 0 then Some kind.Number else if src == 1 then Some kind.MapFd else if src == 2 then Some kind.MapFdValue
     else if src == 3 then Some kind.Variable else if src == 4 then Some kind.Code else if src == 5 then Some kind.Map
     else if src == 6 then Some kind.MapValue else None
@@ -194,8 +194,8 @@ load_imm_at (Some kind) dst imm (Some t) =
 
 -- the instruction of a form with these fields; next is the slot behind it
 abbrev pub insn_of_form : Form → ℕ → ℕ → ℤ → ℤ → Option Slot → Result Insn CodecFault
-insn_of_form (form.AluImm w c) dst src offset imm next = alu_insn w dst (Imm imm) (op_at c offset)
-insn_of_form (form.AluReg w c) dst src offset imm next = alu_reg w c dst src offset
+insn_of_form (form.AluImm w c) dst src offset imm next = alu_insn w dst (Imm imm) (alu_op_at c offset)
+insn_of_form (form.AluReg w c) dst src offset imm next = alu_reg_insn w c dst src offset
 insn_of_form (form.Neg w) dst src offset imm next = Ok (insn.Neg w dst)
 insn_of_form (form.Endian o) dst src offset imm next = endian_at o dst imm
 insn_of_form form.Ja dst src offset imm next = Ok (insn.Ja offset)
@@ -209,19 +209,19 @@ insn_of_form (form.LoadSx s) dst src offset imm next = Ok (insn.LoadSx s dst src
 insn_of_form (form.StoreImm s) dst src offset imm next = Ok (insn.StoreImm s dst offset imm)
 insn_of_form (form.Store s) dst src offset imm next = Ok (insn.Store s dst src offset)
 insn_of_form (form.Atomic w) dst src offset imm next = atomic_insn w dst src offset (atomic_at imm)
-insn_of_form form.LoadImm dst src offset imm next = load_imm_at (kind_at src) dst imm next
+insn_of_form form.LoadImm dst src offset imm next = load_imm_at (imm_kind_at src) dst imm next
 
 -- the tests of a slot in the order of their numbers
-abbrev pub tested : Option Form → Slot → Option Slot → Result Insn CodecFault
-tested None s next = Err faults.UnknownOpcode
-tested (Some f) s next =
+abbrev pub checked_slot : Option Form → Slot → Option Slot → Result Insn CodecFault
+checked_slot None s next = Err faults.UnknownOpcode
+checked_slot (Some f) s next =
     if nat_lt 10 s.dst || nat_lt 10 s.src then Err faults.RegisterNumber
     else if unused_are_zero f s then insn_of_form f s.dst s.src s.offset s.imm next
     else Err faults.FieldNotZero
 
 -- the instruction that begins at a slot, or its least fault; next is the slot behind it
 unfoldable pub insn_of_slot : Slot → Option Slot → Result Insn CodecFault
-insn_of_slot s next = tested (form_at s.opcode) s next
+insn_of_slot s next = checked_slot (form_at s.opcode) s next
 
 -- the slot at the front, if it is complete
 abbrev pub front_slot : List ℕ → Option Slot
@@ -252,22 +252,22 @@ more_of (Ok i) = slots_of i - 1
 more_of (Err fault) = 0
 
 -- an instruction before others, or the refusal at slot n
-abbrev pub before : ℕ → Result Insn CodecFault → Result (List Insn) CodecError → Result (List Insn) CodecError
-before n (Err fault) later = Err (Refused fault n)
-before n (Ok i) (Ok is) = Ok (i ∷ is)
-before n (Ok i) (Err e) = Err e
+abbrev pub insn_before : ℕ → Result Insn CodecFault → Result (List Insn) CodecError → Result (List Insn) CodecError
+insn_before n (Err fault) later = Err (Refused fault n)
+insn_before n (Ok i) (Ok is) = Ok (i ∷ is)
+insn_before n (Ok i) (Err e) = Err e
 
 -- the end of a program at slot n, where some bytes are left
-abbrev pub ended : ℕ → ℕ → Result (List Insn) CodecError
-ended zero n = Ok []
-ended (suc left) n = Err (Refused faults.Incomplete n)
+abbrev pub end_of_bytes : ℕ → ℕ → Result (List Insn) CodecError
+end_of_bytes zero n = Ok []
+end_of_bytes (suc left) n = Err (Refused faults.Incomplete n)
 
 -- the instructions in slots from slot n on, of which the first may be taken by the instruction before, with some bytes left behind
 unfoldable pub insns_in : ℕ → List Slot → ℕ → ℕ → Result (List Insn) CodecError
-insns_in left [] taken n = ended left n
+insns_in left [] taken n = end_of_bytes left n
 insns_in left (s ∷ ss) (suc taken) n = insns_in left ss taken (n + 1)
 insns_in left (s ∷ ss) zero n =
-    before n (insn_of_slot s (first ss)) (insns_in left ss (more_of (insn_of_slot s (first ss))) (n + 1))
+    insn_before n (insn_of_slot s (first ss)) (insns_in left ss (more_of (insn_of_slot s (first ss))) (n + 1))
 
 -- the program in bytes, or its first fault
 unfoldable pub reading : List ℕ → Result (List Insn) CodecError

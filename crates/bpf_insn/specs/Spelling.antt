@@ -106,8 +106,8 @@ has_next kind.MapValue = true
 has_next _ = false
 
 -- one slot
-abbrev pub one : Form → ℕ → ℕ → ℤ → ℤ → Result (List Slot) CodecFault
-one f dst src offset imm = Ok (slot f dst src offset imm ∷ [])
+abbrev pub one_slot : Form → ℕ → ℕ → ℤ → ℤ → Result (List Slot) CodecFault
+one_slot f dst src offset imm = Ok (slot f dst src offset imm ∷ [])
 
 -- the second slot of a load: only its immediate isn't zero (RFC 9669, section 3.2)
 abbrev pub second : ℤ → Slot
@@ -118,32 +118,32 @@ abbrev pub both : ImmKind → ℕ → ℤ → ℤ → Result (List Slot) CodecFa
 both kind dst imm next = Ok (slot form.LoadImm dst (kind_src kind) (pos 0) imm ∷ second next ∷ [])
 
 -- a load of two slots; a second number is zero where its kind has none
-abbrev pub two : ImmKind → Bool → ℕ → ℤ → ℤ → Result (List Slot) CodecFault
-two kind true dst imm next = both kind dst imm next
-two kind false dst imm (pos zero) = both kind dst imm (pos 0)
-two kind false dst imm _ = Err faults.FieldNotZero
+abbrev pub two_slots : ImmKind → Bool → ℕ → ℤ → ℤ → Result (List Slot) CodecFault
+two_slots kind true dst imm next = both kind dst imm next
+two_slots kind false dst imm (pos zero) = both kind dst imm (pos 0)
+two_slots kind false dst imm _ = Err faults.FieldNotZero
 
 -- the slots of an instruction, or the number of the refusal where it has none (RFC 9669, sections 3 to 5)
 abbrev pub spelling : Insn → Result (List Slot) CodecFault
-spelling (insn.Alu w o dst (Imm imm)) = one (form.AluImm w (code_of o)) dst 0 (op_offset o) imm
-spelling (insn.Alu w o dst (Reg src)) = one (form.AluReg w (code_of o)) dst src (op_offset o) (pos 0)
-spelling (insn.Neg w dst) = one (form.Neg w) dst 0 (pos 0) (pos 0)
+spelling (insn.Alu w o dst (Imm imm)) = one_slot (form.AluImm w (code_of o)) dst 0 (op_offset o) imm
+spelling (insn.Alu w o dst (Reg src)) = one_slot (form.AluReg w (code_of o)) dst src (op_offset o) (pos 0)
+spelling (insn.Neg w dst) = one_slot (form.Neg w) dst 0 (pos 0) (pos 0)
 spelling (insn.Movsx W32 movsx.B32 dst src) = Err faults.Offset
-spelling (insn.Movsx w bits dst src) = one (form.AluReg w alu.Mov) dst src (movsx_offset bits) (pos 0)
-spelling (insn.Endian order bits dst) = one (form.Endian order) dst 0 (pos 0) (endian_imm bits)
-spelling (insn.Ja offset) = one form.Ja 0 0 offset (pos 0)
-spelling (insn.Ja32 imm) = one form.Ja32 0 0 (pos 0) imm
-spelling (insn.Jump w c dst (Imm imm) offset) = one (form.JumpImm w c) dst 0 offset imm
-spelling (insn.Jump w c dst (Reg src) offset) = one (form.JumpReg w c) dst src offset (pos 0)
-spelling (insn.Call callee imm) = one form.Call 0 (callee_src callee) (pos 0) imm
-spelling insn.Exit = one form.Exit 0 0 (pos 0) (pos 0)
-spelling (insn.Load s dst src offset) = one (form.Load s) dst src offset (pos 0)
+spelling (insn.Movsx w bits dst src) = one_slot (form.AluReg w alu.Mov) dst src (movsx_offset bits) (pos 0)
+spelling (insn.Endian order bits dst) = one_slot (form.Endian order) dst 0 (pos 0) (endian_imm bits)
+spelling (insn.Ja offset) = one_slot form.Ja 0 0 offset (pos 0)
+spelling (insn.Ja32 imm) = one_slot form.Ja32 0 0 (pos 0) imm
+spelling (insn.Jump w c dst (Imm imm) offset) = one_slot (form.JumpImm w c) dst 0 offset imm
+spelling (insn.Jump w c dst (Reg src) offset) = one_slot (form.JumpReg w c) dst src offset (pos 0)
+spelling (insn.Call callee imm) = one_slot form.Call 0 (callee_src callee) (pos 0) imm
+spelling insn.Exit = one_slot form.Exit 0 0 (pos 0) (pos 0)
+spelling (insn.Load s dst src offset) = one_slot (form.Load s) dst src offset (pos 0)
 spelling (insn.LoadSx size.Dw dst src offset) = Err faults.UnknownOpcode
-spelling (insn.LoadSx s dst src offset) = one (form.LoadSx s) dst src offset (pos 0)
-spelling (insn.StoreImm s dst offset imm) = one (form.StoreImm s) dst 0 offset imm
-spelling (insn.Store s dst src offset) = one (form.Store s) dst src offset (pos 0)
-spelling (insn.Atomic w o dst src offset) = one (form.Atomic w) dst src offset (atomic_imm o)
-spelling (insn.LoadImm kind dst imm next) = two kind (has_next kind) dst imm next
+spelling (insn.LoadSx s dst src offset) = one_slot (form.LoadSx s) dst src offset (pos 0)
+spelling (insn.StoreImm s dst offset imm) = one_slot (form.StoreImm s) dst 0 offset imm
+spelling (insn.Store s dst src offset) = one_slot (form.Store s) dst src offset (pos 0)
+spelling (insn.Atomic w o dst src offset) = one_slot (form.Atomic w) dst src offset (atomic_imm o)
+spelling (insn.LoadImm kind dst imm next) = two_slots kind (has_next kind) dst imm next
 
 -- the slots of the encoder's struct, in order
 abbrev pub spelled_slots : Spelled → List Slot

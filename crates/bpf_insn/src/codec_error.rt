@@ -2,7 +2,7 @@
 
 ghost use Rattle.std.specs.Prelude.{◌≡◌};
 ghost use Rattle.bpf_insn.specs.declared.codec_error.CodecError.TheVariants.{Memory};
-ghost use Rattle.bpf_insn.specs.FaultNumbers.{fault_number};
+ghost use Rattle.bpf_insn.specs.FaultNumbers.{codec_fault_number};
 
 use std::alloc::{AllocError, AllocFailed};
 use thiserror::Error;
@@ -34,7 +34,7 @@ impl CodecFault {
     /// Its number, 1 to 7, by which it is printed and the least of several is found. The three
     /// faults of a field's value share the number 4.
     pub fn number(self) -> u8
-        ensures { result ≡ fault_number self }
+        ensures { result ≡ codec_fault_number self }
     {
         match self {
             CodecFault::Incomplete => 1,

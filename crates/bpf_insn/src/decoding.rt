@@ -2,8 +2,8 @@
 
 ghost use Rattle.std.specs.Prelude.{◌≡◌, ◌≤◌, ◌<◌, ◌*◌, List, length, drop, ◌++◌, ◌∷◌, [], IfOk, IfErr, OnOk, MatchResult};
 ghost use Rattle.bpf_insn_types.specs.Slots.{slots_of};
-ghost use Rattle.bpf_insn.specs.Reading.{signed_at, op_at, alu_insn, mov_at, alu_reg, endian_at, call_at, atomic_at, atomic_insn, kind_at, is_second, load_imm_at, insn_of_form, insn_of_slot, front_slot, first_insn, FailsFirst, reading};
-ghost use Rattle.bpf_insn_types.specs.Outcome.{Gives};
+ghost use Rattle.bpf_insn.specs.Reading.{signed_op_at, alu_op_at, alu_insn, mov_at, alu_reg_insn, endian_at, call_at, atomic_at, atomic_insn, imm_kind_at, is_second, load_imm_at, insn_of_form, insn_of_slot, front_slot, first_insn, FailsFirst, reading};
+ghost use Rattle.bpf_insn_types.specs.Outcome.{MatchesUnlessMemory};
 ghost use Rattle.bpf_insn.specs.CodecRefusal.{codec_refusal};
 ghost use Rattle.bpf_insn_types.specs.Values.{AreInsns};
 ghost use Rattle.bpf_insn.specs.Spelling.{program_spelling};
@@ -22,7 +22,7 @@ use std::alloc::Global;
 
 /// The plain operation at offset 0, the signed one at offset 1.
 fn signed_op(offset: i16, plain: AluOp, signed: AluOp) -> Result<AluOp, CodecFault>
-    ensures { result ≡ signed_at offset plain signed }
+    ensures { result ≡ signed_op_at offset plain signed }
 {
     match offset {
         0 => Ok(plain),
@@ -33,7 +33,7 @@ fn signed_op(offset: i16, plain: AluOp, signed: AluOp) -> Result<AluOp, CodecFau
 
 /// The operation of a code, which the offset of a division or a modulo tells signed.
 fn op_of(code: AluCode, offset: i16) -> Result<AluOp, CodecFault>
-    ensures { result ≡ op_at code offset }
+    ensures { result ≡ alu_op_at code offset }
 {
     match code {
         AluCode::Add => Ok(AluOp::Add),
@@ -59,7 +59,7 @@ fn alu(
     operand: Operand,
     offset: i16,
 ) -> Result<Insn, CodecFault>
-    ensures { result ≡ alu_insn width dst operand (op_at code offset) }
+    ensures { result ≡ alu_insn width dst operand (alu_op_at code offset) }
 {
     let op = op_of(code, offset)?;
     Ok(Insn::Alu {
@@ -104,7 +104,7 @@ fn alu_register(
     src: Reg,
     offset: i16,
 ) -> Result<Insn, CodecFault>
-    ensures { result ≡ alu_reg width code dst src offset }
+    ensures { result ≡ alu_reg_insn width code dst src offset }
 {
     match code {
         AluCode::Mov => mov(width, dst, src, offset),
@@ -192,7 +192,7 @@ fn atomic(width: Width, dst: Reg, src: Reg, offset: i16, imm: i32) -> Result<Ins
 
 /// The kind of a two-slot load by its source.
 fn kind_of(src: u8) -> Option<ImmKind>
-    ensures { result ≡ kind_at src }
+    ensures { result ≡ imm_kind_at src }
 {
     match src {
         0 => Some(ImmKind::Number),
@@ -215,7 +215,7 @@ fn is_second_slot(slot: Slot) -> bool
 
 /// A two-slot load; next is the slot behind it.
 fn load_imm(src: u8, dst: Reg, imm: i32, next: Option<Slot>) -> Result<Insn, CodecFault>
-    ensures { result ≡ load_imm_at (kind_at src) dst imm next }
+    ensures { result ≡ load_imm_at (imm_kind_at src) dst imm next }
 {
     let Some(kind) = kind_of(src) else {
         return Err(CodecFault::LoadKind);
@@ -368,7 +368,7 @@ fn add(insns: &mut Vec<Insn>, insn: Insn) -> Result<(), CodecError>
 
 /// The program in bytes, or its first fault.
 fn all(alloc: Global, bytes: &[u8]) -> Result<Vec<Insn>, CodecError>
-    ensures { Gives codec_refusal (λ v. v.items) result (reading bytes.now) }
+    ensures { MatchesUnlessMemory codec_refusal (λ v. v.items) result (reading bytes.now) }
 {
     let mut insns = Vec::new(alloc);
     let mut rest = bytes;
@@ -391,9 +391,9 @@ pub fn decode(alloc: Global, bytes: &[u8]) -> Result<Vec<Insn>, CodecError>
     ensures found { IfOk result (λ v. AreInsns v.items × (program_spelling v.items ≡ Ok bytes.now)) }
     // What is spelled so is read, unless memory runs out.
     ensures only { (insns : List Insn) → AreInsns insns → program_spelling insns ≡ Ok bytes.now
-        → Gives codec_refusal (λ v. v.items) result (Ok insns) }
+        → MatchesUnlessMemory codec_refusal (λ v. v.items) result (Ok insns) }
     // Which refusal it is.
-    ensures exact { Gives codec_refusal (λ v. v.items) result (reading bytes.now) }
+    ensures exact { MatchesUnlessMemory codec_refusal (λ v. v.items) result (reading bytes.now) }
 {
     all(alloc, bytes)
 }

@@ -2,8 +2,8 @@
 
 ghost use Rattle.std.specs.Prelude.{◌≡◌, ◌≤◌, ◌∷◌, [], MatchResult, IfOk, Some};
 ghost use Rattle.bpf_insn.specs.SlotBytes.{slot, SlotFits};
-ghost use Rattle.bpf_insn.specs.Spelling.{code_of, op_offset, movsx_offset, endian_imm, callee_src, atomic_imm, kind_src, has_next, two, spelling, spelled_slots, SpelledFits, Appends, program_spelling};
-ghost use Rattle.bpf_insn_types.specs.Outcome.{Gives};
+ghost use Rattle.bpf_insn.specs.Spelling.{code_of, op_offset, movsx_offset, endian_imm, callee_src, atomic_imm, kind_src, has_next, two_slots, spelling, spelled_slots, SpelledFits, Appends, program_spelling};
+ghost use Rattle.bpf_insn_types.specs.Outcome.{MatchesUnlessMemory};
 ghost use Rattle.bpf_insn.specs.CodecRefusal.{codec_refusal};
 
 use crate::codec_error::{CodecError, CodecFault};
@@ -126,7 +126,7 @@ pub fn has_next_imm(kind: ImmKind) -> bool
 }
 
 /// An instruction of one slot.
-fn one(form: Form, dst: u8, src: u8, offset: i16, imm: i32) -> Spelled
+fn one_slot(form: Form, dst: u8, src: u8, offset: i16, imm: i32) -> Spelled
     requires dst { dst ≤ 10 }
     requires src { src ≤ 10 }
     ensures slots { spelled_slots result ≡ slot form dst src offset imm ∷ [] }
@@ -141,7 +141,7 @@ fn one(form: Form, dst: u8, src: u8, offset: i16, imm: i32) -> Spelled
 /// A two-slot load, whose second number is 0 where its kind has none.
 fn load_imm(kind: ImmKind, dst: u8, imm: i32, next_imm: i32) -> Result<Spelled, CodecFault>
     requires { dst ≤ 10 }
-    ensures slots { Gives Some spelled_slots result (two kind (has_next kind) dst imm next_imm) }
+    ensures slots { MatchesUnlessMemory Some spelled_slots result (two_slots kind (has_next kind) dst imm next_imm) }
     ensures fits { IfOk result SpelledFits }
 {
     if next_imm != 0 && !has_next_imm(kind) {
@@ -166,14 +166,14 @@ fn alu(width: Width, op: AluOp, dst: u8, operand: Operand) -> Spelled
     ensures fits { SpelledFits result }
 {
     match operand {
-        Operand::Imm(imm) => one(
+        Operand::Imm(imm) => one_slot(
             Form::AluImm(width, code_of_op(op)),
             dst,
             0,
             offset_of_op(op),
             imm,
         ),
-        Operand::Reg(src) => one(
+        Operand::Reg(src) => one_slot(
             Form::AluReg(width, code_of_op(op)),
             dst,
             src.number(),
@@ -190,14 +190,14 @@ fn jump(width: Width, compare: Compare, dst: u8, operand: Operand, offset: i16) 
     ensures fits { SpelledFits result }
 {
     match operand {
-        Operand::Imm(imm) => one(Form::JumpImm(width, compare), dst, 0, offset, imm),
-        Operand::Reg(src) => one(Form::JumpReg(width, compare), dst, src.number(), offset, 0),
+        Operand::Imm(imm) => one_slot(Form::JumpImm(width, compare), dst, 0, offset, imm),
+        Operand::Reg(src) => one_slot(Form::JumpReg(width, compare), dst, src.number(), offset, 0),
     }
 }
 
 /// The slots of an instruction, or why it has none.
 fn spell(insn: &Insn) -> Result<Spelled, CodecFault>
-    ensures slots { Gives Some spelled_slots result (spelling insn.now) }
+    ensures slots { MatchesUnlessMemory Some spelled_slots result (spelling insn.now) }
     ensures fits { IfOk result SpelledFits }
 {
     match *insn {
@@ -207,7 +207,7 @@ fn spell(insn: &Insn) -> Result<Spelled, CodecFault>
             dst,
             operand,
         } => Ok(alu(width, op, dst.number(), operand)),
-        Insn::Neg { width, dst } => Ok(one(Form::Neg(width), dst.number(), 0, 0, 0)),
+        Insn::Neg { width, dst } => Ok(one_slot(Form::Neg(width), dst.number(), 0, 0, 0)),
         Insn::Movsx {
             width: Width::W32,
             bits: MovsxBits::B32,
@@ -218,7 +218,7 @@ fn spell(insn: &Insn) -> Result<Spelled, CodecFault>
             bits,
             dst,
             src,
-        } => Ok(one(
+        } => Ok(one_slot(
             Form::AluReg(width, AluCode::Mov),
             dst.number(),
             src.number(),
@@ -226,10 +226,10 @@ fn spell(insn: &Insn) -> Result<Spelled, CodecFault>
             0,
         )),
         Insn::Endian { order, bits, dst } => {
-            Ok(one(Form::Endian(order), dst.number(), 0, 0, imm_of_endian(bits)))
+            Ok(one_slot(Form::Endian(order), dst.number(), 0, 0, imm_of_endian(bits)))
         }
-        Insn::Ja { offset } => Ok(one(Form::Ja, 0, 0, offset, 0)),
-        Insn::Ja32 { imm } => Ok(one(Form::Ja32, 0, 0, 0, imm)),
+        Insn::Ja { offset } => Ok(one_slot(Form::Ja, 0, 0, offset, 0)),
+        Insn::Ja32 { imm } => Ok(one_slot(Form::Ja32, 0, 0, 0, imm)),
         Insn::Jump {
             width,
             compare,
@@ -237,8 +237,8 @@ fn spell(insn: &Insn) -> Result<Spelled, CodecFault>
             operand,
             offset,
         } => { Ok(jump(width, compare, dst.number(), operand, offset)) }
-        Insn::Call { callee, imm } => Ok(one(Form::Call, 0, src_of_callee(callee), 0, imm)),
-        Insn::Exit => Ok(one(Form::Exit, 0, 0, 0, 0)),
+        Insn::Call { callee, imm } => Ok(one_slot(Form::Call, 0, src_of_callee(callee), 0, imm)),
+        Insn::Exit => Ok(one_slot(Form::Exit, 0, 0, 0, 0)),
         Insn::LoadImm {
             kind,
             dst,
@@ -250,26 +250,26 @@ fn spell(insn: &Insn) -> Result<Spelled, CodecFault>
             dst,
             src,
             offset,
-        } => { Ok(one(Form::Load(size), dst.number(), src.number(), offset, 0)) }
+        } => { Ok(one_slot(Form::Load(size), dst.number(), src.number(), offset, 0)) }
         Insn::LoadSx { size: Size::Dw, .. } => Err(CodecFault::UnknownOpcode),
         Insn::LoadSx {
             size,
             dst,
             src,
             offset,
-        } => { Ok(one(Form::LoadSx(size), dst.number(), src.number(), offset, 0)) }
+        } => { Ok(one_slot(Form::LoadSx(size), dst.number(), src.number(), offset, 0)) }
         Insn::StoreImm {
             size,
             dst,
             offset,
             imm,
-        } => { Ok(one(Form::StoreImm(size), dst.number(), 0, offset, imm)) }
+        } => { Ok(one_slot(Form::StoreImm(size), dst.number(), 0, offset, imm)) }
         Insn::Store {
             size,
             dst,
             src,
             offset,
-        } => { Ok(one(Form::Store(size), dst.number(), src.number(), offset, 0)) }
+        } => { Ok(one_slot(Form::Store(size), dst.number(), src.number(), offset, 0)) }
         Insn::Atomic {
             width,
             op,
@@ -277,7 +277,7 @@ fn spell(insn: &Insn) -> Result<Spelled, CodecFault>
             src,
             offset,
         } => {
-            Ok(one(
+            Ok(one_slot(
                 Form::Atomic(width),
                 dst.number(),
                 src.number(),
@@ -309,7 +309,7 @@ fn put(bytes: &mut Vec<u8>, insn: &Insn) -> Result<(), CodecError>
 /// number where the kind of a two-slot load has none (`FieldNotZero`), a sign-extending move of 32 bits at
 /// width 32 (`Offset`). Memory may run out in place of either answer.
 pub fn encode(alloc: Global, insns: &[Insn]) -> Result<Vec<u8>, CodecError>
-    ensures { Gives codec_refusal (λ v. v.items) result (program_spelling insns.now) }
+    ensures { MatchesUnlessMemory codec_refusal (λ v. v.items) result (program_spelling insns.now) }
 {
     let mut bytes = Vec::new(alloc);
     for insn in insns {

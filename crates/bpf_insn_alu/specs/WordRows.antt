@@ -33,7 +33,7 @@ pub record WideRows : Type 0 where
   pub imm_extended : word_of (negsuc 6) ≡ 2 ^ 64 - 7
 
 -- operators at 32 bits: the lower halves, and a cleared upper half
-pub record HalfRows : Type 0 where
+pub record NarrowRows : Type 0 where
   pub add_clears : alu W32 Add (2 ^ 32 + 5) 1 ≡ 6
   pub sub_wraps : alu W32 Sub 0 1 ≡ 2 ^ 32 - 1
   pub mul_wraps : alu W32 Mul (2 ^ 31) 2 ≡ 0
@@ -82,6 +82,6 @@ pub record CompareRows : Type 0 where
 -- all of them
 pub record WordRows : Type 0 where
   pub wide : WideRows
-  pub half : HalfRows
+  pub half : NarrowRows
   pub bytes : ByteRows
   pub compares : CompareRows

@@ -19,7 +19,7 @@ use Rattle.array_maps.specs.Halves.{half_of, part_of, with_half, halves_added}
 use Rattle.array_maps.specs.Accesses.{combined}
 use Rattle.bpf_step_model.specs.State.{Machine}
 use Rattle.bpf_step_model.specs.Step.{atomic_left, tells, request_of, map_operator, half_operator, idle_operand}
-use Rattle.bpf_step_model.specs.Run.{told}
+use Rattle.bpf_step_model.specs.Run.{after_request}
 use Rattle.bpf_step_model.specs.Atomics.{width_of, other, element_left}
 
 -- halves of a word with one of them replaced
@@ -208,7 +208,7 @@ kept_other half Xchg src word operand compare fits = stays half word (half_of Lo
 kept_other half Cmpxchg src word operand compare fits = stays half word (if half_of half word == half_of Low compare then half_of Low operand else half_of half word) fits
 
 pub told_same : (part : Part) (op : AtomicOp) (src word operand compare : ℕ) (m : Machine) →
-    told (request_of part op src operand compare) word m ≡ tells op src (part_of part word) m
+    after_request (request_of part op src operand compare) word m ≡ tells op src (part_of part word) m
 told_same Whole (Simple op) src word operand compare m = refl
 told_same (Of half) (Simple op) src word operand compare m = refl
 told_same part (Fetch op) src word operand compare m = refl

@@ -4,8 +4,8 @@ use Rattle.std.specs.Prelude.{slice_get}
 use Rattle.array_maps.specs.Accesses.{Access, words_after}
 use Rattle.bpf_insn_types.specs.Program.{Program}
 use Rattle.bpf_step_model.specs.State.{Machine}
-use Rattle.bpf_step_model.specs.Step.{Request, Move, NoStep, Next, Asks, Loops, Refuses, Exits, step}
-use Rattle.bpf_step_model.specs.Run.{Ending, Stuck, Stretch, told, mapped, with_first, after_access, after_move, run}
+use Rattle.bpf_step_model.specs.Step.{Request, StepOutcome, NoStep, Next, Asks, Loops, Refuses, Exits, step}
+use Rattle.bpf_step_model.specs.Run.{BoundedResult, Stuck, RunSegment, after_request, mapped, with_first_step, after_access, after_step, run}
 use Rattle.bpf_step_model.specs.Steps.{access_of, GoesOn, Steps, HasNoStep, LeadsToNoStep, RunIsStuck}
 use Rattle.bpf_step_model.proofs.Endings.{mapped_stuck}
 
@@ -40,20 +40,20 @@ module _ (program : Program) where
   by_access : (bound : ℕ) → Leads bound → (m next : Machine) (element : ℕ) (request : Request) → step program m ≡ Asks element request next →
       (words : List ℕ) (o : Option ℕ) → slice_get words element ≡ o → after_access (run program bound) element request next words o ≡ Stuck → IsLed (suc bound) m words
   by_access bound leads m next element request moves words None there h =
-      no_step_here bound m words (subst (λ (move : Move). HasNoStep move words) (sym moves) there)
+      no_step_here bound m words (subst (λ (move : StepOutcome). HasNoStep move words) (sym moves) there)
   by_access bound leads m next element request moves words (Some word) there h =
       let access : Access = access_of element request word in
-      let goes : GoesOn (step program m) words (access ∷ []) (told request word next) (words_after access words) =
-      subst (λ (move : Move). GoesOn move words (access ∷ []) (told request word next) (words_after access words)) (sym moves) (word, there, refl, refl, refl) in
-      no_step_later bound m (told request word next) words (words_after access words) (access ∷ []) goes
-      (leads (told request word next) (words_after access words) (mapped_stuck (with_first (access ∷ [])) (run program bound (told request word next) (words_after access words)) h))
+      let goes : GoesOn (step program m) words (access ∷ []) (after_request request word next) (words_after access words) =
+      subst (λ (move : StepOutcome). GoesOn move words (access ∷ []) (after_request request word next) (words_after access words)) (sym moves) (word, there, refl, refl, refl) in
+      no_step_later bound m (after_request request word next) words (words_after access words) (access ∷ []) goes
+      (leads (after_request request word next) (words_after access words) (mapped_stuck (with_first_step (access ∷ [])) (run program bound (after_request request word next) (words_after access words)) h))
 
-  by_move : (bound : ℕ) → Leads bound → (m : Machine) (words : List ℕ) (move : Move) → step program m ≡ move →
-      after_move (run program bound) m.slot move words ≡ Stuck → IsLed (suc bound) m words
-  by_move bound leads m words NoStep moves h = no_step_here bound m words (subst (λ (move : Move). HasNoStep move words) (sym moves) tt)
+  by_move : (bound : ℕ) → Leads bound → (m : Machine) (words : List ℕ) (move : StepOutcome) → step program m ≡ move →
+      after_step (run program bound) m.slot move words ≡ Stuck → IsLed (suc bound) m words
+  by_move bound leads m words NoStep moves h = no_step_here bound m words (subst (λ (move : StepOutcome). HasNoStep move words) (sym moves) tt)
   by_move bound leads m words (Next next) moves h =
-      let goes : GoesOn (step program m) words [] next words = subst (λ (move : Move). GoesOn move words [] next words) (sym moves) (refl, refl, refl) in
-      no_step_later bound m next words words [] goes (leads next words (mapped_stuck (with_first []) (run program bound next words) h))
+      let goes : GoesOn (step program m) words [] next words = subst (λ (move : StepOutcome). GoesOn move words [] next words) (sym moves) (refl, refl, refl) in
+      no_step_later bound m next words words [] goes (leads next words (mapped_stuck (with_first_step []) (run program bound next words) h))
   by_move bound leads m words (Asks element request next) moves h = by_access bound leads m next element request moves words (slice_get words element) refl h
   by_move bound leads m words (Loops call next) moves h = absurd (cc)
   by_move bound leads m words (Refuses answer next) moves h = absurd (cc)
@@ -64,7 +64,7 @@ module _ (program : Program) where
   leads_to_no_step (suc bound) m words h = by_move bound (leads_to_no_step bound) m words (step program m) refl h
 
   -- the other way: an instruction with no step, and one that goes on to a stuck run
-  move_stuck : (go_on : Machine → List ℕ → Ending Stretch) (slot : ℕ) (move : Move) (words : List ℕ) → HasNoStep move words → after_move go_on slot move words ≡ Stuck
+  move_stuck : (go_on : Machine → List ℕ → BoundedResult RunSegment) (slot : ℕ) (move : StepOutcome) (words : List ℕ) → HasNoStep move words → after_step go_on slot move words ≡ Stuck
   move_stuck go_on slot NoStep words h = refl
   move_stuck go_on slot (Asks element request next) words h = ap (after_access go_on element request next words) h
   move_stuck go_on slot (Next next) words h = absurd h
@@ -72,16 +72,16 @@ module _ (program : Program) where
   move_stuck go_on slot (Refuses answer next) words h = absurd h
   move_stuck go_on slot (Exits ret) words h = absurd h
 
-  move_goes : (go_on : Machine → List ℕ → Ending Stretch) (slot : ℕ) (move : Move) (words between : List ℕ) (first : List Access) (next : Machine) →
-      GoesOn move words first next between → go_on next between ≡ Stuck → after_move go_on slot move words ≡ Stuck
+  move_goes : (go_on : Machine → List ℕ → BoundedResult RunSegment) (slot : ℕ) (move : StepOutcome) (words between : List ℕ) (first : List Access) (next : Machine) →
+      GoesOn move words first next between → go_on next between ≡ Stuck → after_step go_on slot move words ≡ Stuck
   move_goes go_on slot NoStep words between first next goes h = absurd goes
   move_goes go_on slot (Next m) words between first next goes h =
-      ap (mapped (with_first [])) (subst (λ (n : Machine). go_on n words ≡ Stuck) goes.1 (subst (λ (ws : List ℕ). go_on next ws ≡ Stuck) goes.2 h))
+      ap (mapped (with_first_step [])) (subst (λ (n : Machine). go_on n words ≡ Stuck) goes.1 (subst (λ (ws : List ℕ). go_on next ws ≡ Stuck) goes.2 h))
   move_goes go_on slot (Asks element request m) words between first next goes h =
       let access : Access = access_of element request goes.0 in
-      let stuck : go_on (told request goes.0 m) (words_after access words) ≡ Stuck =
+      let stuck : go_on (after_request request goes.0 m) (words_after access words) ≡ Stuck =
       subst (λ (n : Machine). go_on n (words_after access words) ≡ Stuck) goes.3 (subst (λ (ws : List ℕ). go_on next ws ≡ Stuck) goes.4 h) in
-      subst (λ (o : Option ℕ). after_access go_on element request m words o ≡ Stuck) (sym goes.1) (ap (mapped (with_first (access ∷ []))) stuck)
+      subst (λ (o : Option ℕ). after_access go_on element request m words o ≡ Stuck) (sym goes.1) (ap (mapped (with_first_step (access ∷ []))) stuck)
   move_goes go_on slot (Loops call m) words between first next goes h = absurd goes
   move_goes go_on slot (Refuses answer m) words between first next goes h = absurd goes
   move_goes go_on slot (Exits ret) words between first next goes h = absurd goes

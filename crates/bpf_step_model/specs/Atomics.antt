@@ -11,7 +11,7 @@ use Rattle.array_maps.specs.Halves.{half_of, part_of}
 use Rattle.array_maps.specs.Accesses.{left_by}
 use Rattle.bpf_step_model.specs.State.{Machine}
 use Rattle.bpf_step_model.specs.Step.{atomic_left, tells, request_of}
-use Rattle.bpf_step_model.specs.Run.{action_of, told}
+use Rattle.bpf_step_model.specs.Run.{action_of, after_request}
 
 -- the width of an operation on a part
 abbrev pub width_of : Part → Width
@@ -35,4 +35,4 @@ pub record AtomicsAgree : Type 0 where
   pub kept : (half : Half) (op : AtomicOp) (src word operand compare : ℕ) → word < 2 ^ 64 →
       half_of (other half) (element_left (Of half) op src word operand compare) ≡ half_of (other half) word
   pub tells_same : (part : Part) (op : AtomicOp) (src word operand compare : ℕ) (m : Machine) →
-      told (request_of part op src operand compare) word m ≡ tells op src (part_of part word) m
+      after_request (request_of part op src operand compare) word m ≡ tells op src (part_of part word) m

@@ -65,17 +65,17 @@ abbrev pub over_two : List Insn → Program
 over_two insns = record { sizes = 2 ∷ []; insns = insns }
 
 -- from these two elements the lines return this and leave those
-abbrev pub Gives : List Insn → (first second ret first' second' : ℕ) → Type 0
-Gives insns first second ret first' second' =
+abbrev pub LinesGive : List Insn → (first second ret first' second' : ℕ) → Type 0
+LinesGive insns first second ret first' second' =
     program_in_order (over_two insns) 20 0 (first ∷ second ∷ []) ≡ Ended (record { ret = ret; loops = []; words = first' ∷ second' ∷ [] })
 
 -- the lines return this, and touch no map
 abbrev pub Returns : List Insn → ℕ → Type 0
-Returns insns ret = Gives insns 0 0 ret 0 0
+Returns insns ret = LinesGive insns 0 0 ret 0 0
 
 -- the lines, whatever they return, turn these two elements into those
-abbrev pub Leaves : List Insn → (first second first' second' : ℕ) → Type 0
-Leaves insns first second first' second' =
+abbrev pub LinesLeave : List Insn → (first second first' second' : ℕ) → Type 0
+LinesLeave insns first second first' second' =
     mapped final_words (program_in_order (over_two insns) 20 0 (first ∷ second ∷ [])) ≡ Ended (first' ∷ second' ∷ [])
 
 -- the lines come to a place where there is no step

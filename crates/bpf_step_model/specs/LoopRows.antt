@@ -71,44 +71,44 @@ abbrev pub looping : List ℕ → ℕ → List Insn → Program
 looping sizes n callback = record { sizes = sizes; insns = loop_of n callback }
 
 -- the call of that loop
-abbrev pub call_of : ℕ → LoopCall
-call_of n = record { slot = 5; callback = 7; n = n; ctx = None; frame = fresh_frame }
+abbrev pub worked_call : ℕ → LoopCall
+worked_call n = record { slot = 5; callback = 7; n = n; ctx = None; frame = fresh_frame }
 
 -- the loop of n iterations answers this, which the program returns, and turns the words before into those after
-abbrev pub Loops : List ℕ → ℕ → List Insn → (before : List ℕ) (answer : ℕ) (after : List ℕ) → Type 0
-Loops sizes n callback before answer after =
+abbrev pub LoopComputes : List ℕ → ℕ → List Insn → (before : List ℕ) (answer : ℕ) (after : List ℕ) → Type 0
+LoopComputes sizes n callback before answer after =
     program_in_order (looping sizes n callback) 20 0 before
     ≡ Ended (record {
       ret = answer;
-      loops = record { slot = 5; answer = pos answer; words = before; call = Some (call_of n) } ∷ [];
+      loops = record { slot = 5; answer = pos answer; words = before; call = Some (worked_call n) } ∷ [];
       words = after;
     })
 
 -- a loop call with these flags is refused with this answer and this return value
-abbrev pub Refuses : (n flags : ℕ) → ℤ → ℕ → Type 0
-Refuses n flags answer ret =
+abbrev pub CallIsRefused : (n flags : ℕ) → ℤ → ℕ → Type 0
+CallIsRefused n flags answer ret =
     program_in_order (record { sizes = 1 ∷ []; insns = loop_with n flags end }) 20 0 (0 ∷ [])
     ≡ Ended (record { ret = ret; loops = record { slot = 5; answer = answer; words = 0 ∷ []; call = None } ∷ []; words = 0 ∷ [] })
 
 -- loops of one call
 pub record OneLoopRows : Type 0 where
-  pub none : Loops (1 ∷ []) 0 add_index (5 ∷ []) 0 (5 ∷ [])
-  pub sum_wraps : Loops (1 ∷ []) 8 add_index (18446744073709551615 ∷ []) 8 (27 ∷ [])
-  pub each_once : Loops (65 ∷ []) 65 increment (replicate 65 0) 65 (replicate 65 1)
-  pub carried_right : Loops (5 ∷ []) 4 shift_right (9 ∷ 0 ∷ 0 ∷ 0 ∷ 0 ∷ []) 4 (9 ∷ 9 ∷ 9 ∷ 9 ∷ 9 ∷ [])
-  pub carried_left : Loops (5 ∷ []) 4 shift_left (1 ∷ 2 ∷ 3 ∷ 4 ∷ 5 ∷ []) 4 (2 ∷ 3 ∷ 4 ∷ 5 ∷ 5 ∷ [])
-  pub last_wins : Loops (1 ∷ []) 5 last_writer (3 ∷ []) 5 (4 ∷ [])
-  pub mixed : Loops (1 ∷ []) 4 mixed_operators (1 ∷ []) 4 (27 ∷ [])
-  pub breaks : Loops (16 ∷ []) 16 break_at_five (replicate 16 0) 6 (replicate 6 1 ++ replicate 10 0)
-  pub never_breaks : Loops (1 ∷ []) 8 break_that_never_comes (0 ∷ []) 8 (1 ∷ [])
-  pub ands : Loops (1 ∷ []) 3 and_operands (15 ∷ []) 3 (12 ∷ [])
-  pub fetches : Loops (1 ∷ []) 3 add_fetched (0 ∷ []) 3 (3 ∷ [])
+  pub none : LoopComputes (1 ∷ []) 0 add_index (5 ∷ []) 0 (5 ∷ [])
+  pub sum_wraps : LoopComputes (1 ∷ []) 8 add_index (18446744073709551615 ∷ []) 8 (27 ∷ [])
+  pub each_once : LoopComputes (65 ∷ []) 65 increment (replicate 65 0) 65 (replicate 65 1)
+  pub carried_right : LoopComputes (5 ∷ []) 4 shift_right (9 ∷ 0 ∷ 0 ∷ 0 ∷ 0 ∷ []) 4 (9 ∷ 9 ∷ 9 ∷ 9 ∷ 9 ∷ [])
+  pub carried_left : LoopComputes (5 ∷ []) 4 shift_left (1 ∷ 2 ∷ 3 ∷ 4 ∷ 5 ∷ []) 4 (2 ∷ 3 ∷ 4 ∷ 5 ∷ 5 ∷ [])
+  pub last_wins : LoopComputes (1 ∷ []) 5 last_writer (3 ∷ []) 5 (4 ∷ [])
+  pub mixed : LoopComputes (1 ∷ []) 4 mixed_operators (1 ∷ []) 4 (27 ∷ [])
+  pub breaks : LoopComputes (16 ∷ []) 16 break_at_five (replicate 16 0) 6 (replicate 6 1 ++ replicate 10 0)
+  pub never_breaks : LoopComputes (1 ∷ []) 8 break_that_never_comes (0 ∷ []) 8 (1 ∷ [])
+  pub ands : LoopComputes (1 ∷ []) 3 and_operands (15 ∷ []) 3 (12 ∷ [])
+  pub fetches : LoopComputes (1 ∷ []) 3 add_fetched (0 ∷ []) 3 (3 ∷ [])
 
 -- refused calls: flags before the number of iterations
-pub record RefusedRows : Type 0 where
-  pub too_many : Refuses 8388609 0 (negsuc 6) 18446744073709551609
-  pub flags : Refuses 8388608 1 (negsuc 21) 18446744073709551594
-  pub flags_first : Refuses 8388609 1 (negsuc 21) 18446744073709551594
+pub record RefusedCallRows : Type 0 where
+  pub too_many : CallIsRefused 8388609 0 (negsuc 6) 18446744073709551609
+  pub flags : CallIsRefused 8388608 1 (negsuc 21) 18446744073709551594
+  pub flags_first : CallIsRefused 8388609 1 (negsuc 21) 18446744073709551594
 
 -- a valid call of main, where the words stood so
 abbrev pub made : (slot callback n : ℕ) → Option ℕ → Bytes → List ℕ → LoopMade
@@ -165,6 +165,6 @@ pub record MainRows : Type 0 where
 -- all of them
 pub record LoopRows : Type 0 where
   pub one : OneLoopRows
-  pub refused : RefusedRows
+  pub refused : RefusedCallRows
   pub arguments : ArgumentRows
   pub main : MainRows

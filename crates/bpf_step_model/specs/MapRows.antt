@@ -16,7 +16,7 @@ use Rattle.array_maps.specs.Accesses.{Access, Action, Read, ReadWrite, Reduce}
 use Rattle.bpf_step_model.specs.State.{main_entry}
 use Rattle.bpf_step_model.specs.Run.{Ended, Stuck, Exit as Exited, run}
 use Rattle.bpf_step_model.specs.ProgramInOrder.{program_in_order}
-use Rattle.bpf_step_model.specs.Lines.{mov, alu_reg, map_value, look_up, end, over_two, Gives, IsStuck}
+use Rattle.bpf_step_model.specs.Lines.{mov, alu_reg, map_value, look_up, end, over_two, LinesGive, IsStuck}
 
 -- map 0 of one element and map 1 of two
 abbrev pub over_two_maps : List Insn → Program
@@ -42,11 +42,11 @@ at_one lines = map_value 3 0 8 ∷ lines
 
 -- loads of a half: element 1 has 5 in its lower and 7 in its upper half, or a sign in one of them
 pub record HalfLoadRows : Type 0 where
-  pub low : Gives (at_one (Load W 0 3 (pos 0) ∷ Exit ∷ [])) 0 30064771077 5 0 30064771077
-  pub high : Gives (at_one (Load W 0 3 (pos 4) ∷ Exit ∷ [])) 0 30064771077 7 0 30064771077
-  pub low_sign : Gives (at_one (LoadSx W 0 3 (pos 0) ∷ Exit ∷ [])) 0 2147483648 18446744071562067968 0 2147483648
-  pub high_sign : Gives (at_one (LoadSx W 0 3 (pos 4) ∷ Exit ∷ [])) 0 9223372036854775808 18446744071562067968 0 9223372036854775808
-  pub no_sign : Gives (at_one (Load W 0 3 (pos 4) ∷ Exit ∷ [])) 0 9223372036854775808 2147483648 0 9223372036854775808
+  pub low : LinesGive (at_one (Load W 0 3 (pos 0) ∷ Exit ∷ [])) 0 30064771077 5 0 30064771077
+  pub high : LinesGive (at_one (Load W 0 3 (pos 4) ∷ Exit ∷ [])) 0 30064771077 7 0 30064771077
+  pub low_sign : LinesGive (at_one (LoadSx W 0 3 (pos 0) ∷ Exit ∷ [])) 0 2147483648 18446744071562067968 0 2147483648
+  pub high_sign : LinesGive (at_one (LoadSx W 0 3 (pos 4) ∷ Exit ∷ [])) 0 9223372036854775808 18446744071562067968 0 9223372036854775808
+  pub no_sign : LinesGive (at_one (Load W 0 3 (pos 4) ∷ Exit ∷ [])) 0 9223372036854775808 2147483648 0 9223372036854775808
   pub two_bytes : IsStuck (at_one (Load H 0 3 (pos 0) ∷ Exit ∷ []))
   pub one_byte : IsStuck (at_one (Load B 0 3 (pos 0) ∷ Exit ∷ []))
   pub between_halves : IsStuck (at_one (Load W 0 3 (pos 2) ∷ Exit ∷ []))
@@ -55,8 +55,8 @@ pub record HalfLoadRows : Type 0 where
 
 -- stores to a half of element 1, which has 5 and 7 in its halves: the other half stays
 pub record HalfStoreRows : Type 0 where
-  pub low : Gives (at_one (LoadImm Number 1 (pos 9) (pos 1) ∷ Store W 3 1 (pos 0) ∷ end)) 0 30064771077 0 0 30064771081
-  pub high : Gives (at_one (StoreImm W 3 (pos 4) (negsuc 0) ∷ end)) 0 30064771077 0 0 18446744069414584325
+  pub low : LinesGive (at_one (LoadImm Number 1 (pos 9) (pos 1) ∷ Store W 3 1 (pos 0) ∷ end)) 0 30064771077 0 0 30064771081
+  pub high : LinesGive (at_one (StoreImm W 3 (pos 4) (negsuc 0) ∷ end)) 0 30064771077 0 0 18446744069414584325
   pub two_bytes : IsStuck (at_one (StoreImm H 3 (pos 0) (pos 1) ∷ end))
 
 -- an atomic operation of 4 bytes at element 1 with 2 ^ 32 + 6 in r1, of which 6 counts, and 2 ^ 32 + 7 in r0; what was
@@ -67,17 +67,17 @@ half_atomic change offset =
 
 -- they change that half alone: an addition doesn't carry into the other half
 pub record HalfAtomicRows : Type 0 where
-  pub low_add_wraps : Gives (half_atomic (Simple simple.Add) (pos 0)) 0 34359738367 4294967302 0 30064771077
-  pub high_add_wraps : Gives (half_atomic (Simple simple.Add) (pos 4)) 0 18446744069414584325 4294967302 0 21474836485
-  pub low_or : Gives (half_atomic (Simple simple.Or) (pos 0)) 0 30064771077 4294967302 0 30064771079
-  pub high_and : Gives (half_atomic (Simple simple.And) (pos 4)) 0 30064771077 4294967302 0 25769803781
-  pub low_xor : Gives (half_atomic (Simple simple.Xor) (pos 0)) 0 30064771077 4294967302 0 30064771075
-  pub low_fetch : Gives (half_atomic (Fetch simple.Add) (pos 0)) 0 30064771077 5 0 30064771083
-  pub high_fetch_wraps : Gives (half_atomic (Fetch simple.Add) (pos 4)) 0 18446744069414584325 4294967295 0 21474836485
-  pub high_exchange : Gives (half_atomic Xchg (pos 4)) 0 30064771077 7 0 25769803781
-  pub high_compare_equal : Gives (half_atomic Cmpxchg (pos 4)) 0 30064771077 4294967302 0 25769803781
-  pub low_compare_unequal : Gives (half_atomic Cmpxchg (pos 0)) 0 30064771077 4294967302 0 30064771077
-  pub compare_tells_r0 : Gives (at_one (mov 0 9 ∷ Atomic W32 Cmpxchg 3 1 (pos 4) ∷ Exit ∷ [])) 0 30064771077 7 0 30064771077
+  pub low_add_wraps : LinesGive (half_atomic (Simple simple.Add) (pos 0)) 0 34359738367 4294967302 0 30064771077
+  pub high_add_wraps : LinesGive (half_atomic (Simple simple.Add) (pos 4)) 0 18446744069414584325 4294967302 0 21474836485
+  pub low_or : LinesGive (half_atomic (Simple simple.Or) (pos 0)) 0 30064771077 4294967302 0 30064771079
+  pub high_and : LinesGive (half_atomic (Simple simple.And) (pos 4)) 0 30064771077 4294967302 0 25769803781
+  pub low_xor : LinesGive (half_atomic (Simple simple.Xor) (pos 0)) 0 30064771077 4294967302 0 30064771075
+  pub low_fetch : LinesGive (half_atomic (Fetch simple.Add) (pos 0)) 0 30064771077 5 0 30064771083
+  pub high_fetch_wraps : LinesGive (half_atomic (Fetch simple.Add) (pos 4)) 0 18446744069414584325 4294967295 0 21474836485
+  pub high_exchange : LinesGive (half_atomic Xchg (pos 4)) 0 30064771077 7 0 25769803781
+  pub high_compare_equal : LinesGive (half_atomic Cmpxchg (pos 4)) 0 30064771077 4294967302 0 25769803781
+  pub low_compare_unequal : LinesGive (half_atomic Cmpxchg (pos 0)) 0 30064771077 4294967302 0 30064771077
+  pub compare_tells_r0 : LinesGive (at_one (mov 0 9 ∷ Atomic W32 Cmpxchg 3 1 (pos 4) ∷ Exit ∷ [])) 0 30064771077 7 0 30064771077
   pub between_halves : IsStuck (half_atomic (Simple simple.Add) (pos 2))
 
 -- accesses of halves of element 1, one after another

@@ -3,18 +3,18 @@ use Rattle.std.specs.Prelude.{◌≡◌, ℕ, zero, suc, ◌<◌, ◌≤◌, ◌
 use Rattle.array_maps.specs.Accesses.{Access, words_after}
 use Rattle.bpf_insn_types.specs.Program.{Program}
 use Rattle.bpf_step_model.specs.State.{Machine}
-use Rattle.bpf_step_model.specs.Step.{Request, Move, NoStep, Next, Asks, Loops, Refuses, Exits, step}
-use Rattle.bpf_step_model.specs.Run.{Ended, Stuck, Turn, Exit, Loop, Refused, Stretch, action_of, told, run}
+use Rattle.bpf_step_model.specs.Step.{Request, StepOutcome, NoStep, Next, Asks, Loops, Refuses, Exits, step}
+use Rattle.bpf_step_model.specs.Run.{Ended, Stuck, StopReason, Exit, Loop, Refused, RunSegment, action_of, after_request, run}
 
 -- the access that a request is, where a word stands
 abbrev pub access_of : ℕ → Request → ℕ → Access
 access_of element request word = record { element = element; action = action_of request word }
 
 -- an instruction goes on to another machine and to other words, with at most one access
-abbrev pub GoesOn : Move → List ℕ → List Access → Machine → List ℕ → Type 0
+abbrev pub GoesOn : StepOutcome → List ℕ → List Access → Machine → List ℕ → Type 0
 GoesOn (Next m) words accesses next after = (accesses ≡ []) × (next ≡ m) × (after ≡ words)
 GoesOn (Asks element request m) words accesses next after =
-    (word : ℕ) × (slice_get words element ≡ Some word) × (accesses ≡ access_of element request word ∷ []) × (next ≡ told request word m)
+    (word : ℕ) × (slice_get words element ≡ Some word) × (accesses ≡ access_of element request word ∷ []) × (next ≡ after_request request word m)
     × (after ≡ words_after (access_of element request word) words)
 GoesOn NoStep words accesses next after = ⊥
 GoesOn (Loops call m) words accesses next after = ⊥
@@ -22,7 +22,7 @@ GoesOn (Refuses answer m) words accesses next after = ⊥
 GoesOn (Exits ret) words accesses next after = ⊥
 
 -- an instruction at this slot ends the run
-abbrev pub EndsBy : ℕ → Move → Turn → Type 0
+abbrev pub EndsBy : ℕ → StepOutcome → StopReason → Type 0
 EndsBy slot (Exits ret) turn = turn ≡ Exit ret
 EndsBy slot (Loops call next) turn = turn ≡ Loop call next
 EndsBy slot (Refuses answer next) turn = turn ≡ Refused slot answer next
@@ -38,7 +38,7 @@ Steps program (suc count) m words accesses last after =
     × Steps program count next between rest last after × (accesses ≡ first ++ rest)
 
 -- the states of a stretch: steps to a last state, whose instruction ends it; the length counts that instruction too
-pub record IsListOfStates (program : Program) (m : Machine) (words : List ℕ) (s : Stretch) : Type 0 where
+pub record IsListOfStates (program : Program) (m : Machine) (words : List ℕ) (s : RunSegment) : Type 0 where
   pub before : ℕ
   pub last : Machine
   pub length : s.steps ≡ suc before
@@ -47,11 +47,11 @@ pub record IsListOfStates (program : Program) (m : Machine) (words : List ℕ) (
 
 -- a run within its bound is such a list of states, and each such list is a run
 abbrev pub RunIsListOfStates : Type 0
-RunIsListOfStates = (program : Program) (bound : ℕ) (m : Machine) (words : List ℕ) (s : Stretch) →
+RunIsListOfStates = (program : Program) (bound : ℕ) (m : Machine) (words : List ℕ) (s : RunSegment) →
     (run program bound m words ≡ Ended s) ↔ ((s.steps ≤ bound) × IsListOfStates program m words s)
 
 -- an instruction has no step over these words: none at all, or an access of an element that they don't have
-abbrev pub HasNoStep : Move → List ℕ → Type 0
+abbrev pub HasNoStep : StepOutcome → List ℕ → Type 0
 HasNoStep NoStep words = Unit {0}
 HasNoStep (Asks element request next) words = slice_get words element ≡ None
 HasNoStep (Next next) words = ⊥

@@ -9,15 +9,15 @@ use Rattle.bpf_text_lex.specs.declared.text_error.TextFault.{TextFault}
 use Rattle.bpf_text_lex.specs.declared.text_error.TextFault.TheVariants as faults
 use Rattle.bpf_text_lex.specs.declared.text_error.TextError.{TextError}
 use Rattle.bpf_text_lex.specs.declared.text_error.TextError.TheVariants as errors
-use Rattle.bpf_text_lex.specs.Refusals.{at_line, with_first, ◌>>=◌}
+use Rattle.bpf_text_lex.specs.Refusals.{at_line, with_first_item, ◌>>=◌}
 use Rattle.bpf_text_lex.specs.Fields.{fields_of, field_of}
 use Rattle.loop_core_event.specs.declared.event.EventKind.{EventKind}
 use Rattle.loop_core_event.specs.declared.event.EventKind.TheVariants as kind
 use Rattle.loop_core_event.specs.declared.event.Event.{Event}
 
 -- the kind that a letter stands for
-abbrev pub kind_at : ℕ → Option EventKind
-kind_at letter =
+abbrev pub event_kind_at : ℕ → Option EventKind
+event_kind_at letter =
     if letter == 99 then Some kind.Claim
     else if letter == 108 then Some kind.Look
     else if letter == 116 then Some kind.Turn
@@ -27,22 +27,22 @@ kind_at letter =
 
 -- whether a word is a letter of a kind and a number of any size
 abbrev pub is_event : List ℕ → Bool
-is_event word = is_some (kind_at (slice_index word 0)) && is_number (drop 1 word)
+is_event word = is_some (event_kind_at (slice_index word 0)) && is_number (drop 1 word)
 
 -- an event of a kind and a worker
-abbrev pub event : Option EventKind → Result ℕ TextFault → Result Event TextFault
-event None worker = Err faults.Form
-event (Some k) (Err fault) = Err fault
-event (Some k) (Ok worker) = Ok (record { kind = k; worker = worker })
+abbrev pub event_of_kind : Option EventKind → Result ℕ TextFault → Result Event TextFault
+event_of_kind None worker = Err faults.Form
+event_of_kind (Some k) (Err fault) = Err fault
+event_of_kind (Some k) (Ok worker) = Ok (record { kind = k; worker = worker })
 
 -- the event of a word: its letter, and a worker of 0 to 255
 abbrev pub event_at : List ℕ → Result Event TextFault
-event_at word = event (kind_at (slice_index word 0)) (field_of 255 (drop 1 word))
+event_at word = event_of_kind (event_kind_at (slice_index word 0)) (field_of 255 (drop 1 word))
 
 -- the events of words
 abbrev pub events_in : List (List ℕ) → Result (List Event) TextFault
 events_in [] = Ok []
-events_in (word ∷ words) = with_first (event_at word) (events_in words)
+events_in (word ∷ words) = with_first_item (event_at word) (events_in words)
 
 -- the same, where a word that is no event comes before a worker outside its field
 abbrev pub events_of : List (List ℕ) → Result (List Event) TextFault

@@ -24,12 +24,12 @@ abbrev pub label_number : List ℕ → List ℕ
 label_number label = take (length label - 1) label
 
 -- a number and a colon
-abbrev pub is_label : List ℕ → Bool
-is_label label = (slice_index label (length label - 1) == 58) && is_number (label_number label)
+abbrev pub is_map_label : List ℕ → Bool
+is_map_label label = (slice_index label (length label - 1) == 58) && is_number (label_number label)
 
 -- whether a line of a maps text may begin with these words
 abbrev pub is_map_head : List ℕ → List ℕ → Bool
-is_map_head word label = bytes_eq word (codes "map") && is_label label
+is_map_head word label = bytes_eq word (codes "map") && is_map_label label
 
 -- whether a label's number is this map's
 abbrev pub is_turn : ℕ → Result ℕ NumberError → Bool
@@ -48,10 +48,10 @@ as_values number held label (Err fault) = Err fault
 as_values number held label (Ok values) = if fits_as_map number held label values then Ok values else Err faults.Limits
 
 -- the values that the words of a line give, where the line has to be this map's
-abbrev pub values_of : (number held : ℕ) → List (List ℕ) → Result (List ℕ) TextFault
-values_of number held [] = Err faults.Form
-values_of number held (word ∷ []) = Err faults.Form
-values_of number held (word ∷ label ∷ words) =
+abbrev pub values_read : (number held : ℕ) → List (List ℕ) → Result (List ℕ) TextFault
+values_read number held [] = Err faults.Form
+values_read number held (word ∷ []) = Err faults.Form
+values_read number held (word ∷ label ∷ words) =
     if is_map_head word label then as_values number held label (fields_of (2 ^ 64 - 1) words) else Err faults.Form
 
 -- how many values maps have together
@@ -63,7 +63,7 @@ values_held (values ∷ maps) = length values + values_held maps
 unfoldable pub maps_behind : List (List ℕ) → List (ℕ × List ℕ) → Result (List (List ℕ)) TextError
 maps_behind before [] = Ok before
 maps_behind before (line ∷ lines) = do
-  values ← at_line line.0 (values_of (length before) (values_held before) (words_of line.1))
+  values ← at_line line.0 (values_read (length before) (values_held before) (words_of line.1))
   maps_behind (before ++ values ∷ []) lines
 
 -- maps, of which there has to be one
@@ -77,18 +77,18 @@ abbrev pub maps_text : List ℕ → Result (List (List ℕ)) TextError
 maps_text text = if nat_lt 1048576 (length text) then Err (errors.Refused faults.TooLong 0) else some_maps (maps_behind [] (contents_of text))
 
 -- a value behind a space
-abbrev pub value_spelling : ℕ → List ℕ
-value_spelling value = codes " " ++ decimal value
+abbrev pub element_spelling : ℕ → List ℕ
+element_spelling value = codes " " ++ decimal value
 
 -- a map's line: its number and its values
 abbrev pub map_spelling : ℕ → List ℕ → List ℕ
-map_spelling number values = codes "map " ++ decimal number ++ codes ":" ++ flat_map value_spelling values ++ codes "\n"
+map_spelling number values = codes "map " ++ decimal number ++ codes ":" ++ flat_map element_spelling values ++ codes "\n"
 
 -- the lines of maps, the first of which has this number
-abbrev pub spelling_from : ℕ → List (List ℕ) → List ℕ
-spelling_from number [] = []
-spelling_from number (values ∷ maps) = map_spelling number values ++ spelling_from (number + 1) maps
+abbrev pub map_spellings_from : ℕ → List (List ℕ) → List ℕ
+map_spellings_from number [] = []
+map_spellings_from number (values ∷ maps) = map_spelling number values ++ map_spellings_from (number + 1) maps
 
 -- the one spelling of maps
 abbrev pub maps_spelling : List (List ℕ) → List ℕ
-maps_spelling maps = spelling_from 0 maps
+maps_spelling maps = map_spellings_from 0 maps

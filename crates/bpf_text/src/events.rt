@@ -4,9 +4,9 @@ ghost use Rattle.std.specs.Prelude.{◌≡◌, ◌≤◌, length, [], slice_inde
 ghost use Rattle.std.specs.List.{list_all};
 ghost use Rattle.bpf_text_lex.specs.Lines.{contents_of};
 ghost use Rattle.bpf_text_lex.specs.Words.{words_of};
-ghost use Rattle.bpf_insn_types.specs.Outcome.{Gives};
+ghost use Rattle.bpf_insn_types.specs.Outcome.{MatchesUnlessMemory};
 ghost use Rattle.bpf_text_lex.specs.Refusals.{at_line, text_refusal};
-ghost use Rattle.bpf_text.specs.EventsText.{kind_at, is_event, event_at, events_in, events_of, bounds_of, events_behind, schedule_of, events_text};
+ghost use Rattle.bpf_text.specs.EventsText.{event_kind_at, is_event, event_at, events_in, events_of, bounds_of, events_behind, schedule_of, events_text};
 
 use bpf_text_lex::{
     Lines, MAX_TEXT, NumberError, TextError, TextFault, Words, is_number, next_word, read_number,
@@ -17,7 +17,7 @@ use std::alloc::Global;
 
 /// The kind that a letter stands for.
 fn kind_at(letter: u8) -> Option<EventKind>
-    ensures { result ≡ kind_at letter }
+    ensures { result ≡ event_kind_at letter }
 {
     match letter {
         b'c' => Some(EventKind::Claim),
@@ -54,7 +54,7 @@ fn are_events(words: Words<'_>) -> bool
 
 /// The event of a word, or its fault.
 fn read_event(word: &[u8], line: u32) -> Result<Event, TextError>
-    ensures { Gives text_refusal (λ e. e) result (at_line line (event_at word.now)) }
+    ensures { MatchesUnlessMemory text_refusal (λ e. e) result (at_line line (event_at word.now)) }
 {
     if word.is_empty() {
         return Err(TextFault::Form.at(line));
@@ -74,7 +74,7 @@ fn read_event(word: &[u8], line: u32) -> Result<Event, TextError>
 
 /// The events of a line's words, or the first fault.
 fn read_words(alloc: Global, words: Words<'_>, line: u32) -> Result<Vec<Event>, TextError>
-    ensures { Gives text_refusal (λ v. v.items) result (at_line line (events_in words.entry)) }
+    ensures { MatchesUnlessMemory text_refusal (λ v. v.items) result (at_line line (events_in words.entry)) }
 {
     let mut words = words;
     let mut events = Vec::new(alloc);
@@ -86,7 +86,7 @@ fn read_words(alloc: Global, words: Words<'_>, line: u32) -> Result<Vec<Event>, 
 
 /// The events of a line. A word that is no event is found before a worker outside its field.
 fn read_events(alloc: Global, words: &[u8], line: u32) -> Result<Vec<Event>, TextError>
-    ensures { Gives text_refusal (λ v. v.items) result (at_line line (events_of (words_of words.now))) }
+    ensures { MatchesUnlessMemory text_refusal (λ v. v.items) result (at_line line (events_of (words_of words.now))) }
 {
     if !are_events(Words::of(words)) {
         return Err(TextFault::Form.at(line));
@@ -96,7 +96,7 @@ fn read_events(alloc: Global, words: &[u8], line: u32) -> Result<Vec<Event>, Tex
 
 /// The bounds that the first line gives, or its fault.
 fn read_bounds(alloc: Global, content: &[u8], line: u32) -> Result<Vec<u32>, TextError>
-    ensures { Gives text_refusal (λ v. v.items) result (at_line line (bounds_of (words_of content.now))) }
+    ensures { MatchesUnlessMemory text_refusal (λ v. v.items) result (at_line line (bounds_of (words_of content.now))) }
 {
     let Some((word, rest)) = next_word(content) else {
         return Err(TextFault::Form.at(line));
@@ -109,7 +109,7 @@ fn read_bounds(alloc: Global, content: &[u8], line: u32) -> Result<Vec<u32>, Tex
 
 /// The events of lines.
 fn read_lines(alloc: Global, lines: Lines<'_>) -> Result<Vec<Event>, TextError>
-    ensures { Gives text_refusal (λ v. v.items) result (events_behind [] lines.entry) }
+    ensures { MatchesUnlessMemory text_refusal (λ v. v.items) result (events_behind [] lines.entry) }
 {
     let mut lines = lines;
     let mut events = Vec::new(alloc);
@@ -123,7 +123,7 @@ fn read_lines(alloc: Global, lines: Lines<'_>) -> Result<Vec<Event>, TextError>
 /// The bounds and events of a text that isn't too long.
 fn read_schedule(alloc: Global, text: &[u8]) -> Result<(Vec<u32>, Vec<Event>), TextError>
     requires { length text.now ≤ 1048576 }
-    ensures { Gives text_refusal (λ x. (x.0.items, x.1.items)) result (schedule_of (contents_of text.now)) }
+    ensures { MatchesUnlessMemory text_refusal (λ x. (x.0.items, x.1.items)) result (schedule_of (contents_of text.now)) }
 {
     let mut lines = Lines::of(text);
     let Some(head) = lines.next() else {
@@ -142,7 +142,7 @@ fn read_schedule(alloc: Global, text: &[u8]) -> Result<(Vec<u32>, Vec<Event>), T
 /// line 0, `Form` at line 0 where there is no first line, `Form`, `Field` for a bound outside 0 to
 /// 2^32 - 1 or a worker outside 0 to 255. `Memory` may come in place of any answer.
 pub fn parse_events(alloc: Global, text: &str) -> Result<(Vec<u32>, Vec<Event>), TextError>
-    ensures { Gives text_refusal (λ x. (x.0.items, x.1.items)) result (events_text text.now) }
+    ensures { MatchesUnlessMemory text_refusal (λ x. (x.0.items, x.1.items)) result (events_text text.now) }
 {
     let bytes = text.as_bytes();
     if bytes.len() > MAX_TEXT {

@@ -4,9 +4,9 @@ ghost use Rattle.std.specs.Prelude.{◌≡◌, ◌≤◌, ◌<◌, ◌+◌, ◌-
 ghost use Rattle.bpf_text_lex.specs.Lines.{contents_of};
 ghost use Rattle.bpf_text_lex.specs.Numbers.{number_in};
 ghost use Rattle.bpf_text_lex.specs.Words.{words_of};
-ghost use Rattle.bpf_insn_types.specs.Outcome.{Gives};
+ghost use Rattle.bpf_insn_types.specs.Outcome.{MatchesUnlessMemory};
 ghost use Rattle.bpf_text_lex.specs.Refusals.{at_line, text_refusal};
-ghost use Rattle.bpf_text.specs.MapsText.{lists, label_number, is_label, is_map_head, is_turn, fits_as_map, values_of, maps_behind, maps_text};
+ghost use Rattle.bpf_text.specs.MapsText.{lists, label_number, is_map_label, is_map_head, is_turn, fits_as_map, values_read, maps_behind, maps_text};
 
 use bpf_insn_types::{MAX_ELEMENTS, MAX_MAPS};
 use bpf_text_lex::{
@@ -16,7 +16,7 @@ use std::alloc::Global;
 
 /// Whether the word is a number and a colon.
 fn is_label(label: &[u8]) -> bool
-    ensures { result ≡ is_label label.now }
+    ensures { result ≡ is_map_label label.now }
 {
     if label.is_empty() {
         return false;
@@ -69,7 +69,7 @@ fn read_values(
     held: usize,
 ) -> Result<Vec<u64>, TextError>
     requires { held ≤ 65536 }
-    ensures meaning { Gives text_refusal (λ v. v.items) result (at_line line (values_of number held (words_of content.now))) }
+    ensures meaning { MatchesUnlessMemory text_refusal (λ v. v.items) result (at_line line (values_read number held (words_of content.now))) }
     ensures room { IfOk result (λ v. held + vec_len v ≤ 65536) }
 {
     let Some((word, rest)) = next_word(content) else {
@@ -91,7 +91,7 @@ fn read_values(
 /// The maps of a text that isn't too long.
 fn read_maps(alloc: Global, text: &[u8]) -> Result<Vec<Vec<u64>>, TextError>
     requires { length text.now ≤ 1048576 }
-    ensures { Gives text_refusal (λ maps. lists maps.items) result (maps_behind [] (contents_of text.now)) }
+    ensures { MatchesUnlessMemory text_refusal (λ maps. lists maps.items) result (maps_behind [] (contents_of text.now)) }
 {
     let mut maps = Vec::new(alloc);
     let mut held = 0;
@@ -113,7 +113,7 @@ fn read_maps(alloc: Global, text: &[u8]) -> Result<Vec<Vec<u64>>, TextError>
 /// 2^64 - 1, `Limits` for a K out of turn, no value, or too many maps or values. `Memory` may come in
 /// place of any answer.
 pub fn parse_maps(alloc: Global, text: &str) -> Result<Vec<Vec<u64>>, TextError>
-    ensures { Gives text_refusal (λ maps. lists maps.items) result (maps_text text.now) }
+    ensures { MatchesUnlessMemory text_refusal (λ maps. lists maps.items) result (maps_text text.now) }
 {
     let bytes = text.as_bytes();
     if bytes.len() > MAX_TEXT {

@@ -3,13 +3,13 @@
 ghost use Rattle.std.specs.Prelude.{◌≡◌, ◌++◌, OnOk, IfOk};
 ghost use Rattle.std.specs.List.{flat_map};
 ghost use Rattle.std.specs.String.{string_bytes};
-ghost use Rattle.bpf_text.specs.MapsText.{lists, value_spelling, map_spelling, maps_spelling};
+ghost use Rattle.bpf_text.specs.MapsText.{lists, element_spelling, map_spelling, maps_spelling};
 
 use std::alloc::{AllocError, Global};
 
 /// Adds values to a text, each behind a space.
 fn print_values(out: &mut String, values: &[u64]) -> Result<(), AllocError>
-    ensures { OnOk result (string_bytes out.new ≡ string_bytes out.old ++ flat_map value_spelling values.now) }
+    ensures { OnOk result (string_bytes out.new ≡ string_bytes out.old ++ flat_map element_spelling values.now) }
 {
     for value in values {
         write!(out, " {value}")?;

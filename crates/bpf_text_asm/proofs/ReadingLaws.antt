@@ -5,7 +5,7 @@ use Rattle.bpf_text_lex.specs.Words.{words_of}
 use Rattle.bpf_text_lex.specs.declared.text_error.TextFault.TheVariants as faults
 use Rattle.bpf_text_lex.specs.declared.text_error.TextError.{TextError}
 use Rattle.bpf_text_lex.specs.declared.text_error.TextError.TheVariants as errors
-use Rattle.bpf_insn_types.specs.Outcome.{Refuses}
+use Rattle.bpf_insn_types.specs.Outcome.{RefusalMatches}
 use Rattle.bpf_text_lex.specs.Refusals.{at_line, ◌>>=◌, text_refusal}
 use Rattle.bpf_text_lex.specs.Head.{head_of}
 use Rattle.bpf_text_lex.proofs.RefusalLaws.{bind_fails}
@@ -47,11 +47,11 @@ insns_behind-line labels before slot line lines more same read =
     ap (λ (r : Result (List Insn) TextError). r >>= λ m. insns_behind labels (before ++ m) lines) here
 
 pub insns_behind-fails : (labels : List ℕ → Option Label) (e : TextError) (before : List Insn) (slot : ℕ) (line : ℕ × List ℕ) (lines : List (ℕ × List ℕ)) → slot ≡ slot_count before →
-    Refuses (text_refusal e) (at_line line.0 (line_at labels slot line.0 line.1)) → Refuses (text_refusal e) (insns_behind labels before (line ∷ lines))
+    RefusalMatches (text_refusal e) (at_line line.0 (line_at labels slot line.0 line.1)) → RefusalMatches (text_refusal e) (insns_behind labels before (line ∷ lines))
 unfolding insns_behind
 insns_behind-fails labels e before slot line lines same fails =
     bind_fails e (at_line line.0 (line_at labels (slot_count before) line.0 line.1)) (λ m. insns_behind labels (before ++ m) lines)
-    (subst (λ n. Refuses (text_refusal e) (at_line line.0 (line_at labels n line.0 line.1))) same fails)
+    (subst (λ n. RefusalMatches (text_refusal e) (at_line line.0 (line_at labels n line.0 line.1))) same fails)
 
 pub insns_behind-end : (labels : List ℕ → Option Label) (before : List Insn) → insns_behind labels before [] ≡ Ok before
 unfolding insns_behind
@@ -64,7 +64,7 @@ unfolding unit_of
 no_head contents none = rw none refl
 
 pub head_fails : (e : TextError) (contents : List (ℕ × List ℕ)) (line : ℕ × List ℕ) (lines : List (ℕ × List ℕ)) → contents ≡ line ∷ lines →
-    Refuses (text_refusal e) (at_line line.0 (head_of (words_of line.1))) → Refuses (text_refusal e) (unit_of contents)
+    RefusalMatches (text_refusal e) (at_line line.0 (head_of (words_of line.1))) → RefusalMatches (text_refusal e) (unit_of contents)
 unfolding unit_of
 head_fails e contents line lines same fails = rw same (bind_fails e (at_line line.0 (head_of (words_of line.1))) _ fails)
 
@@ -80,9 +80,9 @@ head_read contents line lines sizes labels same read table =
     ∙ ap (λ (t : List ℕ → Option Label). with_insns sizes (insns_behind t [] lines)) (sym (λ i name. table name i))
 
 pub insns_fail : (e : TextError) (contents : List (ℕ × List ℕ)) (line : ℕ × List ℕ) (lines : List (ℕ × List ℕ)) (sizes : List ℕ) (labels : List ℕ → Option Label) → contents ≡ line ∷ lines →
-    at_line line.0 (head_of (words_of line.1)) ≡ Ok sizes → ((name : List ℕ) → labels name ≡ labels_from 0 lines name) → Refuses (text_refusal e) (insns_behind labels [] lines) → Refuses (text_refusal e) (unit_of contents)
+    at_line line.0 (head_of (words_of line.1)) ≡ Ok sizes → ((name : List ℕ) → labels name ≡ labels_from 0 lines name) → RefusalMatches (text_refusal e) (insns_behind labels [] lines) → RefusalMatches (text_refusal e) (unit_of contents)
 insns_fail e contents line lines sizes labels same read table fails =
-    let P : Result Program TextError → Type 0 = λ r. Refuses (text_refusal e) r in
+    let P : Result Program TextError → Type 0 = λ r. RefusalMatches (text_refusal e) r in
     subst P (sym (head_read contents line lines sizes labels same read table)) (bind_fails e (insns_behind labels [] lines) (λ insns. Ok (record { sizes = sizes; insns = insns })) fails)
 
 pub insns_read : (contents : List (ℕ × List ℕ)) (line : ℕ × List ℕ) (lines : List (ℕ × List ℕ)) (sizes : List ℕ) (insns : List Insn) (labels : List ℕ → Option Label) → contents ≡ line ∷ lines →

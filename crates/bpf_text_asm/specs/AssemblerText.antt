@@ -11,7 +11,7 @@ use Rattle.bpf_text_lex.specs.declared.text_error.TextFault.{TextFault}
 use Rattle.bpf_text_lex.specs.declared.text_error.TextFault.TheVariants as faults
 use Rattle.bpf_text_lex.specs.declared.text_error.TextError.{TextError}
 use Rattle.bpf_text_lex.specs.declared.text_error.TextError.TheVariants as errors
-use Rattle.bpf_insn_types.specs.Outcome.{Refuses}
+use Rattle.bpf_insn_types.specs.Outcome.{RefusalMatches}
 use Rattle.bpf_text_lex.specs.Refusals.{at_line, ◌>>=◌, text_refusal}
 use Rattle.bpf_text_lex.specs.Head.{head_of}
 use Rattle.bpf_text_operands.specs.declared.labels.Label.{Label}
@@ -80,4 +80,4 @@ assembler_text text = if nat_lt 1048576 (length text) then Err (errors.Refused f
 -- what adding a line's instructions behind others leaves, where the line has this meaning and stands at a slot: them, and the slot behind them, or the refusal
 abbrev pub Adds : (old new : List Insn) → ℕ → Result ℕ TextError → Result (List Insn) TextError → Type 0
 Adds old new slot (Ok next) meaning = (more : List Insn) × (meaning ≡ Ok more) × (new ≡ old ++ more) × (next ≡ slot + slot_count more)
-Adds old new slot (Err e) meaning = Refuses (text_refusal e) meaning
+Adds old new slot (Err e) meaning = RefusalMatches (text_refusal e) meaning

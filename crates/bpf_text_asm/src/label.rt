@@ -2,7 +2,7 @@
 
 ghost use Rattle.std.specs.Prelude.{◌≡◌, ◌≤◌, ◌+◌, ℕ, List, IfSome, IfNone, IfOk, OnOk, length, true, false};
 ghost use Rattle.std.specs.Option.{option_or};
-ghost use Rattle.bpf_text_operands.specs.LabelTable.{found};
+ghost use Rattle.bpf_text_operands.specs.LabelTable.{label_named};
 ghost use Rattle.bpf_text_asm.specs.AssemblerText.{name_of, is_label, line_slots, line_label, labels_from};
 
 use bpf_text_lex::{Lines, is_name};
@@ -35,7 +35,7 @@ fn define_line<'a>(
     requires { slot ≤ 2097152 }
     ensures slot { IfOk result (λ next. next ≡ slot + line_slots content.now) }
     ensures bound { IfOk result (λ next. next ≤ slot + 2) }
-    ensures labels { OnOk result ((name : List ℕ) → found labels.new name ≡ option_or (found labels.old name) (line_label slot number content.now name)) }
+    ensures labels { OnOk result ((name : List ℕ) → label_named labels.new name ≡ option_or (label_named labels.old name) (line_label slot number content.now name)) }
 {
     let Some(name) = label_name(content) else {
         return Ok(slot + line_slots(content));
@@ -47,7 +47,7 @@ fn define_line<'a>(
 /// The labels of lines, the first of which stands at slot 0.
 pub fn read_labels<'a>(alloc: Global, lines: Lines<'a>) -> Result<Labels<'a>, AllocError>
     requires { length lines ≤ 1048576 }
-    ensures { IfOk result (λ labels. (name : List ℕ) → found labels name ≡ labels_from 0 lines.entry name) }
+    ensures { IfOk result (λ labels. (name : List ℕ) → label_named labels name ≡ labels_from 0 lines.entry name) }
 {
     let mut lines = lines;
     let mut labels = Labels::new(alloc);

@@ -3,7 +3,7 @@
 ghost use Rattle.std.specs.Prelude.{◌≡◌, ◌++◌, OnOk};
 ghost use Rattle.std.specs.List.{flat_map};
 ghost use Rattle.std.specs.String.{string_bytes};
-ghost use Rattle.bpf_insn_types.specs.Outcome.{Gives};
+ghost use Rattle.bpf_insn_types.specs.Outcome.{MatchesUnlessMemory};
 ghost use Rattle.bpf_insn.specs.CodecRefusal.{codec_refusal};
 ghost use Rattle.bpf_text_mnemonics.specs.PrintedLines.{insn_line};
 ghost use Rattle.bpf_text_asm.specs.AssemblerForm.{assembler_form};
@@ -27,7 +27,7 @@ fn print_insns(out: &mut String, insns: &[Insn]) -> Result<(), AllocError>
 /// and behind each comma, each distance with its sign. It is refused as `encode` is: with the first
 /// instruction that has no bytes, at its slot. `Memory` may come in place of either answer.
 pub fn print_unit(alloc: Global, unit: &Unit) -> Result<String, CodecError>
-    ensures { Gives codec_refusal string_bytes result (assembler_form unit.now) }
+    ensures { MatchesUnlessMemory codec_refusal string_bytes result (assembler_form unit.now) }
 {
     let _bytes = encode(alloc, &unit.insns)?;
     let mut out = print_head(alloc, &unit.sizes)?;

@@ -1,9 +1,9 @@
 //! The instructions of a unit's lines.
 
 ghost use Rattle.std.specs.Prelude.{◌≡◌, ◌≤◌, [], IfOk, if◌then◌else◌, Ok, Err};
-ghost use Rattle.bpf_insn_types.specs.Outcome.{Gives};
+ghost use Rattle.bpf_insn_types.specs.Outcome.{MatchesUnlessMemory};
 ghost use Rattle.bpf_text_lex.specs.Refusals.{at_line, text_refusal};
-ghost use Rattle.bpf_text_operands.specs.LabelTable.{found};
+ghost use Rattle.bpf_text_operands.specs.LabelTable.{label_named};
 ghost use Rattle.bpf_text_operands.specs.Statements.{insn_of_line};
 ghost use Rattle.bpf_text_operands.specs.LabelTable.{label_slots};
 ghost use Rattle.bpf_insn_types.specs.Program.{slot_count};
@@ -17,7 +17,7 @@ use std::alloc::Global;
 
 /// Whether the label line of this number repeats the label of another line.
 fn repeats(labels: &Labels<'_>, name: &[u8], number: u32) -> bool
-    ensures { (if result then Err TextFault.RepeatedLabel else Ok []) ≡ label_at number (found labels.now name.now) }
+    ensures { (if result then Err TextFault.RepeatedLabel else Ok []) ≡ label_at number (label_named labels.now name.now) }
 {
     match labels.get(name) {
         Some(label) => label.line != number,
@@ -58,7 +58,7 @@ fn add_line(
     slot: u32,
 ) -> Result<u32, TextError>
     requires { slot ≤ 4096 }
-    ensures adds { Adds insns.old.items insns.new.items slot result (at_line number (line_at (found labels.now) slot number content.now)) }
+    ensures adds { Adds insns.old.items insns.new.items slot result (at_line number (line_at (label_named labels.now) slot number content.now)) }
     ensures bound { IfOk result (λ next. next ≤ 4096) }
 {
     match label_name(content) {
@@ -74,7 +74,7 @@ pub fn read_insns(
     lines: Lines<'_>,
     labels: &Labels<'_>,
 ) -> Result<Vec<Insn>, TextError>
-    ensures { Gives text_refusal (λ v. v.items) result (insns_behind (found labels.now) [] lines.entry) }
+    ensures { MatchesUnlessMemory text_refusal (λ v. v.items) result (insns_behind (label_named labels.now) [] lines.entry) }
 {
     let mut lines = lines;
     let mut insns = Vec::new(alloc);

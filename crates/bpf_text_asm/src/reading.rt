@@ -2,7 +2,7 @@
 
 ghost use Rattle.std.specs.Prelude.{◌≡◌, ◌≤◌, length};
 ghost use Rattle.bpf_text_lex.specs.Lines.{contents_of};
-ghost use Rattle.bpf_insn_types.specs.Outcome.{Gives};
+ghost use Rattle.bpf_insn_types.specs.Outcome.{MatchesUnlessMemory};
 ghost use Rattle.bpf_text_lex.specs.Refusals.{text_refusal};
 ghost use Rattle.bpf_text_asm.specs.AssemblerText.{unit_of, assembler_text};
 
@@ -15,7 +15,7 @@ use std::alloc::Global;
 /// The unit of a text that isn't too long.
 fn read_unit(alloc: Global, text: &[u8]) -> Result<Unit, TextError>
     requires { length text.now ≤ 1048576 }
-    ensures { Gives text_refusal (λ u. u) result (unit_of (contents_of text.now)) }
+    ensures { MatchesUnlessMemory text_refusal (λ u. u) result (unit_of (contents_of text.now)) }
 {
     let mut lines = Lines::of(text);
     let Some(head) = lines.next() else {
@@ -37,7 +37,7 @@ fn read_unit(alloc: Global, text: &[u8]) -> Result<Unit, TextError>
 /// passes 4,096 slots, `Limits` for sizes that break the limits. Labels are those of the whole text,
 /// also behind a faulty line. `Memory` may come in place of any answer.
 pub fn parse_unit(alloc: Global, text: &str) -> Result<Unit, TextError>
-    ensures { Gives text_refusal (λ u. u) result (assembler_text text.now) }
+    ensures { MatchesUnlessMemory text_refusal (λ u. u) result (assembler_text text.now) }
 {
     let bytes = text.as_bytes();
     if bytes.len() > MAX_TEXT {

@@ -25,7 +25,7 @@ use Rattle.bpf_text_mnemonics.proofs.SolidWords.{is_solid, solids_in_line, ends_
 use Rattle.bpf_text_mnemonics.proofs.LineLaws.{contents-line}
 use Rattle.bpf_text_mnemonics.proofs.PrintedHead.{word_first, head_back, head_is_line, head_short}
 use Rattle.bpf_text_hex.specs.SizesAndBytes.{SizesAndBytes}
-use Rattle.bpf_text_hex.specs.HexText.{as_bytes, bytes_of, bytes_behind, hex_parts_of, hex_text}
+use Rattle.bpf_text_hex.specs.HexText.{as_bytes, bytes_of_lines, bytes_behind, hex_parts_of, hex_text}
 use Rattle.bpf_text_hex.proofs.HexLaws.{bytes_behind-line, bytes_behind-end, bytes_read}
 use Rattle.bpf_text_hex.proofs.SpelledBytes.{Bytes, bytes-parts, bytes_at_index, SlotBytes, spelled_bytes}
 
@@ -63,10 +63,10 @@ digits_word slot s =
     let long = digits_long slot s in
     ap words_of (sym (append-nil (encode_lower slot))) ∙ word_first (encode_lower slot) [] (omega (arith, long)) (encode_solid slot s.are) refl
 
-digits_read : (n before : ℕ) (slot : List ℕ) → OneSlot slot → before + 8 ≤ 32768 → at_line n (bytes_of before (words_of (encode_lower slot))) ≡ Ok slot
+digits_read : (n before : ℕ) (slot : List ℕ) → OneSlot slot → before + 8 ≤ 32768 → at_line n (bytes_of_lines before (words_of (encode_lower slot))) ≡ Ok slot
 digits_read n before slot s le =
     let long = s.long in
-    ap (λ (ws : List (List ℕ)). at_line n (bytes_of before ws)) (digits_word slot s)
+    ap (λ (ws : List (List ℕ)). at_line n (bytes_of_lines before ws)) (digits_word slot s)
     ∙ ap (λ r. at_line n (as_bytes before r)) (decode_of-encode_lower slot (bytes_at_index slot s.are))
     ∙ ap (at_line n) (cond-true (nat_le (before + length slot) 32768) (Ok slot) (Err faults.TooLong) (le-leb _ _ (omega (arith, le, long))))
 

@@ -24,7 +24,7 @@ use Rattle.bpf_insn.specs.declared.codec_error.CodecFault.{CodecFault}
 use Rattle.bpf_insn.specs.Opcode.{alu_class, jump_class, alu_code, jump_code, size_bits, opcode}
 use Rattle.bpf_insn_types.specs.Slots.{slots_of}
 use Rattle.bpf_insn.specs.SlotBytes.{slot_bytes, slots_bytes}
-use Rattle.bpf_insn.specs.Spelling.{code_of, has_next, two, spelling, bytes_at, spelling_from}
+use Rattle.bpf_insn.specs.Spelling.{code_of, has_next, two_slots, spelling, bytes_at, spelling_from}
 use Rattle.bpf_insn_types.specs.Values.{AreInsns}
 use Rattle.bpf_insn.proofs.Bytes.{HasBytes, HaveBytes}
 use Rattle.bpf_insn.proofs.HasBytes.{spelling_has}
@@ -101,7 +101,7 @@ abbrev Small : List Slot → Type 0
 Small [] = Unit {0}
 Small (s ∷ ss) = (s.opcode < 256) × Small ss
 
-two_small : (kind : ImmKind) (b : Bool) (dst : ℕ) (imm next : ℤ) → IfOk (two kind b dst imm next) Small
+two_small : (kind : ImmKind) (b : Bool) (dst : ℕ) (imm next : ℤ) → IfOk (two_slots kind b dst imm next) Small
 two_small kind true dst imm next = (omega arith, (omega arith, tt))
 two_small kind false dst imm (pos zero) = (omega arith, (omega arith, tt))
 two_small kind false dst imm (pos (suc n)) = tt

@@ -18,16 +18,16 @@ as_bytes before (Err error) = Err faults.Form
 as_bytes before (Ok bytes) = if nat_le (before + length bytes) 32768 then Ok bytes else Err faults.TooLong
 
 -- the bytes that the words of a line give: one word of an even number of hex digits in either case
-abbrev pub bytes_of : ℕ → List (List ℕ) → Result (List ℕ) TextFault
-bytes_of before [] = Err faults.Form
-bytes_of before (word ∷ []) = as_bytes before (decode_of word)
-bytes_of before (word ∷ other ∷ words) = Err faults.Form
+abbrev pub bytes_of_lines : ℕ → List (List ℕ) → Result (List ℕ) TextFault
+bytes_of_lines before [] = Err faults.Form
+bytes_of_lines before (word ∷ []) = as_bytes before (decode_of word)
+bytes_of_lines before (word ∷ other ∷ words) = Err faults.Form
 
 -- the bytes of earlier lines, and those of these lines behind them
 unfoldable pub bytes_behind : List ℕ → List (ℕ × List ℕ) → Result (List ℕ) TextError
 bytes_behind before [] = Ok before
 bytes_behind before (line ∷ lines) = do
-  bytes ← at_line line.0 (bytes_of (length before) (words_of line.1))
+  bytes ← at_line line.0 (bytes_of_lines (length before) (words_of line.1))
   bytes_behind (before ++ bytes) lines
 
 -- the parts that lines give, the first of which is the head

@@ -2,7 +2,7 @@
 
 ghost use Rattle.std.specs.Prelude.{◌≡◌, ◌++◌, ◌≤◌, ◌<◌, length, codes, OnOk};
 ghost use Rattle.std.specs.String.{string_bytes};
-ghost use Rattle.bpf_insn_types.specs.Outcome.{Gives};
+ghost use Rattle.bpf_insn_types.specs.Outcome.{MatchesUnlessMemory};
 ghost use Rattle.bpf_insn.specs.CodecRefusal.{codec_refusal};
 ghost use Rattle.bpf_text_hex.specs.HexForm.{slot_lines, hex_form};
 
@@ -28,7 +28,7 @@ fn print_slots(alloc: Global, out: &mut String, bytes: &[u8]) -> Result<(), Allo
 /// refused as `encode` is: with the first instruction that has no bytes, at its slot. `Memory` may
 /// come in place of either answer.
 pub fn write_hex(alloc: Global, unit: &Unit) -> Result<String, CodecError>
-    ensures { Gives codec_refusal string_bytes result (hex_form unit.now) }
+    ensures { MatchesUnlessMemory codec_refusal string_bytes result (hex_form unit.now) }
 {
     let bytes = encode(alloc, &unit.insns)?;
     let mut out = print_head(alloc, &unit.sizes)?;

@@ -4,9 +4,9 @@ ghost use Rattle.std.specs.Prelude.{◌≡◌, ◌≤◌, ◌+◌, length, [], I
 ghost use Rattle.hex.specs.Hex.{decode_of};
 ghost use Rattle.bpf_text_lex.specs.Lines.{contents_of};
 ghost use Rattle.bpf_text_lex.specs.Words.{words_of};
-ghost use Rattle.bpf_insn_types.specs.Outcome.{Gives};
+ghost use Rattle.bpf_insn_types.specs.Outcome.{MatchesUnlessMemory};
 ghost use Rattle.bpf_text_lex.specs.Refusals.{at_line, text_refusal};
-ghost use Rattle.bpf_text_hex.specs.HexText.{as_bytes, bytes_of, bytes_behind, hex_parts_of, hex_text};
+ghost use Rattle.bpf_text_hex.specs.HexText.{as_bytes, bytes_of_lines, bytes_behind, hex_parts_of, hex_text};
 
 use bpf_text_lex::{Lines, MAX_BYTES, MAX_TEXT, TextError, TextFault, next_word, read_head};
 use hex::FromHexError;
@@ -33,7 +33,7 @@ impl Model for HexUnit {
 /// The bytes of a word of hex digits, or the fault of its line.
 fn read_digits(alloc: Global, word: &[u8], line: u32, before: usize) -> Result<Vec<u8>, TextError>
     requires { before ≤ 32768 }
-    ensures meaning { Gives text_refusal (λ v. v.items) result (at_line line (as_bytes before (decode_of word.now))) }
+    ensures meaning { MatchesUnlessMemory text_refusal (λ v. v.items) result (at_line line (as_bytes before (decode_of word.now))) }
     ensures room { IfOk result (λ v. before + vec_len v ≤ 32768) }
 {
     match hex::decode(alloc, word) {
@@ -51,7 +51,7 @@ fn read_digits(alloc: Global, word: &[u8], line: u32, before: usize) -> Result<V
 /// The bytes that a line gives behind this many bytes of the lines before it, or its fault.
 fn read_bytes(alloc: Global, content: &[u8], line: u32, before: usize) -> Result<Vec<u8>, TextError>
     requires { before ≤ 32768 }
-    ensures meaning { Gives text_refusal (λ v. v.items) result (at_line line (bytes_of before (words_of content.now))) }
+    ensures meaning { MatchesUnlessMemory text_refusal (λ v. v.items) result (at_line line (bytes_of_lines before (words_of content.now))) }
     ensures room { IfOk result (λ v. before + vec_len v ≤ 32768) }
 {
     let Some((word, rest)) = next_word(content) else {
@@ -65,7 +65,7 @@ fn read_bytes(alloc: Global, content: &[u8], line: u32, before: usize) -> Result
 
 /// The bytes of lines.
 fn read_lines(alloc: Global, lines: Lines<'_>) -> Result<Vec<u8>, TextError>
-    ensures { Gives text_refusal (λ v. v.items) result (bytes_behind [] lines.entry) }
+    ensures { MatchesUnlessMemory text_refusal (λ v. v.items) result (bytes_behind [] lines.entry) }
 {
     let mut lines = lines;
     let mut bytes = Vec::new(alloc);
@@ -79,7 +79,7 @@ fn read_lines(alloc: Global, lines: Lines<'_>) -> Result<Vec<u8>, TextError>
 /// The sizes and bytes of a text that isn't too long.
 fn read_parts(alloc: Global, text: &[u8]) -> Result<HexUnit, TextError>
     requires { length text.now ≤ 1048576 }
-    ensures { Gives text_refusal (λ u. u) result (hex_parts_of (contents_of text.now)) }
+    ensures { MatchesUnlessMemory text_refusal (λ u. u) result (hex_parts_of (contents_of text.now)) }
 {
     let mut lines = Lines::of(text);
     let Some(head) = lines.next() else {
@@ -100,7 +100,7 @@ fn read_parts(alloc: Global, text: &[u8]) -> Result<HexUnit, TextError>
 /// 2^32 - 1, `TooLong` at the line that passes 32,768 bytes, `Limits` for sizes that break the limits.
 /// `Memory` may come in place of any answer.
 pub fn read_hex(alloc: Global, text: &str) -> Result<HexUnit, TextError>
-    ensures { Gives text_refusal (λ u. u) result (hex_text text.now) }
+    ensures { MatchesUnlessMemory text_refusal (λ u. u) result (hex_text text.now) }
 {
     let bytes = text.as_bytes();
     if bytes.len() > MAX_TEXT {

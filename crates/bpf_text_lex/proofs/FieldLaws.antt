@@ -9,7 +9,7 @@ use Rattle.bpf_text_lex.specs.Numbers.{is_numeral, is_negative, is_number, value
 use Rattle.bpf_text_lex.specs.declared.text_error.TextFault.TheVariants as faults
 use Rattle.bpf_text_lex.specs.Fields.{as_field, field_of, numbers_in, fields_of}
 use Rattle.bpf_text_lex.specs.declared.text_error.TextFault.{TextFault}
-use Rattle.bpf_text_lex.specs.Refusals.{at_line, with_first}
+use Rattle.bpf_text_lex.specs.Refusals.{at_line, with_first_item}
 
 -- ---- what is read lies in its field
 
@@ -28,7 +28,7 @@ number_small limit word = chosen_small limit (is_numeral word) (nat_le (value_of
 
 front_small : (limit : ℕ) (first : Result ℕ TextFault) (others : Result (List ℕ) TextFault) (ns : List ℕ) →
     ((n : ℕ) → first ≡ Ok n → n ≤ limit) → ((ms : List ℕ) → others ≡ Ok ms → (k d : ℕ) → k < length ms → get_or ms k d ≤ limit) →
-    with_first first others ≡ Ok ns → (k d : ℕ) → k < length ns → get_or ns k d ≤ limit
+    with_first_item first others ≡ Ok ns → (k d : ℕ) → k < length ns → get_or ns k d ≤ limit
 front_small limit (Ok n) (Ok ms) [] one more e k d lt = absurd cc
 front_small limit (Ok n) (Ok ms) (m ∷ rest) one more e zero d lt = let same : n ≡ m = cc in rw (← same) (one n refl)
 front_small limit (Ok n) (Ok ms) (m ∷ rest) one more e (suc k) d lt = let same : ms ≡ rest = cc in rw (← same) (more ms refl k d (rw same (omega arith)))

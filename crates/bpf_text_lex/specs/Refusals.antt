@@ -15,10 +15,10 @@ at_line line (Ok x) = Ok x
 at_line line (Err fault) = Err (errors.Refused fault line)
 
 -- a value before further ones, or the first fault
-abbrev pub with_first : {X : Type 0} → Result X TextFault → Result (List X) TextFault → Result (List X) TextFault
-with_first (Ok x) (Ok xs) = Ok (x ∷ xs)
-with_first (Ok x) (Err fault) = Err fault
-with_first (Err fault) others = Err fault
+abbrev pub with_first_item : {X : Type 0} → Result X TextFault → Result (List X) TextFault → Result (List X) TextFault
+with_first_item (Ok x) (Ok xs) = Ok (x ∷ xs)
+with_first_item (Ok x) (Err fault) = Err fault
+with_first_item (Err fault) others = Err fault
 
 -- what follows a value, or the first refusal
 infixl 10 ◌>>=◌

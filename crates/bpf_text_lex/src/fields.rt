@@ -4,7 +4,7 @@ ghost use Rattle.std.specs.Prelude.{◌≡◌, ◌<◌, ◌-◌, ◌^◌, All, I
 ghost use Rattle.std.specs.List.{list_all};
 ghost use Rattle.bpf_text_lex.specs.Numbers.{is_number};
 ghost use Rattle.bpf_text_lex.specs.Words.{words_of};
-ghost use Rattle.bpf_insn_types.specs.Outcome.{Gives};
+ghost use Rattle.bpf_insn_types.specs.Outcome.{MatchesUnlessMemory};
 ghost use Rattle.bpf_text_lex.specs.Refusals.{at_line, text_refusal};
 ghost use Rattle.bpf_text_lex.specs.Fields.{field_of, numbers_in, fields_of};
 
@@ -28,7 +28,7 @@ fn are_numbers(words: Words<'_>) -> bool
 
 /// The number of a field whose numbers are 0 to the limit.
 fn read_field(word: &[u8], limit: u64, line: u32) -> Result<u64, TextError>
-    ensures { Gives text_refusal (λ n. n) result (at_line line (field_of limit word.now)) }
+    ensures { MatchesUnlessMemory text_refusal (λ n. n) result (at_line line (field_of limit word.now)) }
 {
     match read_number(word, limit) {
         Ok(number) => Ok(number),
@@ -44,7 +44,7 @@ fn read_numbers(
     limit: u64,
     line: u32,
 ) -> Result<Vec<u64>, TextError>
-    ensures { Gives text_refusal (λ v. v.items) result (at_line line (numbers_in limit words.entry)) }
+    ensures { MatchesUnlessMemory text_refusal (λ v. v.items) result (at_line line (numbers_in limit words.entry)) }
 {
     let mut words = words;
     let mut numbers = Vec::new(alloc);
@@ -62,7 +62,7 @@ pub fn read_fields(
     limit: u64,
     line: u32,
 ) -> Result<Vec<u64>, TextError>
-    ensures { Gives text_refusal (λ v. v.items) result (at_line line (fields_of limit (words_of words.now))) }
+    ensures { MatchesUnlessMemory text_refusal (λ v. v.items) result (at_line line (fields_of limit (words_of words.now))) }
 {
     if !are_numbers(Words::of(words)) {
         return Err(TextFault::Form.at(line));
@@ -85,7 +85,7 @@ fn narrowed(alloc: Global, numbers: &[u64]) -> Result<Vec<u32>, AllocError>
 /// The numbers of a line's words, each in a field of 32 bits. A word that is no number is found
 /// before one outside its field.
 pub fn read_u32_fields(alloc: Global, words: &[u8], line: u32) -> Result<Vec<u32>, TextError>
-    ensures { Gives text_refusal (λ v. v.items) result (at_line line (fields_of (2 ^ 32 - 1) (words_of words.now))) }
+    ensures { MatchesUnlessMemory text_refusal (λ v. v.items) result (at_line line (fields_of (2 ^ 32 - 1) (words_of words.now))) }
 {
     let numbers = read_fields(alloc, words, u64::from(u32::MAX), line)?;
     let numbers = narrowed(alloc, &numbers)?;

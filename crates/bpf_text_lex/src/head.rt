@@ -1,6 +1,6 @@
 //! The first line of a unit: `maps` and the number of elements of each map.
 
-ghost use Rattle.bpf_insn_types.specs.Outcome.{Gives};
+ghost use Rattle.bpf_insn_types.specs.Outcome.{MatchesUnlessMemory};
 ghost use Rattle.bpf_text_lex.specs.Words.{words_of};
 ghost use Rattle.bpf_text_lex.specs.Refusals.{at_line, text_refusal};
 ghost use Rattle.bpf_text_lex.specs.Head.{head_of};
@@ -13,7 +13,7 @@ use std::alloc::Global;
 
 /// The sizes of maps that a unit's first line, whose number this is, gives, or its fault.
 pub fn read_head(alloc: Global, content: &[u8], line: u32) -> Result<Vec<u32>, TextError>
-    ensures { Gives text_refusal (λ v. v.items) result (at_line line (head_of (words_of content.now))) }
+    ensures { MatchesUnlessMemory text_refusal (λ v. v.items) result (at_line line (head_of (words_of content.now))) }
 {
     let Some((word, rest)) = next_word(content) else {
         return Err(TextFault::Form.at(line));

@@ -2,7 +2,7 @@
 
 ghost use Rattle.std.specs.Prelude.{◌≡◌};
 ghost use Rattle.bpf_text_lex.specs.declared.text_error.TextError.TheVariants.{Memory, Refused};
-ghost use Rattle.bpf_text_lex.specs.FaultNumbers.{fault_number};
+ghost use Rattle.bpf_text_lex.specs.FaultNumbers.{text_fault_number};
 
 use std::alloc::{AllocError, AllocFailed};
 use thiserror::Error;
@@ -46,7 +46,7 @@ pub enum TextError {
 impl TextFault {
     /// Its number, 1 to 7, by which it is printed and the least of several is found.
     pub fn number(self) -> u8
-        ensures { result ≡ fault_number self }
+        ensures { result ≡ text_fault_number self }
     {
         match self {
             TextFault::Form => 1,

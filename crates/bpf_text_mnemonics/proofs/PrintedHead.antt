@@ -6,7 +6,7 @@ use Rattle.std.proofs.lemmas.Bool.{leb-true, and_parts, and_from, cond-true, con
 use Rattle.std.proofs.lemmas.List.{length-append}
 use Rattle.std.proofs.lemmas.List.Sums.{sum_by-cons}
 use Rattle.bpf_text_lex.proofs.SpellingLaws.{in_field, decimal_digits}
-use Rattle.bpf_text_lex.specs.Refusals.{with_first}
+use Rattle.bpf_text_lex.specs.Refusals.{with_first_item}
 use Rattle.bpf_text_lex.specs.Lines.{with_front, is_blank}
 use Rattle.bpf_text_lex.specs.Words.{ends_word, words_of}
 use Rattle.bpf_text_lex.specs.Numbers.{is_number, is_numeral, is_negative}
@@ -69,8 +69,8 @@ are_numbers (size ∷ sizes) le =
 numbers_back : (sizes : List ℕ) → Small sizes → numbers_in (2 ^ 32 - 1) (map decimal sizes) ≡ Ok sizes
 numbers_back [] le = refl
 numbers_back (size ∷ sizes) le =
-    ap (λ r. with_first (as_field r) (numbers_in (2 ^ 32 - 1) (map decimal sizes))) (in_field (2 ^ 32 - 1) size (omega arith) (omega (arith, le.0)))
-    ∙ ap (with_first (Ok size)) (numbers_back sizes le.1)
+    ap (λ r. with_first_item (as_field r) (numbers_in (2 ^ 32 - 1) (map decimal sizes))) (in_field (2 ^ 32 - 1) size (omega arith) (omega (arith, le.0)))
+    ∙ ap (with_first_item (Ok size)) (numbers_back sizes le.1)
 
 fields_back : (sizes : List ℕ) → Small sizes → fields_of (2 ^ 32 - 1) (map decimal sizes) ≡ Ok sizes
 fields_back sizes le = cond-true (list_all is_number (map decimal sizes)) (numbers_in (2 ^ 32 - 1) (map decimal sizes)) (Err faults.Form) (are_numbers sizes le) ∙ numbers_back sizes le

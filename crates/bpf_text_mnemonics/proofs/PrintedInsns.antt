@@ -19,7 +19,7 @@ use Rattle.bpf_text_mnemonics.specs.declared.value.Value.{Value}
 use Rattle.bpf_text_mnemonics.specs.declared.value.Value.TheVariants as value
 use Rattle.bpf_text_mnemonics.specs.declared.value.Operands.{Operands}
 use Rattle.bpf_text_mnemonics.specs.declared.value.Operands.TheVariants as operands
-use Rattle.bpf_text_mnemonics.specs.Statement.{mnemonic_of, operand_value, two_slot_operands, operands_of}
+use Rattle.bpf_text_mnemonics.specs.Statement.{mnemonic_of, printed_operand, two_slot_operands, operands_of}
 use Rattle.bpf_text_mnemonics.specs.PrintedLines.{distance_spelling, value_spelling, operands_spelling, insn_spelling}
 use Rattle.bpf_text_lex.proofs.SpellingLaws.{decimal_digits}
 use Rattle.bpf_text_mnemonics.proofs.Bounds.{InBound, far_bound}
@@ -142,7 +142,7 @@ near : (z : ℤ) → FitsSigned w16 z → InBound (2 ^ 31) z
 near (pos n) fits = omega (arith, fits.sfits)
 near (negsuc n) fits = omega (arith, fits.sfits)
 
-operand_fits : (o : Operand) → OperandFits o → ValueFits (operand_value o)
+operand_fits : (o : Operand) → OperandFits o → ValueFits (printed_operand o)
 operand_fits (operand.Imm z) fits = far_bound z fits
 operand_fits (operand.Reg r) fits = fits
 

@@ -33,9 +33,9 @@ mnemonic_of (insn.Atomic w o dst src offset) = mnemonic.Atomic w o
 mnemonic_of (insn.LoadImm k dst imm next) = mnemonic.LoadImm k
 
 -- an immediate or a register
-abbrev pub operand_value : Operand → Value
-operand_value (operand.Imm imm) = value.Imm imm
-operand_value (operand.Reg src) = value.Reg src
+abbrev pub printed_operand : Operand → Value
+printed_operand (operand.Imm imm) = value.Imm imm
+printed_operand (operand.Reg src) = value.Reg src
 
 -- the number of 64 bits whose lower and upper half these are
 abbrev pub wide : ℤ → ℤ → ℕ
@@ -53,13 +53,13 @@ two_slot_operands kind.MapValue dst imm next = Three (value.Reg dst) (value.Imm 
 
 -- the operands of an instruction
 abbrev pub operands_of : Insn → Operands
-operands_of (insn.Alu w o dst src) = Two (value.Reg dst) (operand_value src)
+operands_of (insn.Alu w o dst src) = Two (value.Reg dst) (printed_operand src)
 operands_of (insn.Neg w dst) = One (value.Reg dst)
 operands_of (insn.Movsx w bits dst src) = Two (value.Reg dst) (value.Reg src)
 operands_of (insn.Endian order bits dst) = One (value.Reg dst)
 operands_of (insn.Ja offset) = One (value.Distance offset)
 operands_of (insn.Ja32 imm) = One (value.FarDistance imm)
-operands_of (insn.Jump w c dst src offset) = Three (value.Reg dst) (operand_value src) (value.Distance offset)
+operands_of (insn.Jump w c dst src offset) = Three (value.Reg dst) (printed_operand src) (value.Distance offset)
 operands_of (insn.Call callee imm) = One (value.Imm imm)
 operands_of insn.Exit = Zero
 operands_of (insn.Load s dst src offset) = Two (value.Reg dst) (value.Address src offset)

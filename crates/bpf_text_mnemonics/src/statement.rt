@@ -1,7 +1,7 @@
 //! An instruction as a mnemonic and operands.
 
 ghost use Rattle.std.specs.Prelude.{◌≡◌};
-ghost use Rattle.bpf_text_mnemonics.specs.Statement.{mnemonic_of, operand_value, two_slot_operands, operands_of, wide};
+ghost use Rattle.bpf_text_mnemonics.specs.Statement.{mnemonic_of, printed_operand, two_slot_operands, operands_of, wide};
 
 use crate::mnemonic::Mnemonic;
 use crate::value::{Operands, Value};
@@ -9,7 +9,7 @@ use bpf_insn_types::{ImmKind, Insn, Operand, Reg};
 
 /// The second operand of arithmetic or of a compare.
 fn value_of(operand: Operand) -> Value
-    ensures { result ≡ operand_value operand }
+    ensures { result ≡ printed_operand operand }
 {
     match operand {
         Operand::Imm(imm) => Value::Imm(imm),

@@ -21,7 +21,7 @@ use Rattle.bpf_text_operands.specs.declared.kind.Kind.{Kind}
 use Rattle.bpf_text_operands.specs.declared.kind.Kind.TheVariants as kind
 use Rattle.bpf_text_operands.specs.declared.kind.Kinds.TheVariants as kinds
 use Rattle.bpf_text_operands.specs.SignedNumbers.{is_register}
-use Rattle.bpf_text_operands.specs.Operands.{kinds_of, pair, as_reg, as_imm, as_wide, as_distance, as_far_distance, value_at, cut_comma, one, two, three, both_at, three_at, operands_at}
+use Rattle.bpf_text_operands.specs.Operands.{kinds_of, pair, as_reg, as_imm, as_wide, as_distance, as_far_distance, value_at, cut_comma, one_operand, two_operands, three_operands, both_at, three_at, operands_at}
 use Rattle.bpf_text_operands.specs.Statements.{statement_at, insn_of_mnemonic, some_insn, built, with_operands, insn_of_line}
 use Rattle.bpf_text_operands.proofs.MnemonicLaws.{HasWord, mnemonic_back}
 use Rattle.bpf_text_operands.proofs.PlainLaws.{Plain, plain-append, plain-digits, plain-no_comma, trim_start-text, trim_start-plain, trim-plain, cut_back}
@@ -36,7 +36,7 @@ module _ (find : List ℕ → Option ℕ) (slot : ℕ) where
     pub read : value_at find slot k word ≡ Ok v
 
   one_back : (k : Kind) (x : List ℕ) (u : Value) → Reads k x u → operands_at find slot (kinds.One k) x ≡ Ok (operands.One u)
-  one_back k x u r = ap (λ w. one (value_at find slot k w)) (trim-plain x r.plain) ∙ ap one r.read
+  one_back k x u r = ap (λ w. one_operand (value_at find slot k w)) (trim-plain x r.plain) ∙ ap one_operand r.read
 
   both_back : (a b : Kind) (x y front : List ℕ) (u w : Value) → Reads a x u → Reads b y w → trim front ≡ x → both_at find slot a b (Some (front, 32 ∷ y)) ≡ Ok (u, w)
   both_back a b x y front u w r s same =
@@ -46,16 +46,16 @@ module _ (find : List ℕ → Option ℕ) (slot : ℕ) where
 
   two_back : (a b : Kind) (x y : List ℕ) (u w : Value) → Reads a x u → Reads b y w → operands_at find slot (kinds.Two a b) (x ++ 44 ∷ 32 ∷ y) ≡ Ok (operands.Two u w)
   two_back a b x y u w r s =
-      ap (λ parts. two (both_at find slot a b parts)) (cut_back x (32 ∷ y) (plain-no_comma x r.plain))
-      ∙ ap two (both_back a b x y x u w r s (trim-plain x r.plain))
+      ap (λ parts. two_operands (both_at find slot a b parts)) (cut_back x (32 ∷ y) (plain-no_comma x r.plain))
+      ∙ ap two_operands (both_back a b x y x u w r s (trim-plain x r.plain))
 
   three_back : (a b c : Kind) (x y z : List ℕ) (u v w : Value) → Reads a x u → Reads b y v → Reads c z w → operands_at find slot (kinds.Three a b c) (x ++ 44 ∷ 32 ∷ (y ++ 44 ∷ 32 ∷ z)) ≡ Ok (operands.Three u v w)
   three_back a b c x y z u v w r s t =
-      ap (λ parts. three (three_at find slot a b c parts)) (cut_back x (32 ∷ (y ++ 44 ∷ 32 ∷ z)) (plain-no_comma x r.plain))
-      ∙ ap (λ f. three (pair (value_at find slot a f) (both_at find slot b c (cut_comma (32 ∷ (y ++ 44 ∷ 32 ∷ z)))))) (trim-plain x r.plain)
-      ∙ ap (λ f. three (pair f (both_at find slot b c (cut_comma (32 ∷ (y ++ 44 ∷ 32 ∷ z)))))) r.read
-      ∙ ap (λ parts. three (pair (Ok u) (both_at find slot b c parts))) (cut_back (32 ∷ y) (32 ∷ z) ((λ e. absurd cc), plain-no_comma y s.plain))
-      ∙ ap (λ f. three (pair (Ok u) f)) (both_back b c y z (32 ∷ y) v w s t (trim-plain y s.plain))
+      ap (λ parts. three_operands (three_at find slot a b c parts)) (cut_back x (32 ∷ (y ++ 44 ∷ 32 ∷ z)) (plain-no_comma x r.plain))
+      ∙ ap (λ f. three_operands (pair (value_at find slot a f) (both_at find slot b c (cut_comma (32 ∷ (y ++ 44 ∷ 32 ∷ z)))))) (trim-plain x r.plain)
+      ∙ ap (λ f. three_operands (pair f (both_at find slot b c (cut_comma (32 ∷ (y ++ 44 ∷ 32 ∷ z)))))) r.read
+      ∙ ap (λ parts. three_operands (pair (Ok u) (both_at find slot b c parts))) (cut_back (32 ∷ y) (32 ∷ z) ((λ e. absurd cc), plain-no_comma y s.plain))
+      ∙ ap (λ f. three_operands (pair (Ok u) f)) (both_back b c y z (32 ∷ y) v w s t (trim-plain y s.plain))
 
   -- a line whose mnemonic and operands are read is its instruction
   from_parts : (m : Mnemonic) (line text : List ℕ) (o : Operands) (i : Insn) → statement_at line ≡ Some (m, text) → operands_at find slot (kinds_of m) text ≡ Ok o → insn_of_mnemonic m o ≡ Some i →

@@ -25,7 +25,7 @@ use Rattle.bpf_text_operands.specs.declared.kind.Kind.TheVariants as kind
 use Rattle.bpf_text_operands.specs.declared.kind.Kinds.{Kinds}
 use Rattle.bpf_text_operands.specs.declared.kind.Kinds.TheVariants as kinds
 use Rattle.bpf_text_operands.specs.SignedNumbers.{is_register, register_at, ahead, back, signed_at, is_ahead, is_offset, offset_at, to_label, distance_at}
-use Rattle.bpf_text_operands.specs.Operands.{kinds_of, pair, as_reg, as_imm, as_wide, as_distance, as_far_distance, as_address, is_bracketed, inside, base_part, offset_part, value_at, cut_comma, one, two, three, both_at, three_at, operands_at, stands, both_stand, three_stand, all_stand}
+use Rattle.bpf_text_operands.specs.Operands.{kinds_of, pair, as_reg, as_imm, as_wide, as_distance, as_far_distance, as_address, is_bracketed, inside, base_part, offset_part, value_at, cut_comma, one_operand, two_operands, three_operands, both_at, three_at, operands_at, stands, both_stand, three_stand, all_stand}
 use Rattle.bpf_text_operands.specs.Statements.{statement_at, two_slots_of, insn_of_mnemonic, some_insn, built, with_operands, insn_of_line, mnemonic_slots, slots_where, slots_at}
 
 -- ---- what is read has its form
@@ -131,15 +131,15 @@ module _ (find : List ℕ → Option ℕ) (slot : ℕ) where
       let read = both_read (value_at find slot a (trim parts.0)) (both_at find slot b c (cut_comma parts.1)) x e in
       and_from (stands a (trim parts.0)) (both_stand b c (cut_comma parts.1)) (value_stands a (trim parts.0) read.0.0 read.0.1) (both_stands b c (cut_comma parts.1) read.1.0 read.1.1)
 
-  one_read : (r : Result Value TextFault) (o : Operands) → one r ≡ Ok o → (v : Value) × (r ≡ Ok v)
+  one_read : (r : Result Value TextFault) (o : Operands) → one_operand r ≡ Ok o → (v : Value) × (r ≡ Ok v)
   one_read (Ok v) o e = (v, refl)
   one_read (Err fault) o e = absurd cc
 
-  two_read : (r : Result (Value × Value) TextFault) (o : Operands) → two r ≡ Ok o → (x : Value × Value) × (r ≡ Ok x)
+  two_read : (r : Result (Value × Value) TextFault) (o : Operands) → two_operands r ≡ Ok o → (x : Value × Value) × (r ≡ Ok x)
   two_read (Ok x) o e = (x, refl)
   two_read (Err fault) o e = absurd cc
 
-  three_read : (r : Result (Value × (Value × Value)) TextFault) (o : Operands) → three r ≡ Ok o → (x : Value × (Value × Value)) × (r ≡ Ok x)
+  three_read : (r : Result (Value × (Value × Value)) TextFault) (o : Operands) → three_operands r ≡ Ok o → (x : Value × (Value × Value)) × (r ≡ Ok x)
   three_read (Ok x) o e = (x, refl)
   three_read (Err fault) o e = absurd cc
 

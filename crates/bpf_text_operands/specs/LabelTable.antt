@@ -9,8 +9,8 @@ use Rattle.bpf_text_operands.specs.declared.labels.Label.{Label}
 use Rattle.bpf_text_operands.specs.declared.labels.Labels.{Labels}
 
 -- where a label is defined, if it is
-unfoldable pub found : Labels → List ℕ → Option Label
-found labels name = get_by (λ k. slice_cmp nat_cmp name k.now) labels.places
+unfoldable pub label_named : Labels → List ℕ → Option Label
+label_named labels name = get_by (λ k. slice_cmp nat_cmp name k.now) labels.places
 
 -- the slot of a label
 abbrev pub slot_in : Option Label → Option ℕ
@@ -23,4 +23,4 @@ defined labels name label other = option_or (labels other) (if bytes_eq other na
 
 -- the slots of labels
 abbrev pub label_slots : Labels → List ℕ → Option ℕ
-label_slots labels name = slot_in (found labels name)
+label_slots labels name = slot_in (label_named labels name)

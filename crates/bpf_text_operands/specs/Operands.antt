@@ -7,7 +7,7 @@ use Rattle.bpf_text_lex.specs.Names.{is_name}
 use Rattle.bpf_text_lex.specs.Numbers.{is_number}
 use Rattle.bpf_text_lex.specs.declared.text_error.TextFault.{TextFault}
 use Rattle.bpf_text_lex.specs.declared.text_error.TextFault.TheVariants as faults
-use Rattle.bpf_text_lex.specs.FaultNumbers.{fault_number}
+use Rattle.bpf_text_lex.specs.FaultNumbers.{text_fault_number}
 use Rattle.bpf_text_lex.specs.Fields.{field_of}
 use Rattle.bpf_text_mnemonics.specs.declared.mnemonic.Mnemonic.{Mnemonic}
 use Rattle.bpf_text_mnemonics.specs.declared.mnemonic.Mnemonic.TheVariants as mnemonic
@@ -47,7 +47,7 @@ kinds_of (mnemonic.LoadImm load.MapValue) = kinds.Three kind.Reg kind.Imm kind.I
 
 -- the least of two faults
 abbrev pub least : TextFault → TextFault → TextFault
-least a b = if nat_le (fault_number a) (fault_number b) then a else b
+least a b = if nat_le (text_fault_number a) (text_fault_number b) then a else b
 
 -- both, or the least fault
 abbrev pub pair : {A B : Type 0} → Result A TextFault → Result B TextFault → Result (A × B) TextFault
@@ -125,17 +125,17 @@ abbrev pub cut_comma : List ℕ → Option (List ℕ × List ℕ)
 cut_comma text = cut text (position (λ b. b == 44) text)
 
 -- operands of which one, two or three were read
-abbrev pub one : Result Value TextFault → Result Operands TextFault
-one (Ok a) = Ok (operands.One a)
-one (Err fault) = Err fault
+abbrev pub one_operand : Result Value TextFault → Result Operands TextFault
+one_operand (Ok a) = Ok (operands.One a)
+one_operand (Err fault) = Err fault
 
-abbrev pub two : Result (Value × Value) TextFault → Result Operands TextFault
-two (Ok x) = Ok (operands.Two x.0 x.1)
-two (Err fault) = Err fault
+abbrev pub two_operands : Result (Value × Value) TextFault → Result Operands TextFault
+two_operands (Ok x) = Ok (operands.Two x.0 x.1)
+two_operands (Err fault) = Err fault
 
-abbrev pub three : Result (Value × (Value × Value)) TextFault → Result Operands TextFault
-three (Ok x) = Ok (operands.Three x.0 x.1.0 x.1.1)
-three (Err fault) = Err fault
+abbrev pub three_operands : Result (Value × (Value × Value)) TextFault → Result Operands TextFault
+three_operands (Ok x) = Ok (operands.Three x.0 x.1.0 x.1.1)
+three_operands (Err fault) = Err fault
 
 -- two operands on both sides of a comma
 abbrev pub both_at : (List ℕ → Option ℕ) → ℕ → Kind → Kind → Option (List ℕ × List ℕ) → Result (Value × Value) TextFault
@@ -150,9 +150,9 @@ three_at find slot a b c (Some parts) = pair (value_at find slot a (trim parts.0
 -- the operands of these kinds that a text is, parted by commas with blanks round them
 abbrev pub operands_at : (List ℕ → Option ℕ) → ℕ → Kinds → List ℕ → Result Operands TextFault
 operands_at find slot kinds.Zero text = if length text == 0 then Ok operands.Zero else Err faults.Form
-operands_at find slot (kinds.One a) text = one (value_at find slot a (trim text))
-operands_at find slot (kinds.Two a b) text = two (both_at find slot a b (cut_comma text))
-operands_at find slot (kinds.Three a b c) text = three (three_at find slot a b c (cut_comma text))
+operands_at find slot (kinds.One a) text = one_operand (value_at find slot a (trim text))
+operands_at find slot (kinds.Two a b) text = two_operands (both_at find slot a b (cut_comma text))
+operands_at find slot (kinds.Three a b c) text = three_operands (three_at find slot a b c (cut_comma text))
 
 -- whether a word has the form of a kind, and its registers are there, whatever its numbers and labels are
 abbrev pub stands : Kind → List ℕ → Bool

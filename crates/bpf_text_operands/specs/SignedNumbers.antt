@@ -7,7 +7,7 @@ use Rattle.bpf_text_lex.specs.Names.{is_name}
 use Rattle.bpf_text_lex.specs.Numbers.{is_numeral, is_negative, number_in}
 use Rattle.bpf_text_lex.specs.declared.text_error.TextFault.{TextFault}
 use Rattle.bpf_text_lex.specs.declared.text_error.TextFault.TheVariants as faults
-use Rattle.bpf_text_lex.specs.Fields.{fault_of}
+use Rattle.bpf_text_lex.specs.Fields.{number_fault}
 
 -- an `r` and digits
 abbrev pub is_register : List ℕ → Bool
@@ -25,11 +25,11 @@ register_at word = if is_register word then as_register (number_in 10 (drop 1 wo
 -- a number with a plus sign or without a sign, and one with a minus sign
 abbrev pub ahead : Result ℕ NumberError → Result ℤ TextFault
 ahead (Ok n) = Ok (pos n)
-ahead (Err error) = Err (fault_of error)
+ahead (Err error) = Err (number_fault error)
 
 abbrev pub back : Result ℕ NumberError → Result ℤ TextFault
 back (Ok n) = Ok (neg_ℤ (pos n))
-back (Err error) = Err (fault_of error)
+back (Err error) = Err (number_fault error)
 
 -- the number of a word, in a field of -bound to bound - 1
 abbrev pub signed_at : ℕ → List ℕ → Result ℤ TextFault

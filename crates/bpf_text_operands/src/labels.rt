@@ -1,7 +1,7 @@
 //! The labels of a text.
 
 ghost use Rattle.std.specs.Prelude.{◌≡◌, IfOk, OnOk, ℕ, List, None};
-ghost use Rattle.bpf_text_operands.specs.LabelTable.{found, slot_in, defined};
+ghost use Rattle.bpf_text_operands.specs.LabelTable.{label_named, slot_in, defined};
 
 use std::alloc::{AllocError, Global};
 use std::collections::BTreeMap;
@@ -24,9 +24,9 @@ pub struct Labels<'a> {
 
 impl<'a> Labels<'a> {
     /// No labels.
-    #[tactic(auto, unfolding(crate::specs::LabelTable::found))]
+    #[tactic(auto, unfolding(crate::specs::LabelTable::label_named))]
     pub fn new(alloc: Global) -> Labels<'a>
-        ensures { (name : List ℕ) → found result name ≡ None }
+        ensures { (name : List ℕ) → label_named result name ≡ None }
     {
         Labels {
             places: BTreeMap::new(alloc),
@@ -34,16 +34,16 @@ impl<'a> Labels<'a> {
     }
 
     /// Where a label is defined, if it is.
-    #[tactic(auto, unfolding(crate::specs::LabelTable::found))]
+    #[tactic(auto, unfolding(crate::specs::LabelTable::label_named))]
     pub fn get(&self, name: &[u8]) -> Option<Label>
-        ensures { result ≡ found self.now name.now }
+        ensures { result ≡ label_named self.now name.now }
     {
         self.places.get(name).copied()
     }
 
     /// Adds a label, unless one of this name is defined already.
     pub fn define(&mut self, name: &'a [u8], label: Label) -> Result<(), AllocError>
-        ensures { OnOk result ((other : List ℕ) → found self.new other ≡ defined (found self.old) name.now label other) }
+        ensures { OnOk result ((other : List ℕ) → label_named self.new other ≡ defined (label_named self.old) name.now label other) }
     {
         self.places.entry(name)?.or_insert(label);
         Ok(())

@@ -3,7 +3,7 @@
 ghost use Rattle.std.specs.Prelude.{◌≡◌, ◌≤◌, ◌<◌, ◌-◌, ◌^◌, pos, neg_ℤ, IfOk, FitsSigned};
 ghost use Rattle.std.specs.Int.{w16};
 ghost use Rattle.bpf_text_lex.specs.Numbers.{number_in};
-ghost use Rattle.bpf_text_lex.specs.Fields.{fault_of};
+ghost use Rattle.bpf_text_lex.specs.Fields.{number_fault};
 ghost use Rattle.bpf_text_operands.specs.SignedNumbers.{is_register, register_at, ahead, back, signed_at, is_ahead, is_offset, offset_at, distance_to};
 
 use bpf_insn_types::Reg;
@@ -34,7 +34,7 @@ pub fn register_at(word: &[u8]) -> Result<Reg, TextFault>
 
 /// The fault of a word that is no number of its field.
 pub fn fault_of(error: NumberError) -> TextFault
-    ensures { result ≡ fault_of error }
+    ensures { result ≡ number_fault error }
 {
     match error {
         NumberError::Form => TextFault::Form,

@@ -9,7 +9,7 @@ use Rattle.std.proofs.Math.ListN.{length-set}
 use Rattle.bpf_insn_types.specs.declared.insn.Insn.{Insn}
 use Rattle.bpf_insn_types.specs.Program.{slot_count, insn_at}
 use Rattle.bpf_insn_types.proofs.ProgramLaws.{insn_at-front, starts-push}
-use Rattle.bpf_verify.specs.SlotFlags.{flagged}
+use Rattle.bpf_verify.specs.SlotFlags.{slot_flagged}
 
 -- the marks of a front with one instruction more
 pub begin-step : (xs : List Insn) (x : Insn) (marks : List Bool) → ((k : ℕ) → get_or marks k false ≡ is_some (insn_at xs k)) →
@@ -63,11 +63,11 @@ named-step named (Some t) marks k inside so_far after none some =
 
 pub named-marked : (named : List ℕ) (target : Option ℕ) (marks : List Bool) (k : ℕ) → k < length marks →
     get_or marks k false ≡ list_any (nat_eq k) named →
-    get_or (flagged marks target) k false ≡ list_any (nat_eq k) (named ++ cons_option target [])
+    get_or (slot_flagged marks target) k false ≡ list_any (nat_eq k) (named ++ cons_option target [])
 named-marked named None marks k inside so_far = named-step named None marks k inside so_far marks (λ _. refl) (λ t e. cc)
 named-marked named (Some s) marks k inside so_far =
     named-step named (Some s) marks k inside so_far (set marks s true) (λ e. cc) (λ t e. let same : s ≡ t = cc in ap (λ (n : ℕ). set marks n true) same)
 
-pub length-marked : (marks : List Bool) (target : Option ℕ) → length (flagged marks target) ≡ length marks
+pub length-marked : (marks : List Bool) (target : Option ℕ) → length (slot_flagged marks target) ≡ length marks
 length-marked marks None = refl
 length-marked marks (Some s) = length-set marks s true

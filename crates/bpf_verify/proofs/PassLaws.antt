@@ -16,7 +16,7 @@ use Rattle.bpf_verify.specs.declared.error.VerifyError.{VerifyError}
 use Rattle.bpf_verify.specs.declared.error.VerifyError.TheVariants.{Refused, Memory}
 use Rattle.bpf_verify.specs.declared.layout.Layout.{Layout}
 use Rattle.bpf_verify.specs.Layout.{IsLayout}
-use Rattle.bpf_verify.specs.Passing.{Stands, out_of, Passed, IsFault}
+use Rattle.bpf_verify.specs.Passing.{InsnStartsAt, out_of, Passed, IsFault}
 use Rattle.bpf_insn_types.proofs.ProgramLaws.{slots_some, slots_two, slot_count-more, slot_count-front, insn_at-index, insn_at-index_inner}
 use Rattle.bpf_verify.proofs.StartLaws.{get_or-push-below, get_or-push-at}
 
@@ -70,7 +70,7 @@ fault_within-later program slot n fault found later =
     let e : n ≡ (n - slot) + slot = omega arith in
     ap (fault_within program) e ∙ fault_within-steps program slot (n - slot) fault found
 
--- what is known before a slot that the pass has come to
+-- the abstract state before a slot that the pass has come to
 pub known-here : (program : Program) (slot : ℕ) (before : Option State) (targets : List ℕ) (table : List (Option State)) →
     Passed program slot targets table → slot < length table → before ≡ get_or table slot None → before ≡ incoming program slot slot
 known-here program slot before targets table passed inside read = read ∙ passed.known slot inside
@@ -151,7 +151,7 @@ first-one table state is pushed (suc k) h = absurd (omega arith)
 
 -- an instruction of a list, at its slot
 pub record At (insns : List Insn) (layout : Layout) (count slot i : ℕ) (x : Insn) : Type 0 where
-  pub stands : Stands insns layout slot
+  pub stands : InsnStartsAt insns layout slot
   pub here : insn_at insns slot ≡ Some x
   pub inside : slot + slots_of x ≤ count
   pub some : 1 ≤ slots_of x

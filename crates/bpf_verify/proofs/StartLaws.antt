@@ -7,7 +7,7 @@ use Rattle.std.proofs.lemmas.List.FromFn.{length-range_with_len}
 use Rattle.std.proofs.lemmas.List.Sums.{length-filter, count_by-le-length}
 use Rattle.bpf_insn_types.specs.declared.insn.Insn.{Insn}
 use Rattle.bpf_insn_types.specs.Program.{slot_count, insn_at, named_from, is_callback_start, callback_starts, function_of}
-use Rattle.bpf_verify.specs.Layout.{place_of}
+use Rattle.bpf_verify.specs.Layout.{function_starting_at}
 use Rattle.bpf_insn_types.proofs.ProgramLaws.{insn_at-end}
 
 -- a filter of one number more
@@ -121,38 +121,38 @@ get_or-end (x ∷ xs) d (suc k) h = get_or-end xs d k (omega arith)
 place-here : (insns : List Insn) (starts : List ℕ) (slot function : ℕ) (place : Option ℕ) (begins : Bool) →
     starts ≡ filter (starts_at insns) (range_with_len 0 (suc slot)) → function ≡ length starts →
     place ≡ (if begins then Some function else None) → begins ≡ is_some (insn_at insns slot) → slot < slot_count insns →
-    place ≡ place_of insns slot
+    place ≡ function_starting_at insns slot
 place-here insns starts slot function place begins starts_are counted place_is begins_is inside =
     let f : function ≡ function_of insns slot = counted ∙ ap length starts_are ∙ sym (function_of-starts insns slot inside) in
     place_is ∙ ap (λ (b : Bool). if b then Some function else None) begins_is ∙ ap (λ (n : ℕ). if is_some (insn_at insns slot) then Some n else None) f
 
 pub places-more : (insns : List Insn) (places places' : List (Option ℕ)) (starts : List ℕ) (slot function : ℕ) (place : Option ℕ) (begins : Bool) →
-    length places ≡ slot → ((k : ℕ) → k < slot → get_or places k None ≡ place_of insns k) → places' ≡ places ++ (place ∷ []) →
+    length places ≡ slot → ((k : ℕ) → k < slot → get_or places k None ≡ function_starting_at insns k) → places' ≡ places ++ (place ∷ []) →
     starts ≡ filter (starts_at insns) (range_with_len 0 (suc slot)) → function ≡ length starts →
     place ≡ (if begins then Some function else None) → begins ≡ is_some (insn_at insns slot) → slot < slot_count insns →
-    (k : ℕ) → k < slot + 1 → get_or places' k None ≡ place_of insns k
+    (k : ℕ) → k < slot + 1 → get_or places' k None ≡ function_starting_at insns k
 places-more insns places places' starts slot function place begins size so_far pushed starts_are counted place_is begins_is inside k h =
     ap (λ (l : List (Option ℕ)). get_or l k None) pushed
     ∙ by_place insns places slot place size so_far (place-here insns starts slot function place begins starts_are counted place_is begins_is inside) k h (nat_lt k slot) refl
   where
     by_place : (insns : List Insn) (places : List (Option ℕ)) (slot : ℕ) (place : Option ℕ) → length places ≡ slot →
-        ((k : ℕ) → k < slot → get_or places k None ≡ place_of insns k) → place ≡ place_of insns slot → (k : ℕ) → k < slot + 1 →
-        (b : Bool) → nat_lt k slot ≡ b → get_or (places ++ (place ∷ [])) k None ≡ place_of insns k
+        ((k : ℕ) → k < slot → get_or places k None ≡ function_starting_at insns k) → place ≡ function_starting_at insns slot → (k : ℕ) → k < slot + 1 →
+        (b : Bool) → nat_lt k slot ≡ b → get_or (places ++ (place ∷ [])) k None ≡ function_starting_at insns k
     by_place insns places slot place size so_far here k h true e =
         let below : k < slot = grind (arith, nat_tests) in
         get_or-push-below places place None k (omega arith) ∙ so_far k below
     by_place insns places slot place size so_far here k h false e =
         let past : slot ≤ k = grind (arith, nat_tests) in
         let same : k ≡ slot = omega arith in
-        get_or-push-at places place None k (omega arith) ∙ here ∙ sym (ap (place_of insns) same)
+        get_or-push-at places place None k (omega arith) ∙ here ∙ sym (ap (function_starting_at insns) same)
 
 -- all places
 pub places-all : (insns : List Insn) (places : List (Option ℕ)) (n : ℕ) → length places ≡ n → slot_count insns ≤ n →
-    ((k : ℕ) → k < n → get_or places k None ≡ place_of insns k) → (k : ℕ) → get_or places k None ≡ place_of insns k
+    ((k : ℕ) → k < n → get_or places k None ≡ function_starting_at insns k) → (k : ℕ) → get_or places k None ≡ function_starting_at insns k
 places-all insns places n size all so_far k = by_place insns places n size all so_far k (nat_lt k n) refl
   where
     by_place : (insns : List Insn) (places : List (Option ℕ)) (n : ℕ) → length places ≡ n → slot_count insns ≤ n →
-        ((k : ℕ) → k < n → get_or places k None ≡ place_of insns k) → (k : ℕ) (b : Bool) → nat_lt k n ≡ b → get_or places k None ≡ place_of insns k
+        ((k : ℕ) → k < n → get_or places k None ≡ function_starting_at insns k) → (k : ℕ) (b : Bool) → nat_lt k n ≡ b → get_or places k None ≡ function_starting_at insns k
     by_place insns places n size all so_far k true e = so_far k (grind (arith, nat_tests))
     by_place insns places n size all so_far k false e =
         let past : n ≤ k = grind (arith, nat_tests) in

@@ -5,10 +5,10 @@ use Rattle.bpf_insn_types.specs.Program.{insn_at, function_of, callback_starts}
 use Rattle.bpf_verify.specs.declared.layout.Layout.{Layout}
 
 -- the function of the instruction that starts at a slot, if one does
-abbrev pub place_of : List Insn → ℕ → Option ℕ
-place_of insns slot = if is_some (insn_at insns slot) then Some (function_of insns slot) else None
+abbrev pub function_starting_at : List Insn → ℕ → Option ℕ
+function_starting_at insns slot = if is_some (insn_at insns slot) then Some (function_of insns slot) else None
 
 -- a layout is that of these instructions
 pub record IsLayout (insns : List Insn) (layout : Layout) : Type 0 where
-  pub places : (slot : ℕ) → slice_index_or layout.places.items slot None ≡ place_of insns slot
+  pub places : (slot : ℕ) → slice_index_or layout.places.items slot None ≡ function_starting_at insns slot
   pub starts : layout.starts.items ≡ callback_starts insns

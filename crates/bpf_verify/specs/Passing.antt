@@ -6,7 +6,7 @@ use Rattle.bpf_verify_model.specs.declared.state.State.{State}
 use Rattle.bpf_verify_model.specs.Rules.{targets_in}
 use Rattle.bpf_verify_model.specs.declared.outflow.Outflow.{Outflow}
 use Rattle.bpf_verify_model.specs.Flow.{flow}
-use Rattle.bpf_verify_model.specs.Inflow.{incoming, no_way, entry}
+use Rattle.bpf_verify_model.specs.Inflow.{incoming, no_edges, entry}
 use Rattle.bpf_verify_model.specs.Accepted.{BrokenRule, fault_within}
 use Rattle.bpf_step_ir.specs.declared.plain_op.PlainOp.{PlainOp}
 use Rattle.bpf_step_ir.specs.declared.plain_op.PlainOp.TheVariants.{Stop}
@@ -22,14 +22,14 @@ abbrev pub program_of : Code → Program
 program_of code = record { sizes = code.sizes.now; insns = code.insns.now }
 
 -- an instruction starts at a slot of a program with this layout
-pub record Stands (insns : List Insn) (layout : Layout) (slot : ℕ) : Type 0 where
+pub record InsnStartsAt (insns : List Insn) (layout : Layout) (slot : ℕ) : Type 0 where
   pub layout_is : IsLayout insns layout
   pub here : is_some (insn_at insns slot) ≡ true
   pub low : slot < 4096
 
 -- what flows from an instruction that breaks no rule
 abbrev pub out_of : List ℕ → ℕ → Insn → Option State → Outflow
-out_of sizes slot insn None = no_way
+out_of sizes slot insn None = no_edges
 out_of sizes slot insn (Some state) = flow sizes slot state insn
 
 -- the first so many slots break no rule; what flowed from them is in the table, and their targets are listed
@@ -43,8 +43,8 @@ pub record Translated (program : Program) (count : ℕ) (ops : List PlainOp) : T
   pub done : (slot : ℕ) → slot < count → slice_index_or ops slot Stop ≡ op_at program slot
   pub rest : (slot : ℕ) → count ≤ slot → slice_index_or ops slot Stop ≡ Stop
 
--- what is known before each slot where nothing flowed yet
-pub record IsFirst (count : ℕ) (table : List (Option State)) : Type 0 where
+-- the abstract state before each slot where nothing flowed yet
+pub record IsEntryTable (count : ℕ) (table : List (Option State)) : Type 0 where
   pub size : length table ≡ count
   pub known : (slot : ℕ) → slot < count → slice_index_or table slot None ≡ entry slot
 

@@ -5,9 +5,9 @@ use Rattle.bpf_insn_types.specs.declared.insn.Insn.{Insn}
 use Rattle.bpf_insn_types.specs.Program.{slot_count, insn_at, named_from}
 
 -- marks with one more, where the slot has a mark
-abbrev pub flagged : List Bool → Option ℕ → List Bool
-flagged marks None = marks
-flagged marks (Some slot) = slice_set marks slot true
+abbrev pub slot_flagged : List Bool → Option ℕ → List Bool
+slot_flagged marks None = marks
+slot_flagged marks (Some slot) = slice_set marks slot true
 
 -- the slots where instructions start are flagged
 pub record StartFlags (insns : List Insn) (marks : List Bool) : Type 0 where

@@ -2,7 +2,7 @@
 
 ghost use Rattle.std.specs.Prelude.{◌≡◌, ◌<◌, ◌≤◌, ◌&&◌, false, if◌then◌else◌, ◌++◌, ◌∷◌, [], length, slice_index_or, option_to_list, IfSome, IfNone, IfOk, IfErr, OnOk};
 ghost use Rattle.bpf_insn_types.specs.Program.{slot_count};
-ghost use Rattle.bpf_verify.specs.SlotFlags.{flagged, StartFlags, NamedFlags};
+ghost use Rattle.bpf_verify.specs.SlotFlags.{slot_flagged, StartFlags, NamedFlags};
 ghost use Rattle.bpf_verify.specs.Layout.{IsLayout};
 
 use crate::error::VerifyError;
@@ -20,7 +20,7 @@ pub struct Layout {
 
 /// Marks a slot, if it is one of the marks'.
 fn mark(marks: &mut Vec<bool>, slot: Option<u32>)
-    ensures { marks.new.items ≡ flagged marks.old.items slot }
+    ensures { marks.new.items ≡ slot_flagged marks.old.items slot }
 {
     let Some(slot) = slot else {
         return;

@@ -1,4 +1,5 @@
-//! The pass over a program's instructions: what is known before each, its operation, and the first fault.
+//! The pass over a program's instructions: the abstract state before each, its operation, and the first
+//! fault.
 
 ghost use Rattle.std.specs.Prelude.{◌≡◌, ℕ, ◌+◌, ◌<◌, ◌≤◌, ◌++◌, ◌∷◌, [], length, nat_eq, slice_set, IfOk, IfErr, OnOk};
 ghost use Rattle.std.specs.List.{list_any};
@@ -7,8 +8,8 @@ ghost use Rattle.bpf_insn_types.specs.Program.{slot_count, insn_at, function_of,
 ghost use Rattle.bpf_verify_model.specs.Rules.{leads_later, jumps_astray, falls_off, starts, names_none, targets_in, with_target, slot_fault, reached, state_fault, exit_fault, fault_of};
 ghost use Rattle.bpf_verify_model.specs.Accepted.{fault_within};
 ghost use Rattle.bpf_step_ir.specs.Translation.{op_at, AreOps};
-ghost use Rattle.bpf_verify.specs.Layout.{IsLayout, place_of};
-ghost use Rattle.bpf_verify.specs.Passing.{program_of, Stands, Passed, IsFault};
+ghost use Rattle.bpf_verify.specs.Layout.{IsLayout, function_starting_at};
+ghost use Rattle.bpf_verify.specs.Passing.{program_of, InsnStartsAt, Passed, IsFault};
 
 use crate::error::VerifyError;
 use crate::layout::Layout;
@@ -35,7 +36,7 @@ pub struct Code<'a> {
 /// The function of the instruction at a slot, if one starts there.
 fn place(code: &Code, slot: u32) -> Option<u32>
     requires { IsLayout code.now.insns.now code.now.layout.now }
-    ensures { result ≡ place_of code.now.insns.now slot }
+    ensures { result ≡ function_starting_at code.now.insns.now slot }
 {
     match code.layout.places.get(slot as usize) {
         None => None,
@@ -45,7 +46,7 @@ fn place(code: &Code, slot: u32) -> Option<u32>
 
 /// The function of an instruction.
 fn function_at(code: &Code, slot: u32) -> u32
-    requires { Stands code.now.insns.now code.now.layout.now slot }
+    requires { InsnStartsAt code.now.insns.now code.now.layout.now slot }
     ensures { result ≡ function_of code.now.insns.now slot }
 {
     match place(code, slot) {
@@ -56,7 +57,7 @@ fn function_at(code: &Code, slot: u32) -> u32
 
 /// Whether an instruction of the same function starts at another slot.
 fn leads_to(code: &Code, slot: u32, target: u32) -> bool
-    requires { Stands code.now.insns.now code.now.layout.now slot }
+    requires { InsnStartsAt code.now.insns.now code.now.layout.now slot }
     ensures { result ≡ leads_to code.now.insns.now slot target }
 {
     match place(code, target) {
@@ -67,7 +68,7 @@ fn leads_to(code: &Code, slot: u32, target: u32) -> bool
 
 /// A later slot, where an instruction of the same function starts.
 fn leads_later(code: &Code, slot: u32, target: Option<u32>) -> bool
-    requires { Stands code.now.insns.now code.now.layout.now slot }
+    requires { InsnStartsAt code.now.insns.now code.now.layout.now slot }
     ensures { result ≡ leads_later code.now.insns.now slot target }
 {
     match target {
@@ -78,7 +79,7 @@ fn leads_later(code: &Code, slot: u32, target: Option<u32>) -> bool
 
 /// V3: a jump's target isn't a later slot where an instruction of the same function starts.
 fn jumps_astray(code: &Code, slot: u32, insn: Insn) -> bool
-    requires { Stands code.now.insns.now code.now.layout.now slot }
+    requires { InsnStartsAt code.now.insns.now code.now.layout.now slot }
     ensures { result ≡ jumps_astray code.now.insns.now slot insn }
 {
     match jump_distance(insn) {
@@ -89,7 +90,7 @@ fn jumps_astray(code: &Code, slot: u32, insn: Insn) -> bool
 
 /// V4: it goes on, but no instruction of the same function follows.
 fn falls_off(code: &Code, slot: u32, insn: &Insn) -> bool
-    requires { Stands code.now.insns.now code.now.layout.now slot }
+    requires { InsnStartsAt code.now.insns.now code.now.layout.now slot }
     ensures { result ≡ falls_off code.now.insns.now slot insn.now }
 {
     goes_on(*insn) && !leads_to(code, slot, slot + slots(insn))
@@ -108,7 +109,7 @@ fn starts(code: &Code, slot: Option<u32>) -> bool
 
 /// V5: a code address's target isn't the first slot of an instruction past the load.
 fn names_none(code: &Code, slot: u32, insn: &Insn) -> bool
-    requires { Stands code.now.insns.now code.now.layout.now slot }
+    requires { InsnStartsAt code.now.insns.now code.now.layout.now slot }
     ensures { result ≡ names_none code.now.insns.now slot insn.now }
 {
     is_code_load(*insn) && !starts(code, named_by(slot, *insn))
@@ -117,7 +118,7 @@ fn names_none(code: &Code, slot: u32, insn: &Insn) -> bool
 /// The least of V3 to V6; so many targets are named up to this slot.
 #[tactic(auto, unfolding(bpf_verify_model::specs::Rules::slot_fault))]
 fn slot_fault(code: &Code, slot: u32, insn: &Insn, targets: usize) -> Option<Rule>
-    requires stands { Stands code.now.insns.now code.now.layout.now slot }
+    requires stands { InsnStartsAt code.now.insns.now code.now.layout.now slot }
     requires targets { targets ≡ length (targets_in code.now.insns.now (slot + 1)) }
     ensures { result ≡ slot_fault code.now.insns.now slot insn.now }
 {
@@ -164,7 +165,7 @@ fn fault_of(
     targets: usize,
     before: &Option<State>,
 ) -> Option<Rule>
-    requires stands { Stands code.now.insns.now code.now.layout.now slot }
+    requires stands { InsnStartsAt code.now.insns.now code.now.layout.now slot }
     requires targets { targets ≡ length (targets_in code.now.insns.now (slot + 1)) }
     ensures { result ≡ fault_of (program_of code.now) slot insn.now before.now }
 {
@@ -214,7 +215,7 @@ fn visit(
     ops: &mut Vec<PlainOp>,
 ) -> Result<(), VerifyError>
     requires sizes { AreSizes code.now.sizes.now }
-    requires stands { Stands code.now.insns.now code.now.layout.now slot }
+    requires stands { InsnStartsAt code.now.insns.now code.now.layout.now slot }
     requires here { insn_at code.now.insns.now slot ≡ Some insn.now }
     requires within { slot < length table.old.items }
     requires room { slot < length ops.old.items }

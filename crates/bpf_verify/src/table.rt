@@ -1,16 +1,16 @@
-//! What is known before each slot, as far as a pass has come.
+//! The abstract state before each slot, as far as a pass has come.
 
 ghost use Rattle.std.specs.Prelude.{◌≡◌, ℕ, ◌+◌, ◌<◌, ◌++◌, ◌∷◌, [], length, slice_index_or, Some, None, IfOk, IfErr, OnOk};
 ghost use Rattle.bpf_insn_types.specs.Slots.{slots_of};
 ghost use Rattle.bpf_verify_model.specs.Flow.{known_behind, ahead_outflow, flow};
-ghost use Rattle.bpf_verify_model.specs.Inflow.{met, received, received_all};
-ghost use Rattle.bpf_verify.specs.Passing.{out_of, IsFirst};
+ghost use Rattle.bpf_verify_model.specs.Inflow.{joined_with, received, received_all};
+ghost use Rattle.bpf_verify.specs.Passing.{out_of, IsEntryTable};
 
 use crate::error::VerifyError;
 use bpf_insn_types::{Insn, slots};
 use bpf_verify_model::{Edge, Outflow, State};
 use bpf_verify_transfer::{behind, flow, main_entry};
-use bpf_verify_values::meet_states;
+use bpf_verify_values::join_states;
 use std::alloc::Global;
 
 /// By a slice of one: the borrow checker has no plan yet for a push of a struct within an enum.
@@ -21,10 +21,10 @@ fn add_state(table: &mut Vec<Option<State>>, state: Option<State>) -> Result<(),
     Ok(table.extend_from_slice(&[state])?)
 }
 
-/// What is known before each slot where nothing flowed yet.
+/// The abstract state before each slot where nothing flowed yet.
 pub fn first_table(alloc: Global, count: u32) -> Result<Vec<Option<State>>, VerifyError>
     requires { 0 < count }
-    ensures ok { IfOk result (λ table. IsFirst count table.items) }
+    ensures ok { IfOk result (λ table. IsEntryTable count table.items) }
     ensures err { IfErr result (λ e. e ≡ VerifyError.Memory) }
 {
     let mut table = Vec::new(alloc);
@@ -35,7 +35,7 @@ pub fn first_table(alloc: Global, count: u32) -> Result<Vec<Option<State>>, Veri
     Ok(table)
 }
 
-/// What is known before a slot.
+/// The abstract state before a slot.
 pub fn known(table: &Vec<Option<State>>, slot: u32) -> Option<State>
     requires { slot < length table.now.items }
     ensures { result ≡ slice_index_or table.now.items slot None }
@@ -44,17 +44,17 @@ pub fn known(table: &Vec<Option<State>>, slot: u32) -> Option<State>
     states[slot as usize]
 }
 
-/// One more way comes in.
-fn meet(before: &mut Option<State>, state: &State)
-    ensures { before.new ≡ met before.old state.now }
+/// One more edge comes in.
+fn join_before(before: &mut Option<State>, state: &State)
+    ensures { before.new ≡ joined_with before.old state.now }
 {
     match before {
         None => *before = Some(*state),
-        Some(known) => meet_states(known, state),
+        Some(known) => join_states(known, state),
     }
 }
 
-/// One more way comes to a slot.
+/// One more edge comes to a slot.
 fn receive_at(table: &mut Vec<Option<State>>, target: u32, state: &State)
     ensures size { length table.new.items ≡ length table.old.items }
     ensures received { (slot : ℕ) → slot < length table.old.items
@@ -62,11 +62,11 @@ fn receive_at(table: &mut Vec<Option<State>>, target: u32, state: &State)
 {
     let at = target as usize;
     if at < table.len() {
-        meet(&mut table[at], state);
+        join_before(&mut table[at], state);
     }
 }
 
-/// One more way comes in, if it is followed.
+/// One more edge comes in, if it is followed.
 fn receive(table: &mut Vec<Option<State>>, edge: &Option<Edge>)
     ensures size { length table.new.items ≡ length table.old.items }
     ensures received { (slot : ℕ) → slot < length table.old.items
@@ -78,7 +78,7 @@ fn receive(table: &mut Vec<Option<State>>, edge: &Option<Edge>)
     }
 }
 
-/// Both ways out come in.
+/// Both edges out come in.
 fn receive_both(table: &mut Vec<Option<State>>, out: &Outflow)
     ensures size { length table.new.items ≡ length table.old.items }
     ensures received { (slot : ℕ) → slot < length table.old.items
@@ -88,7 +88,7 @@ fn receive_both(table: &mut Vec<Option<State>>, out: &Outflow)
     receive(table, &out.aside);
 }
 
-/// Hands on what is known behind an instruction that doesn't jump: it is changed where it stands.
+/// Hands on the abstract state behind an instruction that doesn't jump: it is changed where it stands.
 fn hand_ahead(
     table: &mut Vec<Option<State>>,
     sizes: &[u32],
@@ -106,7 +106,7 @@ fn hand_ahead(
     receive_at(table, slot + slots(&insn), state);
 }
 
-/// Hands on what is known before an instruction that breaks no rule, to the slots that it leads to.
+/// Hands on the abstract state before an instruction that breaks no rule, to the slots that it leads to.
 #[tactic(auto, unfolding(bpf_verify_model::specs::Flow::flow))]
 fn hand_on(table: &mut Vec<Option<State>>, sizes: &[u32], slot: u32, state: &mut State, insn: Insn)
     requires { slot < 4096 }

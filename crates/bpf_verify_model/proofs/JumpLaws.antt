@@ -8,7 +8,7 @@ use Rattle.bpf_insn_types.specs.Program.{Program, slot_count, insn_at, leads_to}
 use Rattle.bpf_verify_model.specs.declared.rule.Rule.{Rule}
 use Rattle.bpf_verify_model.specs.declared.rule.Rule.TheVariants.{NoSlot, OverLimits, JumpTarget}
 use Rattle.bpf_verify_model.specs.Rules.{jump_distance, jump_target, leads_later, jumps_astray, slot_fault, or_else, fault_of}
-use Rattle.bpf_verify_model.specs.Inflow.{before}
+use Rattle.bpf_verify_model.specs.Inflow.{state_before}
 use Rattle.bpf_verify_model.specs.Accepted.{BrokenRule, unless_earlier, fault_at, fault_at_insn, fault_within, first_fault, is_too_large, WithinLimits}
 use Rattle.bpf_verify_model.specs.Count.{JumpsForward}
 use Rattle.bpf_insn_types.proofs.ProgramLaws.{insn_at-end}
@@ -52,7 +52,7 @@ not_astray : (insns : List Insn) (slot : ℕ) (insn : Insn) → slot_fault insns
 unfolding slot_fault
 not_astray insns slot insn e = no_rule (jumps_astray insns slot insn) JumpTarget _ e
 
-slot_fault-none : (program : Program) (slot : ℕ) (insn : Insn) → fault_of program slot insn (before program slot) ≡ None → slot_fault program.insns slot insn ≡ None
+slot_fault-none : (program : Program) (slot : ℕ) (insn : Insn) → fault_of program slot insn (state_before program slot) ≡ None → slot_fault program.insns slot insn ≡ None
 unfolding fault_of
 slot_fault-none program slot insn e = or_else-first (slot_fault program.insns slot insn) _ e
 

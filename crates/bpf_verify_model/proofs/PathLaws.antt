@@ -8,11 +8,11 @@ use Rattle.bpf_insn_types.specs.declared.insn.Insn.{Insn}
 use Rattle.bpf_insn_types.specs.declared.insn.Insn.TheVariants.{Ja, Ja32, Jump, Exit}
 use Rattle.bpf_insn_types.specs.Slots.{slots_of}
 use Rattle.bpf_insn_types.specs.Program.{Program, slot_count, insn_at, moved}
-use Rattle.bpf_verify_model.specs.Count.{behind_jump, through, longest, start_of, count_of, JumpsForward}
+use Rattle.bpf_verify_model.specs.Count.{behind_jump, through, longest, function_start, count_of, JumpsForward}
 use Rattle.bpf_verify_model.specs.declared.rule.Rule.TheVariants.{NoSlot, OverLimits}
 use Rattle.bpf_verify_model.specs.Accepted.{Accepted, first_fault, fault_within, is_too_large}
 use Rattle.bpf_verify_model.proofs.JumpLaws.{jumps_forward}
-use Rattle.bpf_verify_model.specs.LongestPath.{ways_out, IsPath, ways_behind, CountIsLongestPath}
+use Rattle.bpf_verify_model.specs.LongestPath.{successors, IsPath, successors_of_path, CountIsLongestPath}
 use Rattle.bpf_verify_model.proofs.LongestLaws.{longest-step}
 
 -- a path from one of some slots, and of how many
@@ -55,10 +55,10 @@ second_among first slot = ap (λ (b : Bool). nat_eq slot first || (b || false)) 
 
 -- one slot before a path
 before_path : (insns : List Insn) (slot count : ℕ) (insn : Insn) → insn_at insns slot ≡ Some insn →
-    PathFrom insns (ways_out slot (Some insn)) count → PathFrom insns (slot ∷ []) (1 + count)
+    PathFrom insns (successors slot (Some insn)) count → PathFrom insns (slot ∷ []) (1 + count)
 before_path insns slot count insn here p = record {
   path = slot ∷ p.path;
-  is_path = (first_among slot [], ap is_some here, subst (λ (i : Option Insn). IsPath insns (ways_out slot i) p.path) (sym here) p.is_path);
+  is_path = (first_among slot [], ap is_some here, subst (λ (i : Option Insn). IsPath insns (successors slot i) p.path) (sym here) p.is_path);
   long = ap suc p.long ∙ (let e : suc count ≡ 1 + count = omega arith in e);
 }
 
@@ -104,7 +104,7 @@ path_of : (insns : List Insn) (left slot : ℕ) → PathFrom insns (slot ∷ [])
 path_of insns zero slot = no_path insns (slot ∷ [])
 path_of insns (suc left) slot = from_ways insns (longest insns left) slot (insn_at insns slot) refl (path_of insns left)
 
--- a way out isn't longer than what is through the instruction, less one
+-- an edge out isn't longer than what is through the instruction, less one
 one_below : (f : ℕ → ℕ) (s t k : ℕ) (b : Bool) → nat_eq s t ≡ b → (b || false) ≡ true → f t ≤ k → f s ≤ k
 one_below f s t k true e among h =
     let same : s ≡ t = grind (arith, nat_tests) in
@@ -120,7 +120,7 @@ either_below : (f : ℕ → ℕ) (s a k : ℕ) (t : Option ℕ) (b : Bool) → n
 either_below f s a k t true e among h g = one_below f s a k true e refl h
 either_below f s a k t false e among h g = target_below f s k t among g
 
-way-below : (f : ℕ → ℕ) (slot s k : ℕ) (insn : Insn) → list_any (nat_eq s) (ways_out slot (Some insn)) ≡ true → through f slot (Some insn) ≤ 1 + k → f s ≤ k
+way-below : (f : ℕ → ℕ) (slot s k : ℕ) (insn : Insn) → list_any (nat_eq s) (successors slot (Some insn)) ≡ true → through f slot (Some insn) ≤ 1 + k → f s ≤ k
 way-below f slot s k (Ja offset) among is = target_below f s k (moved (slot + 1) offset) among (omega (arith, is))
 way-below f slot s k (Ja32 imm) among is = target_below f s k (moved (slot + 1) imm) among (omega (arith, is))
 way-below f slot s k (Jump width compare dst operand offset) among is =
@@ -144,7 +144,7 @@ none_longer insns n forward counted some (slot ∷ path) starts m is below =
     by_insn insns n slot path m forward counted some (below slot is.0) (insn_at insns slot) refl is.1 is.2 (none_longer insns n forward counted some path)
   where
     by_insn : (insns : List Insn) (n slot : ℕ) (path : List ℕ) (m : ℕ) → JumpsForward insns → slot_count insns ≡ n → 0 < n → longest insns n slot ≤ m →
-        (i : Option Insn) → insn_at insns slot ≡ i → is_some (insn_at insns slot) ≡ true → IsPath insns (ways_out slot (insn_at insns slot)) path →
+        (i : Option Insn) → insn_at insns slot ≡ i → is_some (insn_at insns slot) ≡ true → IsPath insns (successors slot (insn_at insns slot)) path →
         ((starts : List ℕ) (k : ℕ) → IsPath insns starts path → ((s : ℕ) → list_any (nat_eq s) starts ≡ true → longest insns n s ≤ k) → length path ≤ k) →
         suc (length path) ≤ m
     by_insn insns n slot path m forward counted some below None here starts_here behind go = absurd cc
@@ -153,8 +153,8 @@ none_longer insns n forward counted some (slot ∷ path) starts m is below =
         let low : 1 ≤ through (longest insns n) slot (Some insn) = through-some (longest insns n) slot insn in
         let most : through (longest insns n) slot (Some insn) ≤ 1 + (through (longest insns n) slot (Some insn) - 1) = omega (arith, low) in
         let rest : length path ≤ through (longest insns n) slot (Some insn) - 1 =
-        go (ways_out slot (Some insn)) (through (longest insns n) slot (Some insn) - 1)
-        (subst (λ (i : Option Insn). IsPath insns (ways_out slot i) path) here behind)
+        go (successors slot (Some insn)) (through (longest insns n) slot (Some insn) - 1)
+        (subst (λ (i : Option Insn). IsPath insns (successors slot i) path) here behind)
         (λ s among. way-below (longest insns n) slot s (through (longest insns n) slot (Some insn) - 1) insn among most) in
         omega (arith, step, low, rest, below)
 
@@ -199,44 +199,44 @@ some_among test (slot ∷ slots) some = by_test (test slot) refl (λ rest. some_
     by_test false fails go some = let other : Among test slots = go some in record { slot = other.slot; passes = other.passes; among = or_any (nat_eq other.slot slot) other.among }
 
 -- a path and one slot more
-longer : (insns : List Insn) (starts path : List ℕ) (slot : ℕ) → IsPath insns starts path → list_any (nat_eq slot) (ways_behind insns starts path) ≡ true →
+longer : (insns : List Insn) (starts path : List ℕ) (slot : ℕ) → IsPath insns starts path → list_any (nat_eq slot) (successors_of_path insns starts path) ≡ true →
     is_some (insn_at insns slot) ≡ true → IsPath insns starts (path ++ slot ∷ [])
 longer insns starts [] slot is among here = (among, here, tt)
-longer insns starts (first ∷ path) slot is among here = (is.0, is.1, longer insns (ways_out first (insn_at insns first)) path slot is.2 among here)
+longer insns starts (first ∷ path) slot is among here = (is.0, is.1, longer insns (successors first (insn_at insns first)) path slot is.2 among here)
 
 -- the longest path ends
 longest-ends : (insns : List Insn) (starts path : List ℕ) → IsPath insns starts path → ((other : List ℕ) → IsPath insns starts other → length other ≤ length path) →
-    list_any (λ next. is_some (insn_at insns next)) (ways_behind insns starts path) ≡ false
-longest-ends insns starts path is most = by_test (list_any (λ next. is_some (insn_at insns next)) (ways_behind insns starts path)) refl
+    list_any (λ next. is_some (insn_at insns next)) (successors_of_path insns starts path) ≡ false
+longest-ends insns starts path is most = by_test (list_any (λ next. is_some (insn_at insns next)) (successors_of_path insns starts path)) refl
   where
-    by_test : (b : Bool) → list_any (λ next. is_some (insn_at insns next)) (ways_behind insns starts path) ≡ b → b ≡ false
+    by_test : (b : Bool) → list_any (λ next. is_some (insn_at insns next)) (successors_of_path insns starts path) ≡ b → b ≡ false
     by_test false e = refl
     by_test true e =
-        let next : Among (λ slot. is_some (insn_at insns slot)) (ways_behind insns starts path) = some_among (λ slot. is_some (insn_at insns slot)) (ways_behind insns starts path) e in
+        let next : Among (λ slot. is_some (insn_at insns slot)) (successors_of_path insns starts path) = some_among (λ slot. is_some (insn_at insns slot)) (successors_of_path insns starts path) e in
         let more : length (path ++ next.slot ∷ []) ≤ length path = most (path ++ next.slot ∷ []) (longer insns starts path next.slot is next.among next.passes) in
         absurd (omega (arith, more, length-append path (next.slot ∷ [])))
 
 -- of an accepted program no path of a function is longer than its count
-none_above : (program : Program) → Accepted program → (function : ℕ) (path : List ℕ) → IsPath program.insns (start_of program.insns function ∷ []) path →
-    length path ≤ longest program.insns (slot_count program.insns) (start_of program.insns function)
+none_above : (program : Program) → Accepted program → (function : ℕ) (path : List ℕ) → IsPath program.insns (function_start program.insns function ∷ []) path →
+    length path ≤ longest program.insns (slot_count program.insns) (function_start program.insns function)
 none_above program accepted function path is =
     let runs : Runs program = accepted-runs program accepted in
-    none_longer program.insns (slot_count program.insns) runs.forward refl runs.some path (start_of program.insns function ∷ [])
-    (longest program.insns (slot_count program.insns) (start_of program.insns function)) is
-    (λ s among. one_below (longest program.insns (slot_count program.insns)) s (start_of program.insns function)
-    (longest program.insns (slot_count program.insns) (start_of program.insns function)) (nat_eq s (start_of program.insns function)) refl among (le_refl (longest program.insns (slot_count program.insns) (start_of program.insns function))))
+    none_longer program.insns (slot_count program.insns) runs.forward refl runs.some path (function_start program.insns function ∷ [])
+    (longest program.insns (slot_count program.insns) (function_start program.insns function)) is
+    (λ s among. one_below (longest program.insns (slot_count program.insns)) s (function_start program.insns function)
+    (longest program.insns (slot_count program.insns) (function_start program.insns function)) (nat_eq s (function_start program.insns function)) refl among (le_refl (longest program.insns (slot_count program.insns) (function_start program.insns function))))
 
 pub count_is_longest_path : CountIsLongestPath
 unfolding count_of
 count_is_longest_path = record {
   some_path = λ program accepted function.
-      let p : PathFrom program.insns (start_of program.insns function ∷ []) (longest program.insns (slot_count program.insns) (start_of program.insns function)) =
-      path_of program.insns (slot_count program.insns) (start_of program.insns function) in
+      let p : PathFrom program.insns (function_start program.insns function ∷ []) (longest program.insns (slot_count program.insns) (function_start program.insns function)) =
+      path_of program.insns (slot_count program.insns) (function_start program.insns function) in
       record {
         path = p.path;
         is_path = p.is_path;
         long = p.long;
-        ends = longest-ends program.insns (start_of program.insns function ∷ []) p.path p.is_path
+        ends = longest-ends program.insns (function_start program.insns function ∷ []) p.path p.is_path
             (λ other is. subst (λ (m : ℕ). length other ≤ m) (sym p.long) (none_above program accepted function other is));
       };
   none_longer = none_above;

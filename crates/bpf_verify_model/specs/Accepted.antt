@@ -6,7 +6,7 @@ use Rattle.bpf_insn_types.specs.Program.{Program, insn_at, slot_count}
 use Rattle.bpf_verify_model.specs.declared.rule.Rule.{Rule}
 use Rattle.bpf_verify_model.specs.declared.rule.Rule.TheVariants.{NoSlot, OverLimits}
 use Rattle.bpf_verify_model.specs.Rules.{fault_of}
-use Rattle.bpf_verify_model.specs.Inflow.{before}
+use Rattle.bpf_verify_model.specs.Inflow.{state_before}
 
 -- a broken rule at a slot
 pub record BrokenRule : Type 0 where
@@ -16,7 +16,7 @@ pub record BrokenRule : Type 0 where
 -- the least rule that is broken at a slot where an instruction starts
 abbrev pub fault_at_insn : Program → ℕ → Option Insn → Option Rule
 fault_at_insn program slot None = None
-fault_at_insn program slot (Some insn) = fault_of program slot insn (before program slot)
+fault_at_insn program slot (Some insn) = fault_of program slot insn (state_before program slot)
 
 -- at a slot
 abbrev pub fault_at : Program → ℕ → Option Rule

@@ -70,18 +70,18 @@ is_outside sizes size offset (Area map range) = is_outside_map (slice_get sizes 
 is_outside sizes size offset _ = false
 
 -- whether one of the bytes from a place in a frame on isn't written
-abbrev pub lacks : List Bool → ℕ → ℤ → Bool
-lacks written size (pos position) = nat_le (position + size) 512 && not (all_written written position size)
-lacks written size _ = false
+abbrev pub lacks_bytes : List Bool → ℕ → ℤ → Bool
+lacks_bytes written size (pos position) = nat_le (position + size) 512 && not (all_written written position size)
+lacks_bytes written size _ = false
 
 -- of main's frame
 abbrev pub caller_lacks : Option (List Bool) → ℕ → ℤ → Bool
 caller_lacks None size place = true
-caller_lacks (Some written) size place = lacks written size place
+caller_lacks (Some written) size place = lacks_bytes written size place
 
 -- whether so many bytes at an offset from this base lie within a frame, and one of them isn't written
 abbrev pub has_unwritten_byte : State → ℕ → ℤ → AbstractValue → Bool
-has_unwritten_byte state size offset (Frame position) = lacks state.own size (pos position +ℤ offset)
+has_unwritten_byte state size offset (Frame position) = lacks_bytes state.own size (pos position +ℤ offset)
 has_unwritten_byte state size offset (Ctx position) = caller_lacks state.caller size (pos position +ℤ offset)
 has_unwritten_byte state size offset _ = false
 

@@ -27,14 +27,14 @@ longest insns zero slot = 0
 longest insns (suc left) slot = through (longest insns left) slot (insn_at insns slot)
 
 -- where a function starts: main at slot 0, which is function 0
-abbrev pub start_of : List Insn → ℕ → ℕ
-start_of insns zero = 0
-start_of insns (suc callback) = slice_index_or (callback_starts insns) callback 0
+abbrev pub function_start : List Insn → ℕ → ℕ
+function_start insns zero = 0
+function_start insns (suc callback) = slice_index_or (callback_starts insns) callback 0
 
--- the most instructions of a function: its longest path from its start to an exit, over all jumps whether they can be
--- taken or not
+-- the worst-case instruction count of a function: its longest path from its start to an exit, over all jumps whether they
+-- can be taken or not
 unfoldable pub count_of : List Insn → ℕ → ℕ
-count_of insns function = longest insns (slot_count insns) (start_of insns function)
+count_of insns function = longest insns (slot_count insns) (function_start insns function)
 
 -- each jump leads to a later slot
 pub record JumpsForward (insns : List Insn) : Type 0 where

@@ -31,7 +31,7 @@ use Rattle.bpf_verify_model.specs.declared.helper.Helper.TheVariants.{Lookup, Lo
 use Rattle.bpf_verify_model.specs.declared.state.State.{State}
 use Rattle.bpf_verify_model.specs.declared.outflow.Edge.{Edge}
 use Rattle.bpf_verify_model.specs.declared.outflow.Outflow.{Outflow}
-use Rattle.bpf_verify_model.specs.declared.outflow.Ways.{Ways}
+use Rattle.bpf_verify_model.specs.declared.outflow.BranchStates.{BranchStates}
 use Rattle.bpf_verify_written.specs.Written.{none_written, written_from}
 use Rattle.bpf_verify_model.specs.States.{known_register, with_known, starting_registers}
 use Rattle.bpf_verify_model.specs.Values.{known_operand, known_of_number, known_result}
@@ -108,7 +108,7 @@ known_answer sizes state (Some Lookup) = known_lookup sizes (known_register stat
 known_answer sizes state (Some Loop) = Number (top W64)
 known_answer sizes state None = Unwritten
 
--- what is known behind an instruction that doesn't jump
+-- the abstract state behind an instruction that doesn't jump
 unfoldable pub known_behind : List ℕ → ℕ → State → Insn → State
 known_behind sizes slot state (Alu width op dst operand) =
     with_known_result state dst (known_result width op (known_register state dst) (known_operand state operand))
@@ -124,10 +124,10 @@ known_behind sizes slot state (LoadImm kind dst imm next_imm) = with_known state
 known_behind sizes slot state (Call callee imm) = known_after_call state (known_answer sizes state (helper_called callee imm))
 known_behind sizes slot state _ = state
 
--- a way to a slot, if it is followed
-abbrev pub way : Option ℕ → Option State → Option Edge
-way (Some target) (Some state) = Some (record { target = target; state = state })
-way _ _ = None
+-- an edge to a slot, if it is followed
+abbrev pub edge_to : Option ℕ → Option State → Option Edge
+edge_to (Some target) (Some state) = Some (record { target = target; state = state })
+edge_to _ _ = None
 
 -- the number that a comparison's second operand is: an immediate is sign-extended at 64 bits, and has its 32 bits
 -- at 32 bits
@@ -136,64 +136,64 @@ compared_imm W64 imm = word_of imm
 compared_imm W32 imm = cast_unsigned w32 imm
 
 -- what a comparison's second register is known to be, if it is a number
-abbrev pub with_number : State → Operand → Span → State
-with_number state (Imm imm) b = state
-with_number state (Reg r) b = with_known state r (Number b)
+abbrev pub with_operand_number : State → Operand → Span → State
+with_operand_number state (Imm imm) b = state
+with_operand_number state (Reg r) b = with_known state r (Number b)
 
--- what is known where a comparison's operands are refined, if a pair of their numbers is left
+-- the abstract state where a comparison's operands are refined, if a pair of their numbers is left
 abbrev pub refines : State → ℕ → Operand → Option (Span × Span) → Option State
 refines state dst operand None = None
-refines state dst operand (Some pair) = Some (with_number (with_known state dst (Number pair.0)) operand pair.1)
+refines state dst operand (Some pair) = Some (with_operand_number (with_known state dst (Number pair.0)) operand pair.1)
 
 -- both are followed with nothing more known
-abbrev pub both_ways : State → Ways
-both_ways state = record { holds = Some state; fails = Some state }
+abbrev pub unrefined_branch : State → BranchStates
+unrefined_branch state = record { holds = Some state; fails = Some state }
 
 -- a comparison of two numbers
-abbrev pub number_ways : State → Width → Compare → ℕ → Operand → Span → Span → Ways
-number_ways state width compare dst operand a b = record {
+abbrev pub number_branch : State → Width → Compare → ℕ → Operand → Span → Span → BranchStates
+number_branch state width compare dst operand a b = record {
   holds = refines state dst operand (refined (Holds compare) width a b);
   fails = refines state dst operand (refined (opposite compare) width a b);
 }
 
 -- a register with itself refines nothing
-abbrev pub register_ways : State → Width → Compare → ℕ → ℕ → Span → AbstractValue → Ways
-register_ways state width compare dst r a (Number b) =
-    if dst == r then both_ways state else number_ways state width compare dst (Reg r) a b
-register_ways state width compare dst r a _ = both_ways state
+abbrev pub register_branch : State → Width → Compare → ℕ → ℕ → Span → AbstractValue → BranchStates
+register_branch state width compare dst r a (Number b) =
+    if dst == r then unrefined_branch state else number_branch state width compare dst (Reg r) a b
+register_branch state width compare dst r a _ = unrefined_branch state
 
-abbrev pub operand_ways : State → Width → Compare → ℕ → Operand → Span → Ways
-operand_ways state width compare dst (Imm imm) a = number_ways state width compare dst (Imm imm) a (exact (compared_imm width imm))
-operand_ways state width compare dst (Reg r) a = register_ways state width compare dst r a (known_register state r)
+abbrev pub operand_branch : State → Width → Compare → ℕ → Operand → Span → BranchStates
+operand_branch state width compare dst (Imm imm) a = number_branch state width compare dst (Imm imm) a (exact (compared_imm width imm))
+operand_branch state width compare dst (Reg r) a = register_branch state width compare dst r a (known_register state r)
 
 -- the null check: null where it is equal, and an address where it isn't
-abbrev pub null_ways : State → Compare → ℕ → ℕ → Span → Ways
-null_ways state Eq dst map offset = record {
+abbrev pub null_check_branch : State → Compare → ℕ → ℕ → Span → BranchStates
+null_check_branch state Eq dst map offset = record {
   holds = Some (with_known state dst (Number (exact 0)));
   fails = Some (with_known state dst (Area map offset));
 }
-null_ways state compare dst map offset = record {
+null_check_branch state compare dst map offset = record {
   holds = Some (with_known state dst (Area map offset));
   fails = Some (with_known state dst (Number (exact 0)));
 }
 
--- both ways of a comparison, by what its first register has
-abbrev pub ways_of : State → Width → Compare → ℕ → Operand → AbstractValue → Ways
-ways_of state width compare dst operand (Number a) = operand_ways state width compare dst operand a
-ways_of state width compare dst operand (AreaOrNull map offset) = null_ways state compare dst map offset
-ways_of state width compare dst operand _ = both_ways state
+-- both edges of a comparison, by what its first register has
+abbrev pub branch_states : State → Width → Compare → ℕ → Operand → AbstractValue → BranchStates
+branch_states state width compare dst operand (Number a) = operand_branch state width compare dst operand a
+branch_states state width compare dst operand (AreaOrNull map offset) = null_check_branch state compare dst map offset
+branch_states state width compare dst operand _ = unrefined_branch state
 
--- the ways out of a comparison
-abbrev pub branch_outflow : ℕ → ℤ → Ways → Outflow
-branch_outflow slot offset ways = record { ahead = way (Some (slot + 1)) ways.fails; aside = way (moved (slot + 1) offset) ways.holds }
+-- the edges out of a comparison
+abbrev pub branch_outflow : ℕ → ℤ → BranchStates → Outflow
+branch_outflow slot offset ways = record { ahead = edge_to (Some (slot + 1)) ways.fails; aside = edge_to (moved (slot + 1) offset) ways.holds }
 
--- a jump's one way
+-- a jump's one edge
 abbrev pub jump_outflow : ℕ → ℤ → State → Outflow
-jump_outflow slot distance state = record { ahead = None; aside = way (moved (slot + 1) distance) (Some state) }
+jump_outflow slot distance state = record { ahead = None; aside = edge_to (moved (slot + 1) distance) (Some state) }
 
--- the way to the next slot
+-- the edge to the next slot
 abbrev pub ahead_outflow : ℕ → State → Outflow
-ahead_outflow slot state = record { ahead = way (Some slot) (Some state); aside = None }
+ahead_outflow slot state = record { ahead = edge_to (Some slot) (Some state); aside = None }
 
 -- a callback's index is below a number of iterations: one of 32 bits, at least 1 and at most 8,388,608
 abbrev pub most_iterations : Span → ℕ
@@ -217,7 +217,7 @@ known_callback_entry state = record {
   caller = Some state.own;
 }
 
--- the way to a loop's callback
+-- the edge to a loop's callback
 abbrev pub enters : State → AbstractValue → Option Edge
 enters state (Code start) = Some (record { target = start; state = known_callback_entry state })
 enters state _ = None
@@ -226,13 +226,13 @@ abbrev pub calls_back : State → Option Helper → Option Edge
 calls_back state (Some Loop) = enters state (known_register state 2)
 calls_back state _ = None
 
--- the ways out of an instruction at a slot
+-- the edges out of an instruction at a slot
 unfoldable pub flow : List ℕ → ℕ → State → Insn → Outflow
 flow sizes slot state (Ja offset) = jump_outflow slot offset state
 flow sizes slot state (Ja32 imm) = jump_outflow slot imm state
 flow sizes slot state (Jump width compare dst operand offset) =
-    branch_outflow slot offset (ways_of state width compare dst operand (known_register state dst))
+    branch_outflow slot offset (branch_states state width compare dst operand (known_register state dst))
 flow sizes slot state Exit = record { ahead = None; aside = None }
 flow sizes slot state (Call callee imm) =
-    record { ahead = way (Some (slot + 1)) (Some (known_behind sizes slot state (Call callee imm))); aside = calls_back state (helper_called callee imm) }
+    record { ahead = edge_to (Some (slot + 1)) (Some (known_behind sizes slot state (Call callee imm))); aside = calls_back state (helper_called callee imm) }
 flow sizes slot state insn = ahead_outflow (slot + slots_of insn) (known_behind sizes slot state insn)

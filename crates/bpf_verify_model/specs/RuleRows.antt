@@ -17,7 +17,7 @@ use Rattle.bpf_verify_model.specs.Accesses.{has_unwritten_byte}
 use Rattle.bpf_verify_model.specs.Rules.{state_fault, exit_fault}
 use Rattle.bpf_verify_model.specs.Flow.{known_behind, flow}
 
--- main as it starts, with something known of R0
+-- main as it starts, with an abstract value of R0
 abbrev pub knowing : AbstractValue → State
 knowing value = with_known known_main_entry 0 value
 
@@ -25,16 +25,16 @@ knowing value = with_known known_main_entry 0 value
 abbrev pub numbers : ℕ → ℕ → AbstractValue
 numbers least most = Number (norm least most 0)
 
--- what is known of R0 where two ways meet
-abbrev pub where_meet : State → State → AbstractValue
-where_meet one other = known_register (joined_states one other) 0
+-- the abstract value of R0 in the join of two states
+abbrev pub joined_r0 : State → State → AbstractValue
+joined_r0 one other = known_register (joined_states one other) 0
 
--- a register is known where ways meet if it is known on each of them
+-- a register has an abstract value in a join if it has one in each state
 pub record JoinRows : Type 0 where
-  pub both : where_meet (knowing (numbers 1 1)) (knowing (numbers 4 6)) ≡ numbers 1 6
-  pub first_alone : where_meet (knowing (numbers 1 1)) known_main_entry ≡ Unwritten
-  pub second_alone : where_meet known_main_entry (knowing (numbers 1 1)) ≡ Unwritten
-  pub null_on_one : where_meet (knowing (Area 0 (exact 8))) (knowing (AreaOrNull 0 (exact 8))) ≡ AreaOrNull 0 (exact 8)
+  pub both : joined_r0 (knowing (numbers 1 1)) (knowing (numbers 4 6)) ≡ numbers 1 6
+  pub first_alone : joined_r0 (knowing (numbers 1 1)) known_main_entry ≡ Unwritten
+  pub second_alone : joined_r0 known_main_entry (knowing (numbers 1 1)) ≡ Unwritten
+  pub null_on_one : joined_r0 (knowing (Area 0 (exact 8))) (knowing (AreaOrNull 0 (exact 8))) ≡ AreaOrNull 0 (exact 8)
 
 -- main behind a store of four bytes at r10 - 8
 abbrev pub stored : State
@@ -46,21 +46,21 @@ pub record StoreRows : Type 0 where
   pub below : has_unwritten_byte stored 1 (negsuc 8) (Frame 512) ≡ true
   pub above : has_unwritten_byte stored 1 (negsuc 3) (Frame 512) ≡ true
 
--- two ways out of slot 0: to the next slot, and by a jump of two slots
-abbrev pub ways_out : State → State → Outflow
-ways_out falls jumps = record { ahead = Some (record { target = 1; state = falls }); aside = Some (record { target = 3; state = jumps }) }
+-- two edges out of slot 0: to the next slot, and by a jump of two slots
+abbrev pub branch_edges : State → State → Outflow
+branch_edges falls jumps = record { ahead = Some (record { target = 1; state = falls }); aside = Some (record { target = 3; state = jumps }) }
 
 -- if r0 > 7, of 0 to 15 and of 3 to 5; if r0 == 4
-pub record WayRows : Type 0 where
-  pub greater : flow [] 0 (knowing (numbers 0 15)) (Jump W64 Gt 0 (Imm (pos 7)) (pos 2)) ≡ ways_out (knowing (numbers 0 7)) (knowing (numbers 8 15))
+pub record EdgeRows : Type 0 where
+  pub greater : flow [] 0 (knowing (numbers 0 15)) (Jump W64 Gt 0 (Imm (pos 7)) (pos 2)) ≡ branch_edges (knowing (numbers 0 7)) (knowing (numbers 8 15))
   pub never_greater : flow [] 0 (knowing (numbers 3 5)) (Jump W64 Gt 0 (Imm (pos 7)) (pos 2))
       ≡ record { ahead = Some (record { target = 1; state = knowing (numbers 3 5) }); aside = None }
-  pub equal : flow [] 0 (knowing (numbers 4 15)) (Jump W64 Eq 0 (Imm (pos 4)) (pos 2)) ≡ ways_out (knowing (numbers 5 15)) (knowing (numbers 4 4))
+  pub equal : flow [] 0 (knowing (numbers 4 15)) (Jump W64 Eq 0 (Imm (pos 4)) (pos 2)) ≡ branch_edges (knowing (numbers 5 15)) (knowing (numbers 4 4))
 
 -- if r0 == 0 and if r0 != 0, of what a lookup answers
 pub record NullRows : Type 0 where
-  pub equal : flow [] 0 (knowing (AreaOrNull 0 (exact 8))) (Jump W64 Eq 0 (Imm (pos 0)) (pos 2)) ≡ ways_out (knowing (Area 0 (exact 8))) (knowing (Number (exact 0)))
-  pub unequal : flow [] 0 (knowing (AreaOrNull 0 (exact 8))) (Jump W64 Ne 0 (Imm (pos 0)) (pos 2)) ≡ ways_out (knowing (Number (exact 0))) (knowing (Area 0 (exact 8)))
+  pub equal : flow [] 0 (knowing (AreaOrNull 0 (exact 8))) (Jump W64 Eq 0 (Imm (pos 0)) (pos 2)) ≡ branch_edges (knowing (Area 0 (exact 8))) (knowing (Number (exact 0)))
+  pub unequal : flow [] 0 (knowing (AreaOrNull 0 (exact 8))) (Jump W64 Ne 0 (Imm (pos 0)) (pos 2)) ≡ branch_edges (knowing (Number (exact 0))) (knowing (Area 0 (exact 8)))
 
 -- a callback's result is 0 or 1, main's any number
 pub record EndRows : Type 0 where
@@ -79,7 +79,7 @@ pub record BoundRows : Type 0 where
 pub record RuleRows : Type 0 where
   pub joins : JoinRows
   pub stores : StoreRows
-  pub ways : WayRows
+  pub ways : EdgeRows
   pub null_checks : NullRows
   pub ends : EndRows
   pub bounds : BoundRows

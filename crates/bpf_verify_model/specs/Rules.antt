@@ -23,7 +23,7 @@ use Rattle.bpf_verify_model.specs.declared.rule.Rule.{Rule}
 use Rattle.bpf_verify_model.specs.declared.rule.Rule.TheVariants.{JumpTarget, FallThrough, CodeTarget, TooManyCallbacks, UnknownHelper, CallKind, LoadKind, MissingMap, FramePointerWrite, UnwrittenRegister, ArithmeticOperand, ComparisonOperand, StoredOperand, AccessBase, AreaAccessSize, AccessAlignment, AccessBounds, UnwrittenByte, CtxWrite, HelperArgument, NestedCallback, CallbackResult, MainResult}
 use Rattle.bpf_verify_model.specs.declared.state.State.{State}
 use Rattle.bpf_verify_model.specs.States.{known_register}
-use Rattle.bpf_verify_model.specs.Values.{known_operand, known_result, is_number, is_unwritten, compares}
+use Rattle.bpf_verify_model.specs.Values.{known_operand, known_result, is_number_value, is_unwritten, compares}
 use Rattle.bpf_verify_model.specs.Accesses.{memory_access_of, is_memory, is_part_of_half, misses_alignment, is_outside, has_unwritten_byte, kind_reads, kind_writes, is_ctx}
 use Rattle.bpf_verify_model.specs.Helpers.{helper_called}
 
@@ -198,28 +198,28 @@ reads_unwritten state (Atomic width op dst src offset) = unwritten_register stat
 reads_unwritten state _ = false
 
 -- V13: arithmetic with an operand that isn't of a kind that it takes
-abbrev pub mistakes_arithmetic : State → Insn → Bool
-mistakes_arithmetic state (Alu width op dst operand) = is_none (known_result width op (known_register state dst) (known_operand state operand))
-mistakes_arithmetic state (Neg width dst) = not (is_number (known_register state dst))
-mistakes_arithmetic state (Movsx width bits dst src) = not (is_number (known_register state src))
-mistakes_arithmetic state (Endian order bits dst) = not (is_number (known_register state dst))
-mistakes_arithmetic state _ = false
+abbrev pub has_wrong_arithmetic_operands : State → Insn → Bool
+has_wrong_arithmetic_operands state (Alu width op dst operand) = is_none (known_result width op (known_register state dst) (known_operand state operand))
+has_wrong_arithmetic_operands state (Neg width dst) = not (is_number_value (known_register state dst))
+has_wrong_arithmetic_operands state (Movsx width bits dst src) = not (is_number_value (known_register state src))
+has_wrong_arithmetic_operands state (Endian order bits dst) = not (is_number_value (known_register state dst))
+has_wrong_arithmetic_operands state _ = false
 
 -- V14: a comparison with an operand that isn't of a kind that it takes
-abbrev pub mistakes_comparison : State → Insn → Bool
-mistakes_comparison state (Jump width compare dst operand offset) = not (compares state width compare operand (known_register state dst))
-mistakes_comparison state _ = false
+abbrev pub has_wrong_comparison_operands : State → Insn → Bool
+has_wrong_comparison_operands state (Jump width compare dst operand offset) = not (compares state width compare operand (known_register state dst))
+has_wrong_comparison_operands state _ = false
 
 -- whether what an atomic operation compares with isn't a number
-abbrev pub mistakes_compared : State → AtomicOp → Bool
-mistakes_compared state Cmpxchg = not (is_number (known_register state 0))
-mistakes_compared state _ = false
+abbrev pub compares_with_no_number : State → AtomicOp → Bool
+compares_with_no_number state Cmpxchg = not (is_number_value (known_register state 0))
+compares_with_no_number state _ = false
 
 -- V15: what is stored, or an atomic operation's operand, isn't a number
-abbrev pub mistakes_stored : State → Insn → Bool
-mistakes_stored state (Store size dst src offset) = not (is_number (known_register state src))
-mistakes_stored state (Atomic width op dst src offset) = not (is_number (known_register state src)) || mistakes_compared state op
-mistakes_stored state _ = false
+abbrev pub stores_no_number : State → Insn → Bool
+stores_no_number state (Store size dst src offset) = not (is_number_value (known_register state src))
+stores_no_number state (Atomic width op dst src offset) = not (is_number_value (known_register state src)) || compares_with_no_number state op
+stores_no_number state _ = false
 
 -- V16 to V19: the base of an access isn't the address of memory; an access of a map's values isn't of 8 or
 -- 4 bytes; an access isn't aligned; an access isn't within its frame or its map's values
@@ -274,10 +274,10 @@ is_ctx_argument (Number number) = number.hi == 0
 is_ctx_argument _ = false
 
 -- V22 of a loop: its arguments aren't a number, a callback, ctx and a number
-abbrev pub mistakes_loop : State → Bool
-mistakes_loop state =
-    not (is_number (known_register state 1)) || not (is_code (known_register state 2)) || not (is_ctx_argument (known_register state 3))
-    || not (is_number (known_register state 4))
+abbrev pub has_wrong_loop_arguments : State → Bool
+has_wrong_loop_arguments state =
+    not (is_number_value (known_register state 1)) || not (is_code (known_register state 2)) || not (is_ctx_argument (known_register state 3))
+    || not (is_number_value (known_register state 4))
 
 -- V20 of a lookup: a byte of its key isn't written. V22: its arguments aren't a map and the address of a key
 abbrev pub helper_fault : State → Option Helper → Option Rule
@@ -286,7 +286,7 @@ helper_fault state (Some Lookup) =
     if has_unwritten_byte state 4 (pos 0) (known_register state 2) then Some UnwrittenByte
     else if not (is_map (known_register state 1)) || not (is_key (known_register state 2)) then Some HelperArgument
     else None
-helper_fault state (Some Loop) = if mistakes_loop state then Some HelperArgument else None
+helper_fault state (Some Loop) = if has_wrong_loop_arguments state then Some HelperArgument else None
 
 -- of a call
 abbrev pub call_fault : State → Insn → Option Rule
@@ -297,9 +297,9 @@ call_fault state _ = None
 abbrev pub operand_fault : State → Insn → Option Rule
 operand_fault state insn =
     if reads_unwritten state insn then Some UnwrittenRegister
-    else if mistakes_arithmetic state insn then Some ArithmeticOperand
-    else if mistakes_comparison state insn then Some ComparisonOperand
-    else if mistakes_stored state insn then Some StoredOperand
+    else if has_wrong_arithmetic_operands state insn then Some ArithmeticOperand
+    else if has_wrong_comparison_operands state insn then Some ComparisonOperand
+    else if stores_no_number state insn then Some StoredOperand
     else None
 
 -- the least of V12 to V22 that an instruction breaks in a state
@@ -348,7 +348,7 @@ is_bit _ = false
 
 -- V24: a callback doesn't end with 0 or 1. V25: main doesn't end with a number. Main is function 0
 abbrev pub end_fault : ℕ → AbstractValue → Option Rule
-end_fault zero value = if is_number value then None else Some MainResult
+end_fault zero value = if is_number_value value then None else Some MainResult
 end_fault (suc _) value = if is_bit value then None else Some CallbackResult
 
 abbrev pub exit_fault : ℕ → State → Insn → Option Rule

@@ -1,4 +1,4 @@
--- What is known of registers and frames before a slot.
+-- The abstract state of registers and frames before a slot.
 use Rattle.std.specs.Prelude.{ℕ, ◌==◌, Bool, if◌then◌else◌, List, map, replicate, slice_index_or, slice_set, zip, Option, Some, None}
 use Rattle.bpf_insn_types.specs.declared.insn.Width.TheVariants.{W64}
 use Rattle.value_range_model.specs.Spans.{top, join}
@@ -7,15 +7,15 @@ use Rattle.bpf_verify_model.specs.declared.abstract_value.AbstractValue.{Abstrac
 use Rattle.bpf_verify_model.specs.declared.abstract_value.AbstractValue.TheVariants.{Unwritten, Number, Frame, Ctx, Map, Area, AreaOrNull, Code}
 use Rattle.bpf_verify_model.specs.declared.state.State.{State}
 
--- what is known of a register
+-- the abstract value of a register
 abbrev pub known_register : State → ℕ → AbstractValue
 known_register state r = slice_index_or state.registers r Unwritten
 
--- a state with something else known of a register
+-- a state with another abstract value of a register
 abbrev pub with_known : State → ℕ → AbstractValue → State
 with_known state r value = record { registers = slice_set state.registers r value; own = state.own; caller = state.caller }
 
--- what is known on both of two ways: kinds that are equal with equal constants or maps stay, ranges are joined, an
+-- the join of two abstract values: kinds that are equal with equal constants or maps stay, ranges are joined, an
 -- address that may be null makes one that may be null, and all else is unwritten
 abbrev pub joined_values : AbstractValue → AbstractValue → AbstractValue
 joined_values (Number a) (Number b) = Number (join a b)
@@ -29,7 +29,7 @@ joined_values (AreaOrNull m a) (AreaOrNull n b) = if m == n then AreaOrNull m (j
 joined_values (Code s) (Code t) = if s == t then Code s else Unwritten
 joined_values _ _ = Unwritten
 
--- what is known of each register on both ways
+-- the join of each register's abstract values
 abbrev pub joined_registers : List AbstractValue → List AbstractValue → List AbstractValue
 joined_registers xs ys = map (λ (pair : AbstractValue × AbstractValue). joined_values pair.0 pair.1) (zip xs ys)
 
@@ -38,7 +38,7 @@ abbrev pub joined_callers : Option (List Bool) → Option (List Bool) → Option
 joined_callers (Some xs) (Some ys) = Some (joined_written xs ys)
 joined_callers _ _ = None
 
--- what is known where two ways meet
+-- the join of two abstract states
 unfoldable pub joined_states : State → State → State
 joined_states a b = record {
   registers = joined_registers a.registers b.registers;

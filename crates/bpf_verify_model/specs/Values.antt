@@ -1,4 +1,4 @@
--- What operators and comparisons give on what is known of registers.
+-- What operators and comparisons give on the abstract values of registers.
 use Rattle.std.specs.Option.{option_map}
 use Rattle.std.specs.Prelude.{ℕ, zero, pos, ◌+◌, Bool, true, false, ◌&&◌, ◌==◌, nat_le, if◌then◌else◌, Option, Some, None}
 use Rattle.bpf_insn_types.specs.declared.insn.Width.{Width}
@@ -19,7 +19,7 @@ use Rattle.bpf_verify_model.specs.declared.abstract_value.AbstractValue.TheVaria
 use Rattle.bpf_verify_model.specs.declared.state.State.{State}
 use Rattle.bpf_verify_model.specs.States.{known_register}
 
--- what is known of an operand: an immediate is sign-extended
+-- the abstract value of an operand: an immediate is sign-extended
 abbrev pub known_operand : State → Operand → AbstractValue
 known_operand state (Imm imm) = Number (exact (word_of imm))
 known_operand state (Reg r) = known_register state r
@@ -73,11 +73,11 @@ known_result width Sub a b = known_sum width Sub a b
 known_result width op a b = known_of_numbers width op a b
 
 -- whether it is a number
-abbrev pub is_number : AbstractValue → Bool
-is_number (Number a) = true
-is_number _ = false
+abbrev pub is_number_value : AbstractValue → Bool
+is_number_value (Number a) = true
+is_number_value _ = false
 
--- whether it can't be read: nothing was written, or not on each way
+-- whether it can't be read: nothing was written, or not on each edge
 abbrev pub is_unwritten : AbstractValue → Bool
 is_unwritten Unwritten = true
 is_unwritten _ = false
@@ -90,6 +90,6 @@ is_null_check _ _ _ = false
 
 -- whether a comparison takes what a register has
 abbrev pub compares : State → Width → Compare → Operand → AbstractValue → Bool
-compares state width compare operand (Number a) = is_number (known_operand state operand)
+compares state width compare operand (Number a) = is_number_value (known_operand state operand)
 compares state width compare operand (AreaOrNull map offset) = is_null_check width compare operand
 compares state width compare operand _ = false

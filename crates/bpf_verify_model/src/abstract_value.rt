@@ -1,8 +1,8 @@
-//! What is known of a register.
+//! The abstract value of a register.
 
 use value_range_model::Range;
 
-/// What is known of a register: the values that it may have. Frame and ctx addresses count bytes from
+/// The abstract value of a register: the values that it may have. Frame and ctx addresses count bytes from
 /// the lowest of a frame's 512, so that the frame pointer is 512.
 #[derive(Clone, Copy)]
 pub enum AbstractValue {

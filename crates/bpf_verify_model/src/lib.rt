@@ -1,4 +1,4 @@
-//! The verifier's definitions: what is known of registers and frames before a slot, the rules that an
+//! The verifier's definitions: the abstract state of registers and frames before a slot, the rules that an
 //! instruction breaks by what is known, what flows from it to later slots, which programs are
 //! accepted, and how many instructions a function takes at most. They stand in `specs/`, and here the
 //! types that they speak of; the verifier's code is in the crates above.
@@ -17,7 +17,7 @@ pub use abstract_value::AbstractValue;
 pub use helper::Helper;
 pub use laws::{law_of_counts, worked_rules};
 pub use memory_access::{AccessKind, MemoryAccess};
-pub use outflow::{Edge, Outflow, Ways};
+pub use outflow::{BranchStates, Edge, Outflow};
 pub use registers::{Registers, reg};
 pub use rule::Rule;
 pub use state::State;

@@ -8,7 +8,7 @@ use crate::abstract_value::AbstractValue;
 use bpf_insn_types::Reg;
 use std::marker::Model;
 
-/// What is known of each register.
+/// The abstract value of each register.
 #[derive(Clone, Copy)]
 pub struct Registers {
     values: [AbstractValue; 11],
@@ -35,7 +35,7 @@ impl Registers {
         self.values[reg.number() as usize]
     }
 
-    /// Sets what is known of a register.
+    /// Sets the abstract value of a register.
     pub fn set(&mut self, reg: Reg, value: AbstractValue)
         ensures { self.new ≡ slice_set self.old reg value }
     {

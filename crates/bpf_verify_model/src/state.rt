@@ -1,4 +1,4 @@
-//! What is known before a slot.
+//! The abstract state before a slot.
 
 ghost use Rattle.std.specs.Prelude.{◌≡◌};
 ghost use Rattle.bpf_verify_model.specs.States.{known_register, with_known};
@@ -8,7 +8,7 @@ use crate::registers::Registers;
 use bpf_insn_types::Reg;
 use bpf_verify_written::WrittenBytes;
 
-/// What is known before a slot: each register, the written bytes of the own frame, and in a callback
+/// The abstract state before a slot: each register, the written bytes of the own frame, and in a callback
 /// those of main's frame at the call.
 #[derive(Clone, Copy)]
 pub struct State {
@@ -18,21 +18,21 @@ pub struct State {
 }
 
 impl State {
-    /// What is known of a register.
+    /// The abstract value of a register.
     pub fn register(&self, reg: Reg) -> AbstractValue
         ensures { result ≡ known_register self.now reg }
     {
         self.registers.get(reg)
     }
 
-    /// Something else is known of a register.
+    /// A register gets another abstract value.
     pub fn set(&mut self, reg: Reg, value: AbstractValue)
         ensures { self.new ≡ with_known self.old reg value }
     {
         self.registers.set(reg, value);
     }
 
-    /// The same, but for what is known of a register.
+    /// The same, but for the abstract value of a register.
     pub fn with(&self, reg: Reg, value: AbstractValue) -> State
         ensures { result ≡ with_known self.now reg value }
     {

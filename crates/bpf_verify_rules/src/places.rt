@@ -1,7 +1,7 @@
-//! Where an access may go, by what is known of its base.
+//! Where an access may go, by the abstract value of its base.
 
 ghost use Rattle.std.specs.Prelude.{◌≡◌, ◌+ℤ◌, ◌*◌, ◌^◌, ◌≤◌, pos, slice_get};
-ghost use Rattle.bpf_verify_model.specs.Accesses.{is_memory, is_part_of_half, is_misaligned, is_spread, misses_alignment, is_outside_frame, is_outside_map, is_outside, lacks, caller_lacks, has_unwritten_byte, is_ctx};
+ghost use Rattle.bpf_verify_model.specs.Accesses.{is_memory, is_part_of_half, is_misaligned, is_spread, misses_alignment, is_outside_frame, is_outside_map, is_outside, lacks_bytes, caller_lacks, has_unwritten_byte, is_ctx};
 
 use bpf_insn_types::FRAME_BYTES;
 use bpf_verify_model::{AbstractValue, State};
@@ -143,7 +143,7 @@ fn is_outside_map(count: Option<u32>, size: u32, offset: i16, range: Range) -> b
 
 /// Whether one of the bytes from a place in a frame on isn't written.
 fn lacks(written: &WrittenBytes, size: u32, position: u32, offset: i16) -> bool
-    ensures { result ≡ lacks written.now size (pos position +ℤ offset) }
+    ensures { result ≡ lacks_bytes written.now size (pos position +ℤ offset) }
 {
     if is_outside_frame(size, position, offset) {
         return false;

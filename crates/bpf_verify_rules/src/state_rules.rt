@@ -1,9 +1,9 @@
-//! The rules that an instruction breaks by what is known of registers.
+//! The rules that an instruction breaks by the abstract values of registers.
 
 ghost use Rattle.std.specs.Prelude.{◌≡◌, ◌≤◌};
 ghost use Rattle.bpf_verify_model.specs.declared.helper.Helper.TheVariants.{Lookup, Loop};
 ghost use Rattle.bpf_verify_model.specs.Accesses.{memory_access_of};
-ghost use Rattle.bpf_verify_model.specs.Rules.{unwritten_register, unwritten_operand, unwritten_compared, unwritten_arguments, unwritten_operands, reads_unwritten, mistakes_arithmetic, mistakes_comparison, mistakes_compared, mistakes_stored, place_fault, bytes_fault, access_fault, is_key_position, is_key, is_map, is_code, is_ctx_argument, mistakes_loop, helper_fault, call_fault, operand_fault, state_fault, is_bit, end_fault, exit_fault, or_else};
+ghost use Rattle.bpf_verify_model.specs.Rules.{unwritten_register, unwritten_operand, unwritten_compared, unwritten_arguments, unwritten_operands, reads_unwritten, has_wrong_arithmetic_operands, has_wrong_comparison_operands, compares_with_no_number, stores_no_number, place_fault, bytes_fault, access_fault, is_key_position, is_key, is_map, is_code, is_ctx_argument, has_wrong_loop_arguments, helper_fault, call_fault, operand_fault, state_fault, is_bit, end_fault, exit_fault, or_else};
 
 use crate::access::{access_of, reads, writes};
 use crate::places::{
@@ -93,8 +93,8 @@ fn reads_unwritten(state: &State, insn: Insn) -> bool
 }
 
 /// V13: arithmetic with an operand that isn't of a kind that it takes.
-fn mistakes_arithmetic(state: &State, insn: Insn) -> bool
-    ensures { result ≡ mistakes_arithmetic state.now insn }
+fn has_wrong_arithmetic_operands(state: &State, insn: Insn) -> bool
+    ensures { result ≡ has_wrong_arithmetic_operands state.now insn }
 {
     match insn {
         Insn::Alu {
@@ -117,8 +117,8 @@ fn mistakes_arithmetic(state: &State, insn: Insn) -> bool
 }
 
 /// V14: a comparison with an operand that isn't of a kind that it takes.
-fn mistakes_comparison(state: &State, insn: Insn) -> bool
-    ensures { result ≡ mistakes_comparison state.now insn }
+fn has_wrong_comparison_operands(state: &State, insn: Insn) -> bool
+    ensures { result ≡ has_wrong_comparison_operands state.now insn }
 {
     match insn {
         Insn::Jump {
@@ -132,8 +132,8 @@ fn mistakes_comparison(state: &State, insn: Insn) -> bool
     }
 }
 
-fn mistakes_compared(state: &State, op: AtomicOp) -> bool
-    ensures { result ≡ mistakes_compared state.now op }
+fn compares_with_no_number(state: &State, op: AtomicOp) -> bool
+    ensures { result ≡ compares_with_no_number state.now op }
 {
     match op {
         AtomicOp::Cmpxchg => !is_number(state.register(reg(0))),
@@ -142,13 +142,13 @@ fn mistakes_compared(state: &State, op: AtomicOp) -> bool
 }
 
 /// V15: what is stored, or an atomic operation's operand, isn't a number.
-fn mistakes_stored(state: &State, insn: Insn) -> bool
-    ensures { result ≡ mistakes_stored state.now insn }
+fn stores_no_number(state: &State, insn: Insn) -> bool
+    ensures { result ≡ stores_no_number state.now insn }
 {
     match insn {
         Insn::Store { src, .. } => !is_number(state.register(src)),
         Insn::Atomic { op, src, .. } => {
-            !is_number(state.register(src)) || mistakes_compared(state, op)
+            !is_number(state.register(src)) || compares_with_no_number(state, op)
         }
         _ => false,
     }
@@ -159,9 +159,9 @@ fn operand_fault(state: &State, insn: &Insn) -> Option<Rule>
     ensures { result ≡ operand_fault state.now insn.now }
 {
     let unwritten = reads_unwritten(state, *insn);
-    let arithmetic = mistakes_arithmetic(state, *insn);
-    let comparison = mistakes_comparison(state, *insn);
-    let stored = mistakes_stored(state, *insn);
+    let arithmetic = has_wrong_arithmetic_operands(state, *insn);
+    let comparison = has_wrong_comparison_operands(state, *insn);
+    let stored = stores_no_number(state, *insn);
     if unwritten {
         Some(Rule::UnwrittenRegister)
     } else if arithmetic {
@@ -306,8 +306,8 @@ fn lookup_fault(state: &State) -> Option<Rule>
     }
 }
 
-fn mistakes_loop(state: &State) -> bool
-    ensures { result ≡ mistakes_loop state.now }
+fn has_wrong_loop_arguments(state: &State) -> bool
+    ensures { result ≡ has_wrong_loop_arguments state.now }
 {
     !is_number(state.register(reg(1)))
         || !is_code(state.register(reg(2)))
@@ -319,7 +319,7 @@ fn mistakes_loop(state: &State) -> bool
 fn loop_fault(state: &State) -> Option<Rule>
     ensures { result ≡ helper_fault state.now (Some Loop) }
 {
-    if mistakes_loop(state) {
+    if has_wrong_loop_arguments(state) {
         Some(Rule::HelperArgument)
     } else {
         None

@@ -4,7 +4,7 @@ use Rattle.bpf_insn_types.specs.Program.{Program, leads_to}
 use Rattle.bpf_verify_model.specs.declared.abstract_value.AbstractValue.{AbstractValue}
 use Rattle.bpf_verify_model.specs.declared.outflow.Edge.{Edge}
 use Rattle.bpf_verify_model.specs.declared.state.State.{State}
-use Rattle.bpf_verify_model.specs.Flow.{forgets, known_after_call, way}
+use Rattle.bpf_verify_model.specs.Flow.{forgets, known_after_call, edge_to}
 use Rattle.bpf_step_model.specs.State.{Value, Unwritten, Machine, advanced, after_call}
 use Rattle.bpf_verify_sound.specs.Containment.{ContainsValue, ContainEach, Contained}
 use Rattle.bpf_verify_sound.specs.Ways.{GoesBy}
@@ -29,7 +29,7 @@ registers-after (x0 ∷ (x1 ∷ (x2 ∷ (x3 ∷ (x4 ∷ (x5 ∷ xs)))))) (v0 ∷
 
 -- main or a callback behind a call
 pub call-goes : (program : Program) (m : Machine) (state : State) (aside : Option Edge) (x : AbstractValue) (v : Value) → leads_to program.insns m.slot (m.slot + 1) ≡ true → Contained state m →
-    ContainsValue x v → GoesBy program m.slot (record { ahead = way (Some (m.slot + 1)) (Some (known_after_call state x)); aside = aside }) (after_call v (advanced 1 m))
+    ContainsValue x v → GoesBy program m.slot (record { ahead = edge_to (Some (m.slot + 1)) (Some (known_after_call state x)); aside = aside }) (after_call v (advanced 1 m))
 call-goes program m state aside x v leads c d =
     ahead-goes program m.slot 1 aside (known_after_call state x) (after_call v (advanced 1 m)) leads (omega arith) refl
     (record { registers = registers-after state.registers m.registers x v c.registers d; own = c.own; caller = c.caller })

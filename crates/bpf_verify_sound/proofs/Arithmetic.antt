@@ -1,4 +1,4 @@
--- Arithmetic goes on as is known.
+-- Arithmetic goes on within the abstract states.
 use Rattle.std.proofs.Common.{◌≡◌, ℕ, false, not, is_none, refl, arith}
 use Rattle.bpf_insn_types.specs.declared.insn.Width.{Width}
 use Rattle.bpf_insn_types.specs.declared.insn.Width.TheVariants.{W64}
@@ -17,25 +17,25 @@ use Rattle.bpf_verify_model.specs.declared.abstract_value.AbstractValue.{Abstrac
 use Rattle.bpf_verify_model.specs.declared.abstract_value.AbstractValue.TheVariants as known
 use Rattle.bpf_verify_model.specs.declared.state.State.{State}
 use Rattle.bpf_verify_model.specs.States.{known_register}
-use Rattle.bpf_verify_model.specs.Values.{known_operand, known_of_number, known_result, is_number}
+use Rattle.bpf_verify_model.specs.Values.{known_operand, known_of_number, known_result, is_number_value}
 use Rattle.bpf_verify_model.specs.Flow.{flow, known_behind}
 use Rattle.bpf_step_model.specs.State.{Machine, register}
 use Rattle.bpf_step_model.specs.Values.{operand_value, on_word, result_of}
-use Rattle.bpf_step_model.specs.Step.{acts}
+use Rattle.bpf_step_model.specs.Step.{insn_step}
 use Rattle.bpf_verify_sound.specs.Containment.{Contained}
 use Rattle.bpf_verify_sound.specs.Standing.{KeepsRules}
-use Rattle.bpf_verify_sound.specs.Ways.{MoveFlows}
+use Rattle.bpf_verify_sound.specs.Ways.{StepFlows}
 use Rattle.bpf_verify_sound.proofs.NumberLaws.{number-follows, result-follows}
 use Rattle.bpf_verify_sound.proofs.Operands.{register-known, register-span, operand-known, operand-has_span}
 use Rattle.bpf_verify_sound.proofs.Moves.{follows-on, sets-flows}
 
-number-there : (operation : Operation) (width : Width) (x : AbstractValue) → not (is_number x) ≡ false → is_none (known_of_number operation width x) ≡ false
+number-there : (operation : Operation) (width : Width) (x : AbstractValue) → not (is_number_value x) ≡ false → is_none (known_of_number operation width x) ≡ false
 number-there operation width (known.Number a) e = refl
 number-there operation width x e = absurd cc
 
 pub alu-flows : ResultsFit → (program : Program) (m : Machine) (state : State) (width : Width) (op : AluOp) (dst : ℕ) (operand : Operand) →
     KeepsRules program m.slot (Alu width op dst operand) state → Contained state m →
-    MoveFlows program m.slot (flow program.sizes m.slot state (Alu width op dst operand)) (acts program m (Alu width op dst operand))
+    StepFlows program m.slot (flow program.sizes m.slot state (Alu width op dst operand)) (insn_step program m (Alu width op dst operand))
 unfolding flow known_behind
 alu-flows fit program m state width op dst operand keeps c =
     sets-flows program m state 1 dst (known_result width op (known_register state dst) (known_operand state operand)) (result_of width op (register m dst) (operand_value m operand))
@@ -44,7 +44,7 @@ alu-flows fit program m state width op dst operand keeps c =
     (register-span state dst keeps.spans) (operand-has_span state operand keeps.fits.1 keeps.spans) (register-known state m dst c) (operand-known state m operand c))
 
 pub neg-flows : ResultsFit → (program : Program) (m : Machine) (state : State) (width : Width) (dst : ℕ) → KeepsRules program m.slot (Neg width dst) state → Contained state m →
-    MoveFlows program m.slot (flow program.sizes m.slot state (Neg width dst)) (acts program m (Neg width dst))
+    StepFlows program m.slot (flow program.sizes m.slot state (Neg width dst)) (insn_step program m (Neg width dst))
 unfolding flow known_behind
 neg-flows fit program m state width dst keeps c =
     sets-flows program m state 1 dst (known_of_number NegOperation width (known_register state dst)) (on_word (negated width) (register m dst))
@@ -54,7 +54,7 @@ neg-flows fit program m state width dst keeps c =
 
 pub movsx-flows : ResultsFit → (program : Program) (m : Machine) (state : State) (width : Width) (bits : MovsxBits) (dst src : ℕ) →
     KeepsRules program m.slot (Movsx width bits dst src) state → Contained state m →
-    MoveFlows program m.slot (flow program.sizes m.slot state (Movsx width bits dst src)) (acts program m (Movsx width bits dst src))
+    StepFlows program m.slot (flow program.sizes m.slot state (Movsx width bits dst src)) (insn_step program m (Movsx width bits dst src))
 unfolding flow known_behind
 movsx-flows fit program m state width bits dst src keeps c =
     sets-flows program m state 1 dst (known_of_number (MovsxOperation bits) width (known_register state src)) (on_word (moved_signed width bits) (register m src))
@@ -64,7 +64,7 @@ movsx-flows fit program m state width bits dst src keeps c =
 
 pub endian-flows : ResultsFit → (program : Program) (m : Machine) (state : State) (order : ByteOrder) (bits : EndianBits) (dst : ℕ) →
     KeepsRules program m.slot (Endian order bits dst) state → Contained state m →
-    MoveFlows program m.slot (flow program.sizes m.slot state (Endian order bits dst)) (acts program m (Endian order bits dst))
+    StepFlows program m.slot (flow program.sizes m.slot state (Endian order bits dst)) (insn_step program m (Endian order bits dst))
 unfolding flow known_behind
 endian-flows fit program m state order bits dst keeps c =
     sets-flows program m state 1 dst (known_of_number (EndianOperation order bits) W64 (known_register state dst)) (on_word (in_order order bits) (register m dst))

@@ -1,4 +1,4 @@
--- Atomic operations go on as is known.
+-- Atomic operations go on within the abstract states.
 use Rattle.std.proofs.Common.{◌≡◌, ℕ, ◌+◌, ◌<◌, ◌≤◌, ◌^◌, Bool, true, false, not, Option, Some, None, refl, sym, ap, subst, arith}
 use Rattle.std.specs.Prelude.{ℤ, if◌then◌else◌}
 use Rattle.bpf_insn_types.specs.Sizes.{atomic_bytes}
@@ -20,19 +20,19 @@ use Rattle.bpf_verify_model.specs.declared.memory_access.MemoryAccess.{MemoryAcc
 use Rattle.bpf_verify_model.specs.declared.memory_access.AccessKind.TheVariants.{Changes}
 use Rattle.bpf_verify_model.specs.declared.state.State.{State}
 use Rattle.bpf_verify_model.specs.States.{known_register, with_known}
-use Rattle.bpf_verify_model.specs.Values.{is_number}
+use Rattle.bpf_verify_model.specs.Values.{is_number_value}
 use Rattle.bpf_verify_model.specs.Accesses.{has_unwritten_byte, is_ctx}
-use Rattle.bpf_verify_model.specs.Rules.{fetches_into_r10, mistakes_compared, place_fault, bytes_fault}
+use Rattle.bpf_verify_model.specs.Rules.{fetches_into_r10, compares_with_no_number, place_fault, bytes_fault}
 use Rattle.bpf_verify_model.specs.Flow.{with_fetched, ahead_outflow, flow, known_behind}
 use Rattle.bpf_step_model.specs.State.{Value, Word, Machine, register, advanced, with_register, with_frame}
 use Rattle.bpf_step_model.specs.Memory.{Place, InFrame, InMap, written_at, number_at, place}
 use Rattle.bpf_step_model.specs.SoundMachine.{SoundMachine}
-use Rattle.bpf_step_model.specs.Step.{NoStep, tells, atomic_left, changes_frame, request_of, changes_at, changes, may_tell, compared_value, acts}
-use Rattle.bpf_step_model.specs.Run.{told, part_bytes}
+use Rattle.bpf_step_model.specs.Step.{NoStep, tells, atomic_left, changes_frame, request_of, changes_at, changes, may_tell, compared_value, insn_step}
+use Rattle.bpf_step_model.specs.Run.{after_request, part_bytes}
 use Rattle.bpf_verify_sound.specs.Containment.{ContainsValue, Contained}
-use Rattle.bpf_verify_sound.specs.KnownStates.{IsKnownState}
+use Rattle.bpf_verify_sound.specs.KnownStates.{IsWellFormedState}
 use Rattle.bpf_verify_sound.specs.Standing.{KeepsRules}
-use Rattle.bpf_verify_sound.specs.Ways.{GoesBy, MoveFlows}
+use Rattle.bpf_verify_sound.specs.Ways.{GoesBy, StepFlows}
 use Rattle.bpf_verify_sound.proofs.RegisterLaws.{contain-set}
 use Rattle.bpf_verify_sound.proofs.ByteLaws.{IsNumberOf, write-unknown}
 use Rattle.bpf_verify_sound.proofs.PlaceLaws.{PlaceIs, place-rules, place-is}
@@ -66,7 +66,7 @@ tells-known program m next state width Cmpxchg src old leads at c h =
     ahead-goes program m.slot 1 None (with_known state 0 (known.Number (top width))) (with_register 0 (Word old) next) leads (omega arith) at (tell-known state next width 0 old c h)
 
 -- a frame's bytes are changed, and as many are known to be written as before
-frame-changed : (program : Program) (m : Machine) (state : State) (p size n : ℕ) → Contained state m → IsKnownState state → SoundMachine program m → p + size ≤ 512 →
+frame-changed : (program : Program) (m : Machine) (state : State) (p size n : ℕ) → Contained state m → IsWellFormedState state → SoundMachine program m → p + size ≤ 512 →
     Contained state (with_frame (written_at m.frame p size n) (advanced 1 m))
 frame-changed program m state p size n c spans sound h = record {
   registers = c.registers;
@@ -75,8 +75,8 @@ frame-changed program m state p size n c spans sound h = record {
 }
 
 frame-change : (program : Program) (m : Machine) (state : State) (width : Width) (op : AtomicOp) (src operand compare p : ℕ) (old : Option ℕ) →
-    leads_to program.insns m.slot (m.slot + 1) ≡ true → Contained state m → IsKnownState state → SoundMachine program m → p + atomic_bytes width ≤ 512 → IsNumberOf (atomic_bytes width) old →
-    MoveFlows program m.slot (ahead_outflow (m.slot + 1) (with_fetched state width op src)) (changes_frame m width op src operand compare p old)
+    leads_to program.insns m.slot (m.slot + 1) ≡ true → Contained state m → IsWellFormedState state → SoundMachine program m → p + atomic_bytes width ≤ 512 → IsNumberOf (atomic_bytes width) old →
+    StepFlows program m.slot (ahead_outflow (m.slot + 1) (with_fetched state width op src)) (changes_frame m width op src operand compare p old)
 frame-change program m state width op src operand compare p None leads c spans sound h number = absurd number
 frame-change program m state width op src operand compare p (Some old) leads c spans sound h number =
     tells-known program m (with_frame (written_at m.frame p (atomic_bytes width) (atomic_left width op old operand compare)) (advanced 1 m)) state width op src old leads refl
@@ -85,7 +85,7 @@ frame-change program m state width op src operand compare p (Some old) leads c s
 -- what a map tells
 map-change : (program : Program) (m : Machine) (state : State) (width : Width) (op : AtomicOp) (src operand compare word : ℕ) (part : Part) →
     leads_to program.insns m.slot (m.slot + 1) ≡ true → Contained state m → part_bytes part ≡ atomic_bytes width → word < 2 ^ 64 →
-    GoesBy program m.slot (ahead_outflow (m.slot + 1) (with_fetched state width op src)) (told (request_of part op src operand compare) word (advanced 1 m))
+    GoesBy program m.slot (ahead_outflow (m.slot + 1) (with_fetched state width op src)) (after_request (request_of part op src operand compare) word (advanced 1 m))
 map-change program m state width (Simple op) src operand compare word Whole leads c bytes w = same-ahead program m state leads c
 map-change program m state width (Simple op) src operand compare word (Of half) leads c bytes w = same-ahead program m state leads c
 map-change program m state width (FetchOp op) src operand compare word part leads c bytes w =
@@ -100,9 +100,9 @@ map-change program m state width Cmpxchg src operand compare word part leads c b
 
 -- at a place that is known
 changes-flow : (program : Program) (m : Machine) (state : State) (width : Width) (op : AtomicOp) (src operand compare : ℕ) (offset : ℤ) (x : AbstractValue) (at : Option Place) →
-    leads_to program.insns m.slot (m.slot + 1) ≡ true → Contained state m → IsKnownState state → SoundMachine program m → is_ctx x ≡ false → PlaceIs program.sizes (atomic_bytes width) offset x at →
+    leads_to program.insns m.slot (m.slot + 1) ≡ true → Contained state m → IsWellFormedState state → SoundMachine program m → is_ctx x ≡ false → PlaceIs program.sizes (atomic_bytes width) offset x at →
     has_unwritten_byte state (atomic_bytes width) offset x ≡ false →
-    MoveFlows program m.slot (ahead_outflow (m.slot + 1) (with_fetched state width op src)) (changes_at m width op src operand compare at)
+    StepFlows program m.slot (ahead_outflow (m.slot + 1) (with_fetched state width op src)) (changes_at m width op src operand compare at)
 changes-flow program m state width op src operand compare offset (known.Frame q) (Some (InFrame p)) leads c spans sound own is e =
     frame-change program m state width op src operand compare p (number_at m.frame p (atomic_bytes width)) leads c spans sound is.1
     (own-number state m program q p (atomic_bytes width) offset c spans sound is.0 is.1 e)
@@ -112,51 +112,51 @@ changes-flow program m state width op src operand compare offset (known.Ctx q) a
 changes-flow program m state width op src operand compare offset x at leads c spans sound own is e = absurd is
 
 -- V11: R10 isn't told
-told-kept : (op : AtomicOp) (src : ℕ) → fetches_into_r10 op src ≡ false → may_tell op src ≡ true
-told-kept (Simple op) src e = refl
-told-kept (FetchOp op) src e = ap not e
-told-kept XchgOp src e = ap not e
-told-kept Cmpxchg src e = refl
+after_request-kept : (op : AtomicOp) (src : ℕ) → fetches_into_r10 op src ≡ false → may_tell op src ≡ true
+after_request-kept (Simple op) src e = refl
+after_request-kept (FetchOp op) src e = ap not e
+after_request-kept XchgOp src e = ap not e
+after_request-kept Cmpxchg src e = refl
 
 -- a number is a word
-pub number-word_of : (x : AbstractValue) (v : Value) → is_number x ≡ true → ContainsValue x v → (n : ℕ) × (v ≡ Word n)
+pub number-word_of : (x : AbstractValue) (v : Value) → is_number_value x ≡ true → ContainsValue x v → (n : ℕ) × (v ≡ Word n)
 number-word_of (known.Number a) (Word n) e c = (n, refl)
 number-word_of (known.Number a) v e c = absurd c
 number-word_of x v e c = absurd cc
 
-compared-word : (state : State) (m : Machine) (op : AtomicOp) → Contained state m → mistakes_compared state op ≡ false → (n : ℕ) × (compared_value m op ≡ Word n)
+compared-word : (state : State) (m : Machine) (op : AtomicOp) → Contained state m → compares_with_no_number state op ≡ false → (n : ℕ) × (compared_value m op ≡ Word n)
 compared-word state m (Simple op) c e = (0, refl)
 compared-word state m (FetchOp op) c e = (0, refl)
 compared-word state m XchgOp c e = (0, refl)
-compared-word state m Cmpxchg c e = number-word_of (known_register state 0) (register m 0) (not-not-true (is_number (known_register state 0)) e) (register-known state m 0 c)
+compared-word state m Cmpxchg c e = number-word_of (known_register state 0) (register m 0) (not-not-true (is_number_value (known_register state 0)) e) (register-known state m 0 c)
 
 change-words : (program : Program) (m : Machine) (state : State) (width : Width) (op : AtomicOp) (src operand compare : ℕ) (offset : ℤ) (x : AbstractValue) (at : Option Place) →
-    leads_to program.insns m.slot (m.slot + 1) ≡ true → Contained state m → IsKnownState state → SoundMachine program m → is_ctx x ≡ false → PlaceIs program.sizes (atomic_bytes width) offset x at →
+    leads_to program.insns m.slot (m.slot + 1) ≡ true → Contained state m → IsWellFormedState state → SoundMachine program m → is_ctx x ≡ false → PlaceIs program.sizes (atomic_bytes width) offset x at →
     has_unwritten_byte state (atomic_bytes width) offset x ≡ false → (test : Bool) → test ≡ true →
-    MoveFlows program m.slot (ahead_outflow (m.slot + 1) (with_fetched state width op src)) (if test then changes_at m width op src operand compare at else NoStep)
+    StepFlows program m.slot (ahead_outflow (m.slot + 1) (with_fetched state width op src)) (if test then changes_at m width op src operand compare at else NoStep)
 change-words program m state width op src operand compare offset x at leads c spans sound own is e true t =
     changes-flow program m state width op src operand compare offset x at leads c spans sound own is e
 change-words program m state width op src operand compare offset x at leads c spans sound own is e false t = absurd cc
 
 pub atomic-flows : (program : Program) (m : Machine) (state : State) (width : Width) (op : AtomicOp) (dst src : ℕ) (offset : ℤ) →
     KeepsRules program m.slot (Atomic width op dst src offset) state → SoundMachine program m → Contained state m →
-    MoveFlows program m.slot (flow program.sizes m.slot state (Atomic width op dst src offset)) (acts program m (Atomic width op dst src offset))
+    StepFlows program m.slot (flow program.sizes m.slot state (Atomic width op dst src offset)) (insn_step program m (Atomic width op dst src offset))
 unfolding flow known_behind
 atomic-flows program m state width op dst src offset keeps sound c =
     let x = known_register state dst in
     let access : MemoryAccess = record { kind = Changes; base = dst; offset = offset; size = atomic_bytes width } in
     let place_none = or_else-one (place_fault program.sizes access x) (bytes_fault state access x) keeps.access in
     let bytes_none = or_else-two (place_fault program.sizes access x) (bytes_fault state access x) keeps.access in
-    let unread = not (is_number (known_register state src)) in
-    let operand = number-word_of (known_register state src) (register m src) (not-not-true (is_number (known_register state src)) (or-left unread (mistakes_compared state op) keeps.stored)) (register-known state m src c) in
-    let compare = compared-word state m op c (or-right unread (mistakes_compared state op) keeps.stored) in
+    let unread = not (is_number_value (known_register state src)) in
+    let operand = number-word_of (known_register state src) (register m src) (not-not-true (is_number_value (known_register state src)) (or-left unread (compares_with_no_number state op) keeps.stored)) (register-known state m src c) in
+    let compare = compared-word state m op c (or-right unread (compares_with_no_number state op) keeps.stored) in
     let at = place program (register m dst) offset (atomic_bytes width) in
     let out = ahead_outflow (m.slot + 1) (with_fetched state width op src) in
-    subst (λ (v : Value). MoveFlows program m.slot out (changes m width op src v (compared_value m op) at)) (sym operand.1)
-    (subst (λ (v : Value). MoveFlows program m.slot out (changes m width op src (Word operand.0) v at)) (sym compare.1)
+    subst (λ (v : Value). StepFlows program m.slot out (changes m width op src v (compared_value m op) at)) (sym operand.1)
+    (subst (λ (v : Value). StepFlows program m.slot out (changes m width op src (Word operand.0) v at)) (sym compare.1)
     (change-words program m state width op src operand.0 compare.0 offset x at
     (follows-on program.insns m.slot (Atomic width op dst src offset) refl keeps.falls) c keeps.spans sound
     (test-fails (is_ctx x) _ _ (test-later (has_unwritten_byte state (atomic_bytes width) offset x) _ _ bytes_none))
     (place-is program x (register m dst) offset (atomic_bytes width) (register-span state dst keeps.spans) (register-known state m dst c) (place-rules program.sizes access x place_none))
     (test-fails (has_unwritten_byte state (atomic_bytes width) offset x) _ _ bytes_none)
-    (may_tell op src) (told-kept op src keeps.frame_pointer)))
+    (may_tell op src) (after_request-kept op src keeps.frame_pointer)))

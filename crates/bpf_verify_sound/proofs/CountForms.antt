@@ -21,9 +21,9 @@ use Rattle.bpf_verify_model.specs.Rules.{jump_distance, jump_target, goes_on}
 use Rattle.bpf_verify_model.specs.Count.{behind_jump, through}
 use Rattle.bpf_step_model.specs.State.{Value, Word, Frame, Map, Code, Bytes, Machine, register, advanced, with_register, with_frame}
 use Rattle.bpf_step_model.specs.Memory.{Place, InFrame, InCaller, InMap, number_at, written_at, place}
-use Rattle.bpf_step_model.specs.Values.{operand_value, on_word, result_of, test_of}
+use Rattle.bpf_step_model.specs.Values.{operand_value, on_word, result_of, comparison_of}
 use Rattle.bpf_step_model.specs.LoopCalls.{Validity, RefusedBy, Valid, call_validity}
-use Rattle.bpf_step_model.specs.Step.{Load, Move, NoStep, Next, Asks, Loops, Refuses, Exits, sets, jumps, branches, loaded, caller_number, loads, stores_at, stores, tells, atomic_left, changes_frame, changes_at, compared_value, may_tell, changes, wide_value, key_at, found, answers, looks_up, loop_move, calls_loop, takes_ctx, takes_flags, takes_arguments, loops, calls, ends_with, ends, acts}
+use Rattle.bpf_step_model.specs.Step.{Load, StepOutcome, NoStep, Next, Asks, Loops, Refuses, Exits, sets, jumps, branches, loaded, caller_number, loads, stores_at, stores, tells, atomic_left, changes_frame, changes_at, compared_value, may_tell, changes, wide_value, key_at, lookup_result, answers, looks_up, loop_call_step, calls_loop, takes_ctx, takes_flags, takes_arguments, loops, calls, ends_with, ends, insn_step}
 
 -- a slot to which an instruction leads
 abbrev pub IsNextSlot : ℕ → Insn → ℕ → Type 0
@@ -48,7 +48,7 @@ abbrev pub IsAt : ℕ → Option Bytes → Machine → Type 0
 IsAt k caller m = (m.slot ≡ k) × (m.caller ≡ caller)
 
 -- each machine that a step leads to is there; a loop is called in main alone
-abbrev pub GoesTo : ℕ → Option Bytes → Move → Type 0
+abbrev pub GoesTo : ℕ → Option Bytes → StepOutcome → Type 0
 GoesTo k caller NoStep = Unit {0}
 GoesTo k caller (Next next) = IsAt k caller next
 GoesTo k caller (Asks element request next) = IsAt k caller next
@@ -56,7 +56,7 @@ GoesTo k caller (Loops call next) = (caller ≡ None) × IsAt k caller next
 GoesTo k caller (Refuses answer next) = (caller ≡ None) × IsAt k caller next
 GoesTo k caller (Exits ret) = ⊥
 
-go-if : (k : ℕ) (caller : Option Bytes) (test : Bool) (a b : Move) → GoesTo k caller a → GoesTo k caller b → GoesTo k caller (if test then a else b)
+go-if : (k : ℕ) (caller : Option Bytes) (test : Bool) (a b : StepOutcome) → GoesTo k caller a → GoesTo k caller b → GoesTo k caller (if test then a else b)
 go-if k caller true a b i j = i
 go-if k caller false a b i j = j
 
@@ -107,10 +107,10 @@ answers-to m None = tt
 answers-to m (Some v) = (refl, refl)
 
 looks-to : (program : Program) (m : Machine) (v : Value) (key : Option ℕ) → GoesTo (m.slot + 1) m.caller (looks_up program m v key)
-looks-to program m (Map k) key = answers-to m (found k (slice_get program.sizes k) key)
+looks-to program m (Map k) key = answers-to m (lookup_result k (slice_get program.sizes k) key)
 looks-to program m v key = tt
 
-move-to : (m : Machine) (start : ℕ) (ctx : Option ℕ) (validity : Validity) → m.caller ≡ None → GoesTo (m.slot + 1) m.caller (loop_move m start ctx validity)
+move-to : (m : Machine) (start : ℕ) (ctx : Option ℕ) (validity : Validity) → m.caller ≡ None → GoesTo (m.slot + 1) m.caller (loop_call_step m start ctx validity)
 move-to m start ctx (RefusedBy answer) main = (main, (refl, refl))
 move-to m start ctx (Valid n) main = (main, (refl, refl))
 
@@ -147,7 +147,7 @@ IsReturn None ret = Unit {0}
 IsReturn (Some frame) ret = ret ≤ 1
 
 -- the same of a step: each machine that it leads to is at a next slot
-abbrev pub MoveNext : ℕ → Insn → Option Bytes → Move → Type 0
+abbrev pub MoveNext : ℕ → Insn → Option Bytes → StepOutcome → Type 0
 MoveNext slot insn caller NoStep = Unit {0}
 MoveNext slot insn caller (Next next) = IsNextSlot slot insn next.slot × (next.caller ≡ caller)
 MoveNext slot insn caller (Asks element request next) = IsNextSlot slot insn next.slot × (next.caller ≡ caller)
@@ -155,7 +155,7 @@ MoveNext slot insn caller (Loops call next) = IsNextSlot slot insn next.slot × 
 MoveNext slot insn caller (Refuses answer next) = IsNextSlot slot insn next.slot × (caller ≡ None)
 MoveNext slot insn caller (Exits ret) = IsReturn caller ret
 
-next-to : (slot : ℕ) (insn : Insn) (caller : Option Bytes) (move : Move) → goes_on insn ≡ true → GoesTo (slot + slots_of insn) caller move → MoveNext slot insn caller move
+next-to : (slot : ℕ) (insn : Insn) (caller : Option Bytes) (move : StepOutcome) → goes_on insn ≡ true → GoesTo (slot + slots_of insn) caller move → MoveNext slot insn caller move
 next-to slot insn caller NoStep goes i = tt
 next-to slot insn caller (Next next) goes i = (inl (goes, i.0), i.1)
 next-to slot insn caller (Asks element request next) goes i = (inl (goes, i.0), i.1)
@@ -191,29 +191,29 @@ set-next : (m : Machine) (insn : Insn) (count dst : ℕ) (v : Option Value) → 
 set-next m insn count dst v goes size =
     next-to m.slot insn m.caller (sets count m dst v) goes (subst (λ (k : ℕ). GoesTo (m.slot + k) m.caller (sets count m dst v)) (sym size) (sets-to count m dst v))
 
-pub acts-next : (program : Program) (m : Machine) (insn : Insn) → MoveNext m.slot insn m.caller (acts program m insn)
-acts-next program m (Alu width op dst operand) = set-next m (Alu width op dst operand) 1 dst (result_of width op (register m dst) (operand_value m operand)) refl refl
-acts-next program m (Neg width dst) = set-next m (Neg width dst) 1 dst (on_word (negated width) (register m dst)) refl refl
-acts-next program m (Movsx width bits dst src) = set-next m (Movsx width bits dst src) 1 dst (on_word (moved_signed width bits) (register m src)) refl refl
-acts-next program m (Endian order bits dst) = set-next m (Endian order bits dst) 1 dst (on_word (in_order order bits) (register m dst)) refl refl
-acts-next program m (Ja offset) = jump-next m (Ja offset) (moved (m.slot + 1) offset) refl
-acts-next program m (Ja32 imm) = jump-next m (Ja32 imm) (moved (m.slot + 1) imm) refl
-acts-next program m (Jump width compare dst operand offset) = branch-next m width compare dst operand offset (test_of m width compare (register m dst) operand)
-acts-next program m (Call kind imm) = next-to m.slot (Call kind imm) m.caller (calls program m kind imm) refl (calls-to program m kind imm)
-acts-next program m Exit = ends-next m Exit (register m 0)
-acts-next program m (LoadInsn size dst src offset) =
+pub insn_step-next : (program : Program) (m : Machine) (insn : Insn) → MoveNext m.slot insn m.caller (insn_step program m insn)
+insn_step-next program m (Alu width op dst operand) = set-next m (Alu width op dst operand) 1 dst (result_of width op (register m dst) (operand_value m operand)) refl refl
+insn_step-next program m (Neg width dst) = set-next m (Neg width dst) 1 dst (on_word (negated width) (register m dst)) refl refl
+insn_step-next program m (Movsx width bits dst src) = set-next m (Movsx width bits dst src) 1 dst (on_word (moved_signed width bits) (register m src)) refl refl
+insn_step-next program m (Endian order bits dst) = set-next m (Endian order bits dst) 1 dst (on_word (in_order order bits) (register m dst)) refl refl
+insn_step-next program m (Ja offset) = jump-next m (Ja offset) (moved (m.slot + 1) offset) refl
+insn_step-next program m (Ja32 imm) = jump-next m (Ja32 imm) (moved (m.slot + 1) imm) refl
+insn_step-next program m (Jump width compare dst operand offset) = branch-next m width compare dst operand offset (comparison_of m width compare (register m dst) operand)
+insn_step-next program m (Call kind imm) = next-to m.slot (Call kind imm) m.caller (calls program m kind imm) refl (calls-to program m kind imm)
+insn_step-next program m Exit = ends-next m Exit (register m 0)
+insn_step-next program m (LoadInsn size dst src offset) =
     next-to m.slot (LoadInsn size dst src offset) m.caller (loads m Zeros (bytes_of size) dst (place program (register m src) offset (bytes_of size))) refl
     (loads-to m Zeros (bytes_of size) dst (place program (register m src) offset (bytes_of size)))
-acts-next program m (LoadSx size dst src offset) =
+insn_step-next program m (LoadSx size dst src offset) =
     next-to m.slot (LoadSx size dst src offset) m.caller (loads m Signs (bytes_of size) dst (place program (register m src) offset (bytes_of size))) refl
     (loads-to m Signs (bytes_of size) dst (place program (register m src) offset (bytes_of size)))
-acts-next program m (StoreImm size dst offset imm) =
+insn_step-next program m (StoreImm size dst offset imm) =
     next-to m.slot (StoreImm size dst offset imm) m.caller (stores m (bytes_of size) (Word (word_of imm)) (place program (register m dst) offset (bytes_of size))) refl
     (stores-to m (bytes_of size) (Word (word_of imm)) (place program (register m dst) offset (bytes_of size)))
-acts-next program m (StoreInsn size dst src offset) =
+insn_step-next program m (StoreInsn size dst src offset) =
     next-to m.slot (StoreInsn size dst src offset) m.caller (stores m (bytes_of size) (register m src) (place program (register m dst) offset (bytes_of size))) refl
     (stores-to m (bytes_of size) (register m src) (place program (register m dst) offset (bytes_of size)))
-acts-next program m (Atomic width op dst src offset) =
+insn_step-next program m (Atomic width op dst src offset) =
     next-to m.slot (Atomic width op dst src offset) m.caller (changes m width op src (register m src) (compared_value m op) (place program (register m dst) offset (atomic_bytes width))) refl
     (changes-to m width op src (register m src) (compared_value m op) (place program (register m dst) offset (atomic_bytes width)))
-acts-next program m (LoadImm kind dst imm next_imm) = set-next m (LoadImm kind dst imm next_imm) 2 dst (wide_value program m.slot kind imm next_imm) refl refl
+insn_step-next program m (LoadImm kind dst imm next_imm) = set-next m (LoadImm kind dst imm next_imm) 2 dst (wide_value program m.slot kind imm next_imm) refl refl

@@ -13,14 +13,14 @@ use Rattle.bpf_verify_model.proofs.JumpLaws.{jumps_forward}
 use Rattle.bpf_verify_model.proofs.LongestLaws.{longest-step}
 use Rattle.bpf_verify_model.proofs.PathLaws.{through-some}
 use Rattle.bpf_step_model.specs.State.{Bytes, Machine}
-use Rattle.bpf_step_model.specs.Step.{Request, Load, Store, StoreHalf, Update, Fetch, Move, NoStep, Next, Asks, Loops, Refuses, Exits, lands, acts, acts_if_any, step}
-use Rattle.bpf_step_model.specs.Run.{Ending, Ended, Stuck, Unfinished, Stretch, told, action_of, mapped, with_first, after_access, after_move, run}
-use Rattle.bpf_verify_sound.specs.Soundness.{IsSoundProgram, AreMapWords, IsKnown, GoesOnKnown, most_from, most_after, EndsWithin, EndsAtExit}
+use Rattle.bpf_step_model.specs.Step.{Request, Load, Store, StoreHalf, Update, Fetch, StepOutcome, NoStep, Next, Asks, Loops, Refuses, Exits, within_function, insn_step, insn_step_if_any, step}
+use Rattle.bpf_step_model.specs.Run.{BoundedResult, Ended, Stuck, Unfinished, RunSegment, after_request, action_of, mapped, with_first_step, after_access, after_step, run}
+use Rattle.bpf_verify_sound.specs.Soundness.{IsSoundProgram, AreMapWords, OverApproximates, StepsOverApproximated, most_from, most_after, EndsWithin, EndsAtExit}
 use Rattle.bpf_verify_sound.proofs.RuleLaws.{accepted-within}
 use Rattle.bpf_verify_sound.proofs.EntryLaws.{accepted-some}
-use Rattle.bpf_verify_sound.proofs.Moves.{told-slot}
+use Rattle.bpf_verify_sound.proofs.Moves.{after_request-slot}
 use Rattle.bpf_verify_sound.proofs.RunLaws.{step-known, word-at, words-known}
-use Rattle.bpf_verify_sound.proofs.CountForms.{IsNextSlot, through-next, MoveNext, IsReturn, acts-next}
+use Rattle.bpf_verify_sound.proofs.CountForms.{IsNextSlot, through-next, MoveNext, IsReturn, insn_step-next}
 
 -- jumps of an accepted program lead forward
 forward : (program : Program) → IsSoundProgram program → JumpsForward program.insns
@@ -38,7 +38,7 @@ most-through program sound slot insn here =
     longest-step program.insns (slot_count program.insns) slot (Some insn) (forward program sound) refl (some-slots program sound) here
 
 -- a step is shorter, keeps the caller's frame, and calls a loop in main alone
-abbrev pub StepShorter : Program → ℕ → Option Bytes → Move → Type 0
+abbrev pub StepShorter : Program → ℕ → Option Bytes → StepOutcome → Type 0
 StepShorter program slot caller NoStep = Unit {0}
 StepShorter program slot caller (Next next) = (suc (most_from program next.slot) ≤ most_from program slot) × (next.caller ≡ caller)
 StepShorter program slot caller (Asks element request next) = (suc (most_from program next.slot) ≤ most_from program slot) × (next.caller ≡ caller)
@@ -50,7 +50,7 @@ next-shorter : (program : Program) → IsSoundProgram program → (slot : ℕ) (
 next-shorter program sound slot insn k here next =
     subst (λ (n : ℕ). suc (most_from program k) ≤ n) (sym (most-through program sound slot insn here)) (through-next (most_from program) slot insn k next)
 
-move-shorter : (program : Program) → IsSoundProgram program → (slot : ℕ) (insn : Insn) (caller : Option Bytes) (move : Move) → insn_at program.insns slot ≡ Some insn → MoveNext slot insn caller move →
+move-shorter : (program : Program) → IsSoundProgram program → (slot : ℕ) (insn : Insn) (caller : Option Bytes) (move : StepOutcome) → insn_at program.insns slot ≡ Some insn → MoveNext slot insn caller move →
     StepShorter program slot caller move
 move-shorter program sound slot insn caller NoStep here i = tt
 move-shorter program sound slot insn caller (Next next) here i = (next-shorter program sound slot insn next.slot here i.0, i.1)
@@ -60,22 +60,22 @@ move-shorter program sound slot insn caller (Refuses answer next) here i = (next
 move-shorter program sound slot insn caller (Exits ret) here i =
     (subst (λ (n : ℕ). 1 ≤ n) (sym (most-through program sound slot insn here)) (through-some (most_from program) slot insn), i)
 
-shorter-if : (program : Program) (slot : ℕ) (caller : Option Bytes) (test : Bool) (move : Move) → StepShorter program slot caller move → StepShorter program slot caller (if test then move else NoStep)
+shorter-if : (program : Program) (slot : ℕ) (caller : Option Bytes) (test : Bool) (move : StepOutcome) → StepShorter program slot caller move → StepShorter program slot caller (if test then move else NoStep)
 shorter-if program slot caller true move i = i
 shorter-if program slot caller false move i = tt
 
-lands-shorter : (program : Program) (slot : ℕ) (caller : Option Bytes) (move : Move) → StepShorter program slot caller move → StepShorter program slot caller (lands program slot move)
-lands-shorter program slot caller NoStep i = tt
-lands-shorter program slot caller (Next next) i = shorter-if program slot caller (leads_to program.insns slot next.slot) (Next next) i
-lands-shorter program slot caller (Asks element request next) i = shorter-if program slot caller (leads_to program.insns slot next.slot) (Asks element request next) i
-lands-shorter program slot caller (Loops call next) i = shorter-if program slot caller (leads_to program.insns slot next.slot) (Loops call next) i
-lands-shorter program slot caller (Refuses answer next) i = shorter-if program slot caller (leads_to program.insns slot next.slot) (Refuses answer next) i
-lands-shorter program slot caller (Exits ret) i = i
+within_function-shorter : (program : Program) (slot : ℕ) (caller : Option Bytes) (move : StepOutcome) → StepShorter program slot caller move → StepShorter program slot caller (within_function program slot move)
+within_function-shorter program slot caller NoStep i = tt
+within_function-shorter program slot caller (Next next) i = shorter-if program slot caller (leads_to program.insns slot next.slot) (Next next) i
+within_function-shorter program slot caller (Asks element request next) i = shorter-if program slot caller (leads_to program.insns slot next.slot) (Asks element request next) i
+within_function-shorter program slot caller (Loops call next) i = shorter-if program slot caller (leads_to program.insns slot next.slot) (Loops call next) i
+within_function-shorter program slot caller (Refuses answer next) i = shorter-if program slot caller (leads_to program.insns slot next.slot) (Refuses answer next) i
+within_function-shorter program slot caller (Exits ret) i = i
 
-insn-shorter : (program : Program) → IsSoundProgram program → (m : Machine) (o : Option Insn) → insn_at program.insns m.slot ≡ o → StepShorter program m.slot m.caller (acts_if_any program m o)
+insn-shorter : (program : Program) → IsSoundProgram program → (m : Machine) (o : Option Insn) → insn_at program.insns m.slot ≡ o → StepShorter program m.slot m.caller (insn_step_if_any program m o)
 insn-shorter program sound m None here = tt
 insn-shorter program sound m (Some insn) here =
-    lands-shorter program m.slot m.caller (acts program m insn) (move-shorter program sound m.slot insn m.caller (acts program m insn) here (acts-next program m insn))
+    within_function-shorter program m.slot m.caller (insn_step program m insn) (move-shorter program sound m.slot insn m.caller (insn_step program m insn) here (insn_step-next program m insn))
 
 step-shorter : (program : Program) → IsSoundProgram program → (m : Machine) → StepShorter program m.slot m.caller (step program m)
 unfolding step
@@ -87,31 +87,31 @@ returns-bit None ret inner i = absurd cc
 returns-bit (Some frame) ret inner i = i
 
 -- what is told changes no caller's frame
-told-caller : (request : Request) (word : ℕ) (m : Machine) → (told request word m).caller ≡ m.caller
-told-caller (Load part extension into) word m = refl
-told-caller (Store value) word m = refl
-told-caller (StoreHalf half value) word m = refl
-told-caller (Update op operand) word m = refl
-told-caller (Fetch part rmw value compare into) word m = refl
+after_request-caller : (request : Request) (word : ℕ) (m : Machine) → (after_request request word m).caller ≡ m.caller
+after_request-caller (Load part extension into) word m = refl
+after_request-caller (Store value) word m = refl
+after_request-caller (StoreHalf half value) word m = refl
+after_request-caller (Update op operand) word m = refl
+after_request-caller (Fetch part rmw value compare into) word m = refl
 
 -- an instruction stands where something is known, so the longest path from there isn't empty
-pub most-some : (program : Program) → IsSoundProgram program → (m : Machine) → IsKnown program m → 1 ≤ most_from program m.slot
+pub most-some : (program : Program) → IsSoundProgram program → (m : Machine) → OverApproximates program m → 1 ≤ most_from program m.slot
 most-some program sound m known = by_insn program sound m (insn_at program.insns m.slot) refl known
   where
-    by_insn : (program : Program) → IsSoundProgram program → (m : Machine) (o : Option Insn) → insn_at program.insns m.slot ≡ o → IsKnown program m → 1 ≤ most_from program m.slot
+    by_insn : (program : Program) → IsSoundProgram program → (m : Machine) (o : Option Insn) → insn_at program.insns m.slot ≡ o → OverApproximates program m → 1 ≤ most_from program m.slot
     by_insn program sound m None here known = absurd (let e = sym (ap is_some here) ∙ known.contained.stands in cc)
     by_insn program sound m (Some insn) here known =
         subst (λ (n : ℕ). 1 ≤ n) (sym (most-through program sound m.slot insn here)) (through-some (most_from program) m.slot insn)
 
 -- an instruction more in front
-mapped-within : (program : Program) (few many : ℕ) (accesses : List Access) (e : Ending Stretch) → suc few ≤ many → EndsWithin program few e → EndsWithin program many (mapped (with_first accesses) e)
+mapped-within : (program : Program) (few many : ℕ) (accesses : List Access) (e : BoundedResult RunSegment) → suc few ≤ many → EndsWithin program few e → EndsWithin program many (mapped (with_first_step accesses) e)
 mapped-within program few many accesses Stuck h i = i
 mapped-within program few many accesses Unfinished h i = i
 mapped-within program few many accesses (Ended s) h i =
     let rest : s.steps + most_after program s.turn ≤ few = i.1 in
     (omega arith, omega arith)
 
-mapped-exit : (accesses : List Access) (e : Ending Stretch) → EndsAtExit e → EndsAtExit (mapped (with_first accesses) e)
+mapped-exit : (accesses : List Access) (e : BoundedResult RunSegment) → EndsAtExit e → EndsAtExit (mapped (with_first_step accesses) e)
 mapped-exit accesses Stuck i = i
 mapped-exit accesses Unfinished i = i
 mapped-exit accesses (Ended s) i = i
@@ -119,10 +119,10 @@ mapped-exit accesses (Ended s) i = i
 module _ (program : Program) where
   -- what is claimed of each run with this bound
   abbrev pub Within : ℕ → Type 0
-  Within bound = (m : Machine) → IsKnown program m → (words : List ℕ) → AreMapWords program words → most_from program m.slot ≤ bound → EndsWithin program (most_from program m.slot) (run program bound m words)
+  Within bound = (m : Machine) → OverApproximates program m → (words : List ℕ) → AreMapWords program words → most_from program m.slot ≤ bound → EndsWithin program (most_from program m.slot) (run program bound m words)
 
   within-word : (bound : ℕ) → Within bound → (most element : ℕ) (request : Request) (next : Machine) (words : List ℕ) → most ≤ suc bound → AreMapWords program words → element < sum program.sizes →
-      ((word : ℕ) → word < 2 ^ 64 → IsKnown program (told request word next) × (left_by (action_of request word) word < 2 ^ 64)) → suc (most_from program next.slot) ≤ most →
+      ((word : ℕ) → word < 2 ^ 64 → OverApproximates program (after_request request word next) × (left_by (action_of request word) word < 2 ^ 64)) → suc (most_from program next.slot) ≤ most →
       (o : Option ℕ) → slice_get words element ≡ o → EndsWithin program most (after_access (run program bound) element request next words o)
   within-word bound go most element request next words few fit inside goes less None there =
       let some : slice_get words element ≡ Some (get_or words element 0) = slice_get-get_or words element 0 (omega (arith, fit.count)) in
@@ -130,12 +130,12 @@ module _ (program : Program) where
   within-word bound go most element request next words few fit inside goes less (Some word) there =
       let w : word < 2 ^ 64 = word-at words element word fit.fit there in
       let access : Access = record { element = element; action = action_of request word } in
-      let less' : suc (most_from program (told request word next).slot) ≤ most = subst (λ (k : ℕ). suc (most_from program k) ≤ most) (sym (told-slot request word next)) less in
-      mapped-within program (most_from program (told request word next).slot) most (access ∷ []) (run program bound (told request word next) (words_after access words)) less'
-      (go (told request word next) (goes word w).0 (words_after access words) (words-known program words element word request fit there (goes word w).1) (omega arith))
+      let less' : suc (most_from program (after_request request word next).slot) ≤ most = subst (λ (k : ℕ). suc (most_from program k) ≤ most) (sym (after_request-slot request word next)) less in
+      mapped-within program (most_from program (after_request request word next).slot) most (access ∷ []) (run program bound (after_request request word next) (words_after access words)) less'
+      (go (after_request request word next) (goes word w).0 (words_after access words) (words-known program words element word request fit there (goes word w).1) (omega arith))
 
-  within-move : (bound : ℕ) → Within bound → (slot : ℕ) (caller : Option Bytes) (move : Move) (words : List ℕ) → most_from program slot ≤ suc bound → AreMapWords program words → GoesOnKnown program move →
-      StepShorter program slot caller move → EndsWithin program (most_from program slot) (after_move (run program bound) slot move words)
+  within-move : (bound : ℕ) → Within bound → (slot : ℕ) (caller : Option Bytes) (move : StepOutcome) (words : List ℕ) → most_from program slot ≤ suc bound → AreMapWords program words → StepsOverApproximated program move →
+      StepShorter program slot caller move → EndsWithin program (most_from program slot) (after_step (run program bound) slot move words)
   within-move bound go slot caller NoStep words few fit goes less = goes
   within-move bound go slot caller (Next next) words few fit goes less =
       let less' : suc (most_from program next.slot) ≤ most_from program slot = less.0 in
@@ -154,20 +154,20 @@ module _ (program : Program) where
 
   -- and of each callback's run
   abbrev pub AtExit : ℕ → Type 0
-  AtExit bound = (m : Machine) → IsKnown program m → is_some m.caller ≡ true → (words : List ℕ) → AreMapWords program words → EndsAtExit (run program bound m words)
+  AtExit bound = (m : Machine) → OverApproximates program m → is_some m.caller ≡ true → (words : List ℕ) → AreMapWords program words → EndsAtExit (run program bound m words)
 
   exit-word : (bound : ℕ) → AtExit bound → (element : ℕ) (request : Request) (next : Machine) (words : List ℕ) → is_some next.caller ≡ true → AreMapWords program words →
-      ((word : ℕ) → word < 2 ^ 64 → IsKnown program (told request word next) × (left_by (action_of request word) word < 2 ^ 64)) →
+      ((word : ℕ) → word < 2 ^ 64 → OverApproximates program (after_request request word next) × (left_by (action_of request word) word < 2 ^ 64)) →
       (o : Option ℕ) → slice_get words element ≡ o → EndsAtExit (after_access (run program bound) element request next words o)
   exit-word bound go element request next words inner fit goes None there = tt
   exit-word bound go element request next words inner fit goes (Some word) there =
       let w : word < 2 ^ 64 = word-at words element word fit.fit there in
       let access : Access = record { element = element; action = action_of request word } in
-      mapped-exit (access ∷ []) (run program bound (told request word next) (words_after access words))
-      (go (told request word next) (goes word w).0 (ap is_some (told-caller request word next) ∙ inner) (words_after access words) (words-known program words element word request fit there (goes word w).1))
+      mapped-exit (access ∷ []) (run program bound (after_request request word next) (words_after access words))
+      (go (after_request request word next) (goes word w).0 (ap is_some (after_request-caller request word next) ∙ inner) (words_after access words) (words-known program words element word request fit there (goes word w).1))
 
-  exit-move : (bound : ℕ) → AtExit bound → (slot : ℕ) (caller : Option Bytes) (move : Move) (words : List ℕ) → is_some caller ≡ true → AreMapWords program words → GoesOnKnown program move →
-      StepShorter program slot caller move → EndsAtExit (after_move (run program bound) slot move words)
+  exit-move : (bound : ℕ) → AtExit bound → (slot : ℕ) (caller : Option Bytes) (move : StepOutcome) (words : List ℕ) → is_some caller ≡ true → AreMapWords program words → StepsOverApproximated program move →
+      StepShorter program slot caller move → EndsAtExit (after_step (run program bound) slot move words)
   exit-move bound go slot caller NoStep words inner fit goes less = tt
   exit-move bound go slot caller (Next next) words inner fit goes less = mapped-exit [] (run program bound next words) (go next goes (ap is_some less.1 ∙ inner) words fit)
   exit-move bound go slot caller (Asks element request next) words inner fit goes less = exit-word bound go element request next words (ap is_some less.1 ∙ inner) fit goes.1 (slice_get words element) refl

@@ -10,15 +10,15 @@ use Rattle.bpf_verify_model.specs.declared.outflow.Outflow.{Outflow}
 use Rattle.bpf_verify_model.specs.declared.rule.Rule.{Rule}
 use Rattle.bpf_verify_model.specs.declared.state.State.{State}
 use Rattle.bpf_verify_model.specs.States.{known_register}
-use Rattle.bpf_verify_model.specs.Values.{is_number}
+use Rattle.bpf_verify_model.specs.Values.{is_number_value}
 use Rattle.bpf_verify_model.specs.Rules.{is_bit, end_fault}
 use Rattle.bpf_verify_model.specs.Flow.{flow}
 use Rattle.bpf_step_model.specs.State.{Value, Word, Bytes, Machine, register}
 use Rattle.bpf_step_model.specs.SoundMachine.{SoundMachine}
-use Rattle.bpf_step_model.specs.Step.{NoStep, Exits, ends_with, ends, acts}
+use Rattle.bpf_step_model.specs.Step.{NoStep, Exits, ends_with, ends, insn_step}
 use Rattle.bpf_verify_sound.specs.Containment.{ContainsValue, Contained}
 use Rattle.bpf_verify_sound.specs.Standing.{KeepsRules}
-use Rattle.bpf_verify_sound.specs.Ways.{MoveFlows}
+use Rattle.bpf_verify_sound.specs.Ways.{StepFlows}
 use Rattle.bpf_verify_sound.proofs.Operands.{register-known}
 use Rattle.bpf_verify_sound.proofs.AtomicForms.{number-word_of}
 
@@ -27,12 +27,12 @@ kept true rule e = refl
 kept false rule e = absurd cc
 
 -- a bit is a number
-bit-number : (x : AbstractValue) → is_bit x ≡ true → is_number x ≡ true
+bit-number : (x : AbstractValue) → is_bit x ≡ true → is_number_value x ≡ true
 bit-number (known.Number a) e = refl
 bit-number x e = absurd cc
 
-end-number : (function : ℕ) (x : AbstractValue) → end_fault function x ≡ None → is_number x ≡ true
-end-number zero x e = kept (is_number x) _ e
+end-number : (function : ℕ) (x : AbstractValue) → end_fault function x ≡ None → is_number_value x ≡ true
+end-number zero x e = kept (is_number_value x) _ e
 end-number (suc f) x e = bit-number x (kept (is_bit x) _ e)
 
 bit-small : (x : AbstractValue) (n : ℕ) → is_bit x ≡ true → ContainsValue x (Word n) → n ≤ 1
@@ -41,12 +41,12 @@ bit-small (known.Number a) n e c =
     omega (arith, c.below)
 bit-small x n e c = absurd cc
 
-small-ends : (program : Program) (slot : ℕ) (out : Outflow) (n : ℕ) (test : Bool) → test ≡ true → MoveFlows program slot out (if test then Exits n else NoStep)
+small-ends : (program : Program) (slot : ℕ) (out : Outflow) (n : ℕ) (test : Bool) → test ≡ true → StepFlows program slot out (if test then Exits n else NoStep)
 small-ends program slot out n true e = tt
 small-ends program slot out n false e = absurd cc
 
 word-ends : (program : Program) (slot : ℕ) (out : Outflow) (function : ℕ) (x : AbstractValue) (n : ℕ) (caller : Option Bytes) → is_some caller ≡ nat_lt 0 function → end_fault function x ≡ None →
-    ContainsValue x (Word n) → MoveFlows program slot out (ends_with caller n)
+    ContainsValue x (Word n) → StepFlows program slot out (ends_with caller n)
 word-ends program slot out function x n None there e c = tt
 word-ends program slot out zero x n (Some frame) there e c = absurd cc
 word-ends program slot out (suc f) x n (Some frame) there e c =
@@ -54,12 +54,12 @@ word-ends program slot out (suc f) x n (Some frame) there e c =
     small-ends program slot out n (nat_le n 1) (grind (arith, nat_tests))
 
 pub exit-flows : (program : Program) (m : Machine) (state : State) → KeepsRules program m.slot Exit state → SoundMachine program m → Contained state m →
-    MoveFlows program m.slot (flow program.sizes m.slot state Exit) (acts program m Exit)
+    StepFlows program m.slot (flow program.sizes m.slot state Exit) (insn_step program m Exit)
 unfolding flow
 exit-flows program m state keeps sound c =
     let function = function_of program.insns m.slot in
     let x = known_register state 0 in
     let word = number-word_of x (register m 0) (end-number function x keeps.end) (register-known state m 0 c) in
-    subst (λ (v : Value). MoveFlows program m.slot (record { ahead = None; aside = None }) (ends m v)) (sym word.1)
+    subst (λ (v : Value). StepFlows program m.slot (record { ahead = None; aside = None }) (ends m v)) (sym word.1)
     (word-ends program m.slot (record { ahead = None; aside = None }) function x word.0 m.caller sound.in_callback keeps.end
     (subst (ContainsValue x) word.1 (register-known state m 0 c)))

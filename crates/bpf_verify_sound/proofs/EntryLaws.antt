@@ -1,4 +1,4 @@
--- Main starts as is known.
+-- Main starts within the abstract states.
 use Rattle.std.proofs.Common.{◌≡◌, ℕ, ◌<◌, ◌^◌, Bool, true, false, List, [], ◌∷◌, Option, Some, None, is_some, refl, sym, subst}
 use Rattle.std.specs.Prelude.{◌==◌, if◌then◌else◌}
 use Rattle.bpf_insn_types.specs.declared.insn.Width.TheVariants.{W64}
@@ -6,7 +6,7 @@ use Rattle.bpf_insn_types.specs.declared.insn.Insn.{Insn}
 use Rattle.bpf_insn_types.specs.Program.{Program, insn_at, slot_count}
 use Rattle.value_range_model.proofs.SpanLaws.{top-contains}
 use Rattle.bpf_verify_model.specs.States.{known_main_entry}
-use Rattle.bpf_verify_model.specs.Inflow.{incoming, before}
+use Rattle.bpf_verify_model.specs.Inflow.{incoming, state_before}
 use Rattle.bpf_verify_model.specs.Accepted.{Accepted, first_fault}
 use Rattle.bpf_step_model.specs.State.{main_entry}
 use Rattle.bpf_verify_sound.specs.Containment.{Contained, ContainedIf, ContainedBefore}
@@ -33,12 +33,12 @@ entry-contained argument h = record {
   caller = tt;
 }
 
-before-first : (program : Program) → before program 0 ≡ Some known_main_entry
+state_before-first : (program : Program) → state_before program 0 ≡ Some known_main_entry
 unfolding incoming
-before-first program = refl
+state_before-first program = refl
 
 pub main-contained : (program : Program) (argument : ℕ) → Accepted program → argument < 2 ^ 64 → ContainedBefore program (main_entry argument)
 main-contained program argument accepted h = record {
   stands = first-stands program.insns (accepted-some program accepted);
-  contained = subst (λ (o : Option _). ContainedIf o (main_entry argument)) (sym (before-first program)) (entry-contained argument h);
+  contained = subst (λ (o : Option _). ContainedIf o (main_entry argument)) (sym (state_before-first program)) (entry-contained argument h);
 }

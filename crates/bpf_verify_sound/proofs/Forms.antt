@@ -1,4 +1,4 @@
--- Each instruction that breaks no rule goes on as is known.
+-- Each instruction that breaks no rule goes on within the abstract states.
 use Rattle.std.proofs.Common.{◌≡◌, ℕ, zero, suc, ◌+◌, Bool, true, false, Option, Some, None, is_none, refl, sym, ap, ◌∙◌}
 use Rattle.std.specs.Prelude.{ℤ, pos, negsuc, ◌==◌, if◌then◌else◌}
 use Rattle.bpf_insn_types.specs.declared.insn.Callee.{Callee}
@@ -13,15 +13,15 @@ use Rattle.bpf_verify_model.specs.declared.helper.Helper.TheVariants.{Lookup, Lo
 use Rattle.bpf_verify_model.specs.declared.rule.Rule.TheVariants.{NestedCallback}
 use Rattle.bpf_verify_model.specs.declared.state.State.{State}
 use Rattle.bpf_verify_model.specs.Rules.{helper_fault, callback_fault, is_loop, uses_callbacks}
-use Rattle.bpf_verify_model.specs.Flow.{flow, known_behind, known_after_call, known_answer, calls_back, way}
+use Rattle.bpf_verify_model.specs.Flow.{flow, known_behind, known_after_call, known_answer, calls_back, edge_to}
 use Rattle.bpf_step_model.specs.State.{Machine, register}
 use Rattle.bpf_step_model.specs.Memory.{place}
 use Rattle.bpf_step_model.specs.SoundMachine.{SoundMachine}
-use Rattle.bpf_step_model.specs.Step.{Move, NoStep, looks_up, key_at, loops, acts}
+use Rattle.bpf_step_model.specs.Step.{StepOutcome, NoStep, looks_up, key_at, loops, insn_step}
 use Rattle.bpf_verify_sound.specs.Containment.{Contained}
-use Rattle.bpf_verify_sound.specs.KnownStates.{IsKnownState}
+use Rattle.bpf_verify_sound.specs.KnownStates.{IsWellFormedState}
 use Rattle.bpf_verify_sound.specs.Standing.{KeepsRules}
-use Rattle.bpf_verify_sound.specs.Ways.{MoveFlows}
+use Rattle.bpf_verify_sound.specs.Ways.{StepFlows}
 use Rattle.bpf_verify_sound.proofs.Arithmetic.{alu-flows, neg-flows, movsx-flows, endian-flows}
 use Rattle.bpf_verify_sound.proofs.Jumps.{ja-flows, ja32-flows, branch-known}
 use Rattle.bpf_verify_sound.proofs.Loads.{load-flows, load_sx-flows}
@@ -37,7 +37,7 @@ use Rattle.bpf_verify_sound.proofs.Moves.{follows-on}
 helper_by : Bool → Bool → Option Helper
 helper_by one loop = if one then Some Lookup else if loop then Some Loop else None
 
-does_by : Program → Machine → Bool → Bool → Move
+does_by : Program → Machine → Bool → Bool → StepOutcome
 does_by program m one loop =
     if one then looks_up program m (register m 1) (key_at m (place program (register m 2) (pos 0) 4)) else (if loop then loops m m.caller else NoStep)
 
@@ -47,9 +47,9 @@ main-alone zero insn uses e = refl
 main-alone (suc f) insn uses e = absurd (let t = sym (ap (λ (b : Bool). if b then Some NestedCallback else None) uses) ∙ e in cc)
 
 helper-flows : ResultsFit → (program : Program) (m : Machine) (state : State) → leads_to program.insns m.slot (m.slot + 1) ≡ true → Contained state m → SoundMachine program m →
-    IsKnownState state → sizes_fit program.sizes ≡ true → (one loop : Bool) → is_none (helper_by one loop) ≡ false →
+    IsWellFormedState state → sizes_fit program.sizes ≡ true → (one loop : Bool) → is_none (helper_by one loop) ≡ false →
     helper_fault state (helper_by one loop) ≡ None → (is_loop (helper_by one loop) ≡ true → function_of program.insns m.slot ≡ 0) →
-    MoveFlows program m.slot (record { ahead = way (Some (m.slot + 1)) (Some (known_after_call state (known_answer program.sizes state (helper_by one loop)))); aside = calls_back state (helper_by one loop) })
+    StepFlows program m.slot (record { ahead = edge_to (Some (m.slot + 1)) (Some (known_after_call state (known_answer program.sizes state (helper_by one loop)))); aside = calls_back state (helper_by one loop) })
     (does_by program m one loop)
 unfolding helper_by does_by
 helper-flows fit program m state leads c sound spans sizes true loop some e main = lookup-flows program m state None leads c spans sound sizes e
@@ -57,7 +57,7 @@ helper-flows fit program m state leads c sound spans sizes false true some e mai
 helper-flows fit program m state leads c sound spans sizes false false some e main = absurd cc
 
 call-flows : ResultsFit → (program : Program) (m : Machine) (state : State) (kind : Callee) (imm : ℤ) → KeepsRules program m.slot (Call kind imm) state → SoundMachine program m → Contained state m →
-    MoveFlows program m.slot (flow program.sizes m.slot state (Call kind imm)) (acts program m (Call kind imm))
+    StepFlows program m.slot (flow program.sizes m.slot state (Call kind imm)) (insn_step program m (Call kind imm))
 unfolding flow known_behind helper_by does_by
 call-flows fit program m state callee.Helper (pos number) keeps sound c =
     helper-flows fit program m state (follows-on program.insns m.slot (Call callee.Helper (pos number)) refl keeps.falls) c sound keeps.spans keeps.sizes (number == 1) (number == 181) keeps.helper keeps.call
@@ -65,20 +65,20 @@ call-flows fit program m state callee.Helper (pos number) keeps sound c =
 call-flows fit program m state callee.Helper (negsuc number) keeps sound c = absurd (let e = keeps.helper in cc)
 call-flows fit program m state kind imm keeps sound c = absurd (let e = keeps.call_kind in cc)
 
-pub acts-flow : ResultsFit → (program : Program) (m : Machine) (state : State) (insn : Insn) → KeepsRules program m.slot insn state → SoundMachine program m → Contained state m →
-    MoveFlows program m.slot (flow program.sizes m.slot state insn) (acts program m insn)
-acts-flow fit program m state (Alu width op dst operand) keeps sound c = alu-flows fit program m state width op dst operand keeps c
-acts-flow fit program m state (Neg width dst) keeps sound c = neg-flows fit program m state width dst keeps c
-acts-flow fit program m state (Movsx width bits dst src) keeps sound c = movsx-flows fit program m state width bits dst src keeps c
-acts-flow fit program m state (Endian order bits dst) keeps sound c = endian-flows fit program m state order bits dst keeps c
-acts-flow fit program m state (Ja offset) keeps sound c = ja-flows program m state offset keeps c
-acts-flow fit program m state (Ja32 imm) keeps sound c = ja32-flows program m state imm keeps c
-acts-flow fit program m state (Jump width compare dst operand offset) keeps sound c = branch-known program m state width compare dst operand offset keeps c
-acts-flow fit program m state (Call kind imm) keeps sound c = call-flows fit program m state kind imm keeps sound c
-acts-flow fit program m state Exit keeps sound c = exit-flows program m state keeps sound c
-acts-flow fit program m state (LoadInsn size dst src offset) keeps sound c = load-flows program m state size dst src offset keeps sound c
-acts-flow fit program m state (LoadSx size dst src offset) keeps sound c = load_sx-flows program m state size dst src offset keeps sound c
-acts-flow fit program m state (StoreImm size dst offset imm) keeps sound c = store_imm-flows program m state size dst offset imm keeps sound c
-acts-flow fit program m state (StoreInsn size dst src offset) keeps sound c = store-flows program m state size dst src offset keeps sound c
-acts-flow fit program m state (Atomic width op dst src offset) keeps sound c = atomic-flows program m state width op dst src offset keeps sound c
-acts-flow fit program m state (LoadImm kind dst imm next_imm) keeps sound c = load_imm-flows program m state kind dst imm next_imm keeps c
+pub insn_step-flow : ResultsFit → (program : Program) (m : Machine) (state : State) (insn : Insn) → KeepsRules program m.slot insn state → SoundMachine program m → Contained state m →
+    StepFlows program m.slot (flow program.sizes m.slot state insn) (insn_step program m insn)
+insn_step-flow fit program m state (Alu width op dst operand) keeps sound c = alu-flows fit program m state width op dst operand keeps c
+insn_step-flow fit program m state (Neg width dst) keeps sound c = neg-flows fit program m state width dst keeps c
+insn_step-flow fit program m state (Movsx width bits dst src) keeps sound c = movsx-flows fit program m state width bits dst src keeps c
+insn_step-flow fit program m state (Endian order bits dst) keeps sound c = endian-flows fit program m state order bits dst keeps c
+insn_step-flow fit program m state (Ja offset) keeps sound c = ja-flows program m state offset keeps c
+insn_step-flow fit program m state (Ja32 imm) keeps sound c = ja32-flows program m state imm keeps c
+insn_step-flow fit program m state (Jump width compare dst operand offset) keeps sound c = branch-known program m state width compare dst operand offset keeps c
+insn_step-flow fit program m state (Call kind imm) keeps sound c = call-flows fit program m state kind imm keeps sound c
+insn_step-flow fit program m state Exit keeps sound c = exit-flows program m state keeps sound c
+insn_step-flow fit program m state (LoadInsn size dst src offset) keeps sound c = load-flows program m state size dst src offset keeps sound c
+insn_step-flow fit program m state (LoadSx size dst src offset) keeps sound c = load_sx-flows program m state size dst src offset keeps sound c
+insn_step-flow fit program m state (StoreImm size dst offset imm) keeps sound c = store_imm-flows program m state size dst offset imm keeps sound c
+insn_step-flow fit program m state (StoreInsn size dst src offset) keeps sound c = store-flows program m state size dst src offset keeps sound c
+insn_step-flow fit program m state (Atomic width op dst src offset) keeps sound c = atomic-flows program m state width op dst src offset keeps sound c
+insn_step-flow fit program m state (LoadImm kind dst imm next_imm) keeps sound c = load_imm-flows program m state kind dst imm next_imm keeps c

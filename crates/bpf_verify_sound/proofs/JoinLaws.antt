@@ -1,4 +1,4 @@
--- What is known on both of two ways is true of a machine of which it is on one.
+-- The join of two abstract states contains a machine that one of them contains.
 use Rattle.std.proofs.Common.{◌≡◌, ℕ, Bool, true, false, ◌&&◌, List, [], ◌∷◌, Option, Some, None, refl, subst}
 use Rattle.std.specs.Prelude.{◌==◌, if◌then◌else◌}
 use Rattle.std.proofs.lemmas.Bool.Decides.{nat_tests}

@@ -1,4 +1,4 @@
--- Loads go on as is known.
+-- Loads go on within the abstract states.
 use Rattle.std.proofs.Common.{◌≡◌, ℕ, ◌+◌, ◌-◌, ◌*◌, ◌^◌, ◌<◌, ◌≤◌, Bool, true, false, not, ◌&&◌, List, Option, Some, None, refl, sym, subst, arith}
 use Rattle.std.specs.Prelude.{ℤ, pos, ◌+ℤ◌, nat_lt, nat_le, ◌==◌, if◌then◌else◌}
 use Rattle.std.specs.List.{sum}
@@ -25,18 +25,18 @@ use Rattle.bpf_verify_model.specs.declared.memory_access.MemoryAccess.{MemoryAcc
 use Rattle.bpf_verify_model.specs.declared.memory_access.AccessKind.TheVariants.{Reads}
 use Rattle.bpf_verify_model.specs.declared.state.State.{State}
 use Rattle.bpf_verify_model.specs.States.{known_register, with_known}
-use Rattle.bpf_verify_model.specs.Accesses.{lacks, caller_lacks, has_unwritten_byte}
+use Rattle.bpf_verify_model.specs.Accesses.{lacks_bytes, caller_lacks, has_unwritten_byte}
 use Rattle.bpf_verify_model.specs.Rules.{place_fault, bytes_fault}
 use Rattle.bpf_verify_model.specs.Flow.{number_of_size, ahead_outflow, flow, known_behind}
 use Rattle.bpf_step_model.specs.State.{Word, Bytes, Machine, register, advanced, with_register}
 use Rattle.bpf_step_model.specs.Memory.{Place, InFrame, InCaller, InMap, number_at, place}
 use Rattle.bpf_step_model.specs.SoundMachine.{SoundMachine, SoundCaller}
-use Rattle.bpf_step_model.specs.Step.{NoStep, Asks, Load, loads, loaded, extended, caller_number, acts}
+use Rattle.bpf_step_model.specs.Step.{NoStep, Asks, Load, loads, loaded, extended, caller_number, insn_step}
 use Rattle.bpf_step_model.specs.Run.{part_bytes}
 use Rattle.bpf_verify_sound.specs.Containment.{ContainsValue, AreWrittenByCaller, Contained}
-use Rattle.bpf_verify_sound.specs.KnownStates.{HasCallerCount, IsKnownState}
+use Rattle.bpf_verify_sound.specs.KnownStates.{HasCallerCount, IsWellFormedState}
 use Rattle.bpf_verify_sound.specs.Standing.{KeepsRules}
-use Rattle.bpf_verify_sound.specs.Ways.{FollowsValue, MoveFlows}
+use Rattle.bpf_verify_sound.specs.Ways.{FollowsValue, StepFlows}
 use Rattle.bpf_verify_sound.proofs.ByteLaws.{IsNumberOf, number-known}
 use Rattle.bpf_verify_sound.proofs.PlaceLaws.{PlaceIs, place-rules, place-is}
 use Rattle.bpf_verify_sound.proofs.Operands.{register-known, register-span}
@@ -74,32 +74,32 @@ part-below (Of Low) word h = omega arith
 part-below (Of High) word h = omega arith
 
 -- V20: all bytes are written
-pub all-of-lacks : (marks : List Bool) (p size : ℕ) → p + size ≤ 512 → lacks marks size (pos p) ≡ false → all_written marks p size ≡ true
-all-of-lacks marks p size h e = by_test (nat_le (p + size) 512) (all_written marks p size) (grind (arith, nat_tests)) e
+pub all-of-lacks_bytes : (marks : List Bool) (p size : ℕ) → p + size ≤ 512 → lacks_bytes marks size (pos p) ≡ false → all_written marks p size ≡ true
+all-of-lacks_bytes marks p size h e = by_test (nat_le (p + size) 512) (all_written marks p size) (grind (arith, nat_tests)) e
   where
     by_test : (a b : Bool) → a ≡ true → (a && not b) ≡ false → b ≡ true
     by_test true b t e = not-not-true b e
     by_test false b t e = absurd cc
 
-pub frame-number : (state : State) (m : Machine) (program : Program) (p size : ℕ) → Contained state m → IsKnownState state → SoundMachine program m → p + size ≤ 512 →
-    lacks state.own size (pos p) ≡ false → IsNumberOf size (number_at m.frame p size)
+pub frame-number : (state : State) (m : Machine) (program : Program) (p size : ℕ) → Contained state m → IsWellFormedState state → SoundMachine program m → p + size ≤ 512 →
+    lacks_bytes state.own size (pos p) ≡ false → IsNumberOf size (number_at m.frame p size)
 frame-number state m program p size c spans sound h e =
-    number-known state.own m.frame p size c.own (omega (arith, spans.own)) (omega (arith, sound.frame.count)) (all-of-lacks state.own p size h e)
+    number-known state.own m.frame p size c.own (omega (arith, spans.own)) (omega (arith, sound.frame.count)) (all-of-lacks_bytes state.own p size h e)
 
 caller-number : (marks : Option (List Bool)) (bytes : Option Bytes) (p size : ℕ) → AreWrittenByCaller marks bytes → HasCallerCount marks → SoundCaller bytes → p + size ≤ 512 →
     caller_lacks marks size (pos p) ≡ false → IsNumberOf size (caller_number bytes p size)
 caller-number None bytes p size c count sound h e = absurd cc
 caller-number (Some marks) None p size c count sound h e = absurd c
 caller-number (Some marks) (Some bytes) p size c count sound h e =
-    number-known marks bytes p size c (omega arith) (omega (arith, sound.count)) (all-of-lacks marks p size h e)
+    number-known marks bytes p size c (omega arith) (omega (arith, sound.count)) (all-of-lacks_bytes marks p size h e)
 
 -- a number of either frame, at a place that is known
-pub own-number : (state : State) (m : Machine) (program : Program) (q p size : ℕ) (offset : ℤ) → Contained state m → IsKnownState state → SoundMachine program m →
+pub own-number : (state : State) (m : Machine) (program : Program) (q p size : ℕ) (offset : ℤ) → Contained state m → IsWellFormedState state → SoundMachine program m →
     pos q +ℤ offset ≡ pos p → p + size ≤ 512 → has_unwritten_byte state size offset (known.Frame q) ≡ false → IsNumberOf size (number_at m.frame p size)
 own-number state m program q p size offset c spans sound is h e =
-    frame-number state m program p size c spans sound h (subst (λ (z : ℤ). lacks state.own size z ≡ false) is e)
+    frame-number state m program p size c spans sound h (subst (λ (z : ℤ). lacks_bytes state.own size z ≡ false) is e)
 
-pub main-number : (state : State) (m : Machine) (program : Program) (q p size : ℕ) (offset : ℤ) → Contained state m → IsKnownState state → SoundMachine program m →
+pub main-number : (state : State) (m : Machine) (program : Program) (q p size : ℕ) (offset : ℤ) → Contained state m → IsWellFormedState state → SoundMachine program m →
     pos q +ℤ offset ≡ pos p → p + size ≤ 512 → has_unwritten_byte state size offset (known.Ctx q) ≡ false → IsNumberOf size (caller_number m.caller p size)
 main-number state m program q p size offset c spans sound is h e =
     caller-number state.caller m.caller p size c.caller spans.caller sound.caller h (subst (λ (z : ℤ). caller_lacks state.caller size z ≡ false) is e)
@@ -108,7 +108,7 @@ main-number state m program q p size offset c spans sound is h e =
 map-load : (program : Program) (m : Machine) (state : State) (ext : Extension) (dst size element : ℕ) (part : Part) (y : AbstractValue) →
     leads_to program.insns m.slot (m.slot + 1) ≡ true → Contained state m → ((n : ℕ) → n < 256 ^ size → ContainsValue y (Word (extended ext size n))) →
     element < sum program.sizes → part_bytes part ≡ size → (test : Bool) → test ≡ false →
-    MoveFlows program m.slot (ahead_outflow (m.slot + 1) (with_known state dst y)) (if test then NoStep else Asks element (Load part ext dst) (advanced 1 m))
+    StepFlows program m.slot (ahead_outflow (m.slot + 1) (with_known state dst y)) (if test then NoStep else Asks element (Load part ext dst) (advanced 1 m))
 map-load program m state ext dst size element part y leads c fits inside bytes true e = absurd cc
 map-load program m state ext dst size element part y leads c fits inside bytes false e = (
   inside,
@@ -120,9 +120,9 @@ map-load program m state ext dst size element part y leads c fits inside bytes f
 )
 
 loads-flow : (program : Program) (m : Machine) (state : State) (ext : Extension) (dst size : ℕ) (offset : ℤ) (y x : AbstractValue) (at : Option Place) →
-    leads_to program.insns m.slot (m.slot + 1) ≡ true → (dst == 10) ≡ false → Contained state m → IsKnownState state → SoundMachine program m →
+    leads_to program.insns m.slot (m.slot + 1) ≡ true → (dst == 10) ≡ false → Contained state m → IsWellFormedState state → SoundMachine program m →
     ((n : ℕ) → n < 256 ^ size → ContainsValue y (Word (extended ext size n))) → PlaceIs program.sizes size offset x at → has_unwritten_byte state size offset x ≡ false →
-    MoveFlows program m.slot (ahead_outflow (m.slot + 1) (with_known state dst y)) (loads m ext size dst at)
+    StepFlows program m.slot (ahead_outflow (m.slot + 1) (with_known state dst y)) (loads m ext size dst at)
 loads-flow program m state ext dst size offset y (known.Frame q) (Some (InFrame p)) leads fp c spans sound fits is e =
     sets-flows program m state 1 dst (Some y) (loaded ext size (number_at m.frame p size)) leads (omega arith) fp c refl
     (loaded-follows ext size y fits (number_at m.frame p size) (own-number state m program q p size offset c spans sound is.0 is.1 e))
@@ -136,7 +136,7 @@ loads-flow program m state ext dst size offset y x at leads fp c spans sound fit
 -- V20 and V21
 pub load-flows : (program : Program) (m : Machine) (state : State) (size : Size) (dst src : ℕ) (offset : ℤ) →
     KeepsRules program m.slot (LoadInsn size dst src offset) state → SoundMachine program m → Contained state m →
-    MoveFlows program m.slot (flow program.sizes m.slot state (LoadInsn size dst src offset)) (acts program m (LoadInsn size dst src offset))
+    StepFlows program m.slot (flow program.sizes m.slot state (LoadInsn size dst src offset)) (insn_step program m (LoadInsn size dst src offset))
 unfolding flow known_behind
 load-flows program m state size dst src offset keeps sound c =
     let access : MemoryAccess = record { kind = Reads; base = src; offset = offset; size = bytes_of size } in
@@ -150,7 +150,7 @@ load-flows program m state size dst src offset keeps sound c =
 
 pub load_sx-flows : (program : Program) (m : Machine) (state : State) (size : Size) (dst src : ℕ) (offset : ℤ) →
     KeepsRules program m.slot (LoadSx size dst src offset) state → SoundMachine program m → Contained state m →
-    MoveFlows program m.slot (flow program.sizes m.slot state (LoadSx size dst src offset)) (acts program m (LoadSx size dst src offset))
+    StepFlows program m.slot (flow program.sizes m.slot state (LoadSx size dst src offset)) (insn_step program m (LoadSx size dst src offset))
 unfolding flow known_behind
 load_sx-flows program m state size dst src offset keeps sound c =
     let access : MemoryAccess = record { kind = Reads; base = src; offset = offset; size = bytes_of size } in

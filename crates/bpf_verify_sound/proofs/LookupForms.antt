@@ -1,4 +1,4 @@
--- A lookup goes on as is known.
+-- A lookup goes on within the abstract states.
 use Rattle.std.proofs.Common.{◌≡◌, ℕ, ◌+◌, ◌-◌, ◌*◌, ◌%◌, ◌^◌, ◌<◌, ◌≤◌, Bool, true, false, not, ◌||◌, List, length, Option, Some, None, refl, sym, ap, ◌∙◌, subst, arith}
 use Rattle.std.specs.Prelude.{pos, nat_lt, nat_le, ◌==◌, if◌then◌else◌, slice_get}
 use Rattle.std.proofs.lemmas.Bool.Decides.{nat_tests}
@@ -15,15 +15,15 @@ use Rattle.bpf_verify_model.specs.declared.state.State.{State}
 use Rattle.bpf_verify_model.specs.States.{known_register}
 use Rattle.bpf_verify_model.specs.Accesses.{has_unwritten_byte}
 use Rattle.bpf_verify_model.specs.Rules.{is_key_position, is_key, is_map, helper_fault}
-use Rattle.bpf_verify_model.specs.Flow.{known_after_call, known_lookup, address_in, way}
+use Rattle.bpf_verify_model.specs.Flow.{known_after_call, known_lookup, address_in, edge_to}
 use Rattle.bpf_step_model.specs.State.{Value, Unwritten, Word, Frame, Ctx, Map, Area, Machine, register}
 use Rattle.bpf_step_model.specs.Values.{area_address}
 use Rattle.bpf_step_model.specs.Memory.{Place, InFrame, InCaller, place, in_frame, in_caller, frame_position}
 use Rattle.bpf_step_model.specs.SoundMachine.{SoundValue, SoundMachine}
-use Rattle.bpf_step_model.specs.Step.{key_at, found, answers, looks_up}
+use Rattle.bpf_step_model.specs.Step.{key_at, lookup_result, answers, looks_up}
 use Rattle.bpf_verify_sound.specs.Containment.{ContainsValue, Contained}
-use Rattle.bpf_verify_sound.specs.KnownStates.{IsKnownState}
-use Rattle.bpf_verify_sound.specs.Ways.{FollowsValue, MoveFlows}
+use Rattle.bpf_verify_sound.specs.KnownStates.{IsWellFormedState}
+use Rattle.bpf_verify_sound.specs.Ways.{FollowsValue, StepFlows}
 use Rattle.bpf_verify_sound.proofs.RegisterLaws.{all-at}
 use Rattle.bpf_verify_sound.proofs.ByteLaws.{IsNumberOf}
 use Rattle.bpf_verify_sound.proofs.PlaceLaws.{PlaceIs, frame-goes}
@@ -57,7 +57,7 @@ key-place program (known.Ctx q) v e c = absurd c
 key-place program x v e c = absurd cc
 
 -- its bytes are a number
-key-number : (program : Program) (m : Machine) (state : State) (x : AbstractValue) (at : Option Place) → Contained state m → IsKnownState state → SoundMachine program m → is_key x ≡ true →
+key-number : (program : Program) (m : Machine) (state : State) (x : AbstractValue) (at : Option Place) → Contained state m → IsWellFormedState state → SoundMachine program m → is_key x ≡ true →
     PlaceIs program.sizes 4 (pos 0) x at → has_unwritten_byte state 4 (pos 0) x ≡ false → IsNumberOf 4 (key_at m at)
 key-number program m state (known.Frame q) (Some (InFrame p)) c spans sound key is e = own-number state m program q p 4 (pos 0) c spans sound is.0 is.1 e
 key-number program m state (known.Ctx q) (Some (InCaller p)) c spans sound key is e = main-number state m program q p 4 (pos 0) c spans sound is.0 is.1 e
@@ -75,33 +75,33 @@ address-follows m count key few true e =
     (refl, norm-contains 0 (8 * count - 8) 3 (8 * key) (omega arith) (omega arith) multiple)
 address-follows m count key few false e = refl
 
-found-follows : (sizes : List ℕ) (m : ℕ) (o key : Option ℕ) → sizes_fit sizes ≡ true → slice_get sizes m ≡ o → m < length sizes → IsNumberOf 4 key →
-    FollowsValue (Some (address_in m o)) (found m o key)
-found-follows sizes m None key fit there inside number =
+lookup_result-follows : (sizes : List ℕ) (m : ℕ) (o key : Option ℕ) → sizes_fit sizes ≡ true → slice_get sizes m ≡ o → m < length sizes → IsNumberOf 4 key →
+    FollowsValue (Some (address_in m o)) (lookup_result m o key)
+lookup_result-follows sizes m None key fit there inside number =
     let some : slice_get sizes m ≡ Some _ = slice_get-get_or sizes m 0 inside in
     absurd cc
-found-follows sizes m (Some count) None fit there inside number = absurd number
-found-follows sizes m (Some count) (Some key) fit there inside number = address-follows m count key (count-few sizes m count fit there) (nat_lt key count) refl
+lookup_result-follows sizes m (Some count) None fit there inside number = absurd number
+lookup_result-follows sizes m (Some count) (Some key) fit there inside number = address-follows m count key (count-few sizes m count fit there) (nat_lt key count) refl
 
 answers-flow : (program : Program) (m : Machine) (state : State) (aside : Option Edge) (x : AbstractValue) (v : Option Value) → leads_to program.insns m.slot (m.slot + 1) ≡ true → Contained state m →
-    FollowsValue (Some x) v → MoveFlows program m.slot (record { ahead = way (Some (m.slot + 1)) (Some (known_after_call state x)); aside = aside }) (answers m v)
+    FollowsValue (Some x) v → StepFlows program m.slot (record { ahead = edge_to (Some (m.slot + 1)) (Some (known_after_call state x)); aside = aside }) (answers m v)
 answers-flow program m state aside x None leads c f = absurd f
 answers-flow program m state aside x (Some v) leads c f = call-goes program m state aside x v leads c f
 
 map-lookup : (program : Program) (m : Machine) (state : State) (aside : Option Edge) (x : AbstractValue) (v : Value) (key : Option ℕ) → leads_to program.insns m.slot (m.slot + 1) ≡ true → Contained state m →
     sizes_fit program.sizes ≡ true → is_map x ≡ true → ContainsValue x v → SoundValue program v → IsNumberOf 4 key →
-    MoveFlows program m.slot (record { ahead = way (Some (m.slot + 1)) (Some (known_after_call state (known_lookup program.sizes x))); aside = aside }) (looks_up program m v key)
+    StepFlows program m.slot (record { ahead = edge_to (Some (m.slot + 1)) (Some (known_after_call state (known_lookup program.sizes x))); aside = aside }) (looks_up program m v key)
 map-lookup program m state aside (known.Map k) (Map n) key leads c fit some is sound number =
-    subst (λ (j : ℕ). MoveFlows program m.slot (record { ahead = way (Some (m.slot + 1)) (Some (known_after_call state (address_in j (slice_get program.sizes j)))); aside = aside })
-    (answers m (found n (slice_get program.sizes n) key))) (sym is)
-    (answers-flow program m state aside (address_in n (slice_get program.sizes n)) (found n (slice_get program.sizes n) key) leads c
-    (found-follows program.sizes n (slice_get program.sizes n) key fit refl sound number))
+    subst (λ (j : ℕ). StepFlows program m.slot (record { ahead = edge_to (Some (m.slot + 1)) (Some (known_after_call state (address_in j (slice_get program.sizes j)))); aside = aside })
+    (answers m (lookup_result n (slice_get program.sizes n) key))) (sym is)
+    (answers-flow program m state aside (address_in n (slice_get program.sizes n)) (lookup_result n (slice_get program.sizes n) key) leads c
+    (lookup_result-follows program.sizes n (slice_get program.sizes n) key fit refl sound number))
 map-lookup program m state aside (known.Map k) v key leads c fit some is sound number = absurd is
 map-lookup program m state aside x v key leads c fit some is sound number = absurd cc
 
-pub lookup-flows : (program : Program) (m : Machine) (state : State) (aside : Option Edge) → leads_to program.insns m.slot (m.slot + 1) ≡ true → Contained state m → IsKnownState state →
+pub lookup-flows : (program : Program) (m : Machine) (state : State) (aside : Option Edge) → leads_to program.insns m.slot (m.slot + 1) ≡ true → Contained state m → IsWellFormedState state →
     SoundMachine program m → sizes_fit program.sizes ≡ true → helper_fault state (Some Lookup) ≡ None →
-    MoveFlows program m.slot (record { ahead = way (Some (m.slot + 1)) (Some (known_after_call state (known_lookup program.sizes (known_register state 1)))); aside = aside })
+    StepFlows program m.slot (record { ahead = edge_to (Some (m.slot + 1)) (Some (known_after_call state (known_lookup program.sizes (known_register state 1)))); aside = aside })
     (looks_up program m (register m 1) (key_at m (place program (register m 2) (pos 0) 4)))
 lookup-flows program m state aside leads c spans sound fit e =
     let written = test-fails (has_unwritten_byte state 4 (pos 0) (known_register state 2)) _ _ e in

@@ -11,12 +11,12 @@ use Rattle.bpf_verify_model.specs.declared.outflow.Edge.{Edge}
 use Rattle.bpf_verify_model.specs.declared.outflow.Outflow.{Outflow}
 use Rattle.bpf_verify_model.specs.States.{with_known}
 use Rattle.bpf_verify_model.specs.Rules.{leads_later, goes_on, falls_off}
-use Rattle.bpf_verify_model.specs.Flow.{with_known_result, way, ahead_outflow}
+use Rattle.bpf_verify_model.specs.Flow.{with_known_result, edge_to, ahead_outflow}
 use Rattle.bpf_step_model.specs.State.{Value, Machine, advanced, at_slot, with_register}
-use Rattle.bpf_step_model.specs.Step.{Move, NoStep, Next, Asks, Loops, Refuses, Exits, sets, jumps, lands, Request, Load, Store, StoreHalf, Update, Fetch}
-use Rattle.bpf_step_model.specs.Run.{told}
+use Rattle.bpf_step_model.specs.Step.{StepOutcome, NoStep, Next, Asks, Loops, Refuses, Exits, sets, jumps, within_function, Request, Load, Store, StoreHalf, Update, Fetch}
+use Rattle.bpf_step_model.specs.Run.{after_request}
 use Rattle.bpf_verify_sound.specs.Containment.{ContainsValue, Contained}
-use Rattle.bpf_verify_sound.specs.Ways.{FollowsValue, GoesBy, MoveFlows}
+use Rattle.bpf_verify_sound.specs.Ways.{FollowsValue, GoesBy, StepFlows}
 use Rattle.bpf_verify_sound.proofs.RegisterLaws.{contain-set}
 use Rattle.bpf_verify_sound.proofs.Tests.{and-one, and-two, not-not-true}
 
@@ -32,7 +32,7 @@ follows-on insns slot insn goes e = by_test (goes_on insn) (leads_to insns slot 
 -- behind an instruction
 pub ahead-goes : (program : Program) (slot count : ℕ) (aside : Option Edge) (state : State) (m : Machine) →
     leads_to program.insns slot (slot + count) ≡ true → 0 < count → m.slot ≡ slot + count → Contained state m →
-    GoesBy program slot (record { ahead = way (Some (slot + count)) (Some state); aside = aside }) m
+    GoesBy program slot (record { ahead = edge_to (Some (slot + count)) (Some state); aside = aside }) m
 ahead-goes program slot count aside state m leads some at c = record {
   same = subst (λ (k : ℕ). leads_to program.insns slot k ≡ true) (sym at) leads;
   later = omega arith;
@@ -46,14 +46,14 @@ set-contained state m count dst x v c d = record { registers = contain-set state
 
 pub sets-flows : (program : Program) (m : Machine) (state : State) (count dst : ℕ) (x : Option AbstractValue) (v : Option Value) →
     leads_to program.insns m.slot (m.slot + count) ≡ true → 0 < count → (dst == 10) ≡ false → Contained state m → is_none x ≡ false → FollowsValue x v →
-    MoveFlows program m.slot (ahead_outflow (m.slot + count) (with_known_result state dst x)) (sets count m dst v)
+    StepFlows program m.slot (ahead_outflow (m.slot + count) (with_known_result state dst x)) (sets count m dst v)
 sets-flows program m state count dst None v leads more fp c there f = absurd cc
 sets-flows program m state count dst (Some x) None leads more fp c there f = absurd f
 sets-flows program m state count dst (Some x) (Some v) leads more fp c there f = by_test program m state count dst x v leads more c f (dst == 10) fp
   where
     by_test : (program : Program) (m : Machine) (state : State) (count dst : ℕ) (x : AbstractValue) (v : Value) →
         leads_to program.insns m.slot (m.slot + count) ≡ true → 0 < count → Contained state m → ContainsValue x v → (test : Bool) → test ≡ false →
-        MoveFlows program m.slot (ahead_outflow (m.slot + count) (with_known state dst x)) (if test then NoStep else Next (with_register dst v (advanced count m)))
+        StepFlows program m.slot (ahead_outflow (m.slot + count) (with_known state dst x)) (if test then NoStep else Next (with_register dst v (advanced count m)))
     by_test program m state count dst x v leads more c f true e = absurd cc
     by_test program m state count dst x v leads more c f false e =
         ahead-goes program m.slot count None (with_known state dst x) (with_register dst v (advanced count m)) leads more refl (set-contained state m count dst x v c f)
@@ -61,7 +61,7 @@ sets-flows program m state count dst (Some x) (Some v) leads more fp c there f =
 -- at a jump's target
 pub aside-goes : (program : Program) (slot target : ℕ) (ahead : Option Edge) (state : State) (m : Machine) →
     leads_later program.insns slot (Some target) ≡ true → m.slot ≡ target → Contained state m →
-    GoesBy program slot (record { ahead = ahead; aside = way (Some target) (Some state) }) m
+    GoesBy program slot (record { ahead = ahead; aside = edge_to (Some target) (Some state) }) m
 aside-goes program slot target ahead state m leads at c =
     let later : nat_lt slot target ≡ true = and-one (nat_lt slot target) (leads_to program.insns slot target) leads in
     let past : slot < target = grind (arith, nat_tests) in
@@ -76,35 +76,35 @@ slot-contained state m slot c = record { registers = c.registers; own = c.own; c
 
 pub jump-flows : (program : Program) (m : Machine) (state : State) (ahead : Option Edge) (target : Option ℕ) →
     leads_later program.insns m.slot target ≡ true → Contained state m →
-    MoveFlows program m.slot (record { ahead = ahead; aside = way target (Some state) }) (jumps m target)
+    StepFlows program m.slot (record { ahead = ahead; aside = edge_to target (Some state) }) (jumps m target)
 jump-flows program m state ahead None leads c = absurd cc
 jump-flows program m state ahead (Some target) leads c =
     aside-goes program m.slot target ahead state (at_slot target m) leads refl (slot-contained state m target c)
 
 -- what is told changes no slot
-pub told-slot : (request : Request) (word : ℕ) (m : Machine) → (told request word m).slot ≡ m.slot
-told-slot (Load part extension into) word m = refl
-told-slot (Store value) word m = refl
-told-slot (StoreHalf half value) word m = refl
-told-slot (Update op operand) word m = refl
-told-slot (Fetch part rmw value compare into) word m = refl
+pub after_request-slot : (request : Request) (word : ℕ) (m : Machine) → (after_request request word m).slot ≡ m.slot
+after_request-slot (Load part extension into) word m = refl
+after_request-slot (Store value) word m = refl
+after_request-slot (StoreHalf half value) word m = refl
+after_request-slot (Update op operand) word m = refl
+after_request-slot (Fetch part rmw value compare into) word m = refl
 
--- where the ways out lead, an instruction of the same function starts
-land : (move : Move) (test : Bool) → test ≡ true → (if test then move else NoStep) ≡ move
+-- where the edges out lead, an instruction of the same function starts
+land : (move : StepOutcome) (test : Bool) → test ≡ true → (if test then move else NoStep) ≡ move
 land move true e = refl
 land move false e = absurd cc
 
-pub lands-flows : (program : Program) (slot : ℕ) (out : Outflow) (move : Move) → MoveFlows program slot out move → MoveFlows program slot out (lands program slot move)
-lands-flows program slot out NoStep f = f
-lands-flows program slot out (Next next) f =
-    subst (MoveFlows program slot out) (sym (land (Next next) (leads_to program.insns slot next.slot) f.same)) f
-lands-flows program slot out (Asks element request next) f =
+pub within_function-flows : (program : Program) (slot : ℕ) (out : Outflow) (move : StepOutcome) → StepFlows program slot out move → StepFlows program slot out (within_function program slot move)
+within_function-flows program slot out NoStep f = f
+within_function-flows program slot out (Next next) f =
+    subst (StepFlows program slot out) (sym (land (Next next) (leads_to program.insns slot next.slot) f.same)) f
+within_function-flows program slot out (Asks element request next) f =
     let same : leads_to program.insns slot next.slot ≡ true =
-    subst (λ (k : ℕ). leads_to program.insns slot k ≡ true) (told-slot request 0 next) (f.1 0 (omega arith)).same in
-    subst (MoveFlows program slot out) (sym (land (Asks element request next) (leads_to program.insns slot next.slot) same)) f
-lands-flows program slot out (Loops call next) f =
+    subst (λ (k : ℕ). leads_to program.insns slot k ≡ true) (after_request-slot request 0 next) (f.1 0 (omega arith)).same in
+    subst (StepFlows program slot out) (sym (land (Asks element request next) (leads_to program.insns slot next.slot) same)) f
+within_function-flows program slot out (Loops call next) f =
     let same : leads_to program.insns slot next.slot ≡ true = (f.1 0 (omega arith)).same in
-    subst (MoveFlows program slot out) (sym (land (Loops call next) (leads_to program.insns slot next.slot) same)) f
-lands-flows program slot out (Refuses answer next) f =
-    subst (MoveFlows program slot out) (sym (land (Refuses answer next) (leads_to program.insns slot next.slot) f.same)) f
-lands-flows program slot out (Exits ret) f = f
+    subst (StepFlows program slot out) (sym (land (Loops call next) (leads_to program.insns slot next.slot) same)) f
+within_function-flows program slot out (Refuses answer next) f =
+    subst (StepFlows program slot out) (sym (land (Refuses answer next) (leads_to program.insns slot next.slot) f.same)) f
+within_function-flows program slot out (Exits ret) f = f

@@ -16,26 +16,26 @@ use Rattle.bpf_verify_model.specs.Values.{known_operand}
 use Rattle.bpf_step_model.specs.State.{Value, Unwritten, Machine, register}
 use Rattle.bpf_step_model.specs.Values.{operand_value}
 use Rattle.bpf_verify_sound.specs.Containment.{ContainsValue, ContainEach, Contained}
-use Rattle.bpf_verify_sound.specs.KnownStates.{HasSpan, IsKnownState}
+use Rattle.bpf_verify_sound.specs.KnownStates.{HasSpan, IsWellFormedState}
 use Rattle.bpf_verify_sound.proofs.RegisterLaws.{contain-at, all-at}
 
--- what is known of a register is true of it, and has a span
+-- the abstract value of a register contains it, and has a span
 pub register-known : (state : State) (m : Machine) (r : ℕ) → Contained state m → ContainsValue (known_register state r) (register m r)
 register-known state m r c = contain-at state.registers m.registers r c.registers
 
-pub register-span : (state : State) (r : ℕ) → IsKnownState state → HasSpan (known_register state r)
+pub register-span : (state : State) (r : ℕ) → IsWellFormedState state → HasSpan (known_register state r)
 register-span state r spans = all-at HasSpan state.registers r known.Unwritten spans.spans tt
 
 -- an immediate is a word
 pub word-fits : (z : ℤ) → FitsSigned w32 z → word_of z < 2 ^ 64
 word-fits z fits = omega (arith, ints)
 
--- what is known of an operand
+-- the abstract value of an operand
 pub operand-known : (state : State) (m : Machine) (operand : Operand) → Contained state m → ContainsValue (known_operand state operand) (operand_value m operand)
 operand-known state m (Imm imm) c = exact-contains (word_of imm)
 operand-known state m (Reg r) c = register-known state m r c
 
-pub operand-has_span : (state : State) (operand : Operand) → OperandFits operand → IsKnownState state → HasSpan (known_operand state operand)
+pub operand-has_span : (state : State) (operand : Operand) → OperandFits operand → IsWellFormedState state → HasSpan (known_operand state operand)
 operand-has_span state (Imm imm) fits spans = exact-span (word_of imm) (word-fits imm fits)
 operand-has_span state (Reg r) fits spans = register-span state r spans
 

@@ -244,7 +244,7 @@ area-inside sizes map byte range offset size span c half misses outside = by_cou
         (or-left (int_lt (pos range.lo +ℤ offset) (pos 0)) (int_lt (pos (8 * count)) ((pos range.hi +ℤ offset) +ℤ pos size)) outside)
         (or-right (int_lt (pos range.lo +ℤ offset) (pos 0)) (int_lt (pos (8 * count)) ((pos range.hi +ℤ offset) +ℤ pos size)) outside)
 
--- where an access goes, by what is known of its base
+-- where an access goes, by the abstract value of its base
 abbrev pub PlaceIs : List ℕ → ℕ → ℤ → AbstractValue → Option Place → Type 0
 PlaceIs sizes size offset (known.Frame q) (Some (InFrame p)) = (pos q +ℤ offset ≡ pos p) × (p + size ≤ 512)
 PlaceIs sizes size offset (known.Ctx q) (Some (InCaller p)) = (pos q +ℤ offset ≡ pos p) × (p + size ≤ 512)

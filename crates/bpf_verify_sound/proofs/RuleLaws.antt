@@ -8,11 +8,11 @@ use Rattle.bpf_insn_types.specs.declared.insn.Insn.{Insn}
 use Rattle.bpf_insn_types.specs.Program.{Program, insn_at, slot_count, function_of}
 use Rattle.bpf_verify_model.specs.declared.state.State.{State}
 use Rattle.bpf_verify_model.specs.Accesses.{memory_access_of}
-use Rattle.bpf_verify_model.specs.Rules.{jumps_astray, falls_off, names_none, calls_no_helper, calls_otherwise, loads_outer, loads_no_map, writes_r10, reads_unwritten, mistakes_arithmetic, mistakes_comparison, mistakes_stored, access_fault, call_fault, callback_fault, exit_fault, operand_fault, state_fault, insn_fault, slot_fault, or_else, fault_of}
-use Rattle.bpf_verify_model.specs.Inflow.{before}
+use Rattle.bpf_verify_model.specs.Rules.{jumps_astray, falls_off, names_none, calls_no_helper, calls_otherwise, loads_outer, loads_no_map, writes_r10, reads_unwritten, has_wrong_arithmetic_operands, has_wrong_comparison_operands, stores_no_number, access_fault, call_fault, callback_fault, exit_fault, operand_fault, state_fault, insn_fault, slot_fault, or_else, fault_of}
+use Rattle.bpf_verify_model.specs.Inflow.{state_before}
 use Rattle.bpf_verify_model.specs.Accepted.{fault_at_insn, fault_within, first_fault, is_too_large, Accepted}
 use Rattle.bpf_verify_model.proofs.JumpLaws.{fault_at-none, within}
-use Rattle.bpf_verify_sound.specs.KnownStates.{IsKnownState}
+use Rattle.bpf_verify_sound.specs.KnownStates.{IsWellFormedState}
 use Rattle.bpf_verify_sound.specs.Standing.{KeepsRules}
 use Rattle.bpf_verify_sound.proofs.Tests.{not-not-true, or-right, or_else-one, or_else-two, test-fails, test-later}
 
@@ -60,9 +60,9 @@ insn-rules sizes insn e =
 -- V12 to V22
 pub record KeepsStateRules (sizes : List ℕ) (state : State) (insn : Insn) : Type 0 where
   pub reads : reads_unwritten state insn ≡ false
-  pub arithmetic : mistakes_arithmetic state insn ≡ false
-  pub comparison : mistakes_comparison state insn ≡ false
-  pub stored : mistakes_stored state insn ≡ false
+  pub arithmetic : has_wrong_arithmetic_operands state insn ≡ false
+  pub comparison : has_wrong_comparison_operands state insn ≡ false
+  pub stored : stores_no_number state insn ≡ false
   pub access : access_fault sizes state (memory_access_of insn) ≡ None
   pub call : call_fault state insn ≡ None
 
@@ -73,20 +73,20 @@ state-rules sizes state insn e =
     let e1 : operand_fault state insn ≡ None = or_else-one (operand_fault state insn) later e in
     let f : later ≡ None = or_else-two (operand_fault state insn) later e in
     let e2 = test-later (reads_unwritten state insn) _ _ e1 in
-    let e3 = test-later (mistakes_arithmetic state insn) _ _ e2 in
-    let e4 = test-later (mistakes_comparison state insn) _ _ e3 in
+    let e3 = test-later (has_wrong_arithmetic_operands state insn) _ _ e2 in
+    let e4 = test-later (has_wrong_comparison_operands state insn) _ _ e3 in
     record {
       reads = test-fails (reads_unwritten state insn) _ _ e1;
-      arithmetic = test-fails (mistakes_arithmetic state insn) _ _ e2;
-      comparison = test-fails (mistakes_comparison state insn) _ _ e3;
-      stored = test-fails (mistakes_stored state insn) _ _ e4;
+      arithmetic = test-fails (has_wrong_arithmetic_operands state insn) _ _ e2;
+      comparison = test-fails (has_wrong_comparison_operands state insn) _ _ e3;
+      stored = test-fails (stores_no_number state insn) _ _ e4;
       access = or_else-one (access_fault sizes state (memory_access_of insn)) (call_fault state insn) f;
       call = or_else-two (access_fault sizes state (memory_access_of insn)) (call_fault state insn) f;
     }
 
 -- all of them
 pub fault_of-none : (program : Program) (slot : ℕ) (insn : Insn) (state : State) → fault_of program slot insn (Some state) ≡ None →
-    insn_at program.insns slot ≡ Some insn → sizes_fit program.sizes ≡ true → InsnFits insn → IsKnownState state → KeepsRules program slot insn state
+    insn_at program.insns slot ≡ Some insn → sizes_fit program.sizes ≡ true → InsnFits insn → IsWellFormedState state → KeepsRules program slot insn state
 unfolding fault_of
 fault_of-none program slot insn state e here sizes fits spans =
     let by_slot = slot_fault program.insns slot insn in
@@ -137,7 +137,7 @@ accepted-sizes program e =
     (test-fails (is_too_large program) _ _ (test-later (slot_count program.insns == 0) _ _ e)))
 
 pub accepted-at : (program : Program) (slot : ℕ) (insn : Insn) → Accepted program → insn_at program.insns slot ≡ Some insn →
-    fault_of program slot insn (before program slot) ≡ None
+    fault_of program slot insn (state_before program slot) ≡ None
 accepted-at program slot insn accepted here =
     sym (ap (fault_at_insn program slot) here)
     ∙ fault_at-none program (slot_count program.insns) slot (accepted-within program accepted)

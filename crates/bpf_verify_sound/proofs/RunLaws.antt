@@ -8,15 +8,15 @@ use Rattle.array_maps.specs.Accesses.{Access, left_by, words_after}
 use Rattle.bpf_insn_types.specs.Program.{Program}
 use Rattle.bpf_insn_alu.specs.WordBounds.{ResultsFit}
 use Rattle.bpf_step_model.specs.State.{Machine}
-use Rattle.bpf_step_model.specs.Step.{Request, Move, NoStep, Next, Asks, Loops, Refuses, Exits, step}
-use Rattle.bpf_step_model.specs.Run.{Ending, Ended, Stuck, Unfinished, Stretch, told, action_of, mapped, with_first, after_access, after_move, run}
-use Rattle.bpf_verify_sound.specs.Soundness.{IsSoundProgram, AreMapWords, IsKnown, GoesOnKnown, StepContained, StepSound, RunsKnown}
+use Rattle.bpf_step_model.specs.Step.{Request, StepOutcome, NoStep, Next, Asks, Loops, Refuses, Exits, step}
+use Rattle.bpf_step_model.specs.Run.{BoundedResult, Ended, Stuck, Unfinished, RunSegment, after_request, action_of, mapped, with_first_step, after_access, after_step, run}
+use Rattle.bpf_verify_sound.specs.Soundness.{IsSoundProgram, AreMapWords, OverApproximates, StepsOverApproximated, StepContained, StepSound, RunIsOverApproximated}
 use Rattle.bpf_verify_sound.proofs.RegisterLaws.{all-set}
 use Rattle.bpf_verify_sound.proofs.StepLaws.{step-contained}
 use Rattle.bpf_verify_sound.proofs.SoundLaws.{step-sound, call-sound}
 
--- a step that keeps a machine sound, and what is known true, goes on as is known
-goes-known : (program : Program) (move : Move) → StepContained program move → StepSound program move → GoesOnKnown program move
+-- a step that keeps a machine sound, and what is known true, goes on within the abstract states
+goes-known : (program : Program) (move : StepOutcome) → StepContained program move → StepSound program move → StepsOverApproximated program move
 goes-known program NoStep c s = c
 goes-known program (Next next) c s = record { sound = s; contained = c }
 goes-known program (Asks element request next) c s = (c.0, λ word w. (record { sound = (s word w).0; contained = c.1 word w }, (s word w).1))
@@ -27,12 +27,12 @@ goes-known program (Loops call next) c s = (
 goes-known program (Refuses answer next) c s = record { sound = s; contained = c }
 goes-known program (Exits ret) c s = s
 
-pub step-known : ResultsFit → (program : Program) → IsSoundProgram program → (m : Machine) → IsKnown program m → GoesOnKnown program (step program m)
+pub step-known : ResultsFit → (program : Program) → IsSoundProgram program → (m : Machine) → OverApproximates program m → StepsOverApproximated program (step program m)
 step-known fit program sound m known =
     goes-known program (step program m) (step-contained fit program m sound.accepted sound.fits known.sound known.contained) (step-sound fit program sound.fits m known.sound)
 
 -- an instruction more in front
-mapped-known : (program : Program) (accesses : List Access) (e : Ending Stretch) → RunsKnown program e → RunsKnown program (mapped (with_first accesses) e)
+mapped-known : (program : Program) (accesses : List Access) (e : BoundedResult RunSegment) → RunIsOverApproximated program e → RunIsOverApproximated program (mapped (with_first_step accesses) e)
 mapped-known program accesses Stuck k = k
 mapped-known program accesses Unfinished k = k
 mapped-known program accesses (Ended s) k = k
@@ -59,21 +59,21 @@ words-known program words element word request fit there left =
 module _ (program : Program) where
   -- what is claimed of each run with this bound
   abbrev pub Runs : ℕ → Type 0
-  Runs bound = (m : Machine) → IsKnown program m → (words : List ℕ) → AreMapWords program words → RunsKnown program (run program bound m words)
+  Runs bound = (m : Machine) → OverApproximates program m → (words : List ℕ) → AreMapWords program words → RunIsOverApproximated program (run program bound m words)
 
   by_word : (bound : ℕ) → Runs bound → (element : ℕ) (request : Request) (next : Machine) (words : List ℕ) → AreMapWords program words → element < sum program.sizes →
-      ((word : ℕ) → word < 2 ^ 64 → IsKnown program (told request word next) × (left_by (action_of request word) word < 2 ^ 64)) → (o : Option ℕ) → slice_get words element ≡ o →
-      RunsKnown program (after_access (run program bound) element request next words o)
+      ((word : ℕ) → word < 2 ^ 64 → OverApproximates program (after_request request word next) × (left_by (action_of request word) word < 2 ^ 64)) → (o : Option ℕ) → slice_get words element ≡ o →
+      RunIsOverApproximated program (after_access (run program bound) element request next words o)
   by_word bound runs element request next words fit inside goes None there =
       let some : slice_get words element ≡ Some (get_or words element 0) = slice_get-get_or words element 0 (omega (arith, fit.count)) in
       absurd cc
   by_word bound runs element request next words fit inside goes (Some word) there =
       let w : word < 2 ^ 64 = word-at words element word fit.fit there in
       let access : Access = record { element = element; action = action_of request word } in
-      mapped-known program (access ∷ []) (run program bound (told request word next) (words_after access words))
-      (runs (told request word next) (goes word w).0 (words_after access words) (words-known program words element word request fit there (goes word w).1))
+      mapped-known program (access ∷ []) (run program bound (after_request request word next) (words_after access words))
+      (runs (after_request request word next) (goes word w).0 (words_after access words) (words-known program words element word request fit there (goes word w).1))
 
-  by_move : (bound : ℕ) → Runs bound → (slot : ℕ) (move : Move) (words : List ℕ) → AreMapWords program words → GoesOnKnown program move → RunsKnown program (after_move (run program bound) slot move words)
+  by_move : (bound : ℕ) → Runs bound → (slot : ℕ) (move : StepOutcome) (words : List ℕ) → AreMapWords program words → StepsOverApproximated program move → RunIsOverApproximated program (after_step (run program bound) slot move words)
   by_move bound runs slot NoStep words fit goes = goes
   by_move bound runs slot (Next next) words fit goes = mapped-known program [] (run program bound next words) (runs next goes words fit)
   by_move bound runs slot (Asks element request next) words fit goes = by_word bound runs element request next words fit goes.0 goes.1 (slice_get words element) refl

@@ -36,11 +36,11 @@ use Rattle.array_maps.specs.Accesses.{left_by}
 use Rattle.array_maps.specs.MapList.{base_of}
 use Rattle.bpf_step_model.specs.State.{Value, Unwritten, Word, Frame, Ctx, Map, Area, Code, Bytes, Machine, register, advanced, at_slot, with_register, with_frame, after_call}
 use Rattle.bpf_step_model.specs.Memory.{Place, InFrame, InCaller, InMap, number_at, written_at, frame_position, in_frame, in_caller, part_at, in_element, in_map, place}
-use Rattle.bpf_step_model.specs.Values.{area_address, operand_value, on_word, result_of, test_of}
+use Rattle.bpf_step_model.specs.Values.{area_address, operand_value, on_word, result_of, comparison_of}
 use Rattle.bpf_step_model.specs.SoundMachine.{IsStart, SoundValue, SoundFrame, SoundCaller, SoundCtx, SoundCall}
 use Rattle.bpf_step_model.specs.LoopCalls.{RefusedBy, Valid, count_validity}
-use Rattle.bpf_step_model.specs.Step.{Load, Move, NoStep, Next, Asks, Loops, Refuses, Exits, sets, jumps, branches, extended, loaded, caller_number, loads, store_of, stores_at, stores, map_operator, half_operator, idle_operand, tells, atomic_left, changes_frame, request_of, changes_at, compared_value, may_tell, changes, map_named, area_named, code_named, wide_value, key_at, found, answers, looks_up, loop_move, calls_loop, takes_ctx, takes_flags, takes_arguments, loops, calls, ends_with, ends, acts}
-use Rattle.bpf_step_model.specs.Run.{part_bytes, told, action_of}
+use Rattle.bpf_step_model.specs.Step.{Load, StepOutcome, NoStep, Next, Asks, Loops, Refuses, Exits, sets, jumps, branches, extended, loaded, caller_number, loads, store_of, stores_at, stores, map_operator, half_operator, idle_operand, tells, atomic_left, changes_frame, request_of, changes_at, compared_value, may_tell, changes, map_named, area_named, code_named, wide_value, key_at, lookup_result, answers, looks_up, loop_call_step, calls_loop, takes_ctx, takes_flags, takes_arguments, loops, calls, ends_with, ends, insn_step}
+use Rattle.bpf_step_model.specs.Run.{part_bytes, after_request, action_of}
 use Rattle.bpf_step_model.specs.ProgramInOrder.{resumed}
 use Rattle.bpf_verify_sound.proofs.RegisterLaws.{all-set, all-at}
 use Rattle.bpf_verify_sound.proofs.Operands.{word-fits}
@@ -56,11 +56,11 @@ pub record SoundParts (program : Program) (function : ℕ) (m : Machine) : Type 
   pub in_callback : is_some m.caller ≡ nat_lt 0 function
 
 -- each machine that a step leads to has sound parts, and what is left at an element is a word
-abbrev pub MoveSound : Program → ℕ → Move → Type 0
+abbrev pub MoveSound : Program → ℕ → StepOutcome → Type 0
 MoveSound program f NoStep = Unit {0}
 MoveSound program f (Next next) = SoundParts program f next
 MoveSound program f (Asks element request next) =
-    (word : ℕ) → word < 2 ^ 64 → SoundParts program f (told request word next) × (left_by (action_of request word) word < 2 ^ 64)
+    (word : ℕ) → word < 2 ^ 64 → SoundParts program f (after_request request word next) × (left_by (action_of request word) word < 2 ^ 64)
 MoveSound program f (Loops call next) = SoundCall program call × ((answer : ℕ) → answer < 2 ^ 64 → SoundParts program f (resumed next answer))
 MoveSound program f (Refuses answer next) = SoundParts program f next
 MoveSound program f (Exits ret) = ret < 2 ^ 64
@@ -183,7 +183,7 @@ loads-sound program f m ext size dst (Some (InMap element part)) most s = by_tes
 
 -- stores
 map-store : (program : Program) (f : ℕ) (m : Machine) (n word : ℕ) (part : Part) → SoundParts program f m → n < 2 ^ 64 →
-    SoundParts program f (told (store_of part n) word (advanced 1 m)) × (left_by (action_of (store_of part n) word) word < 2 ^ 64)
+    SoundParts program f (after_request (store_of part n) word (advanced 1 m)) × (left_by (action_of (store_of part n) word) word < 2 ^ 64)
 map-store program f m n word Whole s h = (advance program f m 1 s, h)
 map-store program f m n word (Of half) s h = (advance program f m 1 s, with_half-below half word (half_of Low n))
 
@@ -220,7 +220,7 @@ frame-change program f m width op src operand compare p (Some old) s h b =
     (written-sound m.frame p (atomic_bytes width) (atomic_left width op old operand compare) s.frame h)) (omega (arith, width-most width))
 
 map-change : ResultsFit → (program : Program) (f : ℕ) (m : Machine) (op : AtomicOp) (src operand compare word : ℕ) (part : Part) → SoundParts program f m → operand < 2 ^ 64 → word < 2 ^ 64 →
-    SoundParts program f (told (request_of part op src operand compare) word (advanced 1 m)) × (left_by (action_of (request_of part op src operand compare) word) word < 2 ^ 64)
+    SoundParts program f (after_request (request_of part op src operand compare) word (advanced 1 m)) × (left_by (action_of (request_of part op src operand compare) word) word < 2 ^ 64)
 map-change fit program f m (Simple op) src operand compare word Whole s h w = (advance program f m 1 s, combined-below fit (map_operator op) word operand)
 map-change fit program f m (Simple op) src operand compare word (Of half) s h w =
     (advance program f m 1 s, combined-below fit (half_operator op) word (with_half half (idle_operand op) operand))
@@ -291,21 +291,21 @@ answers-sound : (program : Program) (f : ℕ) (m : Machine) (v : Option Value) �
 answers-sound program f m None s i = tt
 answers-sound program f m (Some v) s i = after program f m v s i
 
-found-sound : (program : Program) (k : ℕ) (count key : Option ℕ) → k < length program.sizes → SoundIf program (found k count key)
-found-sound program k None key i = tt
-found-sound program k (Some count) None i = tt
-found-sound program k (Some count) (Some key) i = by_test program k key i (nat_lt key count)
+lookup_result-sound : (program : Program) (k : ℕ) (count key : Option ℕ) → k < length program.sizes → SoundIf program (lookup_result k count key)
+lookup_result-sound program k None key i = tt
+lookup_result-sound program k (Some count) None i = tt
+lookup_result-sound program k (Some count) (Some key) i = by_test program k key i (nat_lt key count)
   where
     by_test : (program : Program) (k key : ℕ) → k < length program.sizes → (test : Bool) → SoundIf program (if test then area_address k (8 * key) else Some (Word 0))
     by_test program k key i true = area-sound program k (8 * key) i
     by_test program k key i false = omega arith
 
 looks-sound : (program : Program) (f : ℕ) (m : Machine) (v : Value) (key : Option ℕ) → SoundParts program f m → SoundValue program v → MoveSound program f (looks_up program m v key)
-looks-sound program f m (Map k) key s i = answers-sound program f m (found k (slice_get program.sizes k) key) s (found-sound program k (slice_get program.sizes k) key i)
+looks-sound program f m (Map k) key s i = answers-sound program f m (lookup_result k (slice_get program.sizes k) key) s (lookup_result-sound program k (slice_get program.sizes k) key i)
 looks-sound program f m v key s i = tt
 
 counts-sound : (program : Program) (f : ℕ) (m : Machine) (start n : ℕ) (ctx : Option ℕ) → SoundParts program f m → IsStart program start → SoundCtx ctx → (many : Bool) → nat_lt 8388608 n ≡ many →
-    MoveSound program f (loop_move m start ctx (if many then RefusedBy (negsuc 6) else Valid n))
+    MoveSound program f (loop_call_step m start ctx (if many then RefusedBy (negsuc 6) else Valid n))
 counts-sound program f m start n ctx s i c true e = after program f m (Word (word_of (negsuc 6))) s (omega arith)
 counts-sound program f m start n ctx s i c false e =
     (record { callback = i; iterations = (let few : n ≤ 8388608 = grind (arith, nat_tests) in few); ctx = c; frame = s.frame }, λ answer h. after program f m (Word answer) s h)
@@ -314,7 +314,7 @@ loop-sound : (program : Program) (f : ℕ) (m : Machine) (count start flags : �
 loop-sound program f m count start flags ctx s i c = by_test program f m count start ctx s i c (flags == 0)
   where
     by_test : (program : Program) (f : ℕ) (m : Machine) (count start : ℕ) (ctx : Option ℕ) → SoundParts program f m → IsStart program start → SoundCtx ctx → (test : Bool) →
-        MoveSound program f (loop_move m start ctx (if test then count_validity (count % 2 ^ 32) else RefusedBy (negsuc 21)))
+        MoveSound program f (loop_call_step m start ctx (if test then count_validity (count % 2 ^ 32) else RefusedBy (negsuc 21)))
     by_test program f m count start ctx s i c true = counts-sound program f m start (count % 2 ^ 32) ctx s i c (nat_lt 8388608 (count % 2 ^ 32)) refl
     by_test program f m count start ctx s i c false = after program f m (Word (word_of (negsuc 21))) s (omega arith)
 
@@ -364,31 +364,31 @@ ends-sound program f m (Word n) i = ends-with-sound program f n m.caller i
 ends-sound program f m v i = tt
 
 -- each instruction
-pub acts-sound : ResultsFit → (program : Program) (f : ℕ) (m : Machine) (insn : Insn) → InsnFits insn → SoundParts program f m → MoveSound program f (acts program m insn)
-acts-sound fit program f m (Alu width op dst operand) fits s =
+pub insn_step-sound : ResultsFit → (program : Program) (f : ℕ) (m : Machine) (insn : Insn) → InsnFits insn → SoundParts program f m → MoveSound program f (insn_step program m insn)
+insn_step-sound fit program f m (Alu width op dst operand) fits s =
     sets-sound program f 1 m dst (result_of width op (register m dst) (operand_value m operand)) s
     (result-sound fit program width op (register m dst) (operand_value m operand) (value-at program f m dst s) (operand-sound program f m operand s fits.1))
-acts-sound fit program f m (Neg width dst) fits s =
+insn_step-sound fit program f m (Neg width dst) fits s =
     sets-sound program f 1 m dst (on_word (negated width) (register m dst)) s
     (word-sound program (negated width) (register m dst) (λ n. omega (arith, fit.negated_fits width n, modulus-most width)))
-acts-sound fit program f m (Movsx width bits dst src) fits s =
+insn_step-sound fit program f m (Movsx width bits dst src) fits s =
     sets-sound program f 1 m dst (on_word (moved_signed width bits) (register m src)) s
     (word-sound program (moved_signed width bits) (register m src) (λ n. omega (arith, fit.moved_signed_fits width bits n, modulus-most width)))
-acts-sound fit program f m (Endian order bits dst) fits s =
+insn_step-sound fit program f m (Endian order bits dst) fits s =
     sets-sound program f 1 m dst (on_word (in_order order bits) (register m dst)) s (word-sound program (in_order order bits) (register m dst) (λ n. fit.in_order_is_word order bits n))
-acts-sound fit program f m (Ja offset) fits s = jumps-sound program f m (moved (m.slot + 1) offset) s
-acts-sound fit program f m (Ja32 imm) fits s = jumps-sound program f m (moved (m.slot + 1) imm) s
-acts-sound fit program f m (Jump width compare dst operand offset) fits s = branches-sound program f m offset (test_of m width compare (register m dst) operand) s
-acts-sound fit program f m (Call kind imm) fits s = calls-sound program f m kind imm s
-acts-sound fit program f m Exit fits s = ends-sound program f m (register m 0) (value-at program f m 0 s)
-acts-sound fit program f m (LoadInsn size dst src offset) fits s = loads-sound program f m Zeros (bytes_of size) dst (place program (register m src) offset (bytes_of size)) (size-most size) s
-acts-sound fit program f m (LoadSx size dst src offset) fits s = loads-sound program f m Signs (bytes_of size) dst (place program (register m src) offset (bytes_of size)) (size-most size) s
-acts-sound fit program f m (StoreImm size dst offset imm) fits s =
+insn_step-sound fit program f m (Ja offset) fits s = jumps-sound program f m (moved (m.slot + 1) offset) s
+insn_step-sound fit program f m (Ja32 imm) fits s = jumps-sound program f m (moved (m.slot + 1) imm) s
+insn_step-sound fit program f m (Jump width compare dst operand offset) fits s = branches-sound program f m offset (comparison_of m width compare (register m dst) operand) s
+insn_step-sound fit program f m (Call kind imm) fits s = calls-sound program f m kind imm s
+insn_step-sound fit program f m Exit fits s = ends-sound program f m (register m 0) (value-at program f m 0 s)
+insn_step-sound fit program f m (LoadInsn size dst src offset) fits s = loads-sound program f m Zeros (bytes_of size) dst (place program (register m src) offset (bytes_of size)) (size-most size) s
+insn_step-sound fit program f m (LoadSx size dst src offset) fits s = loads-sound program f m Signs (bytes_of size) dst (place program (register m src) offset (bytes_of size)) (size-most size) s
+insn_step-sound fit program f m (StoreImm size dst offset imm) fits s =
     stores-sound program f m (bytes_of size) (Word (word_of imm)) (place program (register m dst) offset (bytes_of size)) (word-fits imm fits.2) (place-fits program (register m dst) offset (bytes_of size)) s
-acts-sound fit program f m (StoreInsn size dst src offset) fits s =
+insn_step-sound fit program f m (StoreInsn size dst src offset) fits s =
     stores-sound program f m (bytes_of size) (register m src) (place program (register m dst) offset (bytes_of size)) (value-at program f m src s) (place-fits program (register m dst) offset (bytes_of size)) s
-acts-sound fit program f m (Atomic width op dst src offset) fits s =
+insn_step-sound fit program f m (Atomic width op dst src offset) fits s =
     changes-sound fit program f m width op src (register m src) (compared_value m op) (place program (register m dst) offset (atomic_bytes width)) s (value-at program f m src s)
     (place-fits program (register m dst) offset (atomic_bytes width))
-acts-sound fit program f m (LoadImm kind dst imm next_imm) fits s =
+insn_step-sound fit program f m (LoadImm kind dst imm next_imm) fits s =
     sets-sound program f 2 m dst (wide_value program m.slot kind imm next_imm) s (wide-sound program m.slot kind imm next_imm fits.1 fits.2)

@@ -6,7 +6,7 @@ use Rattle.std.proofs.lemmas.Bool.Decides.{nat_tests}
 use Rattle.std.proofs.lemmas.List.Sums.{sum_by-cons}
 use Rattle.bpf_insn_types.specs.declared.insn.Insn.{Insn}
 use Rattle.bpf_insn_types.specs.Program.{Program, slot_count, named_from, is_callback_start, callback_starts, function_of}
-use Rattle.bpf_verify_model.specs.Count.{start_of}
+use Rattle.bpf_verify_model.specs.Count.{function_start}
 use Rattle.bpf_step_model.specs.SoundMachine.{IsStart}
 
 -- whether a slot is among some, and how many of them aren't behind it
@@ -83,13 +83,13 @@ module _ (p : ℕ → Bool) where
           record { some = omega arith; at = ap (λ (n : ℕ). get_or (from ∷ kept (from + 1) count) n 0) next ∙ rest.at }
 
 -- so the function of a start has its start there
-start-at : (insns : List Insn) (slot function : ℕ) → function_of insns slot ≡ function → 0 < function → get_or (callback_starts insns) (function - 1) 0 ≡ slot → start_of insns function ≡ slot
+start-at : (insns : List Insn) (slot function : ℕ) → function_of insns slot ≡ function → 0 < function → get_or (callback_starts insns) (function - 1) 0 ≡ slot → function_start insns function ≡ slot
 start-at insns slot zero is some at = absurd (omega arith)
 start-at insns slot (suc callback) is some at =
     let before : suc callback - 1 ≡ callback = omega arith in
     sym (ap (λ (n : ℕ). get_or (callback_starts insns) n 0) before) ∙ at
 
-pub start-function : (program : Program) (slot : ℕ) → IsStart program slot → start_of program.insns (function_of program.insns slot) ≡ slot
+pub start-function : (program : Program) (slot : ℕ) → IsStart program slot → function_start program.insns (function_of program.insns slot) ≡ slot
 unfolding is_among up_to
 start-function program slot start =
     let it = placed (is_callback_start program.insns (named_from 0 program.insns)) 0 (slot_count program.insns) slot start in

@@ -1,4 +1,4 @@
--- Two-slot loads go on as is known.
+-- Two-slot loads go on within the abstract states.
 use Rattle.std.proofs.Common.{◌≡◌, ℕ, zero, suc, ◌+◌, ◌*◌, ◌<◌, ◌≤◌, ◌^◌, Bool, true, false, ◌&&◌, List, length, Option, Some, None, is_none, refl, sym, ap, subst, arith}
 use Rattle.std.specs.Prelude.{ℤ, pos, negsuc, nat_lt, nat_le, ◌==◌, if◌then◌else◌, slice_get, FitsSigned}
 use Rattle.std.specs.List.{list_any, list_all, sum}
@@ -17,10 +17,10 @@ use Rattle.bpf_verify_model.specs.declared.state.State.{State}
 use Rattle.bpf_verify_model.specs.Rules.{starts, count_of_map, has_byte}
 use Rattle.bpf_verify_model.specs.Flow.{known_code, known_wide, flow, known_behind}
 use Rattle.bpf_step_model.specs.State.{Map, Area, Code, Machine}
-use Rattle.bpf_step_model.specs.Step.{code_named, map_named, area_named, wide_value, acts}
+use Rattle.bpf_step_model.specs.Step.{code_named, map_named, area_named, wide_value, insn_step}
 use Rattle.bpf_verify_sound.specs.Containment.{Contained}
 use Rattle.bpf_verify_sound.specs.Standing.{KeepsRules}
-use Rattle.bpf_verify_sound.specs.Ways.{FollowsValue, MoveFlows}
+use Rattle.bpf_verify_sound.specs.Ways.{FollowsValue, StepFlows}
 use Rattle.bpf_verify_sound.proofs.NumberLaws.{there_if}
 use Rattle.bpf_verify_sound.proofs.PlaceLaws.{base-below}
 use Rattle.bpf_verify_sound.proofs.StartLaws.{start-there}
@@ -98,7 +98,7 @@ wide-follows program slot MapFdValue dst imm next_imm state keeps = absurd (let 
 wide-follows program slot Variable dst imm next_imm state keeps = absurd (let e = keeps.load_kind in cc)
 
 pub load_imm-flows : (program : Program) (m : Machine) (state : State) (kind : ImmKind) (dst : ℕ) (imm next_imm : ℤ) → KeepsRules program m.slot (LoadImm kind dst imm next_imm) state → Contained state m →
-    MoveFlows program m.slot (flow program.sizes m.slot state (LoadImm kind dst imm next_imm)) (acts program m (LoadImm kind dst imm next_imm))
+    StepFlows program m.slot (flow program.sizes m.slot state (LoadImm kind dst imm next_imm)) (insn_step program m (LoadImm kind dst imm next_imm))
 unfolding flow known_behind
 load_imm-flows program m state kind dst imm next_imm keeps c =
     sets-flows program m state 2 dst (Some (known_wide m.slot kind imm next_imm)) (wide_value program m.slot kind imm next_imm)

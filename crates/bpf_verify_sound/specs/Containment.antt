@@ -1,11 +1,11 @@
--- What is known of a machine is true of it.
+-- Abstract states contain machines.
 use Rattle.std.specs.Prelude.{◌≡◌, ℕ, ◌<◌, Bool, true, false, List, [], ◌∷◌, Option, Some, None, is_some}
 use Rattle.value_range_model.specs.Spans.{Contains}
 use Rattle.bpf_verify_model.specs.declared.abstract_value.AbstractValue.{AbstractValue}
 use Rattle.bpf_verify_model.specs.declared.abstract_value.AbstractValue.TheVariants as known
 use Rattle.bpf_verify_model.specs.declared.state.State.{State}
 use Rattle.bpf_insn_types.specs.Program.{Program, insn_at}
-use Rattle.bpf_verify_model.specs.Inflow.{before}
+use Rattle.bpf_verify_model.specs.Inflow.{state_before}
 use Rattle.bpf_step_model.specs.State.{Value, Word, Frame, Ctx, Map, Area, Code, Bytes, Machine}
 
 -- a register's value is one of those that are known of it
@@ -45,7 +45,7 @@ AreWrittenByCaller None caller = Unit {0}
 AreWrittenByCaller (Some marks) None = ⊥
 AreWrittenByCaller (Some marks) (Some bytes) = AreWritten marks bytes
 
--- what is known of a machine's registers and frames is true of it
+-- the abstract state contains a machine's registers and frames
 pub record Contained (state : State) (m : Machine) : Type 0 where
   pub registers : ContainEach state.registers m.registers
   pub own : AreWritten state.own m.frame
@@ -56,7 +56,7 @@ abbrev pub ContainedIf : Option State → Machine → Type 0
 ContainedIf None m = ⊥
 ContainedIf (Some state) m = Contained state m
 
--- an instruction starts at the machine's slot, and what is known before it is true of the machine
+-- an instruction starts at the machine's slot, and the abstract state before it contains the machine
 pub record ContainedBefore (program : Program) (m : Machine) : Type 0 where
   pub stands : is_some (insn_at program.insns m.slot) ≡ true
-  pub contained : ContainedIf (before program m.slot) m
+  pub contained : ContainedIf (state_before program m.slot) m

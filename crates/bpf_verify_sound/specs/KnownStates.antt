@@ -17,13 +17,13 @@ abbrev pub HasCallerCount : Option (List Bool) → Type 0
 HasCallerCount None = Unit {0}
 HasCallerCount (Some marks) = length marks ≡ 512
 
-pub record IsKnownState (state : State) : Type 0 where
+pub record IsWellFormedState (state : State) : Type 0 where
   pub count : length state.registers ≡ 11
   pub spans : AllByRecursion HasSpan state.registers
   pub own : length state.own ≡ 512
   pub caller : HasCallerCount state.caller
 
 -- the same where something is known
-abbrev pub IfKnown : Option State → Type 0
-IfKnown None = Unit {0}
-IfKnown (Some state) = IsKnownState state
+abbrev pub IfReachedWellFormed : Option State → Type 0
+IfReachedWellFormed None = Unit {0}
+IfReachedWellFormed (Some state) = IsWellFormedState state

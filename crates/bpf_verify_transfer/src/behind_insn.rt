@@ -1,4 +1,4 @@
-//! What is known behind an instruction.
+//! The abstract state behind an instruction.
 
 ghost use Rattle.std.specs.Prelude.{◌≡◌, ◌+◌, ◌*◌, ◌^◌, ◌+ℤ◌, ◌≤◌, pos, slice_get};
 ghost use Rattle.std.specs.Int.{cast_unsigned, w32};
@@ -176,7 +176,7 @@ fn behind_call(sizes: &[u32], state: &mut State, helper: Option<Helper>)
     known_after_call(state, answer);
 }
 
-/// Leaves what is known behind an instruction that doesn't jump.
+/// Leaves the abstract state behind an instruction that doesn't jump.
 #[tactic(auto, unfolding(bpf_verify_model::specs::Flow::known_behind))]
 pub fn behind(sizes: &[u32], slot: u32, state: &mut State, insn: Insn)
     requires { slot ≤ 4096 }

@@ -1,11 +1,11 @@
-//! Both ways of a comparison.
+//! Both edges of a comparison.
 
 ghost use Rattle.std.specs.Prelude.{◌≡◌};
 ghost use Rattle.bpf_verify_model.specs.States.{known_register};
-ghost use Rattle.bpf_verify_model.specs.Flow.{compared_imm, with_number, refines, both_ways, number_ways, register_ways, operand_ways, null_ways, ways_of};
+ghost use Rattle.bpf_verify_model.specs.Flow.{compared_imm, with_operand_number, refines, unrefined_branch, number_branch, register_branch, operand_branch, null_check_branch, branch_states};
 
 use bpf_insn_types::{Compare, Operand, Reg, Width};
-use bpf_verify_model::{AbstractValue, State, Ways};
+use bpf_verify_model::{AbstractValue, BranchStates, State};
 use value_range_model::{Condition, Range, exact};
 use value_range_refine::refine;
 
@@ -20,7 +20,7 @@ fn compared_imm(width: Width, imm: i32) -> u64
 }
 
 fn with_number(state: &State, operand: Operand, b: Range) -> State
-    ensures { result ≡ with_number state.now operand b }
+    ensures { result ≡ with_operand_number state.now operand b }
 {
     match operand {
         Operand::Imm(_) => *state,
@@ -28,7 +28,7 @@ fn with_number(state: &State, operand: Operand, b: Range) -> State
     }
 }
 
-/// What is known where the operands are refined, if a pair of their numbers is left.
+/// The abstract state where the operands are refined, if a pair of their numbers is left.
 fn refines(state: &State, dst: Reg, operand: Operand, pair: Option<(Range, Range)>) -> Option<State>
     ensures { result ≡ refines state.now dst operand pair }
 {
@@ -41,18 +41,18 @@ fn refines(state: &State, dst: Reg, operand: Operand, pair: Option<(Range, Range
     }
 }
 
-/// Both ways are followed with nothing more known.
-fn both_ways(state: &State) -> Ways
-    ensures { result ≡ both_ways state.now }
+/// Both edges are followed with nothing more known.
+fn unrefined_branch(state: &State) -> BranchStates
+    ensures { result ≡ unrefined_branch state.now }
 {
-    Ways {
+    BranchStates {
         holds: Some(*state),
         fails: Some(*state),
     }
 }
 
 /// A comparison of two numbers.
-fn number_ways(
+fn number_branch(
     state: &State,
     width: Width,
     compare: Compare,
@@ -60,85 +60,99 @@ fn number_ways(
     operand: &Operand,
     a: &Range,
     b: &Range,
-) -> Ways
-    ensures { result ≡ number_ways state.now width compare dst.now operand.now a.now b.now }
+) -> BranchStates
+    ensures { result ≡ number_branch state.now width compare dst.now operand.now a.now b.now }
 {
     let holds = refine(Condition::taken(compare), width, *a, *b);
     let fails = refine(Condition::not_taken(compare), width, *a, *b);
-    Ways {
+    BranchStates {
         holds: refines(state, *dst, *operand, holds),
         fails: refines(state, *dst, *operand, fails),
     }
 }
 
 /// A comparison of a number with a register: with itself it tells nothing.
-fn register_ways(
+fn register_branch(
     state: &State,
     width: Width,
     compare: Compare,
     dst: Reg,
     reg: Reg,
     a: Range,
-) -> Ways
-    ensures { result ≡ register_ways state.now width compare dst reg a (known_register state.now reg) }
+) -> BranchStates
+    ensures { result ≡ register_branch state.now width compare dst reg a (known_register state.now reg) }
 {
     match state.register(reg) {
         AbstractValue::Number(b) => {
             if dst.number() == reg.number() {
-                both_ways(state)
+                unrefined_branch(state)
             } else {
-                number_ways(state, width, compare, &dst, &Operand::Reg(reg), &a, &b)
+                number_branch(state, width, compare, &dst, &Operand::Reg(reg), &a, &b)
             }
         }
-        _ => both_ways(state),
+        _ => unrefined_branch(state),
     }
 }
 
 /// A comparison of a number.
-fn operand_ways(
+fn operand_branch(
     state: &State,
     width: Width,
     compare: Compare,
     dst: Reg,
     operand: Operand,
     a: Range,
-) -> Ways
-    ensures { result ≡ operand_ways state.now width compare dst operand a }
+) -> BranchStates
+    ensures { result ≡ operand_branch state.now width compare dst operand a }
 {
     match operand {
         Operand::Imm(imm) => {
             let b = exact(compared_imm(width, imm));
-            number_ways(state, width, compare, &dst, &operand, &a, &b)
+            number_branch(state, width, compare, &dst, &operand, &a, &b)
         }
-        Operand::Reg(reg) => register_ways(state, width, compare, dst, reg, a),
+        Operand::Reg(reg) => register_branch(state, width, compare, dst, reg, a),
     }
 }
 
 /// The null check: null where it is equal, and an address where it isn't.
-fn null_ways(state: &State, compare: Compare, dst: Reg, map: u32, offset: Range) -> Ways
-    ensures { result ≡ null_ways state.now compare dst map offset }
+fn null_check_branch(
+    state: &State,
+    compare: Compare,
+    dst: Reg,
+    map: u32,
+    offset: Range,
+) -> BranchStates
+    ensures { result ≡ null_check_branch state.now compare dst map offset }
 {
     let null = state.with(dst, AbstractValue::Number(exact(0)));
     let address = state.with(dst, AbstractValue::Area(map, offset));
     match compare {
-        Compare::Eq => Ways {
+        Compare::Eq => BranchStates {
             holds: Some(null),
             fails: Some(address),
         },
-        _ => Ways {
+        _ => BranchStates {
             holds: Some(address),
             fails: Some(null),
         },
     }
 }
 
-/// Both ways of a comparison of a register with an operand.
-pub fn ways_of(state: &State, width: Width, compare: Compare, dst: Reg, operand: Operand) -> Ways
-    ensures { result ≡ ways_of state.now width compare dst operand (known_register state.now dst) }
+/// Both edges of a comparison of a register with an operand.
+pub fn branch_states(
+    state: &State,
+    width: Width,
+    compare: Compare,
+    dst: Reg,
+    operand: Operand,
+) -> BranchStates
+    ensures { result ≡ branch_states state.now width compare dst operand (known_register state.now dst) }
 {
     match state.register(dst) {
-        AbstractValue::Number(a) => operand_ways(state, width, compare, dst, operand, a),
-        AbstractValue::AreaOrNull(map, offset) => null_ways(state, compare, dst, map, offset),
-        _ => both_ways(state),
+        AbstractValue::Number(a) => operand_branch(state, width, compare, dst, operand, a),
+        AbstractValue::AreaOrNull(map, offset) => null_check_branch(
+            state, compare, dst, map, offset,
+        ),
+        _ => unrefined_branch(state),
     }
 }

@@ -1,4 +1,4 @@
-//! What is known where a function starts.
+//! The abstract state where a function starts.
 
 ghost use Rattle.std.specs.Prelude.{◌≡◌, ◌≤◌};
 ghost use Rattle.bpf_verify_model.specs.States.{known_main_entry};

@@ -1,21 +1,21 @@
-//! The ways out of an instruction.
+//! The edges out of an instruction.
 
 ghost use Rattle.std.specs.Prelude.{◌≡◌, ◌≤◌, ◌+◌};
 ghost use Rattle.bpf_insn_types.specs.Slots.{slots_of};
 ghost use Rattle.bpf_insn_types.specs.Program.{moved};
 ghost use Rattle.bpf_verify_model.specs.States.{known_register};
-ghost use Rattle.bpf_verify_model.specs.Flow.{way, branch_outflow, jump_outflow, ahead_outflow, enters, calls_back, known_behind, flow};
+ghost use Rattle.bpf_verify_model.specs.Flow.{edge_to, branch_outflow, jump_outflow, ahead_outflow, enters, calls_back, known_behind, flow};
 
 use crate::behind_insn::behind;
-use crate::comparisons::ways_of;
+use crate::comparisons::branch_states;
 use crate::entries::callback_entry;
 use bpf_insn_types::{Insn, slots};
-use bpf_verify_model::{AbstractValue, Edge, Helper, Outflow, State, Ways, reg};
+use bpf_verify_model::{AbstractValue, BranchStates, Edge, Helper, Outflow, State, reg};
 use bpf_verify_values::{helper_of, slot_beyond};
 
-/// A way to a slot, if it is followed.
-fn way(target: Option<u32>, state: Option<State>) -> Option<Edge>
-    ensures { result ≡ way target state }
+/// An edge to a slot, if it is followed.
+fn edge_to(target: Option<u32>, state: Option<State>) -> Option<Edge>
+    ensures { result ≡ edge_to target state }
 {
     let (Some(target), Some(state)) = (target, state) else {
         return None;
@@ -23,29 +23,29 @@ fn way(target: Option<u32>, state: Option<State>) -> Option<Edge>
     Some(Edge { target, state })
 }
 
-/// The ways out of a comparison.
-fn branch_outflow(slot: u32, offset: i16, ways: Ways) -> Outflow
+/// The edges out of a comparison.
+fn branch_outflow(slot: u32, offset: i16, ways: BranchStates) -> Outflow
     requires { slot ≤ 4096 }
     ensures { result ≡ branch_outflow slot offset ways }
 {
     Outflow {
-        ahead: way(Some(slot + 1), ways.fails),
-        aside: way(slot_beyond(slot, offset as i32), ways.holds),
+        ahead: edge_to(Some(slot + 1), ways.fails),
+        aside: edge_to(slot_beyond(slot, offset as i32), ways.holds),
     }
 }
 
-/// A jump's one way.
+/// A jump's one edge.
 fn jump_outflow(slot: u32, distance: i32, state: &State) -> Outflow
     requires { slot ≤ 4096 }
     ensures { result ≡ jump_outflow slot distance state.now }
 {
     Outflow {
         ahead: None,
-        aside: way(slot_beyond(slot, distance), Some(*state)),
+        aside: edge_to(slot_beyond(slot, distance), Some(*state)),
     }
 }
 
-/// The way to a loop's callback.
+/// The edge to a loop's callback.
 fn enters(state: &State) -> Option<Edge>
     ensures { result ≡ enters state.now (known_register state.now 2) }
 {
@@ -67,10 +67,10 @@ fn calls_back(state: &State, helper: Option<Helper>) -> Option<Edge>
     }
 }
 
-/// The way ahead, past an instruction's slots.
+/// The edge ahead, past an instruction's slots.
 fn ahead(sizes: &[u32], slot: u32, state: &State, insn: Insn) -> Option<Edge>
     requires { slot ≤ 4096 }
-    ensures { result ≡ way (Some (slot + slots_of insn)) (Some (known_behind sizes.now slot state.now insn)) }
+    ensures { result ≡ edge_to (Some (slot + slots_of insn)) (Some (known_behind sizes.now slot state.now insn)) }
 {
     let mut after = *state;
     behind(sizes, slot, &mut after, insn);
@@ -80,7 +80,7 @@ fn ahead(sizes: &[u32], slot: u32, state: &State, insn: Insn) -> Option<Edge>
     })
 }
 
-/// The ways out of an instruction at a slot, with what is known on each.
+/// The edges out of an instruction at a slot, with the abstract state on each.
 #[tactic(auto, unfolding(bpf_verify_model::specs::Flow::flow))]
 pub fn flow(sizes: &[u32], slot: u32, state: &State, insn: Insn) -> Outflow
     requires { slot ≤ 4096 }
@@ -95,7 +95,11 @@ pub fn flow(sizes: &[u32], slot: u32, state: &State, insn: Insn) -> Outflow
             dst,
             operand,
             offset,
-        } => branch_outflow(slot, offset, ways_of(state, width, compare, dst, operand)),
+        } => branch_outflow(
+            slot,
+            offset,
+            branch_states(state, width, compare, dst, operand),
+        ),
         Insn::Exit => Outflow {
             ahead: None,
             aside: None,

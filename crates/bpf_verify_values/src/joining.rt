@@ -1,4 +1,4 @@
-//! What is known where two ways meet.
+//! The join of two abstract states.
 
 ghost use Rattle.std.specs.Prelude.{◌≡◌, ◌==◌, if◌then◌else◌, length};
 ghost use Rattle.bpf_verify_model.specs.declared.abstract_value.AbstractValue.TheVariants.{Unwritten, Number, Frame, Ctx, Map, Area, AreaOrNull, Code};
@@ -8,7 +8,7 @@ use bpf_verify_model::{AbstractValue, Registers, State, reg};
 use bpf_verify_written::WrittenBytes;
 use value_range_model::{Range, join};
 
-/// What is known of a register where two ways meet.
+/// The join of a register's abstract values.
 pub fn join_values(a: AbstractValue, b: AbstractValue) -> AbstractValue
     ensures { result ≡ joined_values a b }
 {
@@ -103,8 +103,8 @@ fn same(a: u32, b: u32, value: AbstractValue) -> AbstractValue
     }
 }
 
-/// Keeps what is known of each register in others too.
-fn meet_registers(registers: &mut Registers, others: &Registers)
+/// Keeps the abstract value of each register in others too.
+fn join_registers(registers: &mut Registers, others: &Registers)
     ensures { registers.new ≡ joined_registers registers.old others.now }
 {
     for number in 0..registers.len().min(others.len()) {
@@ -113,8 +113,8 @@ fn meet_registers(registers: &mut Registers, others: &Registers)
     }
 }
 
-/// The bytes of main's frame that are written on both ways.
-fn meet_callers(
+/// The bytes of main's frame that are written on both edges.
+fn join_callers(
     written: Option<WrittenBytes>,
     others: &Option<WrittenBytes>,
 ) -> Option<WrittenBytes>
@@ -123,16 +123,16 @@ fn meet_callers(
     let (Some(mut written), Some(others)) = (written, others) else {
         return None;
     };
-    written.meet(others);
+    written.join(others);
     Some(written)
 }
 
-/// Keeps what is known on another way too.
+/// Keeps the join with another state.
 #[tactic(auto, unfolding(bpf_verify_model::specs::States::joined_states))]
-pub fn meet_states(state: &mut State, other: &State)
+pub fn join_states(state: &mut State, other: &State)
     ensures { state.new ≡ joined_states state.old other.now }
 {
-    meet_registers(&mut state.registers, &other.registers);
-    state.own.meet(&other.own);
-    state.caller = meet_callers(state.caller, &other.caller);
+    join_registers(&mut state.registers, &other.registers);
+    state.own.join(&other.own);
+    state.caller = join_callers(state.caller, &other.caller);
 }

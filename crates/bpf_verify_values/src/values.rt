@@ -1,9 +1,9 @@
-//! What operators give on what is known of registers.
+//! What operators give on the abstract values of registers.
 
 ghost use Rattle.std.specs.Prelude.{◌≡◌};
 ghost use Rattle.bpf_insn_types.specs.declared.insn.Width.TheVariants.{W64};
 ghost use Rattle.bpf_verify_model.specs.declared.abstract_value.AbstractValue.TheVariants.{Number, Area};
-ghost use Rattle.bpf_verify_model.specs.Values.{known_operand, known_of_number, known_of_numbers, known_copy, known_position, known_area, known_moved, known_sum, known_result, is_number, is_unwritten, is_null_check, compares};
+ghost use Rattle.bpf_verify_model.specs.Values.{known_operand, known_of_number, known_of_numbers, known_copy, known_position, known_area, known_moved, known_sum, known_result, is_number_value, is_unwritten, is_null_check, compares};
 
 use bpf_insn_alu::alu_word;
 use bpf_insn_types::{AluOp, Compare, FRAME_BYTES, MAX_OFFSET, Operand, Width};
@@ -13,7 +13,7 @@ use value_range_rows::alu;
 
 /// Whether it is a number.
 pub fn is_number(value: AbstractValue) -> bool
-    ensures { result ≡ is_number value }
+    ensures { result ≡ is_number_value value }
 {
     match value {
         AbstractValue::Number(_) => true,
@@ -31,7 +31,7 @@ pub fn is_unwritten(value: AbstractValue) -> bool
     }
 }
 
-/// What is known of an operand: an immediate is sign-extended.
+/// The abstract value of an operand: an immediate is sign-extended.
 pub fn operand_value(state: &State, operand: Operand) -> AbstractValue
     ensures { result ≡ known_operand state.now operand }
 {

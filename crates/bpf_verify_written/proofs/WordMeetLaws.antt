@@ -9,8 +9,8 @@ use Rattle.std.proofs.lemmas.Nat.{and_le_l}
 use Rattle.std.proofs.lemmas.Nat.Bits.{bit_at_and, bit_at-lt}
 use Rattle.std.proofs.lemmas.Slice.Zip.{length-zip, get_or-zip}
 use Rattle.bpf_verify_written.specs.Written.{joined_written}
-use Rattle.bpf_verify_written.specs.Words.{is_marked, bytes_in, AreWords}
-use Rattle.bpf_verify_written.specs.WordsBack.{length-bytes_in, get_or-bytes_in}
+use Rattle.bpf_verify_written.specs.Words.{is_byte_marked, marks_in_words, AreMarkWords}
+use Rattle.bpf_verify_written.specs.WordsBack.{length-marks_in_words, get_or-marks_in_words}
 use Rattle.bpf_verify_written.proofs.MeetLaws.{met_to, met_to-all, length-met_to}
 
 -- a row of the words that are met
@@ -22,8 +22,8 @@ get_or-met xs ys row m n h =
     ∙ ap (λ (pair : ℕ × ℕ). bit_and pair.0 pair.1) (get_or-zip xs ys row (0, 0) (omega arith) (omega arith))
 
 -- the words that are met are still words
-pub AreWords-met : (xs ys : List ℕ) → AreWords xs → AreWords ys → AreWords (met_to bit_and xs ys 8)
-AreWords-met xs ys a b = record {
+pub AreMarkWords-met : (xs ys : List ℕ) → AreMarkWords xs → AreMarkWords ys → AreMarkWords (met_to bit_and xs ys 8)
+AreMarkWords-met xs ys a b = record {
   count = length-met_to bit_and xs ys 8 ∙ a.count;
   small = λ row.
       elim (cases_lt row 8) [
@@ -37,9 +37,9 @@ AreWords-met xs ys a b = record {
 shared_bit : (x y : ℕ) → x < 2 → y < 2 → eqb (min x y) 1 ≡ (eqb x 1 && eqb y 1)
 shared_bit x y h k = grind (arith, nat_tests)
 
-is_marked-met : (xs ys : List ℕ) (byte : ℕ) → length xs ≡ 8 → length ys ≡ 8 → byte < 512
-    → is_marked (met_to bit_and xs ys 8) byte ≡ (is_marked xs byte && is_marked ys byte)
-is_marked-met xs ys byte m n h =
+is_byte_marked-met : (xs ys : List ℕ) (byte : ℕ) → length xs ≡ 8 → length ys ≡ 8 → byte < 512
+    → is_byte_marked (met_to bit_and xs ys 8) byte ≡ (is_byte_marked xs byte && is_byte_marked ys byte)
+is_byte_marked-met xs ys byte m n h =
     let x : ℕ = get_or xs (byte / 64) 0 in
     let y : ℕ = get_or ys (byte / 64) 0 in
     ap (λ word. eqb (bit_at word (byte % 64)) 1) (get_or-met xs ys (byte / 64) m n (omega arith))
@@ -47,18 +47,18 @@ is_marked-met xs ys byte m n h =
     ∙ shared_bit (bit_at x (byte % 64)) (bit_at y (byte % 64)) (bit_at-lt x (byte % 64)) (bit_at-lt y (byte % 64))
 
 -- the bytes in the words that are met
-pub bytes_in-met : (xs ys : List ℕ) → length xs ≡ 8 → length ys ≡ 8
-    → bytes_in (met_to bit_and xs ys 8) ≡ joined_written (bytes_in xs) (bytes_in ys)
-bytes_in-met xs ys m n =
+pub marks_in_words-met : (xs ys : List ℕ) → length xs ≡ 8 → length ys ≡ 8
+    → marks_in_words (met_to bit_and xs ys 8) ≡ joined_written (marks_in_words xs) (marks_in_words ys)
+marks_in_words-met xs ys m n =
     let both : Bool × Bool → Bool = λ (pair : Bool × Bool). pair.0 && pair.1 in
-    let pairs : List (Bool × Bool) = zip (bytes_in xs) (bytes_in ys) in
-    let many : length pairs ≡ 512 = omega (arith, length-zip (bytes_in xs) (bytes_in ys), length-bytes_in xs, length-bytes_in ys) in
-    ext_get_or false _ _ (length-bytes_in (met_to bit_and xs ys 8) ∙ sym many ∙ sym (length-map pairs both))
+    let pairs : List (Bool × Bool) = zip (marks_in_words xs) (marks_in_words ys) in
+    let many : length pairs ≡ 512 = omega (arith, length-zip (marks_in_words xs) (marks_in_words ys), length-marks_in_words xs, length-marks_in_words ys) in
+    ext_get_or false _ _ (length-marks_in_words (met_to bit_and xs ys 8) ∙ sym many ∙ sym (length-map pairs both))
     (λ byte h.
-    let within : byte < 512 = omega (arith, length-bytes_in (met_to bit_and xs ys 8)) in
-    get_or-bytes_in (met_to bit_and xs ys 8) byte within
-    ∙ is_marked-met xs ys byte m n within
+    let within : byte < 512 = omega (arith, length-marks_in_words (met_to bit_and xs ys 8)) in
+    get_or-marks_in_words (met_to bit_and xs ys 8) byte within
+    ∙ is_byte_marked-met xs ys byte m n within
     ∙ sym (get_or-map both pairs byte (false, false) false (omega arith)
-    ∙ ap both (get_or-zip (bytes_in xs) (bytes_in ys) byte (false, false) (omega (arith, length-bytes_in xs)) (omega (arith, length-bytes_in ys)))
-    ∙ ap (λ b. b && get_or (bytes_in ys) byte false) (get_or-bytes_in xs byte within)
-    ∙ ap (λ b. is_marked xs byte && b) (get_or-bytes_in ys byte within)))
+    ∙ ap both (get_or-zip (marks_in_words xs) (marks_in_words ys) byte (false, false) (omega (arith, length-marks_in_words xs)) (omega (arith, length-marks_in_words ys)))
+    ∙ ap (λ b. b && get_or (marks_in_words ys) byte false) (get_or-marks_in_words xs byte within)
+    ∙ ap (λ b. is_byte_marked xs byte && b) (get_or-marks_in_words ys byte within)))

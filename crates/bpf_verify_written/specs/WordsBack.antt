@@ -9,15 +9,15 @@ use Rattle.std.proofs.lemmas.List.FromFn.{length-map-range_with_len, get_or-map-
 use Rattle.std.proofs.Math.Pow.{pow_mono}
 use Rattle.std.proofs.lemmas.Nat.Bits.{same_from_bits_below, bit_at-lt}
 use Rattle.std.proofs.lemmas.Simd.{mask_l-lt, bit_mask_l}
-use Rattle.bpf_verify_written.specs.Words.{is_marked, bytes_in, words_of}
+use Rattle.bpf_verify_written.specs.Words.{is_byte_marked, marks_in_words, words_of_marks}
 
-pub length-bytes_in : (words : List ℕ) → length (bytes_in words) ≡ 512
-unfolding bytes_in
-length-bytes_in words = length-map-range_with_len (is_marked words) 0 512
+pub length-marks_in_words : (words : List ℕ) → length (marks_in_words words) ≡ 512
+unfolding marks_in_words
+length-marks_in_words words = length-map-range_with_len (is_byte_marked words) 0 512
 
-pub get_or-bytes_in : (words : List ℕ) (byte : ℕ) → byte < 512 → get_or (bytes_in words) byte false ≡ is_marked words byte
-unfolding bytes_in
-get_or-bytes_in words byte h = get_or-map-range_with_len (is_marked words) 0 512 byte byte false h (omega arith)
+pub get_or-marks_in_words : (words : List ℕ) (byte : ℕ) → byte < 512 → get_or (marks_in_words words) byte false ≡ is_byte_marked words byte
+unfolding marks_in_words
+get_or-marks_in_words words byte h = get_or-map-range_with_len (is_byte_marked words) 0 512 byte byte false h (omega arith)
 
 -- a bit as a Bool and back
 bit_back : (bit : ℕ) → bit < 2 → cond (eqb bit 1) 1 0 ≡ bit
@@ -29,21 +29,21 @@ bit_back bit h =
 
 -- the 64 bytes of a word
 unfoldable row_of : List ℕ → ℕ → List Bool
-row_of words row = slice_range (bytes_in words) (64 * row) (64 * row + 64)
+row_of words row = slice_range (marks_in_words words) (64 * row) (64 * row + 64)
 
 length-row_of : (words : List ℕ) (row : ℕ) → length (row_of words row) ≤ 64
 unfolding row_of
 length-row_of words row =
-    omega (arith, length-take (64 * row + 64 - 64 * row) (drop (64 * row) (bytes_in words)))
+    omega (arith, length-take (64 * row + 64 - 64 * row) (drop (64 * row) (marks_in_words words)))
 
 get_or-row_of : (words : List ℕ) (row bit : ℕ) → row < 8 → bit < 64 → get_or (row_of words row) bit false ≡ eqb (bit_at (get_or words row 0) bit) 1
 unfolding row_of
 get_or-row_of words row bit h k =
     let first : (64 * row + bit) / 64 ≡ row = omega arith in
     let second : (64 * row + bit) % 64 ≡ bit = omega arith in
-    get_or-take (64 * row + 64 - 64 * row) (drop (64 * row) (bytes_in words)) bit false (omega arith)
-    ∙ get_or-drop (64 * row) (bytes_in words) bit false
-    ∙ get_or-bytes_in words (64 * row + bit) (omega arith)
+    get_or-take (64 * row + 64 - 64 * row) (drop (64 * row) (marks_in_words words)) bit false (omega arith)
+    ∙ get_or-drop (64 * row) (marks_in_words words) bit false
+    ∙ get_or-marks_in_words words (64 * row + bit) (omega arith)
     ∙ ap (λ r. eqb (bit_at (get_or words r 0) ((64 * row + bit) % 64)) 1) first
     ∙ ap (λ b. eqb (bit_at (get_or words row 0) b) 1) second
 
@@ -57,10 +57,10 @@ word_back words row h small =
     ∙ ap (λ b. cond b 1 0) (get_or-row_of words row bit h k)
     ∙ bit_back (bit_at (get_or words row 0) bit) (bit_at-lt (get_or words row 0) bit))
 
-pub words_of-bytes_in : (words : List ℕ) → length words ≡ 8 → ((row : ℕ) → get_or words row 0 < 2 ^ 64) → words_of (bytes_in words) ≡ words
-unfolding words_of row_of
-words_of-bytes_in words count small =
-    let rows : ℕ → ℕ = λ (row : ℕ). mask_l (slice_range (bytes_in words) (64 * row) (64 * row + 64)) in
+pub words_of_marks-marks_in_words : (words : List ℕ) → length words ≡ 8 → ((row : ℕ) → get_or words row 0 < 2 ^ 64) → words_of_marks (marks_in_words words) ≡ words
+unfolding words_of_marks row_of
+words_of_marks-marks_in_words words count small =
+    let rows : ℕ → ℕ = λ (row : ℕ). mask_l (slice_range (marks_in_words words) (64 * row) (64 * row + 64)) in
     ext_get_or 0 _ _ (length-map-range_with_len rows 0 8 ∙ sym count)
     (λ row h.
     let within : row < 8 = omega (arith, length-map-range_with_len rows 0 8) in

@@ -14,6 +14,6 @@ all_written written position size = list_all (λ byte. byte) (slice_range writte
 abbrev pub written_from : List Bool → ℕ → ℕ → List Bool
 written_from written position size = take position written ++ replicate size true ++ drop (position + size) written
 
--- a byte is written where it is on both ways
+-- a byte is written where it is on both edges
 abbrev pub joined_written : List Bool → List Bool → List Bool
 joined_written xs ys = map (λ (pair : Bool × Bool). pair.0 && pair.1) (zip xs ys)

@@ -14,18 +14,18 @@ pub struct WrittenBytes {
 
 impl Model for WrittenBytes {
     ghost use Rattle.std.specs.Prelude.{Bool, List};
-    ghost use Rattle.bpf_verify_written.specs.Words.{AreWords, bytes_in, words_of};
-    ghost use Rattle.bpf_verify_written.specs.WordsBack.{words_of-bytes_in};
+    ghost use Rattle.bpf_verify_written.specs.Words.{AreMarkWords, marks_in_words, words_of_marks};
+    ghost use Rattle.bpf_verify_written.specs.WordsBack.{words_of_marks-marks_in_words};
 
     ghost Value = { List Bool };
 
-    ghost view = { λ w. bytes_in w.words };
+    ghost view = { λ w. marks_in_words w.words };
 
-    ghost invariant = { λ w. AreWords w.words };
+    ghost invariant = { λ w. AreMarkWords w.words };
 
-    ghost inverse = { λ written. record { words = words_of written } };
+    ghost inverse = { λ written. record { words = words_of_marks written } };
 
-    ghost inverse_ok = { λ w h i. record { words = words_of-bytes_in w.words h.count h.small i } };
+    ghost inverse_ok = { λ w h i. record { words = words_of_marks-marks_in_words w.words h.count h.small i } };
 }
 
 impl WrittenBytes {
@@ -60,7 +60,7 @@ impl WrittenBytes {
     }
 
     /// Keeps what is written in another too.
-    pub fn meet(&mut self, others: &WrittenBytes)
+    pub fn join(&mut self, others: &WrittenBytes)
         ensures { self.new ≡ joined_written self.old others.now }
     {
         for row in 0..8 {

@@ -1,8 +1,8 @@
 -- The line that tells why an input has no result.
 use Rattle.std.specs.Prelude.{ℕ, List, ◌++◌, codes}
 use Rattle.std.specs.Fmt.{decimal}
-use Rattle.bpf_insn.specs.FaultNumbers.{fault_number as codec_fault_number}
-use Rattle.bpf_text_lex.specs.FaultNumbers.{fault_number as text_fault_number}
+use Rattle.bpf_insn.specs.FaultNumbers.{codec_fault_number as codec_fault_number}
+use Rattle.bpf_text_lex.specs.FaultNumbers.{text_fault_number as text_fault_number}
 use Rattle.bpf_verify_model.specs.RuleNumbers.{rule_number}
 use Rattle.loop_core_blocks.specs.declared.faults.SplitFault.{SplitFault}
 use Rattle.loop_core_blocks.specs.declared.faults.SplitFault.TheVariants as splits

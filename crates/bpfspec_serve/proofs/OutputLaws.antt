@@ -5,7 +5,7 @@ use Rattle.std.specs.List.{concat}
 use Rattle.array_maps.specs.MapList.{lengths}
 use Rattle.bpf_insn_types.specs.Limits.{AreSizes, sizes_fit}
 use Rattle.bpf_insn_types.specs.Program.{Program}
-use Rattle.bpf_step_model.specs.Run.{Ending, Ended}
+use Rattle.bpf_step_model.specs.Run.{BoundedResult, Ended}
 use Rattle.loop_core_model.specs.Report.{Reported}
 use Rattle.bpfspec_output.specs.ReportText.{report_text}
 use Rattle.std.specs.Prelude.{nat_lt, nat_le}
@@ -22,7 +22,7 @@ use Rattle.bpfspec_serve.specs.declared.answer_error.AnswerError.TheVariants as 
 use Rattle.bpfspec_serve.specs.declared.serving.Served.{Served}
 use Rattle.bpfspec_command_line.specs.declared.job.Job.{Job}
 use Rattle.std.proofs.lemmas.List.{take_all, length-take}
-use Rattle.bpfspec_serve.specs.Output.{refused, readable, fitting, OfReadable, OfInput, Answer, Answers, IsPrinted, Met, Tells}
+use Rattle.bpfspec_serve.specs.Output.{refused, readable, fitting, OfReadable, OfInput, Answer, Answers, IsPrinted, SatisfiesUnlessMemory, AnswerTells}
 
 -- an input that isn't too long
 short : (input : List ℕ) → length input ≤ 3145728 → readable input
@@ -73,7 +73,7 @@ reads_enough : (n : ℕ) (input : List ℕ) → 3145728 < n → readable (take n
 reads_enough n input behind = enough n input behind (nat_le (length input) n) refl
 
 -- what is reported of a program, on maps of its sizes, is printed
-pub printed : (program : Program) (reported : Ending Reported) (told : Reported) (sizes text : List ℕ) → reported ≡ Ended told → sizes ≡ program.sizes
+pub printed : (program : Program) (reported : BoundedResult Reported) (told : Reported) (sizes text : List ℕ) → reported ≡ Ended told → sizes ≡ program.sizes
     → text ≡ report_text sizes told → IsPrinted program reported (Ok text)
 printed program reported told sizes text same fits is = (told, same, ap Ok (is ∙ ap (λ (s : List ℕ). report_text s told) fits))
 
@@ -95,7 +95,7 @@ answers_reader job (Some bytes) new read answer same to_end answers = record {
 
 -- an answer that tells what comes of an input answers it
 pub told_answers : {X : Type 0} (view : X → List ℕ) (job : Job) (input : List ℕ) (outcome : Result X AnswerError) (answer : Answer)
-    → Met view (OfInput job input) outcome → Tells view outcome answer → Answers job input answer
+    → SatisfiesUnlessMemory view (OfInput job input) outcome → AnswerTells view outcome answer → Answers job input answer
 told_answers view job input (Ok x) answer comes told = record { outcome = Ok (view x); comes = comes; told = told }
 told_answers view job input (Err (errors.Refused refusal)) answer comes told = record { outcome = refused refusal; comes = comes; told = told }
 told_answers view job input (Err errors.Memory) answer comes told = absurd told

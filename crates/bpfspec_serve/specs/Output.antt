@@ -19,7 +19,7 @@ use Rattle.bpf_text.specs.MapsText.{maps_text}
 use Rattle.bpf_text.specs.EventsText.{events_text}
 use Rattle.bpf_insn_types.specs.Program.{Program, callback_starts}
 use Rattle.array_maps.specs.MapList.{lengths}
-use Rattle.bpf_step_model.specs.Run.{Ending, Ended}
+use Rattle.bpf_step_model.specs.Run.{BoundedResult, Ended}
 use Rattle.loop_core_model.specs.declared.loop_test.Test.{Test}
 use Rattle.loop_core_model.specs.Report.{Reported, report, report_in_order}
 use Rattle.loop_core_event.specs.declared.event.Event.{Event}
@@ -47,12 +47,12 @@ use Rattle.bpfspec_serve.specs.declared.answer_error.AnswerError.TheVariants as 
 use Rattle.bpfspec_serve.specs.declared.serving.Served.{Served}
 use Rattle.bpfspec_serve.specs.declared.serving.Served.TheVariants as served
 use Rattle.bpf_verify_model.specs.Accepted.{BrokenRule, first_fault}
-use Rattle.bpf_verify_model.specs.Count.{start_of, count_of}
+use Rattle.bpf_verify_model.specs.Count.{function_start, count_of}
 use Rattle.bpfspec_serve.specs.Sections.{unit_section, maps_section, events_section}
 
 -- what comes of an input: a text, or an error
-abbrev pub Outcome : Type 0
-Outcome = Result (List ℕ) AnswerError
+abbrev pub TextOutcome : Type 0
+TextOutcome = Result (List ℕ) AnswerError
 
 -- a refusal instead of a value
 abbrev pub refused : {X : Type 0} → Refusal → Result X AnswerError
@@ -89,76 +89,76 @@ unit_program Assembler section = in_section sections.Unit (assembler_text sectio
 unit_program Hex section = of_hex (in_section sections.Unit (hex_text section))
 
 -- a text of a unit, where its instructions have bytes
-abbrev pub as_outcome : Result (List ℕ) CodecError → Outcome
+abbrev pub as_outcome : Result (List ℕ) CodecError → TextOutcome
 as_outcome (Ok text) = Ok text
 as_outcome (Err error) = Err (codec_error error)
 
 -- a unit in the other form
-abbrev pub written : UnitForm → Result Program AnswerError → Outcome
+abbrev pub written : UnitForm → Result Program AnswerError → TextOutcome
 written form (Err error) = Err error
 written Assembler (Ok program) = as_outcome (assembler_form program)
 written Hex (Ok program) = as_outcome (hex_form program)
 
 -- a function of a program, by its number: where it starts, and the most instructions that it takes
-abbrev pub function_of : List Insn → ℕ → Function
-function_of insns number = record { start = start_of insns number; count = count_of insns number }
+abbrev pub function_numbered : List Insn → ℕ → Function
+function_numbered insns number = record { start = function_start insns number; count = count_of insns number }
 
 -- the functions of a program: main, and each callback
 abbrev pub functions_of : List Insn → List Function
-functions_of insns = map (function_of insns) (range_with_len 0 (length (callback_starts insns) + 1))
+functions_of insns = map (function_numbered insns) (range_with_len 0 (length (callback_starts insns) + 1))
 
 -- a program that breaks no rule, or the refusal by its first fault
-abbrev pub unless_broken : Program → Option BrokenRule → Result Program AnswerError
-unless_broken program None = Ok program
-unless_broken program (Some fault) = refused (refusals.Rule fault.rule fault.slot)
+abbrev pub unless_rule_broken : Program → Option BrokenRule → Result Program AnswerError
+unless_rule_broken program None = Ok program
+unless_rule_broken program (Some fault) = refused (refusals.Rule fault.rule fault.slot)
 
 -- a section's program, where it is accepted
 abbrev pub accepted : Result Program AnswerError → Result Program AnswerError
 accepted (Err error) = Err error
-accepted (Ok program) = unless_broken program (first_fault program)
+accepted (Ok program) = unless_rule_broken program (first_fault program)
 
 -- an accepted program is told with its functions
-abbrev pub verified : Result Program AnswerError → Outcome
+abbrev pub verified : Result Program AnswerError → TextOutcome
 verified (Err error) = Err error
 verified (Ok program) = Ok (accepted_text (functions_of program.insns))
 
 -- values as the start words of maps of these sizes
-abbrev pub fitting : List ℕ → Result (List (List ℕ)) AnswerError → Outcome
+abbrev pub fitting : List ℕ → Result (List (List ℕ)) AnswerError → TextOutcome
 fitting sizes (Err error) = Err error
 fitting sizes (Ok values) = if pointwise nat_eq (lengths values) sizes then Ok (concat values) else refused refusals.Sizes
 
 -- the words that maps start with: without a section all are 0
-abbrev pub start_words : List ℕ → List ℕ → Outcome
-start_words sizes [] = Ok (replicate (sum sizes) 0)
-start_words sizes (b ∷ bs) = fitting sizes (in_section sections.Maps (maps_text (b ∷ bs)))
+abbrev pub maps_start_words : List ℕ → List ℕ → TextOutcome
+maps_start_words sizes [] = Ok (replicate (sum sizes) 0)
+maps_start_words sizes (b ∷ bs) = fitting sizes (in_section sections.Maps (maps_text (b ∷ bs)))
 
 -- what is reported of a program is printed
-abbrev pub IsPrinted : Program → Ending Reported → Outcome → Type 0
+abbrev pub IsPrinted : Program → BoundedResult Reported → TextOutcome → Type 0
 IsPrinted program reported outcome = (told : Reported) × (reported ≡ Ended told) × (outcome ≡ Ok (report_text program.sizes told))
 
 -- a program runs in order from its start words, at most 4,096 instructions up to each turn of main and in each
 -- iteration
-abbrev pub RunsInOrder : Program → ℕ → Outcome → Outcome → Type 0
-RunsInOrder program argument (Err error) outcome = outcome ≡ Err error
-RunsInOrder program argument (Ok words) outcome = IsPrinted program (report_in_order program 4096 argument words) outcome
+abbrev pub PrintsReportInOrder : Program → ℕ → TextOutcome → TextOutcome → Type 0
+PrintsReportInOrder program argument (Err error) outcome = outcome ≡ Err error
+PrintsReportInOrder program argument (Ok words) outcome = IsPrinted program (report_in_order program 4096 argument words) outcome
 
 -- an accepted program runs in order on the maps of a section
-abbrev pub OfOrder : Result Program AnswerError → ℕ → List ℕ → Outcome → Type 0
+abbrev pub OfOrder : Result Program AnswerError → ℕ → List ℕ → TextOutcome → Type 0
 OfOrder (Err error) argument maps outcome = outcome ≡ Err error
-OfOrder (Ok program) argument maps outcome = RunsInOrder program argument (start_words program.sizes maps) outcome
+OfOrder (Ok program) argument maps outcome = PrintsReportInOrder program argument (maps_start_words program.sizes maps) outcome
 
 -- a program runs from its start words, its loops by a plan: what is told of it is the report of the program in order, with
 -- the verdicts of the plan's test, and nothing else of the plan occurs in it; one outside its limits is refused
-abbrev pub RunsByPlan : Program → ℕ → Plan → Outcome → Outcome → Type 0
-RunsByPlan program argument plan (Err error) outcome = outcome ≡ Err error
-RunsByPlan program argument plan (Ok words) outcome =
+abbrev pub PrintsReportByPlan : Program → ℕ → Plan → TextOutcome → TextOutcome → Type 0
+PrintsReportByPlan program argument plan (Err error) outcome = outcome ≡ Err error
+PrintsReportByPlan program argument plan (Ok words) outcome =
     (IsPlan plan → IsPrinted program (report plan.test program 4096 argument words) outcome)
     × (¬ IsPlan plan → outcome ≡ refused refusals.Plan)
 
 -- an accepted program runs by a plan on the maps of a section
-abbrev pub OfRun : Result Program AnswerError → ℕ → Plan → List ℕ → Outcome → Type 0
+abbrev pub OfRun : Result Program AnswerError → ℕ → Plan → List ℕ → TextOutcome → Type 0
 OfRun (Err error) argument plan maps outcome = outcome ≡ Err error
-OfRun (Ok program) argument plan maps outcome = RunsByPlan program argument plan (start_words program.sizes maps) outcome
+OfRun (Ok program) argument plan maps outcome = PrintsReportByPlan program argument plan (maps_start_words program.sizes maps) outcome
 
 -- the refusal of a replay
 abbrev pub replay_refusal : ReplayRefusal → Refusal
@@ -167,32 +167,32 @@ replay_refusal (replays.Split fault) = refusals.Split fault
 replay_refusal (replays.Schedule fault) = refusals.Schedule fault
 
 -- the line of the loop that was replayed and the maps of these sizes after it, or the replay's refusal
-abbrev pub replay_outcome : List ℕ → Result LoopReplay ReplayRefusal → Outcome
+abbrev pub replay_outcome : List ℕ → Result LoopReplay ReplayRefusal → TextOutcome
 replay_outcome sizes (Ok loop) = Ok (replay_text sizes loop.number loop.told loop.words)
 replay_outcome sizes (Err refusal) = refused (replay_refusal refusal)
 
 -- a program runs in order from its start words up to its first valid loop call, which is replayed with bounds and events,
 -- and what comes of it is printed
-abbrev pub ReplaysTo : Program → ℕ → Test → Outcome → Result (List ℕ × List Event) AnswerError → Outcome → Type 0
+abbrev pub ReplaysTo : Program → ℕ → Test → TextOutcome → Result (List ℕ × List Event) AnswerError → TextOutcome → Type 0
 ReplaysTo program argument test (Err error) schedule outcome = outcome ≡ Err error
 ReplaysTo program argument test (Ok words) (Err error) outcome = outcome ≡ Err error
 ReplaysTo program argument test (Ok words) (Ok schedule) outcome =
     (comes : Result LoopReplay ReplayRefusal) × ComesTo test program argument words schedule.0 schedule.1 comes × (outcome ≡ replay_outcome program.sizes comes)
 
 -- an accepted program is replayed on the maps of a section with the events of another
-abbrev pub OfReplay : Result Program AnswerError → ℕ → Test → (maps events : List ℕ) → Outcome → Type 0
+abbrev pub OfReplay : Result Program AnswerError → ℕ → Test → (maps events : List ℕ) → TextOutcome → Type 0
 OfReplay (Err error) argument test maps events outcome = outcome ≡ Err error
 OfReplay (Ok program) argument test maps events outcome =
-    ReplaysTo program argument test (start_words program.sizes maps) (in_section sections.Events (events_text events)) outcome
+    ReplaysTo program argument test (maps_start_words program.sizes maps) (in_section sections.Events (events_text events)) outcome
 
 -- an input is at most 3,145,728 bytes of UTF-8
-abbrev pub readable : List ℕ → Outcome
+abbrev pub readable : List ℕ → TextOutcome
 readable input =
     if nat_lt 3145728 (length input) then refused (refusals.Text text_faults.TooLong sections.Unit 0)
     else if is_utf8 input then Ok input else refused (refusals.Text text_faults.Form sections.Unit 0)
 
 -- what comes of an input in a mode
-abbrev pub InMode : Mode → List ℕ → Outcome → Type 0
+abbrev pub InMode : Mode → List ℕ → TextOutcome → Type 0
 InMode (Order form argument) input outcome = OfOrder (accepted (unit_program form (unit_section input))) argument (maps_section input) outcome
 InMode (Replay form argument test) input outcome =
     OfReplay (accepted (unit_program form (unit_section input))) argument test (maps_section input) (events_section input) outcome
@@ -201,13 +201,13 @@ InMode Asm input outcome = outcome ≡ written Hex (unit_program Assembler (unit
 InMode Disasm input outcome = outcome ≡ written Assembler (unit_program Hex (unit_section input))
 
 -- what comes of an input that can be read
-abbrev pub OfReadable : Job → Outcome → Outcome → Type 0
+abbrev pub OfReadable : Job → TextOutcome → TextOutcome → Type 0
 OfReadable job (Err error) outcome = outcome ≡ Err error
 OfReadable (Serve mode) (Ok input) outcome = InMode mode input outcome
 OfReadable (Run form argument plan) (Ok input) outcome = OfRun (accepted (unit_program form (unit_section input))) argument plan (maps_section input) outcome
 
 -- what comes of an input
-abbrev pub OfInput : Job → List ℕ → Outcome → Type 0
+abbrev pub OfInput : Job → List ℕ → TextOutcome → Type 0
 OfInput job input outcome = OfReadable job (readable input) outcome
 
 -- an answer: its text, and how it is served
@@ -221,25 +221,25 @@ refused_as (refusals.Text fault section line) = served.Text
 refused_as _ = served.Refused
 
 -- the answer that tells an outcome
-abbrev pub answer_of : Outcome → Answer
+abbrev pub answer_of : TextOutcome → Answer
 answer_of (Ok text) = record { served = served.Done; text = text }
 answer_of (Err (errors.Refused refusal)) = record { served = refused_as refusal; text = refusal_line refusal }
 answer_of (Err errors.Memory) = record { served = served.Memory; text = memory_line }
 
 -- the answer to an input
 pub record Answers (job : Job) (input : List ℕ) (answer : Answer) : Type 0 where
-  pub outcome : Outcome
+  pub outcome : TextOutcome
   pub comes : OfInput job input outcome
   pub told : answer ≡ answer_of outcome
 
 -- what a function returns, seen by view, is as wanted, or memory ran out
-abbrev pub Met : {X Y : Type 0} → (X → Y) → (Result Y AnswerError → Type 0) → Result X AnswerError → Type 0
-Met view wanted (Ok x) = wanted (Ok (view x))
-Met view wanted (Err (errors.Refused refusal)) = wanted (refused refusal)
-Met view wanted (Err errors.Memory) = Unit {0}
+abbrev pub SatisfiesUnlessMemory : {X Y : Type 0} → (X → Y) → (Result Y AnswerError → Type 0) → Result X AnswerError → Type 0
+SatisfiesUnlessMemory view wanted (Ok x) = wanted (Ok (view x))
+SatisfiesUnlessMemory view wanted (Err (errors.Refused refusal)) = wanted (refused refusal)
+SatisfiesUnlessMemory view wanted (Err errors.Memory) = Unit {0}
 
 -- an answer that tells what a function returned, seen by view; none tells that memory ran out
-abbrev pub Tells : {X : Type 0} → (X → List ℕ) → Result X AnswerError → Answer → Type 0
-Tells view (Ok x) answer = answer ≡ answer_of (Ok (view x))
-Tells view (Err (errors.Refused refusal)) answer = answer ≡ answer_of (refused refusal)
-Tells view (Err errors.Memory) answer = ⊥
+abbrev pub AnswerTells : {X : Type 0} → (X → List ℕ) → Result X AnswerError → Answer → Type 0
+AnswerTells view (Ok x) answer = answer ≡ answer_of (Ok (view x))
+AnswerTells view (Err (errors.Refused refusal)) answer = answer ≡ answer_of (refused refusal)
+AnswerTells view (Err errors.Memory) answer = ⊥

@@ -5,7 +5,7 @@ ghost use Rattle.bpf_insn_types.specs.Program.{callback_starts};
 ghost use Rattle.std.specs.String.{string_bytes};
 ghost use Rattle.bpfspec_command_line.specs.declared.job.Job.TheVariants.{Serve, Run};
 ghost use Rattle.bpfspec_command_line.specs.declared.job.Mode.TheVariants.{Order, Replay};
-ghost use Rattle.bpfspec_serve.specs.Output.{unit_program, function_of, functions_of, replay_refusal, RunsInOrder, RunsByPlan, ReplaysTo, InMode, OfReadable, OfInput, Met, written, accepted, verified};
+ghost use Rattle.bpfspec_serve.specs.Output.{unit_program, function_numbered, functions_of, replay_refusal, PrintsReportInOrder, PrintsReportByPlan, ReplaysTo, InMode, OfReadable, OfInput, SatisfiesUnlessMemory, written, accepted, verified};
 ghost use Rattle.bpfspec_serve.specs.Sections.{unit_section};
 
 use crate::answer_error::AnswerError;
@@ -32,7 +32,7 @@ fn order_on(
     argument: u64,
 ) -> Result<String, AnswerError>
     requires { maps.sizes ≡ program.now.sizes }
-    ensures { Met string_bytes (RunsInOrder program.now argument (Ok maps.words)) result }
+    ensures { SatisfiesUnlessMemory string_bytes (PrintsReportInOrder program.now argument (Ok maps.words)) result }
 {
     let mut maps = maps;
     match run_in_order(alloc, program, &mut maps, argument) {
@@ -45,7 +45,7 @@ fn order_on(
 
 /// What comes of a unit, its argument and its maps.
 fn order(alloc: Global, form: UnitForm, argument: u64, input: &str) -> Result<String, AnswerError>
-    ensures { Met string_bytes (InMode (Order form argument) input.now) result }
+    ensures { SatisfiesUnlessMemory string_bytes (InMode (Order form argument) input.now) result }
 {
     let unit = part(input);
     let maps = part(unit.rest);
@@ -65,7 +65,7 @@ fn run_on<R: Threads + Sync, G: Gate>(
     gate: &G,
 ) -> Result<String, AnswerError>
     requires { maps.sizes ≡ program.now.sizes }
-    ensures { Met string_bytes (RunsByPlan program.now argument plan.now (Ok maps.words)) result }
+    ensures { SatisfiesUnlessMemory string_bytes (PrintsReportByPlan program.now argument plan.now (Ok maps.words)) result }
 {
     let mut maps = maps;
     match run(rt, alloc, program, &mut maps, argument, plan, gate) {
@@ -86,7 +86,7 @@ fn run_program<R: Threads + Sync, G: Gate>(
     gate: &G,
     input: &str,
 ) -> Result<String, AnswerError>
-    ensures { Met string_bytes (OfReadable (Run form argument plan.now) (Ok input.now)) result }
+    ensures { SatisfiesUnlessMemory string_bytes (OfReadable (Run form argument plan.now) (Ok input.now)) result }
 {
     let unit = part(input);
     let maps = part(unit.rest);
@@ -117,7 +117,7 @@ fn replay_on(
     test: Test,
 ) -> Result<String, AnswerError>
     requires sizes { maps.sizes ≡ program.now.sizes }
-    ensures { Met string_bytes (ReplaysTo program.now argument test (Ok maps.words) (Ok (schedule.0.items, schedule.1.items))) result }
+    ensures { SatisfiesUnlessMemory string_bytes (ReplaysTo program.now argument test (Ok maps.words) (Ok (schedule.0.items, schedule.1.items))) result }
 {
     let (bounds, events) = schedule;
     match replay(alloc, program, maps, argument, bounds, &events, test) {
@@ -135,7 +135,7 @@ fn replay_first_loop(
     test: Test,
     input: &str,
 ) -> Result<String, AnswerError>
-    ensures { Met string_bytes (InMode (Replay form argument test) input.now) result }
+    ensures { SatisfiesUnlessMemory string_bytes (InMode (Replay form argument test) input.now) result }
 {
     let unit = part(input);
     let maps = part(unit.rest);
@@ -147,7 +147,7 @@ fn replay_first_loop(
 
 /// A unit as a text.
 fn write_unit(alloc: Global, form: UnitForm, unit: &Unit) -> Result<String, AnswerError>
-    ensures { Met string_bytes (λ outcome. outcome ≡ written form (Ok unit.now)) result }
+    ensures { SatisfiesUnlessMemory string_bytes (λ outcome. outcome ≡ written form (Ok unit.now)) result }
 {
     let text = match form {
         UnitForm::Assembler => print_unit(alloc, unit),
@@ -166,7 +166,7 @@ fn translate(
     to: UnitForm,
     input: &str,
 ) -> Result<String, AnswerError>
-    ensures { Met string_bytes (λ outcome. outcome ≡ written to (unit_program from (unit_section input.now))) result }
+    ensures { SatisfiesUnlessMemory string_bytes (λ outcome. outcome ≡ written to (unit_program from (unit_section input.now))) result }
 {
     let unit = read_unit(alloc, from, part(input).section)?;
     write_unit(alloc, to, &unit)
@@ -175,7 +175,7 @@ fn translate(
 /// A function of an accepted program, whose number is at most the program's `callbacks()`.
 fn function_of(program: &Verified, number: u32) -> Function
     requires { number ≤ length (callback_starts program.now.insns) }
-    ensures { result ≡ function_of program.now.insns number }
+    ensures { result ≡ function_numbered program.now.insns number }
 {
     Function {
         start: program.start(number),
@@ -197,7 +197,7 @@ fn functions_of(alloc: Global, program: &Verified) -> Result<Vec<Function>, Allo
 
 /// What is told of an accepted program.
 fn judge(alloc: Global, form: UnitForm, input: &str) -> Result<String, AnswerError>
-    ensures { Met string_bytes (λ outcome. outcome ≡ verified (accepted (unit_program form (unit_section input.now)))) result }
+    ensures { SatisfiesUnlessMemory string_bytes (λ outcome. outcome ≡ verified (accepted (unit_program form (unit_section input.now)))) result }
 {
     let program = accept(alloc, form, part(input).section)?;
     Ok(print_accepted(alloc, &functions_of(alloc, &program)?)?)
@@ -205,7 +205,7 @@ fn judge(alloc: Global, form: UnitForm, input: &str) -> Result<String, AnswerErr
 
 /// What comes of an input in a mode.
 pub fn outcome(alloc: Global, mode: &Mode, input: &[u8]) -> Result<String, AnswerError>
-    ensures { Met string_bytes (OfInput (Serve mode.now) input.now) result }
+    ensures { SatisfiesUnlessMemory string_bytes (OfInput (Serve mode.now) input.now) result }
 {
     let text = readable(input)?;
     match mode {
@@ -227,7 +227,7 @@ pub fn run_outcome<R: Threads + Sync, G: Gate>(
     gate: &G,
     input: &[u8],
 ) -> Result<String, AnswerError>
-    ensures { Met string_bytes (OfInput (Run form argument plan.now) input.now) result }
+    ensures { SatisfiesUnlessMemory string_bytes (OfInput (Run form argument plan.now) input.now) result }
 {
     run_program(rt, alloc, form, argument, plan, gate, readable(input)?)
 }

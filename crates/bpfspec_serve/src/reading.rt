@@ -5,7 +5,7 @@ ghost use Rattle.array_maps.specs.MapList.{lists, zero_maps};
 ghost use Rattle.bpf_text.specs.EventsText.{events_text};
 ghost use Rattle.bpfspec_output.specs.declared.refusal.Refusal.TheVariants.{Text};
 ghost use Rattle.bpfspec_serve.specs.declared.answer_error.AnswerError.TheVariants.{Refused};
-ghost use Rattle.bpfspec_serve.specs.Output.{text_error, codec_error, readable, unit_program, fitting, start_words, in_section, Met, accepted};
+ghost use Rattle.bpfspec_serve.specs.Output.{text_error, codec_error, readable, unit_program, fitting, maps_start_words, in_section, SatisfiesUnlessMemory, accepted};
 
 use crate::answer_error::AnswerError;
 use array_maps::{Maps, MapsError};
@@ -38,7 +38,7 @@ fn unit_refusal(fault: TextFault) -> AnswerError
 
 /// An input as a text.
 pub fn readable(input: &[u8]) -> Result<&str, AnswerError>
-    ensures { Met (λ s. s.now) (λ outcome. outcome ≡ readable input.now) result }
+    ensures { SatisfiesUnlessMemory (λ s. s.now) (λ outcome. outcome ≡ readable input.now) result }
 {
     if input.len() > MAX_INPUT {
         return Err(unit_refusal(TextFault::TooLong));
@@ -75,7 +75,7 @@ pub fn codec_error(error: CodecError) -> AnswerError
 
 /// The unit of a section in hex form.
 fn read_hex_unit(alloc: Global, section: &str) -> Result<Unit, AnswerError>
-    ensures { Met (λ unit. unit) (λ program. program ≡ unit_program UnitForm.Hex section.now) result }
+    ensures { SatisfiesUnlessMemory (λ unit. unit) (λ program. program ≡ unit_program UnitForm.Hex section.now) result }
 {
     let parts = match read_hex(alloc, section) {
         Ok(parts) => parts,
@@ -93,7 +93,7 @@ fn read_hex_unit(alloc: Global, section: &str) -> Result<Unit, AnswerError>
 
 /// The unit of a section.
 pub fn read_unit(alloc: Global, form: UnitForm, section: &str) -> Result<Unit, AnswerError>
-    ensures { Met (λ unit. unit) (λ program. program ≡ unit_program form section.now) result }
+    ensures { SatisfiesUnlessMemory (λ unit. unit) (λ program. program ≡ unit_program form section.now) result }
 {
     match form {
         UnitForm::Assembler => match parse_unit(alloc, section) {
@@ -106,7 +106,7 @@ pub fn read_unit(alloc: Global, form: UnitForm, section: &str) -> Result<Unit, A
 
 /// The accepted program of a section.
 pub fn accept(alloc: Global, form: UnitForm, section: &str) -> Result<Verified, AnswerError>
-    ensures { Met (λ program. program) (λ outcome. outcome ≡ accepted (unit_program form section.now)) result }
+    ensures { SatisfiesUnlessMemory (λ program. program) (λ outcome. outcome ≡ accepted (unit_program form section.now)) result }
 {
     let unit = read_unit(alloc, form, section)?;
     match verify(alloc, unit) {
@@ -120,7 +120,7 @@ pub fn accept(alloc: Global, form: UnitForm, section: &str) -> Result<Verified, 
 
 /// Maps of a program that are all zero.
 fn zero_maps(alloc: Global, program: &Verified) -> Result<Maps, AnswerError>
-    ensures { Met (λ maps. maps) (λ outcome. outcome ≡ Ok (zero_maps program.now.sizes)) result }
+    ensures { SatisfiesUnlessMemory (λ maps. maps) (λ outcome. outcome ≡ Ok (zero_maps program.now.sizes)) result }
 {
     match Maps::new(alloc, program.sizes()) {
         Ok(maps) => Ok(maps),
@@ -131,7 +131,7 @@ fn zero_maps(alloc: Global, program: &Verified) -> Result<Maps, AnswerError>
 
 /// Maps of a program that have these values.
 fn maps_of(alloc: Global, program: &Verified, values: &[Vec<u64>]) -> Result<Maps, AnswerError>
-    ensures words { Met (λ maps. maps.words) (λ outcome. outcome ≡ fitting program.now.sizes (Ok (lists values.now))) result }
+    ensures words { SatisfiesUnlessMemory (λ maps. maps.words) (λ outcome. outcome ≡ fitting program.now.sizes (Ok (lists values.now))) result }
     ensures sizes { IfOk result (λ maps. maps.sizes ≡ program.now.sizes) }
 {
     let sizes = program.sizes();
@@ -148,7 +148,7 @@ fn maps_of(alloc: Global, program: &Verified, values: &[Vec<u64>]) -> Result<Map
 
 /// The maps that a program starts with.
 pub fn start_maps(alloc: Global, program: &Verified, section: &str) -> Result<Maps, AnswerError>
-    ensures words { Met (λ maps. maps.words) (λ outcome. outcome ≡ start_words program.now.sizes section.now) result }
+    ensures words { SatisfiesUnlessMemory (λ maps. maps.words) (λ outcome. outcome ≡ maps_start_words program.now.sizes section.now) result }
     ensures sizes { IfOk result (λ maps. maps.sizes ≡ program.now.sizes) }
 {
     if section.is_empty() {
@@ -162,7 +162,7 @@ pub fn start_maps(alloc: Global, program: &Verified, section: &str) -> Result<Ma
 
 /// The bounds and events of a section.
 pub fn read_events(alloc: Global, section: &str) -> Result<(Vec<u32>, Vec<Event>), AnswerError>
-    ensures { Met (λ x. (x.0.items, x.1.items)) (λ outcome. outcome ≡ in_section Section.Events (events_text section.now)) result }
+    ensures { SatisfiesUnlessMemory (λ x. (x.0.items, x.1.items)) (λ outcome. outcome ≡ in_section Section.Events (events_text section.now)) result }
 {
     match parse_events(alloc, section) {
         Ok(schedule) => Ok(schedule),

@@ -4,7 +4,7 @@ ghost use Rattle.std.specs.Prelude.{◌≡◌, ◌+◌, ◌-◌, ◌^◌, ◌<�
 ghost use Rattle.std.specs.String.{string_bytes};
 ghost use Rattle.bpfspec_command_line.specs.declared.job.Job.TheVariants.{Serve, Run};
 ghost use Rattle.bpfspec_serve.specs.HowServed.{AnswersReader, HowWritten, HowServed};
-ghost use Rattle.bpfspec_serve.specs.Output.{refused_as, Tells};
+ghost use Rattle.bpfspec_serve.specs.Output.{refused_as, AnswerTells};
 ghost use Rattle.bpfspec_streams.specs.Streams.{ConsumesAtMost};
 
 use crate::answer_error::AnswerError;
@@ -51,7 +51,7 @@ fn refused_as(refusal: Refusal) -> Served
 
 /// The answer that tells what came of an input.
 fn answer_to(alloc: Global, outcome: Result<String, AnswerError>) -> Result<Answer, AllocError>
-    ensures { IfOk result (λ answer. Tells string_bytes outcome (record {
+    ensures { IfOk result (λ answer. AnswerTells string_bytes outcome (record {
       served = answer.served;
       text = string_bytes answer.text;
     })) }
@@ -84,7 +84,7 @@ pub(crate) fn write<W: Sink>(sink: &mut W, text: &[u8], wanted: Served) -> Serve
 /// Writes what came of an input, or that memory ran out.
 fn tell<W: Sink>(alloc: Global, outcome: Result<String, AnswerError>, sink: &mut W) -> Served
     requires { W.failed sink.old < 2 ^ 64 - 1 }
-    ensures { HowServed (Tells string_bytes outcome) result (λ n. n ≡ 0) (λ n. W.failed sink.new ≡ W.failed sink.old + n)
+    ensures { HowServed (AnswerTells string_bytes outcome) result (λ n. n ≡ 0) (λ n. W.failed sink.new ≡ W.failed sink.old + n)
         (W.taken sink.old) (W.taken sink.new) }
 {
     match answer_to(alloc, outcome) {

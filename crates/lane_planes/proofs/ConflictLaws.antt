@@ -8,7 +8,7 @@ use Rattle.std.proofs.lemmas.List.{get_or_past}
 use Rattle.std.proofs.lemmas.Nat.Bits.{bit_at-zero, bit_at_above}
 use Rattle.array_maps.specs.declared.access.Op.TheVariants.{Add, Or, And, Xor, AddH}
 use Rattle.loop_core_marks.specs.Marks.{Visit, Marks, marks_of, first_number, marked_reduction, marked_fails, marked_conflict}
-use Rattle.loop_core_marks.specs.Planes.{bit_of, elements_of}
+use Rattle.loop_core_marks.specs.Planes.{bit_of, elements_in_plane}
 use Rattle.loop_core_marks.proofs.MarkLaws.{first_is_number}
 use Rattle.loop_core_marks.proofs.PlaneLaws.{plane_has_elements}
 use Rattle.shadow_marks.specs.declared.planes.Tested.{Tested}
@@ -137,7 +137,7 @@ conflict_past planes words whole long are e out =
 pub conflict_elements : (planes : Planes) (words : List ℕ) → length words ≡ words_for planes.elements →
     ((e : ℕ) (marks : Marks) → e < planes.elements → StandAt planes e marks → bit_of words e ≡ marked_conflict (test_of planes.tested) marks) →
     ((e : ℕ) → planes.elements ≤ e → bit_of words e ≡ false) → (visits : ℕ → List Visit) → StandFor planes visits →
-    elements_of words ≡ filter (λ e. marked_conflict (test_of planes.tested) (marks_of (visits e))) (range_with_len 0 planes.elements)
+    elements_in_plane words ≡ filter (λ e. marked_conflict (test_of planes.tested) (marks_of (visits e))) (range_with_len 0 planes.elements)
 conflict_elements planes words long each past visits stand =
     let room : planes.elements ≤ 64 * length words = omega arith in
     plane_has_elements words (λ e. marked_conflict (test_of planes.tested) (marks_of (visits e))) planes.elements room

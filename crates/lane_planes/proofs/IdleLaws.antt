@@ -22,7 +22,7 @@ use Rattle.shadow_marks.specs.declared.planes.Tested.TheVariants.{Lrpd, Flow}
 use Rattle.shadow_marks.specs.declared.planes.Planes.{Planes}
 use Rattle.shadow_marks.specs.Standing.{IsBitPlane, AreTested, TestedStandAt, plane_by}
 use Rattle.lane_planes.specs.Words.{HasBits, stands_at}
-use Rattle.lane_planes.specs.Merged.{StandForSome, IsUntouched, WordsFit}
+use Rattle.lane_planes.specs.Merged.{StandForSome, IsUntouchedPage, WordsFit}
 use Rattle.lane_planes.proofs.BitMeaning.{bit}
 use Rattle.lane_planes.proofs.PageLaws.{FlowIdle, TestedIdle, IsIdle}
 
@@ -124,7 +124,7 @@ module _ (elements page : ℕ) (marks : ℕ → Marks) (idle : (e : ℕ) → e /
   }
 
 -- in a page that no iteration touched nothing is marked
-pub untouched_idle : (planes : Planes) (page : ℕ) → StandForSome planes → IsUntouched planes page → WordsFit planes.tested → IsIdle planes page
+pub untouched_idle : (planes : Planes) (page : ℕ) → StandForSome planes → IsUntouchedPage planes page → WordsFit planes.tested → IsIdle planes page
 untouched_idle planes page some untouched fit =
     let visits = some.visits in
     let idle : (e : ℕ) → e / 64 ≡ page → e < planes.elements → AreIdle (marks_of (some.visits e)) =
@@ -150,7 +150,7 @@ none_below first = grind arith
 no_bits : (many : ℕ) (test : ℕ → Bool) → ((k : ℕ) → k < many → test k ≡ false) → HasBits many test 0
 no_bits many test none = record { below = pow_pos many; each = λ k small. ap (λ x. x == 1) (bit_at-zero k) ∙ sym (none k small) }
 
-pub untouched_word : (planes : Planes) (flow : FlowPlanes) (page : ℕ) → planes.tested ≡ Flow flow → StandForSome planes → IsUntouched planes page →
+pub untouched_word : (planes : Planes) (flow : FlowPlanes) (page : ℕ) → planes.tested ≡ Flow flow → StandForSome planes → IsUntouchedPage planes page →
     HasBits (min (length flow.first.items - 64 * page) 64) (λ k. stands_at flow.first.items flow.last.items (64 * page + k)) 0
 untouched_word planes flow page is some untouched =
     let idle : FlowIdle flow page = subst (λ t. TestedIdle t page) is (untouched_idle planes page some untouched (flow_has_no_words planes flow is)).tested in
@@ -194,7 +194,7 @@ pub untouched_by_words : (planes : Planes) (page plain add or and xor addh : ℕ
     not (bit_or (bit_or (bit_or (bit_or (bit_or plain add) or) and) xor) addh == 0) ≡ false →
     plain ≡ slice_index planes.plain.items page → add ≡ slice_index planes.operators.add.items page → or ≡ slice_index planes.operators.or.items page →
     and ≡ slice_index planes.operators.and.items page → xor ≡ slice_index planes.operators.xor.items page → addh ≡ slice_index planes.operators.addh.items page →
-    IsUntouched planes page
+    IsUntouchedPage planes page
 untouched_by_words planes page plain add or and xor addh unset is_plain is_add is_or is_and is_xor is_addh =
     let five = both_zero (bit_or (bit_or (bit_or (bit_or plain add) or) and) xor) addh (none_of (bit_or (bit_or (bit_or (bit_or (bit_or plain add) or) and) xor) addh) unset) in
     let four = both_zero (bit_or (bit_or (bit_or plain add) or) and) xor five.left in

@@ -135,6 +135,6 @@ pub record StandForSome (planes : Planes) : Type 0 where
   pub stand : StandFor planes visits
 
 -- no bit says that an iteration accessed an element of a page: each access is plain or by an operator
-pub record IsUntouched (planes : Planes) (page : ℕ) : Type 0 where
+pub record IsUntouchedPage (planes : Planes) (page : ℕ) : Type 0 where
   pub plain : slice_index planes.plain.items page ≡ 0
   pub by : (op : Op) → slice_index (plane_by planes.operators op) page ≡ 0

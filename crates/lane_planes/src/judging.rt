@@ -3,7 +3,7 @@
 ghost use Rattle.std.specs.Prelude.{◌≡◌, ◌<◌, ◌≤◌, ℕ, List, length};
 ghost use Rattle.std.specs.List.{filter, range_with_len};
 ghost use Rattle.loop_core_marks.specs.Marks.{Visit, Marks, marks_of, marked_conflict};
-ghost use Rattle.loop_core_marks.specs.Planes.{bit_of, elements_of};
+ghost use Rattle.loop_core_marks.specs.Planes.{bit_of, elements_in_plane};
 ghost use Rattle.shadow_marks.specs.Standing.{ArePlanes, IsBitPlane, StandAt, StandFor, test_of, words_for};
 ghost use Rattle.lane_planes.specs.Conflicts.{ConflictWords, FailingWords, LastsFit, TestedFit};
 
@@ -20,7 +20,7 @@ pub fn conflicts<const N: usize>(planes: &Planes, into: &mut [u64])
     ensures words { ConflictWords planes.now into.new }
     ensures marks { (e : ℕ) (marks : Marks) → e < planes.now.elements → StandAt planes.now e marks → bit_of into.new e ≡ marked_conflict (test_of planes.now.tested) marks }
     ensures plane { IsBitPlane planes.now.elements into.new }
-    ensures elements { (visits : ℕ → List Visit) → StandFor planes.now visits → elements_of into.new ≡ filter (λ e. marked_conflict (test_of planes.now.tested) (marks_of (visits e))) (range_with_len 0 planes.now.elements) }
+    ensures elements { (visits : ℕ → List Visit) → StandFor planes.now visits → elements_in_plane into.new ≡ filter (λ e. marked_conflict (test_of planes.now.tested) (marks_of (visits e))) (range_with_len 0 planes.now.elements) }
 {
     failing_into::<N>(&planes.tested, into);
     leave_conflicts::<N>(planes, into);
@@ -36,7 +36,7 @@ pub(crate) fn leave_conflicts<const N: usize>(planes: &Planes, into: &mut [u64])
     ensures words { ConflictWords planes.now into.new }
     ensures marks { (e : ℕ) (marks : Marks) → e < planes.now.elements → StandAt planes.now e marks → bit_of into.new e ≡ marked_conflict (test_of planes.now.tested) marks }
     ensures plane { IsBitPlane planes.now.elements into.new }
-    ensures elements { (visits : ℕ → List Visit) → StandFor planes.now visits → elements_of into.new ≡ filter (λ e. marked_conflict (test_of planes.now.tested) (marks_of (visits e))) (range_with_len 0 planes.now.elements) }
+    ensures elements { (visits : ℕ → List Visit) → StandFor planes.now visits → elements_in_plane into.new ≡ filter (λ e. marked_conflict (test_of planes.now.tested) (marks_of (visits e))) (range_with_len 0 planes.now.elements) }
 {
     let reductions = reduction_planes(planes);
     clear_reductions::<N>(into, reductions);

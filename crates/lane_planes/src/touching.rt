@@ -3,12 +3,12 @@
 ghost use Rattle.std.specs.Prelude.{◌≡◌, ◌+◌, ◌-◌, ◌*◌, ◌<◌, ◌≤◌, ℕ, false, min, List, length, slice_index};
 ghost use Rattle.std.specs.List.{filter, range_with_len};
 ghost use Rattle.loop_core_marks.specs.Marks.{Visit, Marks, marks_of, marked_conflict, merged};
-ghost use Rattle.loop_core_marks.specs.Planes.{bit_of, elements_of};
+ghost use Rattle.loop_core_marks.specs.Planes.{bit_of, elements_in_plane};
 ghost use Rattle.shadow_marks.specs.declared.planes.Tested.TheVariants.{Flow};
 ghost use Rattle.shadow_marks.specs.Standing.{ArePlanes, IsBitPlane, test_of, StandAt, StandFor, words_for};
 ghost use Rattle.shadow_marks.specs.Ending.{KeepsShape};
 ghost use Rattle.lane_planes.specs.Words.{FlowWords, HasBits, stands_at};
-ghost use Rattle.lane_planes.specs.Merged.{joined_visits, MergedPlanes, StandForSome, IsUntouched, WordsFit};
+ghost use Rattle.lane_planes.specs.Merged.{joined_visits, MergedPlanes, StandForSome, IsUntouchedPage, WordsFit};
 ghost use Rattle.lane_planes.specs.Conflicts.{ConflictWords, FailingWords, LastsFit};
 
 use crate::flow::flow_word;
@@ -55,7 +55,7 @@ pub fn conflicts_touched<const N: usize>(planes: &Planes, into: &mut [u64])
     ensures words { ConflictWords planes.now into.new }
     ensures marks { (e : ℕ) (marks : Marks) → e < planes.now.elements → StandAt planes.now e marks → bit_of into.new e ≡ marked_conflict (test_of planes.now.tested) marks }
     ensures plane { IsBitPlane planes.now.elements into.new }
-    ensures elements { (visits : ℕ → List Visit) → StandFor planes.now visits → elements_of into.new ≡ filter (λ e. marked_conflict (test_of planes.now.tested) (marks_of (visits e))) (range_with_len 0 planes.now.elements) }
+    ensures elements { (visits : ℕ → List Visit) → StandFor planes.now visits → elements_in_plane into.new ≡ filter (λ e. marked_conflict (test_of planes.now.tested) (marks_of (visits e))) (range_with_len 0 planes.now.elements) }
 {
     match &planes.tested {
         Tested::Lrpd(_) => failing_into::<N>(&planes.tested, into),
@@ -116,7 +116,7 @@ fn touched_up_to(planes: &Planes, page: usize) -> usize
 fn is_touched(planes: &Planes, page: usize) -> bool
     requires whole { ArePlanes planes.now }
     requires within { page < words_for planes.now.elements }
-    ensures { result ≡ false → IsUntouched planes.now page }
+    ensures { result ≡ false → IsUntouchedPage planes.now page }
 {
     let by = &planes.operators;
     (planes.plain[page] | by.add[page] | by.or[page] | by.and[page] | by.xor[page] | by.addh[page])

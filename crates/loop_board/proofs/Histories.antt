@@ -3,24 +3,24 @@ use Rattle.std.proofs.Common.{◌≡◌, ◌⊎◌, ℕ, zero, suc, ◌<◌, ◌
 use Rattle.std.proofs.lemmas.Bool.{cases_lt}
 use Rattle.loop_board.specs.Sums.{times}
 use Rattle.loop_board.specs.Draws.{drawn_by, LegalDraws}
-use Rattle.loop_board.specs.History.{History, Legal, IsLeast, nothing_done, no_post, least_in, least_post, times_posted, some_found_none}
+use Rattle.loop_board.specs.History.{History, Legal, IsLeast, nothing_done, no_post, least_index_in, least_post, times_posted, some_found_none}
 use Rattle.loop_board.proofs.Sums.{times_first, times_more, some_in_total, one_in_total, two_in_total, below_from_once, once_below-below}
 
 -- the least of a list is at most each index in it
-least_in_below : (x : ℕ) (ps : List ℕ) → 0 < times x ps → least_in ps ≤ x
+least_in_below : (x : ℕ) (ps : List ℕ) → 0 < times x ps → least_index_in ps ≤ x
 least_in_below x [] there = absurd (omega arith)
 least_in_below x (p ∷ ps) there = ⊎_elim (λ (is : x ≡ p). omega arith) (λ (more : 0 < times x ps). let r = least_in_below x ps more in omega arith) (times_more x p ps there)
 
 -- it is one of them, or 4,294,967,295
-least_in_reached : (ps : List ℕ) → (least_in ps ≡ no_post) ⊎ (0 < times (least_in ps) ps)
+least_in_reached : (ps : List ℕ) → (least_index_in ps ≡ no_post) ⊎ (0 < times (least_index_in ps) ps)
 least_in_reached [] = inl refl
-least_in_reached (p ∷ ps) = go (least_in_reached ps) (cases_lt p (least_in ps))
+least_in_reached (p ∷ ps) = go (least_in_reached ps) (cases_lt p (least_index_in ps))
   where
-    go : (least_in ps ≡ no_post) ⊎ (0 < times (least_in ps) ps) → (p < least_in ps) ⊎ (least_in ps ≤ p) → (least_in (p ∷ ps) ≡ no_post) ⊎ (0 < times (least_in (p ∷ ps)) (p ∷ ps))
-    go rest (inl lower) = inr (let is : p ≡ least_in (p ∷ ps) = omega arith in subst (λ (n : ℕ). 0 < times n (p ∷ ps)) is (times_first p ps))
+    go : (least_index_in ps ≡ no_post) ⊎ (0 < times (least_index_in ps) ps) → (p < least_index_in ps) ⊎ (least_index_in ps ≤ p) → (least_index_in (p ∷ ps) ≡ no_post) ⊎ (0 < times (least_index_in (p ∷ ps)) (p ∷ ps))
+    go rest (inl lower) = inr (let is : p ≡ least_index_in (p ∷ ps) = omega arith in subst (λ (n : ℕ). 0 < times n (p ∷ ps)) is (times_first p ps))
     go rest (inr upper) =
-        let is : least_in ps ≡ least_in (p ∷ ps) = omega arith in
-        ⊎_elim (λ (none_yet : least_in ps ≡ no_post). inl (sym is ∙ none_yet)) (λ (there : 0 < times (least_in ps) ps). inr (subst (λ (n : ℕ). 0 < times n (p ∷ ps)) is (omega arith))) rest
+        let is : least_index_in ps ≡ least_index_in (p ∷ ps) = omega arith in
+        ⊎_elim (λ (none_yet : least_index_in ps ≡ no_post). inl (sym is ∙ none_yet)) (λ (there : 0 < times (least_index_in ps) ps). inr (subst (λ (n : ℕ). 0 < times n (p ∷ ps)) is (omega arith))) rest
 
 -- the least post is at most 4,294,967,295
 least_post_most : (hs : List History) → least_post hs ≤ no_post
@@ -37,14 +37,14 @@ least_post_below (h ∷ hs) x there =
 -- the least post was posted, or is 4,294,967,295
 least_post_reached : (hs : List History) → (least_post hs ≡ no_post) ⊎ (0 < times_posted (least_post hs) hs)
 least_post_reached [] = inl refl
-least_post_reached (h ∷ hs) = go (least_post_reached hs) (cases_lt (least_in h.posts) (least_post hs))
+least_post_reached (h ∷ hs) = go (least_post_reached hs) (cases_lt (least_index_in h.posts) (least_post hs))
   where
-    go : (least_post hs ≡ no_post) ⊎ (0 < times_posted (least_post hs) hs) → (least_in h.posts < least_post hs) ⊎ (least_post hs ≤ least_in h.posts)
+    go : (least_post hs ≡ no_post) ⊎ (0 < times_posted (least_post hs) hs) → (least_index_in h.posts < least_post hs) ⊎ (least_post hs ≤ least_index_in h.posts)
         → (least_post (h ∷ hs) ≡ no_post) ⊎ (0 < times_posted (least_post (h ∷ hs)) (h ∷ hs))
     go rest (inl lower) =
-        let is : least_in h.posts ≡ least_post (h ∷ hs) = omega arith in
-        ⊎_elim (λ (none_yet : least_in h.posts ≡ no_post). inl (sym is ∙ none_yet))
-        (λ (there : 0 < times (least_in h.posts) h.posts). inr (subst (λ (n : ℕ). 0 < times_posted n (h ∷ hs)) is (omega arith))) (least_in_reached h.posts)
+        let is : least_index_in h.posts ≡ least_post (h ∷ hs) = omega arith in
+        ⊎_elim (λ (none_yet : least_index_in h.posts ≡ no_post). inl (sym is ∙ none_yet))
+        (λ (there : 0 < times (least_index_in h.posts) h.posts). inr (subst (λ (n : ℕ). 0 < times_posted n (h ∷ hs)) is (omega arith))) (least_in_reached h.posts)
     go rest (inr upper) =
         let is : least_post hs ≡ least_post (h ∷ hs) = omega arith in
         ⊎_elim (λ (none_yet : least_post hs ≡ no_post). inl (sym is ∙ none_yet)) (λ (there : 0 < times_posted (least_post hs) hs). inr (subst (λ (n : ℕ). 0 < times_posted n (h ∷ hs)) is (omega arith)))

@@ -10,19 +10,19 @@ use Rattle.loop_board.specs.declared.view.Extent.{Extent}
 use Rattle.loop_board.specs.declared.view.SeatView.{SeatView}
 use Rattle.loop_board.specs.Sums.{times, once_below}
 use Rattle.loop_board.specs.History.{no_post, most_index, IsIndexOrNone, IsLeast}
-use Rattle.loop_board.specs.Rule.{spent_view, Fits, Agrees, Kept, Claims, Looks, Turns, posted_in, seen_in, with_draw, with_none, with_look, with_post, IsWorkers}
+use Rattle.loop_board.specs.Rule.{spent_view, ViewFits, Agrees, BoardInvariant, Claims, Looks, Turns, posted_in, seen_in, with_draw, with_none, with_look, with_post, IsWorkers}
 use Rattle.loop_board.proofs.Sums.{total-set, le_total, total_le, times-push, All-times, once_below-next, below_from_once}
 
 abbrev V : Type 0
 V = SeatView
 
 -- a view with a part is of this board
-pub of_board : (e : Extent) (v : V) → 0 < v.parts → Fits e v → (v.extent ≡ e) × (v.nones ≤ v.parts)
+pub of_board : (e : Extent) (v : V) → 0 < v.parts → ViewFits e v → (v.extent ≡ e) × (v.nones ≤ v.parts)
 of_board e v part fits =
     ⊎_elim (λ (is : v ≡ spent_view). let none : v.parts ≡ 0 = ap (λ (u : V). u.parts) is in absurd (omega arith)) (λ (f : (v.extent ≡ e) × (0 < v.parts) × (v.nones ≤ v.parts)). (f.0, f.2)) fits
 
 -- no seat found none more often than it has parts
-nones_le_parts : (e : Extent) (v : V) → Fits e v → v.nones ≤ v.parts
+nones_le_parts : (e : Extent) (v : V) → ViewFits e v → v.nones ≤ v.parts
 nones_le_parts e v fits =
     ⊎_elim (λ (is : v ≡ spent_view). let none : v.nones ≡ 0 = ap (λ (u : V). u.nones) is in omega arith) (λ (f : (v.extent ≡ e) × (0 < v.parts) × (v.nones ≤ v.parts)). f.2) fits
 
@@ -39,18 +39,18 @@ pub least_index : (e : Extent) (next least : ℕ) (views : List V) → Agrees e 
 least_index e next least views h = ⊎_elim (λ (none_yet : least ≡ no_post). inr none_yet) (λ (there : 0 < posted_in least views). inl (h.indices least there)) h.posts.reached
 
 -- where one view changes, and the new one fits, all fit
-pub fits_set : (e : Extent) (views : List V) (id : ℕ) (w : V) → ((k : ℕ) (v : V) → get_elem? views k ≡ some v → Fits e v) → Fits e w → (k : ℕ) (v : V) → get_elem? (set views id w) k ≡ some v → Fits e v
+pub fits_set : (e : Extent) (views : List V) (id : ℕ) (w : V) → ((k : ℕ) (v : V) → get_elem? views k ≡ some v → ViewFits e v) → ViewFits e w → (k : ℕ) (v : V) → get_elem? (set views id w) k ≡ some v → ViewFits e v
 fits_set e views id w fits new k v at =
-    ⊎_elim (λ (x : (k ≡ id) × (w ≡ v)). subst (Fits e) x.1 new) (λ (x : (k ≢ id) × (get_elem? views k ≡ some v)). fits k v x.1) (at_set views id k w v at)
+    ⊎_elim (λ (x : (k ≡ id) × (w ≡ v)). subst (ViewFits e) x.1 new) (λ (x : (k ≢ id) × (get_elem? views k ≡ some v)). fits k v x.1) (at_set views id k w v at)
 
 -- what a step on the word i asks, where the rule is given by the two words
 at_words : (e : Extent) (slots id : ℕ) (me : Me (Unit {0}) V) (i : ℕ) (f : ℕ → ℕ) (R : V → ℕ → V → Type 0)
     → ((next least : ℕ) (views : List V) → Agrees e next least views → get_elem? views id ≡ some me.0
     → (w : V) × (next' : ℕ) × (least' : ℕ) × (slice_set (next ∷ least ∷ []) i (f (slice_index (next ∷ least ∷ []) i)) ≡ next' ∷ least' ∷ [])
     × Agrees e next' least' (set views id w) × R me.0 (slice_index (next ∷ least ∷ []) i) w)
-    → Allows (Kept e) slots id me i f (Turns R me)
+    → Allows (BoardInvariant e) slots id me i f (Turns R me)
 at_words e slots id me i f R go s kept _ at _ =
-    let P : List ℕ → Type 0 = λ ws. (w : V) × (a : Act (Unit {0})) × Valid s.homes me.1 a × Kept e (stepped (record { words = ws; homes = s.homes; views = s.views }) i (f (slice_index ws i)) id me.1 w a) × Turns R me (slice_index ws i) (w, carried_after me.1 a) in
+    let P : List ℕ → Type 0 = λ ws. (w : V) × (a : Act (Unit {0})) × Valid s.homes me.1 a × BoardInvariant e (stepped (record { words = ws; homes = s.homes; views = s.views }) i (f (slice_index ws i)) id me.1 w a) × Turns R me (slice_index ws i) (w, carried_after me.1 a) in
     let r = go kept.next kept.least s.views kept.views at in
     subst P (sym kept.words) (r.0, keeps, tt, record { next = r.1; least = r.2; words = r.3; views = r.4 }, (r.5, refl))
 
@@ -153,7 +153,7 @@ module _ (e : Extent) (next least : ℕ) (views : List V) (id : ℕ) (v : V) (h 
 
 -- a claim, which adds 1
 pub claims : (e : Extent) → e.blocks ≤ 64 → e.workers ≤ 16 → (slots id : ℕ) (me : Me (Unit {0}) V) → me.0.parts ≡ 1 → me.0.nones ≡ 0 → (added : ℕ) → added ≡ 1
-    → Allows (Kept e) slots id me 0 (λ n. (n + added) % 2 ^ 64) (Turns Claims me)
+    → Allows (BoardInvariant e) slots id me 0 (λ n. (n + added) % 2 ^ 64) (Turns Claims me)
 claims e blocks workers slots id me one never added is_one = at_words e slots id me 0 (λ n. (n + added) % 2 ^ 64) Claims go
   where
     go : (next least : ℕ) (views : List V) → Agrees e next least views → get_elem? views id ≡ some me.0
@@ -229,7 +229,7 @@ module _ (e : Extent) (next least : ℕ) (views : List V) (id : ℕ) (v : V) (h 
       noted x more there (inr apart) = h.indices x (let other = not_that x index apart in omega arith)
 
 -- a look
-pub sees : (e : Extent) (slots id : ℕ) (me : Me (Unit {0}) V) → me.0.parts ≡ 1 → Allows (Kept e) slots id me 1 (λ n. n) (Turns Looks me)
+pub sees : (e : Extent) (slots id : ℕ) (me : Me (Unit {0}) V) → me.0.parts ≡ 1 → Allows (BoardInvariant e) slots id me 1 (λ n. n) (Turns Looks me)
 sees e slots id me one = at_words e slots id me 1 (λ n. n) Looks go
   where
     go : (next least : ℕ) (views : List V) → Agrees e next least views → get_elem? views id ≡ some me.0
@@ -244,7 +244,7 @@ sees e slots id me one = at_words e slots id me 1 (λ n. n) Looks go
     )
 
 -- a post
-pub notes : (e : Extent) (slots id : ℕ) (me : Me (Unit {0}) V) (index : ℕ) → index ≤ most_index → me.0.parts ≡ 1 → Allows (Kept e) slots id me 1 (λ n. min n index) (Turns (λ v _ w. w ≡ with_post v index) me)
+pub notes : (e : Extent) (slots id : ℕ) (me : Me (Unit {0}) V) (index : ℕ) → index ≤ most_index → me.0.parts ≡ 1 → Allows (BoardInvariant e) slots id me 1 (λ n. min n index) (Turns (λ v _ w. w ≡ with_post v index) me)
 notes e slots id me index small one = at_words e slots id me 1 (λ n. min n index) (λ v _ w. w ≡ with_post v index) go
   where
     go : (next least : ℕ) (views : List V) → Agrees e next least views → get_elem? views id ≡ some me.0

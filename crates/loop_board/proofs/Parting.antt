@@ -8,7 +8,7 @@ use Rattle.loop_board.specs.declared.view.Extent.{Extent}
 use Rattle.loop_board.specs.declared.view.SeatView.{SeatView}
 use Rattle.loop_board.specs.Sums.{total, times}
 use Rattle.loop_board.specs.History.{no_post}
-use Rattle.loop_board.specs.Rule.{spent_view, opening_view, Fits, Agrees, Kept, parts_of, nones_of, drawn_in, posted_in, seen_in, less_a_part, together}
+use Rattle.loop_board.specs.Rule.{spent_view, opening_view, ViewFits, Agrees, BoardInvariant, parts_of, nones_of, drawn_in, posted_in, seen_in, less_a_part, together}
 use Rattle.loop_board.proofs.Sums.{total-set, total-push, times-append}
 use Rattle.loop_board.proofs.Moves.{of_board, fits_set, least_as}
 
@@ -23,7 +23,7 @@ record SameSums (views others : List V) : Type 0 where
   posts : (x : ℕ) → posted_in x others ≡ posted_in x views
   looks : (x : ℕ) → seen_in x others ≡ seen_in x views
 
-regrouped : (e : Extent) (next least : ℕ) (views others : List V) → SameSums views others → ((k : ℕ) (v : V) → get_elem? others k ≡ some v → Fits e v) → Agrees e next least views → Agrees e next least others
+regrouped : (e : Extent) (next least : ℕ) (views others : List V) → SameSums views others → ((k : ℕ) (v : V) → get_elem? others k ≡ some v → ViewFits e v) → Agrees e next least views → Agrees e next least others
 regrouped e next least views others same fits h = record {
   fits = fits;
   parts = same.parts ∙ h.parts;
@@ -50,7 +50,7 @@ join_total f views id other v w both at there sum nothing =
     omega arith
 
 -- a seat that has done nothing gives one of its parts away
-pub deals : (e : Extent) (id : ℕ) (v : V) → 1 < v.parts → v.nones ≡ 0 → Splits (Kept e) id v (less_a_part v) (opening_view v.extent 1)
+pub deals : (e : Extent) (id : ℕ) (v : V) → 1 < v.parts → v.nones ≡ 0 → Splits (BoardInvariant e) id v (less_a_part v) (opening_view v.extent 1)
 deals e id v more never s kept at =
     let left = less_a_part v in
     let right = opening_view v.extent 1 in
@@ -63,18 +63,18 @@ deals e id v more never s kept at =
       posts = λ x. split_total (λ (u : V). times x u.posts) s.views id v left right at (omega arith);
       looks = λ x. split_total (λ (u : V). times x u.looks) s.views id v left right at (omega arith);
     } in
-    let first : Fits e left = inr (own.0, (omega arith), (omega arith)) in
-    let second : Fits e right = inr (own.0, (omega arith), (omega arith)) in
+    let first : ViewFits e left = inr (own.0, (omega arith), (omega arith)) in
+    let second : ViewFits e right = inr (own.0, (omega arith), (omega arith)) in
     record {
       next = kept.next;
       least = kept.least;
       words = kept.words;
       views = regrouped e kept.next kept.least s.views others same
-          (λ k u here. ⊎_elim (λ was. fits_set e s.views id left kept.views.fits first k u was) (λ (is : right ≡ u). subst (Fits e) is second) (at_snoc (set s.views id left) right u k here)) kept.views;
+          (λ k u here. ⊎_elim (λ was. fits_set e s.views id left kept.views.fits first k u was) (λ (is : right ≡ u). subst (ViewFits e) is second) (at_snoc (set s.views id left) right u k here)) kept.views;
     }
 
 -- a seat takes in another
-pub takes_in : (e : Extent) (id : ℕ) (v : V) (other : ℕ) (w : V) → 0 < v.parts → 0 < w.parts → Joins (Kept e) id v other w (together v w) spent_view
+pub takes_in : (e : Extent) (id : ℕ) (v : V) (other : ℕ) (w : V) → 0 < v.parts → 0 < w.parts → Joins (BoardInvariant e) id v other w (together v w) spent_view
 takes_in e id v other w some_v some_w s kept at apart there =
     let both = together v w in
     let others = set (set s.views id both) other spent_view in
@@ -88,7 +88,7 @@ takes_in e id v other w some_v some_w s kept at apart there =
       posts = λ x. join_total (λ (u : V). times x u.posts) s.views id other v w both at there (times-append x v.posts w.posts) refl;
       looks = λ x. join_total (λ (u : V). times x u.looks) s.views id other v w both at there (times-append x v.looks w.looks) refl;
     } in
-    let first : Fits e both = inr (mine.0, (omega arith), (omega arith)) in
+    let first : ViewFits e both = inr (mine.0, (omega arith), (omega arith)) in
     record {
       next = kept.next;
       least = kept.least;

@@ -9,7 +9,7 @@ use Rattle.loop_board.specs.declared.view.SeatView.{SeatView}
 use Rattle.loop_board.specs.Sums.{total, times}
 use Rattle.loop_board.specs.History.{Legal, no_post, least_post, times_posted, some_found_none}
 use Rattle.loop_board.specs.Seats.{BoardId, SeatRecord, histories}
-use Rattle.loop_board.specs.Rule.{spent_view, Fits, Agrees, Kept, IsWorkers, parts_of, posted_in, together, board_id_of, seat_record}
+use Rattle.loop_board.specs.Rule.{spent_view, ViewFits, Agrees, BoardInvariant, IsWorkers, parts_of, posted_in, together, board_id_of, seat_record}
 use Rattle.loop_board.specs.Whole.{IsWhole, IsTally}
 use Rattle.loop_board.proofs.Sums.{le_total, times-append}
 use Rattle.std.proofs.lemmas.List.Elements.{All-pop}
@@ -94,11 +94,11 @@ goes_on t e seats left rest next at seat me after v drained h split is one turne
     }
 
 -- a view with no part adds nothing
-adds_nothing : (f : V → ℕ) → f spent_view ≡ 0 → (e : Extent) (v : V) → Fits e v → v.parts ≡ 0 → f v ≡ 0
+adds_nothing : (f : V → ℕ) → f spent_view ≡ 0 → (e : Extent) (v : V) → ViewFits e v → v.parts ≡ 0 → f v ≡ 0
 adds_nothing f nothing e v fits none_left = ⊎_elim (λ (is : v ≡ spent_view). ap f is ∙ nothing) (λ (held : (v.extent ≡ e) × (0 < v.parts) × (v.nones ≤ v.parts)). absurd (let p = held.1 in omega arith)) fits
 
 -- where the views have no part, they add nothing
-total_none : (f : V → ℕ) → f spent_view ≡ 0 → (e : Extent) (views : List V) → ((k : ℕ) (v : V) → get_elem? views k ≡ some v → Fits e v) → parts_of views ≡ 0 → total f views ≡ 0
+total_none : (f : V → ℕ) → f spent_view ≡ 0 → (e : Extent) (views : List V) → ((k : ℕ) (v : V) → get_elem? views k ≡ some v → ViewFits e v) → parts_of views ≡ 0 → total f views ≡ 0
 total_none f nothing e [] fits none_left = refl
 total_none f nothing e (v ∷ vs) fits none_left =
     let rest = total_none f nothing e vs (λ k u at. fits (suc k) u at) (omega arith) in
@@ -106,7 +106,7 @@ total_none f nothing e (v ∷ vs) fits none_left =
     omega arith
 
 -- a view with every part has all of every sum
-total_whole : (f : V → ℕ) → f spent_view ≡ 0 → (e : Extent) (views : List V) (id : ℕ) (v : V) → get_elem? views id ≡ some v → ((k : ℕ) (u : V) → get_elem? views k ≡ some u → Fits e u) → parts_of views ≤ v.parts → total f views ≡ f v
+total_whole : (f : V → ℕ) → f spent_view ≡ 0 → (e : Extent) (views : List V) (id : ℕ) (v : V) → get_elem? views id ≡ some v → ((k : ℕ) (u : V) → get_elem? views k ≡ some u → ViewFits e u) → parts_of views ≤ v.parts → total f views ≡ f v
 total_whole f nothing e [] id v at fits every = absurd (some-ne-none v (sym at))
 total_whole f nothing e (u ∷ us) zero v at fits every =
     let is = some-injective u v at in
@@ -139,7 +139,7 @@ module _ (e : Extent) (next least : ℕ) (views : List V) (id : ℕ) (v : V) (h 
       }
 
 -- what the words are at the end
-pub closes : (e : Extent) (id : ℕ) (v : V) (words : List ℕ) (slots : List (Unit {0})) → e.workers ≤ v.parts → Final (Seen (Kept e) id v) words slots
+pub closes : (e : Extent) (id : ℕ) (v : V) (words : List ℕ) (slots : List (Unit {0})) → e.workers ≤ v.parts → Final (Seen (BoardInvariant e) id v) words slots
     → (next least : ℕ) → get_elem? words 0 ≡ some next → get_elem? words 1 ≡ some least → IsTally e v (min next e.blocks) least
 closes e id v words slots every final next least first second =
     let s = final.0 in

@@ -43,14 +43,14 @@ abbrev pub some_found_none : List History → Bool
 some_found_none hs = list_any (λ (h : History). h.found_none) hs
 
 -- the least of the indices, 4,294,967,295 where there is none
-abbrev pub least_in : List ℕ → ℕ
-least_in [] = no_post
-least_in (p ∷ ps) = min p (least_in ps)
+abbrev pub least_index_in : List ℕ → ℕ
+least_index_in [] = no_post
+least_index_in (p ∷ ps) = min p (least_index_in ps)
 
 -- the least index that a seat posted, 4,294,967,295 where none did
 abbrev pub least_post : List History → ℕ
 least_post [] = no_post
-least_post (h ∷ hs) = min (least_in h.posts) (least_post hs)
+least_post (h ∷ hs) = min (least_index_in h.posts) (least_post hs)
 
 -- the seats drew the blocks below `claimed`, each once; that is every block where a seat found none; and each look answered 4,294,967,295 or an index that some seat posted
 pub record Legal (blocks claimed : ℕ) (hs : List History) : Type 0 where

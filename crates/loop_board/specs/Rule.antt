@@ -40,12 +40,12 @@ abbrev pub seen_in : ℕ → List SeatView → ℕ
 seen_in x views = total (λ (v : SeatView). times x v.looks) views
 
 -- a view holds nothing, or is of a seat of this board, which found none at most once for each of its parts
-abbrev pub Fits : Extent → SeatView → Type 0
-Fits e v = (v ≡ spent_view) ⊎ ((v.extent ≡ e) × (0 < v.parts) × (v.nones ≤ v.parts))
+abbrev pub ViewFits : Extent → SeatView → Type 0
+ViewFits e v = (v ≡ spent_view) ⊎ ((v.extent ≡ e) × (0 < v.parts) × (v.nones ≤ v.parts))
 
 -- the words and the views hang together
 pub record Agrees (e : Extent) (next least : ℕ) (views : List SeatView) : Type 0 where
-  pub fits : (k : ℕ) (v : SeatView) → get_elem? views k ≡ some v → Fits e v
+  pub fits : (k : ℕ) (v : SeatView) → get_elem? views k ≡ some v → ViewFits e v
   pub parts : parts_of views ≡ e.workers
   pub draws : (x : ℕ) → drawn_in x views ≡ once_below x (min next e.blocks)
   pub room : next ≤ e.blocks + nones_of views
@@ -55,7 +55,7 @@ pub record Agrees (e : Extent) (next least : ℕ) (views : List SeatView) : Type
   pub looks : (x : ℕ) → 0 < seen_in x views → (x ≡ no_post) ⊎ (0 < posted_in x views)
 
 -- the rule of a board of this extent
-pub record Kept (e : Extent) (s : State (Unit {0}) SeatView) : Type 0 where
+pub record BoardInvariant (e : Extent) (s : State (Unit {0}) SeatView) : Type 0 where
   pub next : ℕ
   pub least : ℕ
   pub words : s.words ≡ next ∷ least ∷ []

@@ -8,9 +8,9 @@ use std::alloc::Global;
 pub(crate) struct BoardRule;
 
 impl TableRule<(), SeatView, Extent> for BoardRule {
-    ghost use Rattle.loop_board.specs.Rule.{Kept, opening_view};
+    ghost use Rattle.loop_board.specs.Rule.{BoardInvariant, opening_view};
 
-    ghost holds = { Kept };
+    ghost holds = { BoardInvariant };
 
     ghost first = { λ e. opening_view e e.workers };
 }

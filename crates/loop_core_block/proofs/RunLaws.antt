@@ -3,18 +3,18 @@ use Rattle.std.proofs.Common.{◌≡◌, ℕ, suc, ◌+◌, ◌-◌, ◌<◌, �
 use Rattle.std.specs.Prelude.{if◌then◌else◌, ◌==◌}
 use Rattle.std.specs.List.{sum}
 use Rattle.std.proofs.lemmas.List.{append-nil}
-use Rattle.bpf_step_model.specs.Run.{Ending, Ended, Stuck, Unfinished, mapped, followed}
+use Rattle.bpf_step_model.specs.Run.{BoundedResult, Ended, Stuck, Unfinished, mapped, followed}
 use Rattle.bpf_step_model.specs.Iteration.{Iterated, iteration}
-use Rattle.bpf_verify_sound.specs.Soundness.{IsKnownCall, most_from}
+use Rattle.bpf_verify_sound.specs.Soundness.{OverApproximatesCall, most_from}
 use Rattle.bpf_step.specs.Iterations.{CallbackOf}
 use Rattle.loop_core_model.specs.LeastBreak.{in_front_of}
 use Rattle.loop_core_model.specs.Scan.{up_to_break, scan}
-use Rattle.loop_core_blocks.specs.Block.{block, break_from}
+use Rattle.loop_core_blocks.specs.Block.{block_run, break_from}
 use Rattle.loop_core_block.specs.declared.runner.Runner.{Runner}
-use Rattle.loop_core_block.specs.Runs.{start_words, IsReady, IsSame, HasRun, RanOneMore, RanUpTo}
+use Rattle.loop_core_block.specs.Runs.{start_words, IsReady, IsSame, RunnerHasRun, RanOneMore, RanUpTo}
 
 -- the scan at an iteration that ended
-scan_next : (iterate : ℕ → Ending Iterated) (past index : ℕ) → index < past → (it : Iterated) → iterate index ≡ Ended it → (b : Bool) → (it.ret == 1) ≡ b →
+scan_next : (iterate : ℕ → BoundedResult Iterated) (past index : ℕ) → index < past → (it : Iterated) → iterate index ≡ Ended it → (b : Bool) → (it.ret == 1) ≡ b →
     scan iterate (past - index) index ≡ (if b then Ended (it ∷ []) else in_front_of (scan iterate (past - (index + 1)) (index + 1)) it)
 scan_next iterate past index below it told b is =
     let one : past - index ≡ suc (past - (index + 1)) = omega (arith, below) in
@@ -22,7 +22,7 @@ scan_next iterate past index below it told b is =
     ∙ ap (followed (up_to_break (scan iterate (past - (index + 1)) (index + 1)))) told
     ∙ ap (λ (t : Bool). if t then Ended (it ∷ []) else in_front_of (scan iterate (past - (index + 1)) (index + 1)) it) is
 
-mapped_twice : (ran : List Iterated) (it : Iterated) (e : Ending (List Iterated)) →
+mapped_twice : (ran : List Iterated) (it : Iterated) (e : BoundedResult (List Iterated)) →
     mapped (λ others. ran ++ others) (in_front_of e it) ≡ mapped (λ others. (ran ++ it ∷ []) ++ others) e
 mapped_twice ran it Stuck = refl
 mapped_twice ran it Unfinished = refl
@@ -47,7 +47,7 @@ break_last first (one ∷ ran) it going b is =
 -- a runner that is the same is as ready
 pub still_ready : (old new : Runner) → IsReady old → IsSame old new → IsReady new
 still_ready old new ready same = record {
-  known = subst (λ (c : CallbackOf). IsKnownCall c.program c.call) (sym same.callback) ready.known;
+  known = subst (λ (c : CallbackOf). OverApproximatesCall c.program c.call) (sym same.callback) ready.known;
   count = ap length same.start ∙ ready.count ∙ ap (λ (c : CallbackOf). sum c.program.sizes) (sym same.callback);
   enough =
       let most = same.most in
@@ -66,27 +66,27 @@ same_again a b c first second = record {
 }
 
 -- the block of an interval
-abbrev pub block_by : Runner → (first past : ℕ) → Ending (List Iterated)
-block_by r first past = block r.callback.program 4096 r.callback.call (start_words r) first past
+abbrev pub block_by : Runner → (first past : ℕ) → BoundedResult (List Iterated)
+block_by r first past = block_run r.callback.program 4096 r.callback.call (start_words r) first past
 
 -- the iterations on the start words
-abbrev pub iterate_by : Runner → ℕ → Ending Iterated
+abbrev pub iterate_by : Runner → ℕ → BoundedResult Iterated
 iterate_by r index = iteration r.callback.program 4096 r.callback.call index (start_words r)
 
 -- before an index: none broke so far, and the block is what was run, and then the scan of the rest
 pub record RunSoFar (first past : ℕ) (initial now : Runner) (index : ℕ) : Type 0 where
   pub same : IsSame initial now
   pub ran : List Iterated
-  pub has_run : HasRun first index ran now
+  pub has_run : RunnerHasRun first index ran now
   pub going : break_from first ran ≡ None
   pub rest : block_by initial first past ≡ mapped (λ others. ran ++ others) (scan (iterate_by initial) (past - index) index)
 
-mapped_none : (e : Ending (List Iterated)) → e ≡ mapped (λ others. [] ++ others) e
+mapped_none : (e : BoundedResult (List Iterated)) → e ≡ mapped (λ others. [] ++ others) e
 mapped_none Stuck = refl
 mapped_none Unfinished = refl
 mapped_none (Ended iterations) = refl
 
-pub begins : (first past : ℕ) (r : Runner) → HasRun first first [] r → RunSoFar first past r r first
+pub begins : (first past : ℕ) (r : Runner) → RunnerHasRun first first [] r → RunSoFar first past r r first
 begins first past r none = record {
   same = record { callback = refl; most = refl; start = refl; test = refl };
   ran = [];
@@ -137,7 +137,7 @@ module _ (first past : ℕ) (initial now : Runner) (index : ℕ) (so_far : RunSo
           ran = so_far.ran ++ one.iterated ∷ [];
           told = scanned true is;
           broke_is = ap (λ (n : ℕ). Some n) so_far.has_run.reached ∙ sym (broken true is);
-          has_run = subst (λ (n : ℕ). HasRun first n (so_far.ran ++ one.iterated ∷ []) next) has.reached has;
+          has_run = subst (λ (n : ℕ). RunnerHasRun first n (so_far.ran ++ one.iterated ∷ []) next) has.reached has;
         }
 
   -- after all of them
@@ -151,5 +151,5 @@ module _ (first past : ℕ) (initial now : Runner) (index : ℕ) (so_far : RunSo
             ∙ ap (λ (left : ℕ). mapped (λ others. so_far.ran ++ others) (scan (iterate_by initial) left index)) none
             ∙ ap Ended (append-nil so_far.ran);
         broke_is = sym so_far.going;
-        has_run = subst (λ (n : ℕ). HasRun first n so_far.ran now) so_far.has_run.reached so_far.has_run;
+        has_run = subst (λ (n : ℕ). RunnerHasRun first n so_far.ran now) so_far.has_run.reached so_far.has_run;
       }

@@ -2,19 +2,19 @@
 use Rattle.std.specs.Prelude.{◌≡◌, ℕ, List, [], length}
 use Rattle.bpf_insn_types.specs.Program.{Program}
 use Rattle.bpf_step_model.specs.State.{LoopCall}
-use Rattle.bpf_step_model.specs.Run.{Ending, Ended, Stuck, Unfinished}
+use Rattle.bpf_step_model.specs.Run.{BoundedResult, Ended, Stuck, Unfinished}
 use Rattle.bpf_step_model.specs.Iteration.{Iterated}
 use Rattle.loop_core_model.specs.declared.loop_test.Test.{Test}
 use Rattle.loop_core_model.specs.LeastBreak.{accesses_of_each}
-use Rattle.loop_core_blocks.specs.Block.{block, break_from}
+use Rattle.loop_core_blocks.specs.Block.{block_run, break_from}
 use Rattle.loop_core_blocks.specs.Gather.{Block}
 use Rattle.shadow_marks.specs.Standing.{test_of, StandFor}
-use Rattle.private_copy.specs.Copies.{StandsFor}
+use Rattle.private_copy.specs.Copies.{CopyRecords}
 use Rattle.private_copy.specs.Visits.{visits_of}
 use Rattle.loop_core_block.specs.Blocks.{BlockOf}
 
 -- the iterations that ended; none where they didn't
-abbrev pub iterations_of : Ending (List Iterated) → List Iterated
+abbrev pub iterations_of : BoundedResult (List Iterated) → List Iterated
 iterations_of (Ended iterations) = iterations
 iterations_of Stuck = []
 iterations_of Unfinished = []
@@ -25,17 +25,17 @@ as_gathered program call words b = record {
   number = b.number;
   first = b.first;
   past = b.past;
-  ran = iterations_of (block program 4096 call words b.first b.past);
+  ran = iterations_of (block_run program 4096 call words b.first b.past);
 }
 
 -- its interval was run on the start words up to its first break or to its end; its planes, which are for one test, and
 -- its copy stand for the iterations that it ran, by rising index
-pub record IsRunOf (test : Test) (program : Program) (call : LoopCall) (words : List ℕ) (b : BlockOf) : Type 0 where
+pub record RecordsRun (test : Test) (program : Program) (call : LoopCall) (words : List ℕ) (b : BlockOf) : Type 0 where
   pub ran : List Iterated
-  pub told : block program 4096 call words b.first b.past ≡ Ended ran
+  pub told : block_run program 4096 call words b.first b.past ≡ Ended ran
   pub broke : b.broke ≡ break_from b.first ran
   pub start : b.copy.start ≡ words
-  pub copy : StandsFor b.copy (accesses_of_each ran)
+  pub copy : CopyRecords b.copy (accesses_of_each ran)
   pub elements : b.planes.elements ≡ length words
   pub test_is : test_of b.planes.tested ≡ test
   pub planes : StandFor b.planes (visits_of b.first (accesses_of_each ran))

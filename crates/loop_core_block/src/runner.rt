@@ -2,9 +2,9 @@
 
 ghost use Rattle.std.specs.Prelude.{◌≡◌, ◌<◌, ◌≤◌, ℕ, List, [], IfOk};
 ghost use Rattle.bpf_step_model.specs.Iteration.{Iterated};
-ghost use Rattle.bpf_verify_sound.specs.Soundness.{IsKnownCall, most_from};
+ghost use Rattle.bpf_verify_sound.specs.Soundness.{OverApproximatesCall, most_from};
 ghost use Rattle.shadow_marks.specs.Standing.{test_of};
-ghost use Rattle.loop_core_block.specs.Runs.{start_words, IsReady, HasRun, RanOneMore, RanUpTo};
+ghost use Rattle.loop_core_block.specs.Runs.{start_words, IsReady, RunnerHasRun, RanOneMore, RanUpTo};
 
 use array_maps::Maps;
 use bpf_step::{Callback, LoopCall};
@@ -50,14 +50,14 @@ impl<'c, 'a> Runner<'c, 'a> {
         start: &'a Maps,
         test: Test,
     ) -> Result<Runner<'c, 'a>, AllocError>
-        requires known { IsKnownCall program.now call.now }
+        requires known { OverApproximatesCall program.now call.now }
         requires sizes { start.now.sizes ≡ program.now.sizes }
         ensures ready { IfOk result IsReady }
         ensures program { IfOk result (λ r. r.callback.program ≡ program.now) }
         ensures call { IfOk result (λ r. r.callback.call ≡ call.now) }
         ensures start { IfOk result (λ r. start_words r ≡ start.now.words) }
         ensures test { IfOk result (λ r. test_of r.planes.tested ≡ test) }
-        ensures none { IfOk result (λ r. (first : ℕ) → HasRun first first [] r) }
+        ensures none { IfOk result (λ r. (first : ℕ) → RunnerHasRun first first [] r) }
     {
         // This tells the proof how many words the maps have.
         let _sizes = start.sizes();
@@ -81,7 +81,7 @@ impl<'c, 'a> Runner<'c, 'a> {
     ) -> Result<Option<u32>, AllocError>
         requires ready { IsReady self.old }
         requires within { past ≤ self.old.callback.call.n }
-        requires none { HasRun first first [] self.old }
+        requires none { RunnerHasRun first first [] self.old }
         ensures ran { IfOk result (RanUpTo first past self.old self.new) }
     {
         for index in first..past {
@@ -97,7 +97,7 @@ impl<'c, 'a> Runner<'c, 'a> {
     fn iterate(&mut self, alloc: Global, index: u32) -> Result<bool, AllocError>
         requires ready { IsReady self.old }
         requires below { index < self.old.callback.call.n }
-        requires so_far { (first : ℕ) × (ran : List Iterated) × HasRun first index ran self.old }
+        requires so_far { (first : ℕ) × (ran : List Iterated) × RunnerHasRun first index ran self.old }
         ensures ran { IfOk result (RanOneMore index self.old self.new) }
     {
         law_of_accesses();

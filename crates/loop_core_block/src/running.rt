@@ -1,11 +1,11 @@
 //! Running a block.
 
 ghost use Rattle.std.specs.Prelude.{◌≡◌, ◌<◌, None, IfOk};
-ghost use Rattle.bpf_verify_sound.specs.Soundness.{IsKnownCall};
+ghost use Rattle.bpf_verify_sound.specs.Soundness.{OverApproximatesCall};
 ghost use Rattle.loop_core_blocks.specs.Split.{split_fault};
 ghost use Rattle.loop_core_schedule.specs.Intervals.{blocks_of, start_of, end_of};
 ghost use Rattle.loop_core_block.specs.Shown.{shown};
-ghost use Rattle.loop_core_block.specs.Ran.{IsRunOf};
+ghost use Rattle.loop_core_block.specs.Ran.{RecordsRun};
 
 use crate::block::Block;
 use crate::runner::Runner;
@@ -29,14 +29,14 @@ pub fn run_block<'a, G: Gate>(
     gate: &G,
     test: Test,
 ) -> Result<Block<'a>, AllocError>
-    requires known { IsKnownCall program.now call.now }
+    requires known { OverApproximatesCall program.now call.now }
     requires sizes { start.now.sizes ≡ program.now.sizes }
     requires split { split_fault split.now call.now.n ≡ None }
     requires within { number < blocks_of split.now }
     ensures number { IfOk result (λ b. (shown b).number ≡ number) }
     ensures first { IfOk result (λ b. (shown b).first ≡ start_of split.now number) }
     ensures past { IfOk result (λ b. (shown b).past ≡ end_of split.now number) }
-    ensures ran { IfOk result (λ b. IsRunOf test program.now call.now start.now.words (shown b)) }
+    ensures ran { IfOk result (λ b. RecordsRun test program.now call.now start.now.words (shown b)) }
 {
     let first = split.start(number);
     let past = split.end(number);

@@ -3,7 +3,7 @@ use Rattle.std.proofs.Common.{◌≡◌, ℕ, zero, suc, ◌+◌, ◌≤◌, ◌
 use Rattle.std.specs.Prelude.{if◌then◌else◌, ◌==◌, is_some}
 use Rattle.std.proofs.lemmas.Bool.{cases_lt}
 use Rattle.std.proofs.lemmas.Bool.Decides.{eqb_tells}
-use Rattle.bpf_step_model.specs.Run.{Ending, Ended, Stuck, Unfinished, followed}
+use Rattle.bpf_step_model.specs.Run.{BoundedResult, Ended, Stuck, Unfinished, followed}
 use Rattle.bpf_step_model.specs.Iteration.{Iterated}
 use Rattle.bpf_step_model.proofs.Endings.{mapped_from}
 use Rattle.loop_core_model.specs.LeastBreak.{is_break, in_front_of}
@@ -83,7 +83,7 @@ break_there index (it ∷ ran) = go (it.ret == 1) (break_there (index + 1) ran)
     go true rest = refl
     go false rest = rest
 
-module _ (iterate : ℕ → Ending Iterated) where
+module _ (iterate : ℕ → BoundedResult Iterated) where
   abbrev pub breaking : ℕ → Bool
   breaking index = is_break (iterate index)
 
@@ -119,7 +119,7 @@ module _ (iterate : ℕ → Ending Iterated) where
           let parts = mapped_from (λ others. it ∷ others) (scan iterate left (index + 1)) ran h in
           goes_on left index it parts.0 ran same on parts.2 (later parts.0 parts.1)
 
-      by_first : (e : Ending Iterated) → iterate index ≡ e → followed (up_to_break (scan iterate left (index + 1))) e ≡ Ended ran →
+      by_first : (e : BoundedResult Iterated) → iterate index ≡ e → followed (up_to_break (scan iterate left (index + 1))) e ≡ Ended ran →
           ((its : List Iterated) → scan iterate left (index + 1) ≡ Ended its → FirstIs breaking (index + 1) (index + 1 + left) (break_from (index + 1) its)) →
           FirstIs breaking index (index + suc left) (break_from index ran)
       by_first Stuck same h later = absurd (cc)

@@ -6,7 +6,7 @@ use Rattle.std.proofs.lemmas.Bool.{cases_lt, eqb-true, ltb-false, le-ltb, lt-ltb
 use Rattle.std.proofs.lemmas.List.{append-nil}
 use Rattle.bpf_insn_types.specs.Program.{Program}
 use Rattle.bpf_step_model.specs.State.{LoopCall}
-use Rattle.bpf_step_model.specs.Run.{Ending, Ended, mapped, followed}
+use Rattle.bpf_step_model.specs.Run.{BoundedResult, Ended, mapped, followed}
 use Rattle.bpf_step_model.specs.Iteration.{Iterated, iteration}
 use Rattle.loop_core_model.specs.Actions.{joined}
 use Rattle.loop_core_model.specs.LeastBreak.{is_break, least_below, lesser}
@@ -14,9 +14,9 @@ use Rattle.loop_core_model.specs.Scan.{scan}
 use Rattle.loop_core_model.proofs.Least.{least_is}
 use Rattle.loop_core_model.proofs.OneElement.{or_false_left, or_false_right, and_true_left, and_true_right}
 use Rattle.loop_core_model.proofs.ScanLaws.{counted_are_scanned}
-use Rattle.loop_core_blocks.specs.Block.{has_break, break_from, unless_broken}
+use Rattle.loop_core_blocks.specs.Block.{has_break, break_from, unless_break}
 use Rattle.loop_core_blocks.specs.Split.{falls, last_bound, ends_amiss}
-use Rattle.loop_core_blocks.specs.Gather.{Block, IsRunOf, least_of, starts_late, with_number, lacks, counting, lacks_some, twice, is_bound, stands_in, gathered, Gathers, BlocksGather}
+use Rattle.loop_core_blocks.specs.Gather.{Block, IsRunOf, least_of, starts_late, block_numbered, lacks_block, counting, lacks_some, twice, is_bound, stands_in, gathered, Gathers, BlocksGather}
 use Rattle.loop_core_blocks.proofs.BlockLaws.{scans_follow}
 use Rattle.loop_core_blocks.proofs.FirstBreak.{NoneIn, IsFirst, FirstIs, widened, one_first, break_there, breaking, scan_first}
 
@@ -83,7 +83,7 @@ is_bound_at : (o : Option ℕ) (x : ℕ) → is_bound o x ≡ true → o ≡ Som
 is_bound_at None x h = absurd (cc)
 is_bound_at (Some bound) x h = ap Some (eqb-true bound x h)
 
-module _ (iterate : ℕ → Ending Iterated) where
+module _ (iterate : ℕ → BoundedResult Iterated) where
   -- what is known of a block that is there
   pub record Stands (whole : List ℕ) (least : Option ℕ) (k : ℕ) (b : Block) : Type 0 where
     pub first_is : slice_get whole k ≡ Some b.first
@@ -100,7 +100,7 @@ module _ (iterate : ℕ → Ending Iterated) where
 
   -- a block that is found
   pub found : (whole : List ℕ) (blocks : List Block) → AllByRecursion IsRun blocks → list_any (λ (b : Block). not (stands_in whole b)) blocks ≡ false →
-      (k : ℕ) (b : Block) → with_number k blocks ≡ Some b → Stands whole (least_of blocks) k b
+      (k : ℕ) (b : Block) → block_numbered k blocks ≡ Some b → Stands whole (least_of blocks) k b
   found whole [] runs there k b h = absurd (cc)
   found whole (c ∷ blocks) runs there k b h =
       go (c.number == k) refl h (found whole blocks runs.1 (or_false_right (not (stands_in whole c)) _ there) k b)
@@ -116,8 +116,8 @@ module _ (iterate : ℕ → Ending Iterated) where
             least_at_most = at_most_left (break_from c.first c.ran) (least_of blocks);
           }
 
-      go : (here : Bool) → (c.number == k) ≡ here → cond here (Some c) (with_number k blocks) ≡ Some b →
-          (with_number k blocks ≡ Some b → Stands whole (least_of blocks) k b) → Stands whole (lesser (break_from c.first c.ran) (least_of blocks)) k b
+      go : (here : Bool) → (c.number == k) ≡ here → cond here (Some c) (block_numbered k blocks) ≡ Some b →
+          (block_numbered k blocks ≡ Some b → Stands whole (least_of blocks) k b) → Stands whole (lesser (break_from c.first c.ran) (least_of blocks)) k b
       go true same h later =
           let e : c ≡ b = cc in
           subst (λ (d : Block). Stands whole (lesser (break_from c.first c.ran) (least_of blocks)) k d) e (this (eqb-true c.number k same))
@@ -164,7 +164,7 @@ some_there (Some b) h = (b, refl)
 abbrev pub gathered_from : Option ℕ → List Block → (k first : ℕ) → List ℕ → List Iterated
 gathered_from least blocks k first bounds = joined (map (λ (b : Block). b.ran) (counting least blocks k first bounds))
 
-module _ (iterate : ℕ → Ending Iterated) (whole : List ℕ) (n : ℕ) (least : Option ℕ) (blocks : List Block) where
+module _ (iterate : ℕ → BoundedResult Iterated) (whole : List ℕ) (n : ℕ) (least : Option ℕ) (blocks : List Block) where
   -- what is claimed of the blocks from a bound on
   pub record FromBound (k first : ℕ) (bounds : List ℕ) : Type 0 where
     pub scanned : scan iterate (n - first) first ≡ Ended (gathered_from least blocks k first bounds)
@@ -187,17 +187,17 @@ module _ (iterate : ℕ → Ending Iterated) (whole : List ℕ) (n : ℕ) (least
       (inside, record { from = low; within = omega arith; passes = on; below = subst (λ (m : ℕ). NoneIn (breaking iterate) first m) same here.below })
 
   -- a block that counts, and those behind it
-  with_block : (k first past : ℕ) (bounds : List ℕ) (b : Block) → with_number k blocks ≡ Some b → starts_late least first ≡ false → b.first ≡ first → b.past ≡ past →
+  with_block : (k first past : ℕ) (bounds : List ℕ) (b : Block) → block_numbered k blocks ≡ Some b → starts_late least first ≡ false → b.first ≡ first → b.past ≡ past →
       first ≤ past → past ≤ n → falls past bounds ≡ false → scan iterate (past - first) first ≡ Ended b.ran → AtMost least (break_from first b.ran) →
       IsReal (breaking iterate) n least → NoneIn (breaking iterate) 0 first →
       (NoneIn (breaking iterate) 0 past → FromBound (k + 1) past bounds) → FromBound k first (past ∷ bounds)
   with_block k first past bounds b there on_time first_is past_is order small rises run at_most real none later =
       let long : n - first ≡ (past - first) + (n - past) = omega arith in
       let next : first + (past - first) ≡ past = omega arith in
-      let whole_scan : scan iterate (n - first) first ≡ followed (unless_broken (scan iterate (n - past) past)) (Ended b.ran) =
+      let whole_scan : scan iterate (n - first) first ≡ followed (unless_break (scan iterate (n - past) past)) (Ended b.ran) =
       ap (λ m. scan iterate m first) long ∙ scans_follow iterate (past - first) (n - past) first
-      ∙ ap (λ e. followed (unless_broken (scan iterate (n - past) (first + (past - first)))) e) run
-      ∙ ap (λ m. followed (unless_broken (scan iterate (n - past) m)) (Ended b.ran)) next in
+      ∙ ap (λ e. followed (unless_break (scan iterate (n - past) (first + (past - first)))) e) run
+      ∙ ap (λ m. followed (unless_break (scan iterate (n - past) m)) (Ended b.ran)) next in
       let break_is : FirstIs (breaking iterate) first past (break_from first b.ran) =
       subst (λ (m : ℕ). FirstIs (breaking iterate) first m (break_from first b.ran)) next (scan_first iterate (past - first) first b.ran run) in
       let counts : gathered_from least blocks k first (past ∷ bounds) ≡ b.ran ++ gathered_from least blocks (k + 1) past bounds =
@@ -205,7 +205,7 @@ module _ (iterate : ℕ → Ending Iterated) (whole : List ℕ) (n : ℕ) (least
       go (break_from first b.ran) refl break_is at_most whole_scan counts
     where
       broken : (j i : ℕ) → least ≡ Some i → break_from first b.ran ≡ Some j → IsFirst (breaking iterate) first past j → i ≤ j → breaking iterate i ≡ true →
-          scan iterate (n - first) first ≡ followed (unless_broken (scan iterate (n - past) past)) (Ended b.ran) →
+          scan iterate (n - first) first ≡ followed (unless_break (scan iterate (n - past) past)) (Ended b.ran) →
           gathered_from least blocks k first (past ∷ bounds) ≡ b.ran ++ gathered_from least blocks (k + 1) past bounds → FromBound k first (past ∷ bounds)
       broken j i is_least is_break here at_most on whole_scan counts =
           let facts = broke_here first past i j small at_most on none here in
@@ -218,13 +218,13 @@ module _ (iterate : ℕ → Ending Iterated) (whole : List ℕ) (n : ℕ) (least
           }
 
       by_least : (o : Option ℕ) → least ≡ o → (j : ℕ) → break_from first b.ran ≡ Some j → IsFirst (breaking iterate) first past j → AtMost o (Some j) → IsReal (breaking iterate) n o →
-          scan iterate (n - first) first ≡ followed (unless_broken (scan iterate (n - past) past)) (Ended b.ran) →
+          scan iterate (n - first) first ≡ followed (unless_break (scan iterate (n - past) past)) (Ended b.ran) →
           gathered_from least blocks k first (past ∷ bounds) ≡ b.ran ++ gathered_from least blocks (k + 1) past bounds → FromBound k first (past ∷ bounds)
       by_least None is_least j is_break here at_most real whole_scan counts = absurd at_most
       by_least (Some i) is_least j is_break here at_most real whole_scan counts = broken j i is_least is_break here at_most real.0 whole_scan counts
 
       goes_on : (none_here : NoneIn (breaking iterate) first past) → break_from first b.ran ≡ None → FromBound (k + 1) past bounds →
-          scan iterate (n - first) first ≡ followed (unless_broken (scan iterate (n - past) past)) (Ended b.ran) →
+          scan iterate (n - first) first ≡ followed (unless_break (scan iterate (n - past) past)) (Ended b.ran) →
           gathered_from least blocks k first (past ∷ bounds) ≡ b.ran ++ gathered_from least blocks (k + 1) past bounds → FromBound k first (past ∷ bounds)
       goes_on none_here is_break rest whole_scan counts =
           let on : has_break b.ran ≡ false = break_there first b.ran ∙ ap is_some is_break in
@@ -237,24 +237,24 @@ module _ (iterate : ℕ → Ending Iterated) (whole : List ℕ) (n : ℕ) (least
       none_to none_here = widened (breaking iterate) 0 first past None (omega arith) none none_here
 
       go : (o : Option ℕ) → break_from first b.ran ≡ o → FirstIs (breaking iterate) first past o → AtMost least o →
-          scan iterate (n - first) first ≡ followed (unless_broken (scan iterate (n - past) past)) (Ended b.ran) →
+          scan iterate (n - first) first ≡ followed (unless_break (scan iterate (n - past) past)) (Ended b.ran) →
           gathered_from least blocks k first (past ∷ bounds) ≡ b.ran ++ gathered_from least blocks (k + 1) past bounds → FromBound k first (past ∷ bounds)
       go None is_break none_here at_most whole_scan counts = goes_on none_here is_break (later (none_to none_here)) whole_scan counts
       go (Some j) is_break here at_most whole_scan counts = by_least least refl j is_break here at_most real whole_scan counts
 
   -- the blocks from a bound on, where all that count are there and nothing before the bound breaks
-  from_bound : ((k : ℕ) (b : Block) → with_number k blocks ≡ Some b → Stands iterate whole least k b) → IsReal (breaking iterate) n least →
+  from_bound : ((k : ℕ) (b : Block) → block_numbered k blocks ≡ Some b → Stands iterate whole least k b) → IsReal (breaking iterate) n least →
       (k first : ℕ) (bounds : List ℕ) → ((j : ℕ) → slice_get whole (k + j) ≡ slice_get (first ∷ bounds) j) → falls first bounds ≡ false → last_bound first bounds ≡ n →
-      lacks least blocks k first bounds ≡ false → NoneIn (breaking iterate) 0 first → FromBound k first bounds
+      lacks_block least blocks k first bounds ≡ false → NoneIn (breaking iterate) 0 first → FromBound k first bounds
   from_bound stand real k first [] there rises ends complete none = record {
     scanned = (let none_left : n - first ≡ 0 = omega arith in ap (λ m. scan iterate m first) none_left);
     least_is = all_past first ends least real none;
   }
   from_bound stand real k first (past ∷ bounds) there rises ends complete none =
       let on_time : starts_late least first ≡ false = not_late (breaking iterate) n first least real none in
-      let here : (not (starts_late least first) && is_none (with_number k blocks)) ≡ false = or_false_left (not (starts_late least first) && is_none (with_number k blocks)) _ complete in
-      let is_there : is_none (with_number k blocks) ≡ false = subst (λ (late : Bool). (not late && is_none (with_number k blocks)) ≡ false) on_time here in
-      let b = some_there (with_number k blocks) is_there in
+      let here : (not (starts_late least first) && is_none (block_numbered k blocks)) ≡ false = or_false_left (not (starts_late least first) && is_none (block_numbered k blocks)) _ complete in
+      let is_there : is_none (block_numbered k blocks) ≡ false = subst (λ (late : Bool). (not late && is_none (block_numbered k blocks)) ≡ false) on_time here in
+      let b = some_there (block_numbered k blocks) is_there in
       let stands : Stands iterate whole least k b.0 = stand k b.0 b.1 in
       let same_place : k + 0 ≡ k = omega arith in
       let at_first : slice_get whole k ≡ Some first = subst (λ (m : ℕ). slice_get whole m ≡ Some first) same_place (there 0) in
@@ -268,7 +268,7 @@ module _ (iterate : ℕ → Ending Iterated) (whole : List ℕ) (n : ℕ) (least
       (subst (λ (m : ℕ). scan iterate (past - m) m ≡ Ended b.0.ran) first_is (subst (λ (m : ℕ). scan iterate (m - b.0.first) b.0.first ≡ Ended b.0.ran) past_is stands.run))
       (subst (λ (m : ℕ). AtMost least (break_from m b.0.ran)) first_is stands.least_at_most) real none
       (λ none_before. from_bound stand real (k + 1) past bounds (λ j. ap (slice_get whole) (next_place j) ∙ there (suc j)) rises_next ends
-      (or_false_right (not (starts_late least first) && is_none (with_number k blocks)) _ complete) none_before)
+      (or_false_right (not (starts_late least first) && is_none (block_numbered k blocks)) _ complete) none_before)
 
 -- a split without a fault begins at 0, ends at n, and never falls
 split_from : (program : Program) (bound : ℕ) (call : LoopCall) (words : List ℕ) (bounds : List ℕ) (blocks : List Block) → falls 0 bounds ≡ false →
@@ -277,7 +277,7 @@ split_from : (program : Program) (bound : ℕ) (call : LoopCall) (words : List �
     Gathers program bound call words bounds blocks
 split_from program bound call words [] blocks rises enough ends complete there runs = absurd (cc)
 split_from program bound call words (first ∷ bounds) blocks rises enough ends complete there runs =
-    let iterate : ℕ → Ending Iterated = λ index. iteration program bound call index words in
+    let iterate : ℕ → BoundedResult Iterated = λ index. iteration program bound call index words in
     let zero_first : first ≡ 0 = eqb-true first 0 (not_false (first == 0) (or_false_left (not (first == 0)) _ ends)) in
     let n_last : last_bound first bounds ≡ call.n = eqb-true (last_bound first bounds) call.n (not_false (last_bound first bounds == call.n) (or_false_right (not (first == 0)) _ ends)) in
     let rises_on : falls first bounds ≡ false = or_false_right (nat_lt first 0) (falls first bounds) rises in

@@ -9,7 +9,7 @@ use Rattle.loop_core_model.specs.Actions.{joined}
 use Rattle.loop_core_model.specs.LeastBreak.{lesser, least_break, counted_iterations, all_ended}
 use Rattle.loop_core_blocks.specs.declared.faults.GatherFault.{GatherFault}
 use Rattle.loop_core_blocks.specs.declared.faults.GatherFault.TheVariants.{Missing, Twice, Foreign}
-use Rattle.loop_core_blocks.specs.Block.{block, break_from}
+use Rattle.loop_core_blocks.specs.Block.{block_run, break_from}
 use Rattle.loop_core_blocks.specs.Split.{split_fault}
 
 -- a block that was run: its number in the split, its interval, and its iterations on the start words
@@ -21,7 +21,7 @@ pub record Block : Type 0 where
 
 -- it was run so
 abbrev pub IsRunOf : Program → ℕ → LoopCall → List ℕ → Block → Type 0
-IsRunOf program bound call words b = block program bound call words b.first b.past ≡ Ended b.ran
+IsRunOf program bound call words b = block_run program bound call words b.first b.past ≡ Ended b.ran
 
 -- the least break of some blocks
 abbrev pub least_of : List Block → Option ℕ
@@ -34,14 +34,14 @@ starts_late None first = false
 starts_late (Some least) first = nat_lt least first
 
 -- the block of this number, if it is there
-abbrev pub with_number : ℕ → List Block → Option Block
-with_number number blocks = find (λ (b : Block). b.number == number) blocks
+abbrev pub block_numbered : ℕ → List Block → Option Block
+block_numbered number blocks = find (λ (b : Block). b.number == number) blocks
 
 -- from a block's number and first index on: one that doesn't start past the least break isn't there
-abbrev pub lacks : Option ℕ → List Block → (number first : ℕ) → List ℕ → Bool
-lacks least blocks number first [] = false
-lacks least blocks number first (past ∷ bounds) =
-    (not (starts_late least first) && is_none (with_number number blocks)) || lacks least blocks (number + 1) past bounds
+abbrev pub lacks_block : Option ℕ → List Block → (number first : ℕ) → List ℕ → Bool
+lacks_block least blocks number first [] = false
+lacks_block least blocks number first (past ∷ bounds) =
+    (not (starts_late least first) && is_none (block_numbered number blocks)) || lacks_block least blocks (number + 1) past bounds
 
 -- a block in front of others, where it is there
 abbrev pub in_front : Option Block → List Block → List Block
@@ -52,12 +52,12 @@ in_front (Some b) blocks = b ∷ blocks
 abbrev pub counting : Option ℕ → List Block → (number first : ℕ) → List ℕ → List Block
 counting least blocks number first [] = []
 counting least blocks number first (past ∷ bounds) =
-    in_front (if starts_late least first then None else with_number number blocks) (counting least blocks (number + 1) past bounds)
+    in_front (if starts_late least first then None else block_numbered number blocks) (counting least blocks (number + 1) past bounds)
 
 -- some block of a split isn't there that doesn't start past the least break of those that are
 abbrev pub lacks_some : List ℕ → List Block → Bool
 lacks_some [] blocks = false
-lacks_some (first ∷ bounds) blocks = lacks (least_of blocks) blocks 0 first bounds
+lacks_some (first ∷ bounds) blocks = lacks_block (least_of blocks) blocks 0 first bounds
 
 -- a number stands twice
 abbrev pub twice : List Block → Bool

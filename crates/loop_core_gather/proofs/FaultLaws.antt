@@ -4,7 +4,7 @@ use Rattle.std.specs.Prelude.{not, is_none, if◌then◌else◌, slice_get}
 use Rattle.std.specs.List.{list_any}
 use Rattle.loop_core_blocks.specs.declared.faults.GatherFault.TheVariants.{Missing, Twice, Foreign}
 use Rattle.loop_core_blocks.specs.declared.faults.GatherFault.{GatherFault}
-use Rattle.loop_core_blocks.specs.Gather.{Block, least_of, lacks, lacks_some, twice, stands_in, gather_fault}
+use Rattle.loop_core_blocks.specs.Gather.{Block, least_of, lacks_block, lacks_some, twice, stands_in, gather_fault}
 use Rattle.loop_core_gather.specs.declared.summary.Summary.{Summary}
 use Rattle.loop_core_gather.specs.Told.{least_told, twice_told, stands_told, order_told}
 use Rattle.loop_core_gather.specs.Counting.{places_told, told_fault, Counts}
@@ -46,7 +46,7 @@ module _ (bounds : List ℕ) (blocks : List Block) where
   told_as : (bs : List ℕ) → places_told bs (map summary_of blocks) ≡ order_told (least_of blocks) (map summary_of blocks) bs
   told_as bs = ap (λ (l : Option ℕ). order_told l (map summary_of blocks) bs) (least_same blocks)
 
-  by_order : (least : Option ℕ) (number first : ℕ) (rest : List ℕ) (o : Option (List ℕ)) → OrderBy least blocks number first rest o → lacks least blocks number first rest ≡ is_none o
+  by_order : (least : Option ℕ) (number first : ℕ) (rest : List ℕ) (o : Option (List ℕ)) → OrderBy least blocks number first rest o → lacks_block least blocks number first rest ≡ is_none o
   by_order least number first rest None lacking = lacking
   by_order least number first rest (Some places) is = is.all_there
 

@@ -5,7 +5,7 @@ use Rattle.std.specs.List.{list_any, AllByRecursion}
 use Rattle.std.proofs.lemmas.Bool.{eqb-true, ltb-true}
 use Rattle.bpf_insn_types.specs.Program.{Program}
 use Rattle.bpf_step_model.specs.State.{LoopCall}
-use Rattle.bpf_step_model.specs.Run.{Ending, Ended, Stuck, Unfinished, followed}
+use Rattle.bpf_step_model.specs.Run.{BoundedResult, Ended, Stuck, Unfinished, followed}
 use Rattle.bpf_step_model.specs.Iteration.{Iterated, iteration}
 use Rattle.bpf_step_model.proofs.Endings.{mapped_from}
 use Rattle.loop_core_model.specs.LeastBreak.{in_front_of}
@@ -13,7 +13,7 @@ use Rattle.loop_core_model.specs.Scan.{up_to_break, scan}
 use Rattle.loop_core_model.proofs.OneElement.{or_false_left, or_false_right}
 use Rattle.loop_core_blocks.specs.Block.{break_from}
 use Rattle.loop_core_blocks.specs.Split.{falls, ends_amiss, split_fault}
-use Rattle.loop_core_blocks.specs.Gather.{Block, IsRunOf, least_of, starts_late, with_number, lacks, lacks_some, in_front, counting, twice, stands_in, gather_fault}
+use Rattle.loop_core_blocks.specs.Gather.{Block, IsRunOf, least_of, starts_late, block_numbered, lacks_block, lacks_some, in_front, counting, twice, stands_in, gather_fault}
 use Rattle.loop_core_blocks.proofs.FirstBreak.{FirstIs, breaking, scan_first}
 use Rattle.loop_core_blocks.proofs.GatherLaws.{AtMost, Stands, rising, if_none, not_false, found, none_counts, some_there}
 use Rattle.loop_core_gather.proofs.BlocksCount.{counting_of}
@@ -23,7 +23,7 @@ abbrev pub Follow : ℕ → List Block → Type 0
 Follow index [] = Unit {0}
 Follow index (b ∷ blocks) = (b.first ≡ index) × Follow (index + length b.ran) blocks
 
-module _ (iterate : ℕ → Ending Iterated) where
+module _ (iterate : ℕ → BoundedResult Iterated) where
   -- a scan that doesn't break runs its whole interval
   runs_all : (left index : ℕ) (ran : List Iterated) → scan iterate left index ≡ Ended ran → break_from index ran ≡ None → length ran ≡ left
   runs_all zero index ran h unbroken = let e : [] ≡ ran = cc in sym (ap length e)
@@ -43,7 +43,7 @@ module _ (iterate : ℕ → Ending Iterated) where
           let long : length ran ≡ suc (length parts.0) = ap length parts.2 in
           omega arith
 
-      by_first : (e : Ending Iterated) → followed (up_to_break (scan iterate left (index + 1))) e ≡ Ended ran →
+      by_first : (e : BoundedResult Iterated) → followed (up_to_break (scan iterate left (index + 1))) e ≡ Ended ran →
           ((its : List Iterated) → scan iterate left (index + 1) ≡ Ended its → break_from (index + 1) its ≡ None → length its ≡ left) → length ran ≡ suc left
       by_first Stuck h later = absurd (cc)
       by_first Unfinished h later = absurd (cc)
@@ -60,8 +60,8 @@ none_behind : (o : Option ℕ) (j : ℕ) (blocks : List Block) (k past : ℕ) (b
 none_behind None j blocks k past bounds most below h = absurd most
 none_behind (Some i) j blocks k past bounds most below h = none_counts i blocks k past bounds (omega arith) h
 
-module _ (iterate : ℕ → Ending Iterated) (whole : List ℕ) (least : Option ℕ) (blocks : List Block)
-    (stand : (k : ℕ) (b : Block) → with_number k blocks ≡ Some b → Stands iterate whole least k b) where
+module _ (iterate : ℕ → BoundedResult Iterated) (whole : List ℕ) (least : Option ℕ) (blocks : List Block)
+    (stand : (k : ℕ) (b : Block) → block_numbered k blocks ≡ Some b → Stands iterate whole least k b) where
   -- those behind a block
   behind : (k first past : ℕ) (bounds : List ℕ) (b : Block) → first ≤ past → falls past bounds ≡ false → b.first ≡ first → b.past ≡ past →
       scan iterate (b.past - b.first) b.first ≡ Ended b.ran → AtMost least (break_from b.first b.ran) → Follow past (counting least blocks (k + 1) past bounds) →
@@ -79,10 +79,10 @@ module _ (iterate : ℕ → Ending Iterated) (whole : List ℕ) (least : Option 
       subst (Follow (first + length b.ran)) (sym empty) tt
 
   on_time : (k first past : ℕ) (bounds : List ℕ) → ((j : ℕ) → slice_get whole (k + j) ≡ slice_get (first ∷ past ∷ bounds) j) → first ≤ past → falls past bounds ≡ false →
-      starts_late least first ≡ false → is_none (with_number k blocks) ≡ false → Follow past (counting least blocks (k + 1) past bounds) →
+      starts_late least first ≡ false → is_none (block_numbered k blocks) ≡ false → Follow past (counting least blocks (k + 1) past bounds) →
       Follow first (counting least blocks k first (past ∷ bounds))
   on_time k first past bounds there order rises early present next =
-      let b = some_there (with_number k blocks) present in
+      let b = some_there (block_numbered k blocks) present in
       let stands : Stands iterate whole least k b.0 = stand k b.0 b.1 in
       let same : k + 0 ≡ k = omega arith in
       let at_first : slice_get whole k ≡ Some first = subst (λ (m : ℕ). slice_get whole m ≡ Some first) same (there 0) in
@@ -92,7 +92,7 @@ module _ (iterate : ℕ → Ending Iterated) (whole : List ℕ) (least : Option 
       let first_is : b.0.first ≡ first = cc in
       let past_is : b.0.past ≡ past = cc in
       let counts : counting least blocks k first (past ∷ bounds) ≡ b.0 ∷ counting least blocks (k + 1) past bounds =
-      ap (λ (late : Bool). in_front (if late then None else with_number k blocks) (counting least blocks (k + 1) past bounds)) early
+      ap (λ (late : Bool). in_front (if late then None else block_numbered k blocks) (counting least blocks (k + 1) past bounds)) early
       ∙ ap (λ (o : Option Block). in_front o (counting least blocks (k + 1) past bounds)) b.1 in
       subst (Follow first) (sym counts) (
         first_is,
@@ -101,20 +101,20 @@ module _ (iterate : ℕ → Ending Iterated) (whole : List ℕ) (least : Option 
       )
 
   pub follow_from : (k first : ℕ) (bounds : List ℕ) → ((j : ℕ) → slice_get whole (k + j) ≡ slice_get (first ∷ bounds) j) → falls first bounds ≡ false →
-      lacks least blocks k first bounds ≡ false → Follow first (counting least blocks k first bounds)
+      lacks_block least blocks k first bounds ≡ false → Follow first (counting least blocks k first bounds)
   follow_from k first [] there rises complete = tt
   follow_from k first (past ∷ bounds) there rises complete =
       let next_place : (j : ℕ) → k + 1 + j ≡ k + suc j = λ j. omega arith in
       go (starts_late least first) refl (rising first past bounds rises) (or_false_right (nat_lt past first) (falls past bounds) rises)
       (follow_from (k + 1) past bounds (λ j. ap (slice_get whole) (next_place j) ∙ there (suc j)) (or_false_right (nat_lt past first) (falls past bounds) rises)
-      (or_false_right (not (starts_late least first) && is_none (with_number k blocks)) _ complete))
+      (or_false_right (not (starts_late least first) && is_none (block_numbered k blocks)) _ complete))
     where
       go : (late : Bool) → starts_late least first ≡ late → first ≤ past → falls past bounds ≡ false → Follow past (counting least blocks (k + 1) past bounds) →
           Follow first (counting least blocks k first (past ∷ bounds))
       go true is order rises_on next = subst (Follow first) (sym (late_none least blocks k first (past ∷ bounds) is rises)) tt
       go false is order rises_on next =
-          let here : (not (starts_late least first) && is_none (with_number k blocks)) ≡ false = or_false_left (not (starts_late least first) && is_none (with_number k blocks)) _ complete in
-          let present : is_none (with_number k blocks) ≡ false = subst (λ (late : Bool). (not late && is_none (with_number k blocks)) ≡ false) is here in
+          let here : (not (starts_late least first) && is_none (block_numbered k blocks)) ≡ false = or_false_left (not (starts_late least first) && is_none (block_numbered k blocks)) _ complete in
+          let present : is_none (block_numbered k blocks) ≡ false = subst (λ (late : Bool). (not late && is_none (block_numbered k blocks)) ≡ false) is here in
           on_time k first past bounds there order rises_on is present next
 
 -- of blocks without a fault, from index 0 on
@@ -123,7 +123,7 @@ pub counting_follow : (program : Program) (bound : ℕ) (call : LoopCall) (words
 counting_follow program bound call words [] blocks split gather runs = tt
 counting_follow program bound call words (first ∷ bounds) blocks split gather runs =
     let same_place : (j : ℕ) → 0 + j ≡ j = λ j. omega arith in
-    let iterate : ℕ → Ending Iterated = λ index. iteration program bound call index words in
+    let iterate : ℕ → BoundedResult Iterated = λ index. iteration program bound call index words in
     let s1 = if_none (falls 0 (first ∷ bounds)) _ _ split in
     let s2 = if_none _ _ _ s1.1 in
     let s3 = if_none (ends_amiss (first ∷ bounds) call.n) _ _ s2.1 in

@@ -12,7 +12,7 @@ use Rattle.loop_core_model.specs.declared.loop_test.Test.{Test}
 use Rattle.loop_core_model.specs.declared.verdict.Verdict.{Verdict}
 use Rattle.loop_core_model.specs.LeastBreak.{count_to}
 use Rattle.loop_core_marks.specs.Marks.{Visit, marks_of, marked_conflict}
-use Rattle.loop_core_marks.specs.Planes.{elements_of, plane_verdict}
+use Rattle.loop_core_marks.specs.Planes.{elements_in_plane, plane_verdict}
 use Rattle.loop_core_blocks.specs.declared.faults.GatherFault.{GatherFault}
 use Rattle.loop_core_blocks.specs.Split.{split_fault}
 use Rattle.loop_core_blocks.specs.Gather.{gather_fault}
@@ -22,13 +22,13 @@ use Rattle.shadow_marks.specs.Standing.{ArePlanes, StandFor, words_for, test_of}
 use Rattle.private_copy.specs.Touched.{has_page}
 use Rattle.loop_core_block.specs.declared.block.Block.{Block as Held}
 use Rattle.loop_core_block.specs.Blocks.{BlockOf}
-use Rattle.loop_core_block.specs.Ran.{IsRunOf}
+use Rattle.loop_core_block.specs.Ran.{RecordsRun}
 use Rattle.loop_core_block.specs.Shown.{shown}
 use Rattle.loop_core_gather.specs.declared.summary.Summary.{Summary}
 use Rattle.loop_core_gather.specs.Counting.{told_fault, Counts}
-use Rattle.loop_core_gather.specs.Held.{told_of, chosen, visits_at, left_words, IsUntouched, TellsUntouched, AreHeld}
-use Rattle.loop_core_gather.specs.Touched.{is_marked, AreMarked}
-use Rattle.loop_core_gather.specs.Gathered.{all_gathered, Tells}
+use Rattle.loop_core_gather.specs.Held.{told_of, chosen, visits_at, left_words, IsUntouchedElement, TellsUntouched, AreHeld}
+use Rattle.loop_core_gather.specs.Touched.{is_page_marked, AreMarked}
+use Rattle.loop_core_gather.specs.Gathered.{all_gathered, HasOutcome}
 use Rattle.loop_core_gather.proofs.BlocksCount.{summary_of, BlocksCount}
 use Rattle.loop_core_gather.proofs.FaultLaws.{same_fault, all_count}
 use Rattle.loop_core_gather.proofs.JoiningLaws.{visits_in, stands_in_planes}
@@ -36,12 +36,12 @@ use Rattle.loop_core_gather.proofs.UntouchedLaws.{not_both, untouched}
 use Rattle.loop_core_gather.proofs.TellingLaws.{are_told, have_starts, within, answer_within, tells}
 
 module _ (test : Test) (program : Program) (call : LoopCall) (words : List ℕ) (bounds : List ℕ) (held : List Held) (summaries : List Summary)
-    (ran : All (λ b. IsRunOf test program call words (shown b)) held) (made : summaries ≡ map told_of (map shown held)) where
+    (ran : All (λ b. RecordsRun test program call words (shown b)) held) (made : summaries ≡ map told_of (map shown held)) where
   abbrev blocks : List BlockOf
   blocks = map shown held
 
-  all_ran : All (IsRunOf test program call words) blocks
-  all_ran = All-map (IsRunOf test program call words) shown held ran
+  all_ran : All (RecordsRun test program call words) blocks
+  all_ran = All-map (RecordsRun test program call words) shown held ran
 
   named : map summary_of (all_gathered program call words blocks) ≡ summaries
   named = are_told test program call words blocks all_ran ∙ sym made
@@ -81,11 +81,11 @@ module _ (test : Test) (program : Program) (call : LoopCall) (words : List ℕ) 
     tells_untouched : (touched : List ℕ) → length touched ≡ words_for (length words) → AreMarked blocks places (length places) touched → (e : ℕ) → e < length words →
         TellsUntouched (slice_index touched (e / 64)) e blocks places
     tells_untouched touched pages marked e inside i b below at bit =
-        let ran_b : IsRunOf test program call words b = subst (IsRunOf test program call words) (get_or_from_slice_get blocks (slice_index places i) b b at) (all_ran (slice_index places i) b (slice_get_within blocks (slice_index places i) b at)) in
+        let ran_b : RecordsRun test program call words b = subst (RecordsRun test program call words) (get_or_from_slice_get blocks (slice_index places i) b b at) (all_ran (slice_index places i) b (slice_get_within blocks (slice_index places i) b at)) in
         by_page ran_b (has_page b.copy.pages (e / 64)) refl
       where
-        by_page : IsRunOf test program call words b → (has : Bool) → has_page b.copy.pages (e / 64) ≡ has → IsUntouched e b
-        by_page ran_b true has = absurd (not_both (is_marked touched (e / 64) i) (marked i b (e / 64) below at has (omega (arith, inside, pages))) bit)
+        by_page : RecordsRun test program call words b → (has : Bool) → has_page b.copy.pages (e / 64) ≡ has → IsUntouchedElement e b
+        by_page ran_b true has = absurd (not_both (is_page_marked touched (e / 64) i) (marked i b (e / 64) below at has (omega (arith, inside, pages))) bit)
         by_page ran_b false has = untouched test program call words b e ran_b inside has
 
     pub are_held : (planes : Planes) (start touched : List ℕ) (now : List Held) (at : List ℕ) → start ≡ words → length start ≤ 65536 → ArePlanes planes → planes.elements ≡ length start →
@@ -107,19 +107,19 @@ module _ (test : Test) (program : Program) (call : LoopCall) (words : List ℕ) 
     pub all_tell : (planes : Planes) (plane : List ℕ) (v : Verdict) (n : ℕ) (start : List ℕ) → planes.elements ≡ length words → test_of planes.tested ≡ test →
         ((each : BlockOf → ℕ → List Visit) → All (λ b. StandFor b.planes (each b)) blocks → StandFor planes (visits_at each (chosen places blocks))) →
         AreWords plane →
-        ((visits : ℕ → List Visit) → StandFor planes visits → elements_of plane ≡ filter (λ e. marked_conflict (test_of planes.tested) (marks_of (visits e))) (range_with_len 0 planes.elements)) →
+        ((visits : ℕ → List Visit) → StandFor planes visits → elements_in_plane plane ≡ filter (λ e. marked_conflict (test_of planes.tested) (marks_of (visits e))) (range_with_len 0 planes.elements)) →
         v ≡ plane_verdict plane → n ≡ count_to call.n least → start ≡ words →
-        Tells test program call words (record { verdict = v; answer = n; words = left_words planes (chosen places blocks) start })
+        HasOutcome test program call words (record { verdict = v; answer = n; words = left_words planes (chosen places blocks) start })
     all_tell planes plane v n start count test_is stand fit conflicting verdict_is answer_is start_is =
         let each : BlockOf → ℕ → List Visit = visits_in program call words in
         let all : All (λ b. StandFor b.planes (each b)) blocks =
-        All-weaker (IsRunOf test program call words) (λ b. StandFor b.planes (visits_in program call words b)) (λ b one. stands_in_planes program call words test b one) blocks all_ran in
+        All-weaker (RecordsRun test program call words) (λ b. StandFor b.planes (visits_in program call words b)) (λ b one. stands_in_planes program call words test b one) blocks all_ran in
         let stands : StandFor planes (visits_at (visits_in program call words) (chosen places blocks)) = stand (visits_in program call words) all in
-        let is : elements_of plane ≡ filter (λ e. marked_conflict test (marks_of (visits_at (visits_in program call words) (chosen places blocks) e))) (range_with_len 0 (length words)) =
+        let is : elements_in_plane plane ≡ filter (λ e. marked_conflict test (marks_of (visits_at (visits_in program call words) (chosen places blocks) e))) (range_with_len 0 (length words)) =
         conflicting (visits_at (visits_in program call words) (chosen places blocks)) stands
         ∙ ap (λ (t : Test). filter (λ e. marked_conflict t (marks_of (visits_at (visits_in program call words) (chosen places blocks) e))) (range_with_len 0 planes.elements)) test_is
         ∙ ap (λ (m : ℕ). filter (λ e. marked_conflict test (marks_of (visits_at (visits_in program call words) (chosen places blocks) e))) (range_with_len 0 m)) count in
         let first = tells test program call words bounds blocks least places split all_ran counted planes count stands plane fit is in
-        subst (λ (ws : List ℕ). Tells test program call words (let o : Outcome = record { verdict = v; answer = n; words = left_words planes (chosen places blocks) ws } in o)) (sym start_is)
-        (subst (λ (m : ℕ). Tells test program call words (let o : Outcome = record { verdict = v; answer = m; words = left_words planes (chosen places blocks) words } in o)) (sym answer_is)
-        (subst (λ (u : Verdict). Tells test program call words (let o : Outcome = record { verdict = u; answer = count_to call.n least; words = left_words planes (chosen places blocks) words } in o)) (sym verdict_is) first))
+        subst (λ (ws : List ℕ). HasOutcome test program call words (let o : Outcome = record { verdict = v; answer = n; words = left_words planes (chosen places blocks) ws } in o)) (sym start_is)
+        (subst (λ (m : ℕ). HasOutcome test program call words (let o : Outcome = record { verdict = v; answer = m; words = left_words planes (chosen places blocks) words } in o)) (sym answer_is)
+        (subst (λ (u : Verdict). HasOutcome test program call words (let o : Outcome = record { verdict = u; answer = count_to call.n least; words = left_words planes (chosen places blocks) words } in o)) (sym verdict_is) first))

@@ -7,7 +7,7 @@ use Rattle.array_maps.specs.declared.access.Op.{Op}
 use Rattle.array_maps.specs.Accesses.{Action, Access, actions_at, operators}
 use Rattle.bpf_insn_types.specs.Program.{Program}
 use Rattle.bpf_step_model.specs.State.{LoopCall}
-use Rattle.bpf_step_model.specs.Run.{Ending, Ended}
+use Rattle.bpf_step_model.specs.Run.{BoundedResult, Ended}
 use Rattle.bpf_step_model.specs.Iteration.{Iterated}
 use Rattle.loop_core_model.specs.declared.loop_test.Test.{Test}
 use Rattle.loop_core_model.specs.Actions.{joined}
@@ -21,13 +21,13 @@ use Rattle.loop_core_blocks.specs.Kept.{Kept, kept}
 use Rattle.loop_core_schedule.specs.KeptLaw.{marks_of_blocks}
 use Rattle.shadow_marks.specs.declared.planes.Planes.{Planes}
 use Rattle.shadow_marks.specs.Standing.{plane_by, StandAt, StandFor}
-use Rattle.private_copy.specs.Copies.{StandsFor}
+use Rattle.private_copy.specs.Copies.{CopyRecords}
 use Rattle.private_copy.specs.Reductions.{combination}
 use Rattle.private_copy.specs.Visits.{visits_of}
 use Rattle.private_copy.proofs.ReductionLaws.{partial_is_combination}
 use Rattle.loop_core_block.specs.Blocks.{BlockOf}
-use Rattle.loop_core_block.specs.Ran.{iterations_of, as_gathered, IsRunOf}
-use Rattle.loop_core_blocks.specs.Block.{block}
+use Rattle.loop_core_block.specs.Ran.{iterations_of, as_gathered, RecordsRun}
+use Rattle.loop_core_blocks.specs.Block.{block_run}
 use Rattle.loop_core_gather.specs.Held.{visits_at, is_reduction, kept_of}
 use Rattle.loop_core_gather.proofs.FollowLaws.{Follow}
 
@@ -74,32 +74,32 @@ module _ (program : Program) (call : LoopCall) (words : List ℕ) where
       ∙ ap (λ (n : ℕ). merged (marks_of (numbered index (at_block e (told b)))) (marks_of_blocks (index + n) later)) (sym (count_at e (told b)))
 
   -- a block that was run of its interval
-  pub was_run : (test : Test) (b : BlockOf) → IsRunOf test program call words b → block program 4096 call words b.first b.past ≡ Ended (told b).ran
-  was_run test b is = is.told ∙ ap (λ (e : Ending (List Iterated)). Ended (iterations_of e)) (sym is.told)
+  pub was_run : (test : Test) (b : BlockOf) → RecordsRun test program call words b → block_run program 4096 call words b.first b.past ≡ Ended (told b).ran
+  was_run test b is = is.told ∙ ap (λ (e : BoundedResult (List Iterated)). Ended (iterations_of e)) (sym is.told)
 
-  pub ran_is : (test : Test) (b : BlockOf) (is : IsRunOf test program call words b) → (told b).ran ≡ is.ran
+  pub ran_is : (test : Test) (b : BlockOf) (is : RecordsRun test program call words b) → (told b).ran ≡ is.ran
   ran_is test b is = ap iterations_of is.told
 
-  pub runs_all : (test : Test) (blocks : List BlockOf) → AllByRecursion (IsRunOf test program call words) blocks → AllByRecursion (RanAs program 4096 call words) (map told blocks)
+  pub runs_all : (test : Test) (blocks : List BlockOf) → AllByRecursion (RecordsRun test program call words) blocks → AllByRecursion (RanAs program 4096 call words) (map told blocks)
   runs_all test [] all = tt
   runs_all test (b ∷ blocks) all = (was_run test b all.0, runs_all test blocks all.1)
 
   -- its planes stand for its visits
-  pub stands_in_planes : (test : Test) (b : BlockOf) → IsRunOf test program call words b → StandFor b.planes (visits_in b)
+  pub stands_in_planes : (test : Test) (b : BlockOf) → RecordsRun test program call words b → StandFor b.planes (visits_in b)
   stands_in_planes test b is = subst (λ its. StandFor b.planes (visits_of b.first (accesses_of_each its))) (sym (ran_is test b is)) is.planes
 
   -- its copy keeps what its iterations leave
-  same_kept : (test : Test) (e : ℕ) (b : BlockOf) → e < length words → IsRunOf test program call words b → kept_of e b ≡ kept (at_block e (told b)) (slice_index words e)
+  same_kept : (test : Test) (e : ℕ) (b : BlockOf) → e < length words → RecordsRun test program call words b → kept_of e b ≡ kept (at_block e (told b)) (slice_index words e)
   same_kept test e b inside is =
       let long : length b.copy.start ≡ length words = ap length is.start in
       let within : e < length b.copy.start = omega arith in
-      let copy : StandsFor b.copy (accesses_of_each (told b).ran) = subst (λ its. StandsFor b.copy (accesses_of_each its)) (sym (ran_is test b is)) is.copy in
+      let copy : CopyRecords b.copy (accesses_of_each (told b).ran) = subst (λ its. CopyRecords b.copy (accesses_of_each its)) (sym (ran_is test b is)) is.copy in
       let last = copy.remembers.last e within ∙ ap (λ ws. (kept (at_block e (told b)) (slice_index ws e)).last_value) is.start in
       let reduced = ap combination (copy.remembers.reduction e within) ∙ sym (partial_is_combination (at_block e (told b))) in
       ap (λ l. (let k : Kept = record { last_value = l; partial = combination (b.copy.reduction e) } in k)) last
       ∙ ap (λ p. (let k : Kept = record { last_value = (kept (at_block e (told b)) (slice_index words e)).last_value; partial = p } in k)) reduced
 
-  pub all_kept : (test : Test) (e : ℕ) (blocks : List BlockOf) → e < length words → AllByRecursion (IsRunOf test program call words) blocks →
+  pub all_kept : (test : Test) (e : ℕ) (blocks : List BlockOf) → e < length words → AllByRecursion (RecordsRun test program call words) blocks →
       map (kept_of e) blocks ≡ map (λ its. kept its (slice_index words e)) (at_blocks e (map told blocks))
   all_kept test e [] inside all = refl
   all_kept test e (b ∷ blocks) inside all =

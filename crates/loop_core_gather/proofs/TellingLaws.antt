@@ -20,7 +20,7 @@ use Rattle.loop_core_model.specs.LeastBreak.{is_break, least_break, count_to, co
 use Rattle.loop_core_model.specs.Report.{judged}
 use Rattle.loop_core_model.proofs.Least.{counts_to}
 use Rattle.loop_core_marks.specs.Marks.{marks_of, marked_reduction, marked_conflict}
-use Rattle.loop_core_marks.specs.Planes.{elements_of, plane_verdict}
+use Rattle.loop_core_marks.specs.Planes.{elements_in_plane, plane_verdict}
 use Rattle.loop_core_marks.proofs.PlaneLaws.{filter-same}
 use Rattle.loop_core_marks.proofs.PlaneBits.{plane_judges}
 use Rattle.loop_core_blocks.specs.Split.{split_fault}
@@ -35,37 +35,37 @@ use Rattle.shadow_marks.specs.declared.planes.Planes.{Planes}
 use Rattle.shadow_marks.specs.Standing.{StandFor}
 use Rattle.private_copy.proofs.AccessLaws.{shown_at, shown_length}
 use Rattle.loop_core_block.specs.Blocks.{BlockOf}
-use Rattle.loop_core_block.specs.Ran.{IsRunOf}
+use Rattle.loop_core_block.specs.Ran.{RecordsRun}
 use Rattle.loop_core_gather.specs.declared.summary.Summary.{Summary}
 use Rattle.loop_core_gather.specs.Held.{told_of, chosen, visits_at, kept_of, left_at, left_words}
-use Rattle.loop_core_gather.specs.Gathered.{all_gathered, Tells}
+use Rattle.loop_core_gather.specs.Gathered.{all_gathered, HasOutcome}
 use Rattle.loop_core_gather.proofs.BlocksCount.{summary_of, BlocksCount, counting_of}
 use Rattle.loop_core_gather.proofs.FollowLaws.{Follow, counting_follow}
 use Rattle.loop_core_gather.proofs.ChoiceLaws.{AreAt, are_at, all_chosen}
 use Rattle.loop_core_gather.proofs.JoiningLaws.{at_blocks, runs_of, joined_at, told, visits_in, marks_follow, runs_all, ran_is, all_kept, tells_reduction}
 
 -- what is gathered is what is told
-same_told : (test : Test) (program : Program) (call : LoopCall) (words : List ℕ) (b : BlockOf) → IsRunOf test program call words b → summary_of (told program call words b) ≡ told_of b
+same_told : (test : Test) (program : Program) (call : LoopCall) (words : List ℕ) (b : BlockOf) → RecordsRun test program call words b → summary_of (told program call words b) ≡ told_of b
 same_told test program call words b is =
     ap (λ (its : List Iterated). summary_of (record { number = b.number; first = b.first; past = b.past; ran = its })) (ran_is program call words test b is)
     ∙ ap (λ (broke : Option ℕ). (let s : Summary = record { number = b.number; first = b.first; past = b.past; broke = broke } in s)) (sym is.broke)
 
-all_told : (test : Test) (program : Program) (call : LoopCall) (words : List ℕ) (blocks : List BlockOf) → AllByRecursion (IsRunOf test program call words) blocks →
+all_told : (test : Test) (program : Program) (call : LoopCall) (words : List ℕ) (blocks : List BlockOf) → AllByRecursion (RecordsRun test program call words) blocks →
     map summary_of (all_gathered program call words blocks) ≡ map told_of blocks
 all_told test program call words [] all = refl
 all_told test program call words (b ∷ blocks) all =
     ap (λ s. s ∷ map summary_of (all_gathered program call words blocks)) (same_told test program call words b all.0)
     ∙ ap (λ ss. told_of b ∷ ss) (all_told test program call words blocks all.1)
 
-pub are_told : (test : Test) (program : Program) (call : LoopCall) (words : List ℕ) (blocks : List BlockOf) → All (IsRunOf test program call words) blocks →
+pub are_told : (test : Test) (program : Program) (call : LoopCall) (words : List ℕ) (blocks : List BlockOf) → All (RecordsRun test program call words) blocks →
     map summary_of (all_gathered program call words blocks) ≡ map told_of blocks
-are_told test program call words blocks ran = all_told test program call words blocks (recursion_from_All (IsRunOf test program call words) blocks ran)
+are_told test program call words blocks ran = all_told test program call words blocks (recursion_from_All (RecordsRun test program call words) blocks ran)
 
 -- each copy has as many words
-pub have_starts : (test : Test) (program : Program) (call : LoopCall) (words : List ℕ) (blocks : List BlockOf) → All (IsRunOf test program call words) blocks →
+pub have_starts : (test : Test) (program : Program) (call : LoopCall) (words : List ℕ) (blocks : List BlockOf) → All (RecordsRun test program call words) blocks →
     All (λ b. length b.copy.start ≡ length words) blocks
 have_starts test program call words blocks ran =
-    All-weaker (IsRunOf test program call words) (λ b. length b.copy.start ≡ length words) (λ b is. ap length is.start) blocks ran
+    All-weaker (RecordsRun test program call words) (λ b. length b.copy.start ≡ length words) (λ b is. ap length is.start) blocks ran
 
 gathered_is : (bounds : List ℕ) (blocks : List Block) → gathered bounds blocks ≡ joined (map (λ (b : Block). b.ran) (counting_of bounds blocks))
 gathered_is [] blocks = refl
@@ -76,15 +76,15 @@ passes_alone [] h = refl
 passes_alone (least ∷ others) h = absurd (cc)
 
 module _ (test : Test) (program : Program) (call : LoopCall) (words : List ℕ) (bounds : List ℕ) (blocks : List BlockOf) (least : Option ℕ) (places : List ℕ)
-    (split : split_fault bounds call.n ≡ None) (ran : All (IsRunOf test program call words) blocks) (counts : BlocksCount bounds (all_gathered program call words blocks) least places) where
+    (split : split_fault bounds call.n ≡ None) (ran : All (RecordsRun test program call words) blocks) (counts : BlocksCount bounds (all_gathered program call words blocks) least places) where
   abbrev counting : List BlockOf
   counting = chosen places blocks
 
   abbrev runs : List (List Access)
   runs = runs_of (map (told program call words) counting)
 
-  all_ran : AllByRecursion (IsRunOf test program call words) counting
-  all_ran = all_chosen (IsRunOf test program call words) blocks places ran
+  all_ran : AllByRecursion (RecordsRun test program call words) counting
+  all_ran = all_chosen (RecordsRun test program call words) blocks places ran
 
   at : AreAt (told program call words) blocks places (counting_of bounds (all_gathered program call words blocks))
   at = are_at (told program call words) blocks places (counting_of bounds (all_gathered program call words blocks)) counts.in_order
@@ -95,13 +95,13 @@ module _ (test : Test) (program : Program) (call : LoopCall) (words : List ℕ) 
   gathers : Gathers program 4096 call words bounds (all_gathered program call words blocks)
   gathers =
       blocks_gather program 4096 call words bounds (all_gathered program call words blocks) split counts.faultless
-      (runs_all program call words test blocks (recursion_from_All (IsRunOf test program call words) blocks ran))
+      (runs_all program call words test blocks (recursion_from_All (RecordsRun test program call words) blocks ran))
 
   follow : Follow 0 (map (told program call words) counting)
   follow =
       subst (Follow 0) (sym at.same)
       (counting_follow program 4096 call words bounds (all_gathered program call words blocks) split counts.faultless
-      (runs_all program call words test blocks (recursion_from_All (IsRunOf test program call words) blocks ran)))
+      (runs_all program call words test blocks (recursion_from_All (RecordsRun test program call words) blocks ran)))
 
   counted_is : counted_runs program 4096 call words ≡ Ended runs
   counted_is =
@@ -154,7 +154,7 @@ module _ (test : Test) (program : Program) (call : LoopCall) (words : List ℕ) 
 
     -- what they tell
     module _ (plane : List ℕ) (fit : AreWords plane)
-        (is : elements_of plane ≡ filter (λ e. marked_conflict test (marks_of (visits_at (visits_in program call words) counting e))) (range_with_len 0 (length words))) where
+        (is : elements_in_plane plane ≡ filter (λ e. marked_conflict test (marks_of (visits_at (visits_in program call words) counting e))) (range_with_len 0 (length words))) where
       judged_is : plane_verdict plane ≡ judged (conflicting test runs (length words))
       judged_is =
           plane_judges.verdict plane fit
@@ -169,7 +169,7 @@ module _ (test : Test) (program : Program) (call : LoopCall) (words : List ℕ) 
           ∙ ap (λ (n : ℕ). Ended (let o : Outcome = record { verdict = plane_verdict plane; answer = n; words = committed_words runs words } in o)) (sym answer_is)
           ∙ ap (λ (ws : List ℕ). Ended (let o : Outcome = record { verdict = plane_verdict plane; answer = count_to call.n least; words = ws } in o)) (sym words_are)
 
-      pub tells : Tells test program call words (record { verdict = plane_verdict plane; answer = count_to call.n least; words = left_words planes counting words })
+      pub tells : HasOutcome test program call words (record { verdict = plane_verdict plane; answer = count_to call.n least; words = left_words planes counting words })
       tells = record {
         told = ap (mapped (λ (rs : List (List Access)). judged (conflicting test rs (length words)))) counted_is ∙ ap Ended (sym judged_is);
         passes = passes;

@@ -7,7 +7,7 @@ use Rattle.std.proofs.Math.ListN.{drop_of_length-le}
 use Rattle.std.proofs.lemmas.List.{append-nil}
 use Rattle.loop_core_model.specs.LeastBreak.{lesser}
 use Rattle.loop_core_blocks.specs.Block.{break_from}
-use Rattle.loop_core_blocks.specs.Gather.{Block, least_of, starts_late, with_number, lacks, counting, twice, stands_in}
+use Rattle.loop_core_blocks.specs.Gather.{Block, least_of, starts_late, block_numbered, lacks_block, counting, twice, stands_in}
 use Rattle.loop_core_gather.specs.declared.summary.Summary.{Summary}
 use Rattle.loop_core_gather.specs.Told.{least_told, twice_told, stands_told, with_place, order_from, order_told}
 use Rattle.loop_core_gather.proofs.BlocksCount.{summary_of}
@@ -38,12 +38,12 @@ foreign_same bounds (b ∷ blocks) = ap (λ (rest : Bool). not (stands_in bounds
 pub record IsAt (blocks : List Block) (number start place : ℕ) : Type 0 where
   pub block : Block
   pub behind : ℕ
-  pub found : with_number number blocks ≡ Some block
+  pub found : block_numbered number blocks ≡ Some block
   pub there : place ≡ start + behind
   pub at : slice_get blocks behind ≡ Some block
 
 abbrev pub FoundBy : List Block → (number start : ℕ) → Option ℕ → Type 0
-FoundBy blocks number start None = with_number number blocks ≡ None
+FoundBy blocks number start None = block_numbered number blocks ≡ None
 FoundBy blocks number start (Some place) = IsAt blocks number start place
 
 found : (number start : ℕ) (blocks : List Block) → FoundBy blocks number start (position_from (λ (s : Summary). s.number == number) start (map summary_of blocks))
@@ -62,11 +62,11 @@ found number start (b ∷ blocks) = go (b.number == number) refl (position_from 
 
 -- the order of the blocks that count
 pub record IsOrder (least : Option ℕ) (blocks : List Block) (number first : ℕ) (bounds : List ℕ) (places : List ℕ) : Type 0 where
-  pub all_there : lacks least blocks number first bounds ≡ false
+  pub all_there : lacks_block least blocks number first bounds ≡ false
   pub in_order : map (λ (place : ℕ). slice_get blocks place) places ≡ map Some (counting least blocks number first bounds)
 
 abbrev pub OrderBy : Option ℕ → List Block → (number first : ℕ) → List ℕ → Option (List ℕ) → Type 0
-OrderBy least blocks number first bounds None = lacks least blocks number first bounds ≡ true
+OrderBy least blocks number first bounds None = lacks_block least blocks number first bounds ≡ true
 OrderBy least blocks number first bounds (Some places) = IsOrder least blocks number first bounds places
 
 or_true : (a : Bool) → (a || true) ≡ true

@@ -17,8 +17,8 @@ use Rattle.private_copy.specs.declared.reduction.Reduction.TheVariants.{Untouche
 use Rattle.private_copy.specs.Reductions.{combination, reduction_from}
 use Rattle.private_copy.specs.Touched.{page_of, has_page, with_page, pages_after}
 use Rattle.loop_core_block.specs.Blocks.{BlockOf}
-use Rattle.loop_core_block.specs.Ran.{IsRunOf}
-use Rattle.loop_core_gather.specs.Held.{IsUntouched}
+use Rattle.loop_core_block.specs.Ran.{RecordsRun}
+use Rattle.loop_core_gather.specs.Held.{IsUntouchedElement}
 
 pub not_both : (b : Bool) → b ≡ true → b ≡ false → ⊥
 not_both b t f = let both : true ≡ false = sym t ∙ f in cc
@@ -88,8 +88,8 @@ no_action e (run ∷ runs) none =
     ap (λ (actions : List Action). actions ++ joined (at_element e runs)) both.first ∙ no_action e runs both.second
 
 -- a block that was run kept nothing at an element whose page it didn't touch
-pub untouched : (test : Test) (program : Program) (call : LoopCall) (words : List ℕ) (b : BlockOf) (e : ℕ) → IsRunOf test program call words b → e < length words →
-    has_page b.copy.pages (page_of e) ≡ false → IsUntouched e b
+pub untouched : (test : Test) (program : Program) (call : LoopCall) (words : List ℕ) (b : BlockOf) (e : ℕ) → RecordsRun test program call words b → e < length words →
+    has_page b.copy.pages (page_of e) ≡ false → IsUntouchedElement e b
 untouched test program call words b e ran inside absent =
     let runs : List (List Access) = accesses_of_each ran.ran in
     let remembers = ran.copy.remembers in

@@ -18,7 +18,7 @@ abbrev pub all_gathered : Program → LoopCall → List ℕ → List BlockOf →
 all_gathered program call words blocks = map (as_gathered program call words) blocks
 
 -- the verdict is the loop's; and where it passes, the answer and the words are those of its outcome
-pub record Tells (test : Test) (program : Program) (call : LoopCall) (words : List ℕ) (o : Outcome) : Type 0 where
+pub record HasOutcome (test : Test) (program : Program) (call : LoopCall) (words : List ℕ) (o : Outcome) : Type 0 where
   pub told : verdict test program 4096 call words ≡ Ended o.verdict
   pub passes : o.verdict ≡ Parallel → outcome test program 4096 call words ≡ Ended o
   pub count : length o.words ≡ length words

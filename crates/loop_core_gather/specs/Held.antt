@@ -50,14 +50,14 @@ abbrev pub left_words : Planes → List BlockOf → List ℕ → List ℕ
 left_words planes blocks start = map (left_at planes blocks start) (range_with_len 0 (length start))
 
 -- nothing is kept of a block at an element
-pub record IsUntouched (e : ℕ) (b : BlockOf) : Type 0 where
+pub record IsUntouchedElement (e : ℕ) (b : BlockOf) : Type 0 where
   pub last_value : b.copy.last e ≡ None
   pub partial : combination (b.copy.reduction e) ≡ None
 
 -- a word has a bit for each of the blocks at these places; of a block whose bit isn't set nothing is kept at an element
 abbrev pub TellsUntouched : (word e : ℕ) → List BlockOf → List ℕ → Type 0
 TellsUntouched word e blocks places = (i : ℕ) (b : BlockOf) → i < length places → slice_get blocks (slice_index places i) ≡ Some b →
-    (bit_at word i == 1) ≡ false → IsUntouched e b
+    (bit_at word i == 1) ≡ false → IsUntouchedElement e b
 
 -- blocks, the places of those that count, merged planes, and for each page which of those blocks touched it, all for so
 -- many elements

@@ -2,14 +2,14 @@
 
 ghost use Rattle.std.specs.Prelude.{◌≡◌, ◌≤◌, map, Some, None, Err, IfOk, OnOk};
 ghost use Rattle.std.specs.List.{All};
-ghost use Rattle.bpf_verify_sound.specs.Soundness.{IsKnownCall};
+ghost use Rattle.bpf_verify_sound.specs.Soundness.{OverApproximatesCall};
 ghost use Rattle.loop_core_model.specs.LeastBreak.{count_to};
 ghost use Rattle.loop_core_blocks.specs.Split.{split_fault};
 ghost use Rattle.loop_core_blocks.specs.Gather.{gather_fault};
 ghost use Rattle.loop_core_blocks.specs.declared.faults.GatherFault.{GatherFault as FaultOf};
-ghost use Rattle.loop_core_block.specs.Ran.{IsRunOf};
+ghost use Rattle.loop_core_block.specs.Ran.{RecordsRun};
 ghost use Rattle.loop_core_block.specs.Shown.{shown};
-ghost use Rattle.loop_core_gather.specs.Gathered.{all_gathered, Tells};
+ghost use Rattle.loop_core_gather.specs.Gathered.{all_gathered, HasOutcome};
 
 use crate::gathered::Gathered;
 use crate::merged::{conflicting_plane, merged_planes, verdict_of};
@@ -73,13 +73,13 @@ pub fn gather<'a>(
     blocks: Vec<Block<'a>>,
     test: Test,
 ) -> Result<Gathered<'a>, GatherError>
-    requires known { IsKnownCall program.now call.now }
+    requires known { OverApproximatesCall program.now call.now }
     requires sizes { start.now.sizes ≡ program.now.sizes }
     requires split { split_fault split.now call.now.n ≡ None }
-    requires ran { All (λ b. IsRunOf test program.now call.now start.now.words (shown b)) blocks.items }
+    requires ran { All (λ b. RecordsRun test program.now call.now start.now.words (shown b)) blocks.items }
     ensures fault { (fault : FaultOf) → result ≡ Err (GatherError.Fault fault) → gather_fault split.now (all_gathered program.now call.now start.now.words (map shown blocks.entry.items)) ≡ Some fault }
     ensures faultless { OnOk result (gather_fault split.now (all_gathered program.now call.now start.now.words (map shown blocks.entry.items)) ≡ None) }
-    ensures told { IfOk result (Tells test program.now call.now start.now.words) }
+    ensures told { IfOk result (HasOutcome test program.now call.now start.now.words) }
 {
     let summaries = summaries_of(alloc, &blocks)?;
     let counting = match counting_blocks(split, &summaries) {

@@ -8,7 +8,7 @@ ghost use Rattle.array_maps.specs.Accesses.{operators};
 ghost use Rattle.loop_core_block.specs.Blocks.{BlockOf};
 ghost use Rattle.loop_core_block.specs.Shown.{shown};
 ghost use Rattle.loop_core_marks.specs.Marks.{Visit, marks_of, marked_conflict};
-ghost use Rattle.loop_core_marks.specs.Planes.{bit_of, elements_of, plane_verdict};
+ghost use Rattle.loop_core_marks.specs.Planes.{bit_of, elements_in_plane, plane_verdict};
 ghost use Rattle.shadow_marks.specs.Standing.{StandFor, ArePlanes, test_of, plane_by};
 ghost use Rattle.lane_planes.specs.Merged.{StandForSome};
 ghost use Rattle.loop_core_gather.specs.Held.{chosen, visits_at, is_reduction as is_reduced, HavePlanes};
@@ -52,7 +52,7 @@ pub(crate) fn conflicting_plane(alloc: Global, planes: &Planes) -> Result<Vec<u6
     requires few { planes.now.elements ≤ 65536 }
     ensures few { IfOk result (λ plane. length plane.items ≤ 1024) }
     ensures words { IfOk result (λ plane. AreWords plane.items) }
-    ensures elements { IfOk result (λ plane. (visits : ℕ → List Visit) → StandFor planes.now visits → elements_of plane.items ≡ filter (λ e. marked_conflict (test_of planes.now.tested) (marks_of (visits e))) (range_with_len 0 planes.now.elements)) }
+    ensures elements { IfOk result (λ plane. (visits : ℕ → List Visit) → StandFor planes.now visits → elements_in_plane plane.items ≡ filter (λ e. marked_conflict (test_of planes.now.tested) (marks_of (visits e))) (range_with_len 0 planes.now.elements)) }
 {
     let mut plane = vec![in alloc; 0u64; (planes.elements as usize + 63) / 64]?;
     conflicts_touched::<LANES>(planes, plane.as_mut_slice());

@@ -1,8 +1,8 @@
 //! What a gathered loop comes to.
 
 ghost use Rattle.std.specs.Prelude.{◌≡◌, IfOk};
-ghost use Rattle.bpf_verify_sound.specs.Soundness.{IsKnownCall};
-ghost use Rattle.loop_core_gather.specs.Gathered.{Tells, IsOutcome};
+ghost use Rattle.bpf_verify_sound.specs.Soundness.{OverApproximatesCall};
+ghost use Rattle.loop_core_gather.specs.Gathered.{HasOutcome, IsOutcome};
 
 use crate::gathered::Gathered;
 use array_maps::Maps;
@@ -34,9 +34,9 @@ pub fn settle(
     gathered: &Gathered,
     test: Test,
 ) -> Result<LoopOutcome, AllocError>
-    requires known { IsKnownCall program.now call.now }
+    requires known { OverApproximatesCall program.now call.now }
     requires sizes { start.now.sizes ≡ program.now.sizes }
-    requires told { Tells test program.now call.now start.now.words gathered.now }
+    requires told { HasOutcome test program.now call.now start.now.words gathered.now }
     ensures { IfOk result (λ o. IsOutcome test program.now call.now start.now o.verdict o.answer o.maps) }
 {
     let mut maps = start.try_copy(alloc)?;

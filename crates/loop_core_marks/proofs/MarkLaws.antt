@@ -11,7 +11,7 @@ use Rattle.array_maps.specs.Accesses.{Action, operators}
 use Rattle.loop_core_model.specs.declared.loop_test.Test.{Test}
 use Rattle.loop_core_model.specs.declared.loop_test.Test.TheVariants.{Lrpd, Flow}
 use Rattle.loop_core_model.specs.Actions.{writes, exposed, reduces_by, joined, only_operator}
-use Rattle.loop_core_model.specs.Conflict.{clash, harm, fails, conflicts}
+use Rattle.loop_core_model.specs.Conflict.{fails_lrpd, fails_flow, fails, conflicts}
 use Rattle.loop_core_model.specs.LeastBreak.{lesser}
 use Rattle.loop_core_marks.specs.Flags.{is_plain, flags_of}
 use Rattle.loop_core_marks.specs.Marks.{Visit, actions_of, numbered, Marks, two_write, first_writer, last_reader, marks_of, marked_reduction, stands_before, first_number, marked_fails, marked_conflict, marks_of_one, merged}
@@ -96,10 +96,10 @@ clash_step : (W E r w np m : Bool) → (np && w) ≡ np → (m && w) ≡ m →
     ((W && (r || np)) || ((E && w) || ((r && w) || (np && m)))) ≡ ((((E && not W) || r) && (W || w)) || (((E && W) || np) && ((W && w) || m)))
 clash_step W E r w np m h k = grind (arith, nat_tests)
 
-clash_marked : (its : List (List Action)) → clash its ≡ ((read_only its && written its) || (read_and_written its && two_write its))
+clash_marked : (its : List (List Action)) → fails_lrpd its ≡ ((read_only its && written its) || (read_and_written its && two_write its))
 clash_marked [] = refl
 clash_marked (it ∷ its) =
-    ap (λ b. (writes it && b) || ((exposed it && list_any writes its) || clash its)) (exposed_split its)
+    ap (λ b. (writes it && b) || ((exposed it && list_any writes its) || fails_lrpd its)) (exposed_split its)
     ∙ ap (λ b. (writes it && (read_only its || read_and_written its)) || ((exposed it && list_any writes its) || b)) (clash_marked its)
     ∙ clash_step (writes it) (exposed it) (read_only its) (written its) (read_and_written its) (two_write its) (read_and_written-written its) (two_write-written its)
 
@@ -180,10 +180,10 @@ flow_step index false E (Some first) last reads harmed facts = record {
 }
 
 flow_facts : (index : ℕ) (its : List (List Action)) →
-    FlowFacts index (first_writer (numbered index its)) (last_reader (numbered index its)) (list_any exposed its) (harm its)
+    FlowFacts index (first_writer (numbered index its)) (last_reader (numbered index its)) (list_any exposed its) (fails_flow its)
 flow_facts index [] = record { late_first = tt; late_last = inl refl; reads_is = refl; harm_is = refl }
 flow_facts index (it ∷ its) =
-    flow_step index (writes it) (exposed it) (first_writer (numbered (index + 1) its)) (last_reader (numbered (index + 1) its)) (list_any exposed its) (harm its)
+    flow_step index (writes it) (exposed it) (first_writer (numbered (index + 1) its)) (last_reader (numbered (index + 1) its)) (list_any exposed its) (fails_flow its)
     (flow_facts (index + 1) its)
 
 fails_marked : (test : Test) (index : ℕ) (its : List (List Action)) → fails test its ≡ marked_fails test (marks_of (numbered index its))

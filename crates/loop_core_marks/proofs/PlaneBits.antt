@@ -14,7 +14,7 @@ use Rattle.std.proofs.lemmas.Nat.Bits.{bit_at_lowest, bit_at-suc, bit_at-zero, b
 use Rattle.array_maps.specs.MapList.{AreWords}
 use Rattle.loop_core_model.specs.declared.verdict.Verdict.TheVariants.{Conflict}
 use Rattle.loop_core_model.specs.Report.{judged}
-use Rattle.loop_core_marks.specs.Planes.{bit_of, elements_of, least_in, judged_by, set_bits, least_bit, PlaneJudges}
+use Rattle.loop_core_marks.specs.Planes.{bit_of, elements_in_plane, least_element_in, judged_by, set_bits, least_bit, PlaneJudges}
 use Rattle.loop_core_marks.proofs.PlaneLaws.{range-append, filter-same, filter-none}
 
 -- the places of a word's bits that are set
@@ -39,7 +39,7 @@ filter-moved p q k from (suc count) same =
 
 -- the elements of a plane: the bits of its first word, and those of the others 64 on
 elements-cons : (width : ℕ) → width ≡ 64 → (word : ℕ) (words : List ℕ) →
-    elements_of (word ∷ words) ≡ bits_in width word ++ map (λ e. width + e) (elements_of words)
+    elements_in_plane (word ∷ words) ≡ bits_in width word ++ map (λ e. width + e) (elements_in_plane words)
 unfolding bits_in
 elements-cons width wide word words =
     let parts : 64 * length (word ∷ words) ≡ width + 64 * length words = omega (arith, wide) in
@@ -99,20 +99,20 @@ bits_in-count (suc width) word h =
 
 -- the least number that passes
 least-filter : (p : ℕ → Bool) (from count at : ℕ) → at < count → p (from + at) ≡ true → ((i : ℕ) → i < at → p (from + i) ≡ false) →
-    least_in (filter p (range_with_len from count)) ≡ Some (from + at)
+    least_element_in (filter p (range_with_len from count)) ≡ Some (from + at)
 least-filter p from zero at h here below = absurd (omega arith)
 least-filter p from (suc count) zero h here below =
     let at_first : from + 0 ≡ from = omega arith in
-    ap (λ b. least_in (cond b (from ∷ filter p (range_with_len (from + 1) count)) (filter p (range_with_len (from + 1) count)))) (ap p (sym at_first) ∙ here) ∙ ap Some (sym at_first)
+    ap (λ b. least_element_in (cond b (from ∷ filter p (range_with_len (from + 1) count)) (filter p (range_with_len (from + 1) count)))) (ap p (sym at_first) ∙ here) ∙ ap Some (sym at_first)
 least-filter p from (suc count) (suc at) h here below =
     let at_first : from ≡ from + 0 = omega arith in
     let on : from + 1 + at ≡ from + suc at = omega arith in
-    ap (λ b. least_in (cond b (from ∷ filter p (range_with_len (from + 1) count)) (filter p (range_with_len (from + 1) count)))) (ap p at_first ∙ below 0 (omega arith))
+    ap (λ b. least_element_in (cond b (from ∷ filter p (range_with_len (from + 1) count)) (filter p (range_with_len (from + 1) count)))) (ap p at_first ∙ below 0 (omega arith))
     ∙ least-filter p (from + 1) count at (omega arith) (ap p on ∙ here)
     (λ i less. let on_i : from + 1 + i ≡ from + suc i = omega arith in ap p on_i ∙ below (suc i) (omega arith))
     ∙ ap Some on
 
-bits_in-least : (width word : ℕ) → width ≡ 64 → word < 2 ^ 64 → 0 < word → least_in (bits_in width word) ≡ Some (trailing_zeros w64 word)
+bits_in-least : (width word : ℕ) → width ≡ 64 → word < 2 ^ 64 → 0 < word → least_element_in (bits_in width word) ≡ Some (trailing_zeros w64 word)
 unfolding bits_in
 bits_in-least width word wide fits some =
     let lowest : (trailing_zeros w64 word < 64) × (bit_at word (trailing_zeros w64 word) ≡ 1) × ((i : ℕ) → i < trailing_zeros w64 word → bit_at word i ≡ 0) =
@@ -128,50 +128,50 @@ bits_in-none : (width : ℕ) → bits_in width 0 ≡ []
 unfolding bits_in
 bits_in-none width = filter-none (λ i. bit_at 0 i == 1) 0 width (λ e low high. ap (λ n. n == 1) (bit_at-zero e))
 
-elements-count : (width : ℕ) → width ≡ 64 → (words : List ℕ) → AreWords words → length (elements_of words) ≡ set_bits words
+elements-count : (width : ℕ) → width ≡ 64 → (words : List ℕ) → AreWords words → length (elements_in_plane words) ≡ set_bits words
 elements-count width wide [] are = refl
 elements-count width wide (word ∷ words) are =
     let fits : word < 2 ^ width = subst (λ (n : ℕ). word < 2 ^ n) (sym wide) are.0 in
     ap length (elements-cons width wide word words)
-    ∙ length-append (bits_in width word) (map (λ e. width + e) (elements_of words))
+    ∙ length-append (bits_in width word) (map (λ e. width + e) (elements_in_plane words))
     ∙ ap₂ (λ m n. m + n) (bits_in-count width word fits)
-    (length-map (elements_of words) (λ e. width + e) ∙ elements-count width wide words are.1)
+    (length-map (elements_in_plane words) (λ e. width + e) ∙ elements-count width wide words are.1)
 
-least-append : (xs ys : List ℕ) (least : ℕ) → least_in xs ≡ Some least → least_in (xs ++ ys) ≡ Some least
+least-append : (xs ys : List ℕ) (least : ℕ) → least_element_in xs ≡ Some least → least_element_in (xs ++ ys) ≡ Some least
 least-append [] ys least is = cc
 least-append (x ∷ xs) ys least is = is
 
 least-moved : (width k : ℕ) → width ≡ 64 → (es : List ℕ) →
-    option_map (λ e. 64 * k + e) (least_in (map (λ e. width + e) es)) ≡ option_map (λ e. 64 * (k + 1) + e) (least_in es)
+    option_map (λ e. 64 * k + e) (least_element_in (map (λ e. width + e) es)) ≡ option_map (λ e. 64 * (k + 1) + e) (least_element_in es)
 least-moved width k wide [] = refl
 least-moved width k wide (e ∷ es) = let on : 64 * k + (width + e) ≡ 64 * (k + 1) + e = omega (arith, wide) in ap Some on
 
-elements-least : (width : ℕ) → width ≡ 64 → (k : ℕ) (words : List ℕ) → AreWords words → option_map (λ e. 64 * k + e) (least_in (elements_of words)) ≡ least_bit k words
+elements-least : (width : ℕ) → width ≡ 64 → (k : ℕ) (words : List ℕ) → AreWords words → option_map (λ e. 64 * k + e) (least_element_in (elements_in_plane words)) ≡ least_bit k words
 elements-least width wide k [] are = refl
 elements-least width wide k (word ∷ words) are =
-    ap (λ es. option_map (λ e. 64 * k + e) (least_in es)) (elements-cons width wide word words)
+    ap (λ es. option_map (λ e. 64 * k + e) (least_element_in es)) (elements-cons width wide word words)
     ∙ by_word (word == 0) refl (elements-least width wide (k + 1) words are.1)
   where
-    by_word : (b : Bool) → (word == 0) ≡ b → option_map (λ e. 64 * (k + 1) + e) (least_in (elements_of words)) ≡ least_bit (k + 1) words →
-        option_map (λ e. 64 * k + e) (least_in (bits_in width word ++ map (λ e. width + e) (elements_of words)))
+    by_word : (b : Bool) → (word == 0) ≡ b → option_map (λ e. 64 * (k + 1) + e) (least_element_in (elements_in_plane words)) ≡ least_bit (k + 1) words →
+        option_map (λ e. 64 * k + e) (least_element_in (bits_in width word ++ map (λ e. width + e) (elements_in_plane words)))
         ≡ (if b then least_bit (k + 1) words else Some (64 * k + trailing_zeros w64 word))
     by_word true is behind =
         let zero_is : word ≡ 0 = grind (arith, nat_tests) in
-        ap (λ bits. option_map (λ e. 64 * k + e) (least_in (bits ++ map (λ e. width + e) (elements_of words)))) (ap (bits_in width) zero_is ∙ bits_in-none width)
-        ∙ least-moved width k wide (elements_of words) ∙ behind
+        ap (λ bits. option_map (λ e. 64 * k + e) (least_element_in (bits ++ map (λ e. width + e) (elements_in_plane words)))) (ap (bits_in width) zero_is ∙ bits_in-none width)
+        ∙ least-moved width k wide (elements_in_plane words) ∙ behind
     by_word false is behind =
         let some : 0 < word = grind (arith, nat_tests) in
         ap (option_map (λ e. 64 * k + e))
-        (least-append (bits_in width word) (map (λ e. width + e) (elements_of words)) (trailing_zeros w64 word) (bits_in-least width word wide are.0 some))
+        (least-append (bits_in width word) (map (λ e. width + e) (elements_in_plane words)) (trailing_zeros w64 word) (bits_in-least width word wide are.0 some))
 
 from_zero : (o : Option ℕ) → option_map (λ e. 64 * 0 + e) o ≡ o
 from_zero None = refl
 from_zero (Some e) = let on : 64 * 0 + e ≡ e = omega arith in ap Some on
 
-elements-first : (words : List ℕ) → AreWords words → least_in (elements_of words) ≡ least_bit 0 words
-elements-first words are = sym (from_zero (least_in (elements_of words))) ∙ elements-least 64 refl 0 words are
+elements-first : (words : List ℕ) → AreWords words → least_element_in (elements_in_plane words) ≡ least_bit 0 words
+elements-first words are = sym (from_zero (least_element_in (elements_in_plane words))) ∙ elements-least 64 refl 0 words are
 
-count_and_least : (elements : List ℕ) → judged_by (length elements) (least_in elements) ≡ judged elements
+count_and_least : (elements : List ℕ) → judged_by (length elements) (least_element_in elements) ≡ judged elements
 count_and_least [] = refl
 count_and_least (least ∷ others) = let one_more : suc (length others) ≡ length others + 1 = omega arith in ap (λ count. Conflict count least) one_more
 
@@ -180,5 +180,5 @@ plane_judges = record {
   count = elements-count 64 refl;
   least = elements-first;
   verdict = λ words are.
-      ap₂ judged_by (sym (elements-count 64 refl words are)) (sym (elements-first words are)) ∙ count_and_least (elements_of words);
+      ap₂ judged_by (sym (elements-count 64 refl words are)) (sym (elements-first words are)) ∙ count_and_least (elements_in_plane words);
 }

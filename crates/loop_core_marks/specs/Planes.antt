@@ -12,13 +12,13 @@ abbrev pub bit_of : List ℕ → ℕ → Bool
 bit_of words e = bit_at (slice_index_or words (e / 64) 0) (e % 64) == 1
 
 -- the elements whose bits are set, rising
-abbrev pub elements_of : List ℕ → List ℕ
-elements_of words = filter (bit_of words) (range_with_len 0 (64 * length words))
+abbrev pub elements_in_plane : List ℕ → List ℕ
+elements_in_plane words = filter (bit_of words) (range_with_len 0 (64 * length words))
 
 -- the least of some elements that rise
-abbrev pub least_in : List ℕ → Option ℕ
-least_in [] = None
-least_in (least ∷ others) = Some least
+abbrev pub least_element_in : List ℕ → Option ℕ
+least_element_in [] = None
+least_element_in (least ∷ others) = Some least
 
 -- the verdict by how many elements conflict and which is the least
 abbrev pub judged_by : (count : ℕ) → (least : Option ℕ) → Verdict
@@ -43,11 +43,11 @@ plane_verdict words = judged_by (set_bits words) (least_bit 0 words)
 abbrev pub PlaneHasElements : Type 0
 PlaneHasElements = (words : List ℕ) (test : ℕ → Bool) (elements : ℕ) → elements ≤ 64 * length words →
     ((e : ℕ) → e < elements → bit_of words e ≡ test e) → ((e : ℕ) → elements ≤ e → e < 64 * length words → bit_of words e ≡ false) →
-    elements_of words ≡ filter test (range_with_len 0 elements)
+    elements_in_plane words ≡ filter test (range_with_len 0 elements)
 
 -- a plane has as many elements as bits are set in its words, the least of them is the least bit, and the verdict that it
 -- tells is that on them
 pub record PlaneJudges : Type 0 where
-  pub count : (words : List ℕ) → AreWords words → length (elements_of words) ≡ set_bits words
-  pub least : (words : List ℕ) → AreWords words → least_in (elements_of words) ≡ least_bit 0 words
-  pub verdict : (words : List ℕ) → AreWords words → plane_verdict words ≡ judged (elements_of words)
+  pub count : (words : List ℕ) → AreWords words → length (elements_in_plane words) ≡ set_bits words
+  pub least : (words : List ℕ) → AreWords words → least_element_in (elements_in_plane words) ≡ least_bit 0 words
+  pub verdict : (words : List ℕ) → AreWords words → plane_verdict words ≡ judged (elements_in_plane words)

@@ -7,7 +7,7 @@ use Rattle.array_maps.specs.Accesses.{Action}
 use Rattle.loop_core_model.specs.declared.loop_test.Test.{Test}
 use Rattle.loop_core_model.specs.declared.loop_test.Test.TheVariants.{Lrpd, Flow}
 use Rattle.loop_core_model.specs.Actions.{writes, exposed}
-use Rattle.loop_core_model.specs.Conflict.{clash, harm, fails, Opposed, FailingPair, FailsByPair}
+use Rattle.loop_core_model.specs.Conflict.{fails_lrpd, fails_flow, fails, Opposed, FailingPair, FailsByPair}
 use Rattle.loop_core_model.proofs.OneElement.{and_true_left, and_true_right}
 
 -- some item passes, at this index
@@ -85,26 +85,26 @@ both_behind test it its c =
       reading = c.reading;
     }
 
--- the pair of a clash
-clash_pair : (its : List (List Action)) → clash its ≡ true → FailingPair Lrpd its
+-- the pair that fails the LRPD test
+clash_pair : (its : List (List Action)) → fails_lrpd its ≡ true → FailingPair Lrpd its
 clash_pair [] h = absurd (cc)
 clash_pair (it ∷ its) h = first (clash_pair its) (or_cases (writes it && list_any exposed its) _ h)
   where
-    second : (clash its ≡ true → FailingPair Lrpd its) → ((exposed it && list_any writes its) ≡ true) ⊎ (clash its ≡ true) → FailingPair Lrpd (it ∷ its)
+    second : (fails_lrpd its ≡ true → FailingPair Lrpd its) → ((exposed it && list_any writes its) ≡ true) ⊎ (fails_lrpd its ≡ true) → FailingPair Lrpd (it ∷ its)
     second later (inl h) = writer_behind it its h
     second later (inr h) = both_behind Lrpd it its (later h)
 
-    first : (clash its ≡ true → FailingPair Lrpd its) → ((writes it && list_any exposed its) ≡ true) ⊎ (((exposed it && list_any writes its) || clash its) ≡ true) →
+    first : (fails_lrpd its ≡ true → FailingPair Lrpd its) → ((writes it && list_any exposed its) ≡ true) ⊎ (((exposed it && list_any writes its) || fails_lrpd its) ≡ true) →
         FailingPair Lrpd (it ∷ its)
     first later (inl h) = reader_behind Lrpd (λ reader. omega arith) it its h
     first later (inr h) = second later (or_cases (exposed it && list_any writes its) _ h)
 
--- the pair of a harm
-harm_pair : (its : List (List Action)) → harm its ≡ true → FailingPair Flow its
+-- the pair that fails the flow test
+harm_pair : (its : List (List Action)) → fails_flow its ≡ true → FailingPair Flow its
 harm_pair [] h = absurd (cc)
 harm_pair (it ∷ its) h = go (harm_pair its) (or_cases (writes it && list_any exposed its) _ h)
   where
-    go : (harm its ≡ true → FailingPair Flow its) → ((writes it && list_any exposed its) ≡ true) ⊎ (harm its ≡ true) → FailingPair Flow (it ∷ its)
+    go : (fails_flow its ≡ true → FailingPair Flow its) → ((writes it && list_any exposed its) ≡ true) ⊎ (fails_flow its ≡ true) → FailingPair Flow (it ∷ its)
     go later (inl h) = reader_behind Flow (λ reader. omega arith) it its h
     go later (inr h) = both_behind Flow it its (later h)
 
@@ -112,29 +112,29 @@ pair_of : (test : Test) (its : List (List Action)) → fails test its ≡ true �
 pair_of Lrpd its h = clash_pair its h
 pair_of Flow its h = harm_pair its h
 
--- a pair clashes
+-- a pair fails the LRPD test
 clash_from : (its : List (List Action)) (writer reader : ℕ) → writer < length its → reader < length its → writer ≢ reader →
-    writes (slice_index_or its writer []) ≡ true → exposed (slice_index_or its reader []) ≡ true → clash its ≡ true
+    writes (slice_index_or its writer []) ≡ true → exposed (slice_index_or its reader []) ≡ true → fails_lrpd its ≡ true
 clash_from [] writer reader inside inside' apart w r = absurd (omega arith)
 clash_from (it ∷ its) zero zero inside inside' apart w r = absurd (omega arith)
 clash_from (it ∷ its) zero (suc reader) inside inside' apart w r =
     or_left (writes it && list_any exposed its) _ (both_true (writes it) (list_any exposed its) w (any_from exposed its reader (omega arith) r))
 clash_from (it ∷ its) (suc writer) zero inside inside' apart w r =
     or_right (writes it && list_any exposed its) _
-    (or_left (exposed it && list_any writes its) (clash its) (both_true (exposed it) (list_any writes its) r (any_from writes its writer (omega arith) w)))
+    (or_left (exposed it && list_any writes its) (fails_lrpd its) (both_true (exposed it) (list_any writes its) r (any_from writes its writer (omega arith) w)))
 clash_from (it ∷ its) (suc writer) (suc reader) inside inside' apart w r =
     or_right (writes it && list_any exposed its) _
-    (or_right (exposed it && list_any writes its) (clash its) (clash_from its writer reader (omega arith) (omega arith) (omega arith) w r))
+    (or_right (exposed it && list_any writes its) (fails_lrpd its) (clash_from its writer reader (omega arith) (omega arith) (omega arith) w r))
 
--- a writer harms a reader behind it
+-- a writer fails the flow test with a reader behind it
 harm_from : (its : List (List Action)) (writer reader : ℕ) → writer < reader → reader < length its →
-    writes (slice_index_or its writer []) ≡ true → exposed (slice_index_or its reader []) ≡ true → harm its ≡ true
+    writes (slice_index_or its writer []) ≡ true → exposed (slice_index_or its reader []) ≡ true → fails_flow its ≡ true
 harm_from [] writer reader before inside w r = absurd (omega arith)
 harm_from (it ∷ its) writer zero before inside w r = absurd (omega arith)
 harm_from (it ∷ its) zero (suc reader) before inside w r =
     or_left (writes it && list_any exposed its) _ (both_true (writes it) (list_any exposed its) w (any_from exposed its reader (omega arith) r))
 harm_from (it ∷ its) (suc writer) (suc reader) before inside w r =
-    or_right (writes it && list_any exposed its) (harm its) (harm_from its writer reader (omega arith) (omega arith) w r)
+    or_right (writes it && list_any exposed its) (fails_flow its) (harm_from its writer reader (omega arith) (omega arith) w r)
 
 fails_from : (test : Test) (its : List (List Action)) → FailingPair test its → fails test its ≡ true
 fails_from Lrpd its c = clash_from its c.writer c.reader c.writer_within c.reader_within c.opposed c.writing c.reading

@@ -5,8 +5,8 @@ use Rattle.std.specs.List.{filter, range_with_len}
 use Rattle.array_maps.specs.Accesses.{Action, Access}
 use Rattle.loop_core_model.specs.declared.loop_test.Test.TheVariants.{Lrpd, Flow}
 use Rattle.loop_core_model.specs.Actions.{joined, only_operator}
-use Rattle.loop_core_model.specs.Conflict.{clash, harm, conflicts, at_element, conflicting, FlowPassesMore}
-use Rattle.loop_core_model.proofs.OneElement.{and_false, harm-clash}
+use Rattle.loop_core_model.specs.Conflict.{fails_lrpd, fails_flow, conflicts, at_element, conflicting, FlowPassesMore}
+use Rattle.loop_core_model.proofs.OneElement.{and_false, fails_flow-fails_lrpd}
 
 -- what both tests keep is what the narrower one keeps
 filter_both : (wide narrow : ℕ → Bool) → ((e : ℕ) → wide e ≡ false → narrow e ≡ false) → (xs : List ℕ) → filter narrow xs ≡ filter narrow (filter wide xs)
@@ -20,7 +20,7 @@ filter_both wide narrow only (x ∷ xs) = go (wide x) (only x) (filter_both wide
 
 narrower : (iterations : List (List Action)) → conflicts Lrpd iterations ≡ false → conflicts Flow iterations ≡ false
 narrower iterations h =
-    and_false (is_none (only_operator (joined iterations))) (clash iterations) (harm iterations) (harm-clash iterations) h
+    and_false (is_none (only_operator (joined iterations))) (fails_lrpd iterations) (fails_flow iterations) (fails_flow-fails_lrpd iterations) h
 
 flow_elements : (runs : List (List Access)) (elements : ℕ) →
     conflicting Flow runs elements ≡ filter (λ e. conflicts Flow (at_element e runs)) (conflicting Lrpd runs elements)

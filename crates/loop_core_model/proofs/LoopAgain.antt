@@ -7,40 +7,40 @@ use Rattle.array_maps.specs.Accesses.{Action, Access, words_after_all}
 use Rattle.array_maps.proofs.ElementLaws.{length-words_after_all}
 use Rattle.bpf_insn_types.specs.Program.{Program}
 use Rattle.bpf_step_model.specs.State.{LoopCall}
-use Rattle.bpf_step_model.specs.Run.{Ending, Ended, Stuck, Unfinished, mapped, followed}
+use Rattle.bpf_step_model.specs.Run.{BoundedResult, Ended, Stuck, Unfinished, mapped, followed}
 use Rattle.bpf_step_model.specs.Iteration.{Iterated, iteration}
 use Rattle.bpf_step_model.specs.LoopInOrder.{Looped, behind, loop_from, loop_in_order}
 use Rattle.bpf_step_model.proofs.Endings.{mapped_from}
 use Rattle.loop_core_model.specs.declared.loop_test.Test.{Test}
 use Rattle.loop_core_model.specs.declared.loop_test.Test.TheVariants.{Lrpd, Flow}
 use Rattle.loop_core_model.specs.Actions.{joined, only_operator}
-use Rattle.loop_core_model.specs.Conflict.{clash, harm, conflicts, at_element, conflicting}
+use Rattle.loop_core_model.specs.Conflict.{fails_lrpd, fails_flow, conflicts, at_element, conflicting}
 use Rattle.loop_core_model.specs.LeastBreak.{is_break, counted, counted_iterations, all_ended, accesses_of_each, counted_runs}
 use Rattle.loop_core_model.specs.Committed.{committed_words}
 use Rattle.loop_core_model.specs.Law.{LoopLaw}
-use Rattle.loop_core_model.proofs.OneElement.{and_false, Unharmed, harm-clash}
+use Rattle.loop_core_model.proofs.OneElement.{and_false, Unharmed, fails_flow-fails_lrpd}
 use Rattle.loop_core_model.proofs.Turns.{Saws, InTurn, UnharmedEach, words_after_all-append, in_turn_at_start, all_committed}
 use Rattle.loop_core_model.proofs.RunAgain.{iteration_local}
 use Rattle.loop_core_model.proofs.Least.{EndsAt, ends_here, ends_next, ends_somewhere, ends_at_zero, counts_to, filter_none}
 
 -- an iteration ended
-abbrev pub IsEnded : Ending Iterated → Type 0
+abbrev pub IsEnded : BoundedResult Iterated → Type 0
 IsEnded Stuck = ⊥
 IsEnded Unfinished = ⊥
 IsEnded (Ended it) = Unit {0}
 
 -- its accesses, where it ended
-abbrev pub accesses_of : Ending Iterated → List Access
+abbrev pub accesses_of : BoundedResult Iterated → List Access
 accesses_of Stuck = []
 accesses_of Unfinished = []
 accesses_of (Ended it) = it.accesses
 
 -- what a list that ended is made of
-pub record AreEnded (endings : List (Ending Iterated)) (runs : List (List Access)) : Type 0 where
+pub record AreEnded (endings : List (BoundedResult Iterated)) (runs : List (List Access)) : Type 0 where
   pub each : AllByRecursion IsEnded endings
   pub made : map accesses_of endings ≡ runs
 
-are_ended : (endings : List (Ending Iterated)) (its : List Iterated) → all_ended endings ≡ Ended its → AreEnded endings (accesses_of_each its)
+are_ended : (endings : List (BoundedResult Iterated)) (its : List Iterated) → all_ended endings ≡ Ended its → AreEnded endings (accesses_of_each its)
 are_ended [] its h = record { each = tt; made = (let none : [] ≡ its = cc in ap accesses_of_each none) }
 are_ended (Stuck ∷ endings) its h = absurd (cc)
 are_ended (Unfinished ∷ endings) its h = absurd (cc)
@@ -52,18 +52,18 @@ are_ended (Ended it ∷ endings) its h =
       made = ap (λ runs. it.accesses ∷ runs) rest.made ∙ ap accesses_of_each (sym parts.2);
     }
 
-runs_ended : (endings : List (Ending Iterated)) (runs : List (List Access)) → mapped accesses_of_each (all_ended endings) ≡ Ended runs → AreEnded endings runs
+runs_ended : (endings : List (BoundedResult Iterated)) (runs : List (List Access)) → mapped accesses_of_each (all_ended endings) ≡ Ended runs → AreEnded endings runs
 runs_ended endings runs h =
     let parts = mapped_from accesses_of_each (all_ended endings) runs h in
     subst (AreEnded endings) (sym parts.2) (are_ended endings parts.0 parts.1)
 
 -- the loop's end
-abbrev pub loop_end : ℕ → List ℕ → Ending Looped
+abbrev pub loop_end : ℕ → List ℕ → BoundedResult Looped
 loop_end answer words = Ended (record { answer = answer; words = words })
 
 module _ (program : Program) (bound : ℕ) (call : LoopCall) (start : List ℕ) where
   -- an iteration on the start words
-  abbrev pub speculated : ℕ → Ending Iterated
+  abbrev pub speculated : ℕ → BoundedResult Iterated
   speculated index = iteration program bound call index start
 
   abbrev pub breaks : ℕ → Bool
@@ -96,7 +96,7 @@ module _ (program : Program) (bound : ℕ) (call : LoopCall) (start : List ℕ) 
   GoesAgain count left index now =
       loop_from program bound call left index now ≡ loop_end (index + count) (words_after_all (joined (runs_from index count)) now)
 
-  turn_again : (count left index : ℕ) (now : List ℕ) (e : Ending Iterated) → speculated index ≡ e → IsEnded e → length now ≡ length start →
+  turn_again : (count left index : ℕ) (now : List ℕ) (e : BoundedResult Iterated) → speculated index ≡ e → IsEnded e → length now ≡ length start →
       Saws (accesses_of e) now → InTurn (runs_from (index + 1) count) (words_after_all (accesses_of e) now) → EndsWith (suc count) (suc left) index →
       ((words : List ℕ) → InTurn (runs_from (index + 1) count) words → length words ≡ length start → EndsWith count left (index + 1) →
       GoesAgain count left (index + 1) words) →
@@ -130,7 +130,7 @@ module _ (program : Program) (bound : ℕ) (call : LoopCall) (start : List ℕ) 
   saws_start index zero ended = tt
   saws_start index (suc count) ended = (go (speculated index) refl ended.0, saws_start (index + 1) count ended.1)
     where
-      go : (e : Ending Iterated) → speculated index ≡ e → IsEnded e → Saws (accesses_of e) start
+      go : (e : BoundedResult Iterated) → speculated index ≡ e → IsEnded e → Saws (accesses_of e) start
       go Stuck same h = absurd h
       go Unfinished same h = absurd h
       go (Ended it) same h = (iteration_local program bound call index).saw start it same
@@ -167,7 +167,7 @@ unharmed_in_order program bound call words runs same unharmed =
 -- what doesn't conflict by either test is unharmed
 not_harmed : (test : Test) (iterations : List (List Action)) → conflicts test iterations ≡ false → Unharmed iterations
 not_harmed Lrpd iterations h =
-    and_false (is_none (only_operator (joined iterations))) (clash iterations) (harm iterations) (harm-clash iterations) h
+    and_false (is_none (only_operator (joined iterations))) (fails_lrpd iterations) (fails_flow iterations) (fails_flow-fails_lrpd iterations) h
 not_harmed Flow iterations h = h
 
 -- what passes is unharmed

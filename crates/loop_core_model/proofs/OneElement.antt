@@ -8,7 +8,7 @@ use Rattle.array_maps.specs.declared.access.Op.{Op}
 use Rattle.array_maps.specs.declared.access.Op.TheVariants.{Add, Or, And, Xor, AddH}
 use Rattle.array_maps.specs.Accesses.{Action, Read, Write, ReadWrite, Reduce, combined, left_by, left_by_all, SawEach}
 use Rattle.loop_core_model.specs.Actions.{writes, exposed, is_same, reduces_by, joined, only_operator, operands}
-use Rattle.loop_core_model.specs.Conflict.{clash, harm}
+use Rattle.loop_core_model.specs.Conflict.{fails_lrpd, fails_flow}
 use Rattle.loop_core_model.specs.Committed.{last_that, committed_by, committed}
 
 -- both sides of a test that is false, or true
@@ -91,7 +91,7 @@ Calm start word iterations = (word ≡ start) ⊎ (list_any exposed iterations �
 -- what is known of an element before the iterations to come
 abbrev pub Holds : (start word : ℕ) → List (List Action) → Type 0
 Holds start word iterations =
-    ((op : Op) × (list_all (reduces_by op) (joined iterations) ≡ true)) ⊎ ((harm iterations ≡ false) × Calm start word iterations)
+    ((op : Op) × (list_all (reduces_by op) (joined iterations) ≡ true)) ⊎ ((fails_flow iterations ≡ false) × Calm start word iterations)
 
 -- all of a joined list passes: its first part and its rest
 and_mono : (b x y : Bool) → (x ≡ true → y ≡ true) → (b && x) ≡ true → (b && y) ≡ true
@@ -150,7 +150,7 @@ picked-option_or : (later earlier : Option (List Action)) (start word left : ℕ
 picked-option_or None earlier start word left h = h
 picked-option_or (Some actions) earlier start word left h = refl
 
-pub last_left : (start word : ℕ) (iterations : List (List Action)) → harm iterations ≡ false → Calm start word iterations →
+pub last_left : (start word : ℕ) (iterations : List (List Action)) → fails_flow iterations ≡ false → Calm start word iterations →
     left_by_all (joined iterations) word ≡ picked (last_that writes iterations) start word
 last_left start word [] unharmed calm = refl
 last_left start word (first ∷ rest) unharmed calm =
@@ -187,9 +187,9 @@ only_reduces op (Reduce other v ∷ actions) h =
 
 -- no writer stands before a reader, unless the element is reduction-only
 abbrev pub Unharmed : List (List Action) → Type 0
-Unharmed iterations = (is_none (only_operator (joined iterations)) && harm iterations) ≡ false
+Unharmed iterations = (is_none (only_operator (joined iterations)) && fails_flow iterations) ≡ false
 
-holds_by : (start : ℕ) (iterations : List (List Action)) (o : Option Op) → only_operator (joined iterations) ≡ o → (is_none o && harm iterations) ≡ false → Holds start start iterations
+holds_by : (start : ℕ) (iterations : List (List Action)) (o : Option Op) → only_operator (joined iterations) ≡ o → (is_none o && fails_flow iterations) ≡ false → Holds start start iterations
 holds_by start iterations None same unharmed = inr (unharmed, inl refl)
 holds_by start iterations (Some op) same unharmed = inl (op, only_reduces op (joined iterations) same)
 
@@ -197,7 +197,7 @@ holds_by start iterations (Some op) same unharmed = inl (op, only_reduces op (jo
 pub holds_at_start : (start : ℕ) (iterations : List (List Action)) → Unharmed iterations → Holds start start iterations
 holds_at_start start iterations unharmed = holds_by start iterations (only_operator (joined iterations)) refl unharmed
 
-committed_with : (start : ℕ) (iterations : List (List Action)) (o : Option Op) → only_operator (joined iterations) ≡ o → (is_none o && harm iterations) ≡ false →
+committed_with : (start : ℕ) (iterations : List (List Action)) (o : Option Op) → only_operator (joined iterations) ≡ o → (is_none o && fails_flow iterations) ≡ false →
     left_by_all (joined iterations) start ≡ committed_by o iterations start
 committed_with start iterations None same unharmed = last_left start start iterations unharmed (inl refl) ∙ picked_at_start (last_that writes iterations) start
 committed_with start iterations (Some op) same unharmed = reduces_left op (joined iterations) start (only_reduces op (joined iterations) same)
@@ -206,12 +206,12 @@ committed_with start iterations (Some op) same unharmed = reduces_left op (joine
 pub left-committed : (start : ℕ) (iterations : List (List Action)) → Unharmed iterations → left_by_all (joined iterations) start ≡ committed iterations start
 left-committed start iterations unharmed = committed_with start iterations (only_operator (joined iterations)) refl unharmed
 
--- where nothing clashes, nothing is harmed
+-- where no pair fails the LRPD test, none fails the flow test
 or_false : (a b : Bool) → a ≡ false → b ≡ false → (a || b) ≡ false
 or_false a b h k = rw (h, k) refl
 
-pub harm-clash : (iterations : List (List Action)) → clash iterations ≡ false → harm iterations ≡ false
-harm-clash [] h = refl
-harm-clash (first ∷ rest) h =
-    or_false (writes first && list_any exposed rest) (harm rest) (or_false_left (writes first && list_any exposed rest) _ h)
-    (harm-clash rest (or_false_right (exposed first && list_any writes rest) (clash rest) (or_false_right (writes first && list_any exposed rest) _ h)))
+pub fails_flow-fails_lrpd : (iterations : List (List Action)) → fails_lrpd iterations ≡ false → fails_flow iterations ≡ false
+fails_flow-fails_lrpd [] h = refl
+fails_flow-fails_lrpd (first ∷ rest) h =
+    or_false (writes first && list_any exposed rest) (fails_flow rest) (or_false_left (writes first && list_any exposed rest) _ h)
+    (fails_flow-fails_lrpd rest (or_false_right (exposed first && list_any writes rest) (fails_lrpd rest) (or_false_right (writes first && list_any exposed rest) _ h)))

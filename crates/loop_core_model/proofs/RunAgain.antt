@@ -7,8 +7,8 @@ use Rattle.array_maps.specs.Accesses.{Action, Read, Write, ReadWrite, Reduce, Ac
 use Rattle.array_maps.proofs.ElementLaws.{length-words_after, element_after_all}
 use Rattle.bpf_insn_types.specs.Program.{Program}
 use Rattle.bpf_step_model.specs.State.{Machine, LoopCall, callback_entry}
-use Rattle.bpf_step_model.specs.Step.{Request, Load, Store, StoreHalf, Update, Fetch, Move, NoStep, Next, Asks, Loops, Refuses, Exits, step}
-use Rattle.bpf_step_model.specs.Run.{Ending, Ended, Stuck, Unfinished, Turn, Exit, Loop, Refused, Stretch, action_of, told, mapped, followed, with_first, ended_by, after_access, after_move, run}
+use Rattle.bpf_step_model.specs.Step.{Request, Load, Store, StoreHalf, Update, Fetch, StepOutcome, NoStep, Next, Asks, Loops, Refuses, Exits, step}
+use Rattle.bpf_step_model.specs.Run.{BoundedResult, Ended, Stuck, Unfinished, StopReason, Exit, Loop, Refused, RunSegment, action_of, after_request, mapped, followed, with_first_step, ended_by, after_access, after_step, run}
 use Rattle.bpf_step_model.specs.Iteration.{Iterated, exited_by, exited, iteration}
 use Rattle.bpf_step_model.proofs.Endings.{mapped_from, ended_same}
 use Rattle.loop_core_model.proofs.Turns.{Saws}
@@ -63,114 +63,114 @@ same_action (StoreHalf half value) word other saw = ap (action_of (StoreHalf hal
 same_action (Update op operand) word other saw = refl
 same_action (Fetch part rmw value compare into) word other saw = ap (action_of (Fetch part rmw value compare into)) (sym saw)
 
-same_told : (request : Request) (word other : ℕ) (m : Machine) → Saw (action_of request word) other → told request other m ≡ told request word m
-same_told (Load part extension into) word other m saw = ap (λ w. told (Load part extension into) w m) (sym saw)
+same_told : (request : Request) (word other : ℕ) (m : Machine) → Saw (action_of request word) other → after_request request other m ≡ after_request request word m
+same_told (Load part extension into) word other m saw = ap (λ w. after_request (Load part extension into) w m) (sym saw)
 same_told (Store value) word other m saw = refl
 same_told (StoreHalf half value) word other m saw = refl
 same_told (Update op operand) word other m saw = refl
-same_told (Fetch part rmw value compare into) word other m saw = ap (λ w. told (Fetch part rmw value compare into) w m) (sym saw)
+same_told (Fetch part rmw value compare into) word other m saw = ap (λ w. after_request (Fetch part rmw value compare into) w m) (sym saw)
 
 -- a stretch over other words
-abbrev pub over : List ℕ → Stretch → Stretch
+abbrev pub over : List ℕ → RunSegment → RunSegment
 over words s = record { turn = s.turn; steps = s.steps; accesses = s.accesses; words = words_after_all s.accesses words }
 
 -- what is claimed of a run from any machine: it saw its words and left what its accesses leave; and over other words,
 -- which its accesses saw too, it is the same
-pub record IsLocal (go_on : Machine → List ℕ → Ending Stretch) : Type 0 where
-  pub saw : (m : Machine) (words : List ℕ) (s : Stretch) → go_on m words ≡ Ended s → Saws s.accesses words
-  pub left : (m : Machine) (words : List ℕ) (s : Stretch) → go_on m words ≡ Ended s → s.words ≡ words_after_all s.accesses words
-  pub again : (m : Machine) (words others : List ℕ) (s : Stretch) → go_on m words ≡ Ended s → length others ≡ length words → Saws s.accesses others →
+pub record IsLocal (go_on : Machine → List ℕ → BoundedResult RunSegment) : Type 0 where
+  pub saw : (m : Machine) (words : List ℕ) (s : RunSegment) → go_on m words ≡ Ended s → Saws s.accesses words
+  pub left : (m : Machine) (words : List ℕ) (s : RunSegment) → go_on m words ≡ Ended s → s.words ≡ words_after_all s.accesses words
+  pub again : (m : Machine) (words others : List ℕ) (s : RunSegment) → go_on m words ≡ Ended s → length others ≡ length words → Saws s.accesses others →
       go_on m others ≡ Ended (over others s)
 
 -- the stretch of a run that ends with this instruction
-abbrev pub at_once : Turn → List ℕ → Stretch
+abbrev pub at_once : StopReason → List ℕ → RunSegment
 at_once turn words = record { turn = turn; steps = 1; accesses = []; words = words }
 
-module _ (go_on : Machine → List ℕ → Ending Stretch) (is_local : IsLocal go_on) where
-  access_saw : (element : ℕ) (request : Request) (next : Machine) (words : List ℕ) (s : Stretch) (o : Option ℕ) → slice_get words element ≡ o →
+module _ (go_on : Machine → List ℕ → BoundedResult RunSegment) (is_local : IsLocal go_on) where
+  access_saw : (element : ℕ) (request : Request) (next : Machine) (words : List ℕ) (s : RunSegment) (o : Option ℕ) → slice_get words element ≡ o →
       after_access go_on element request next words o ≡ Ended s → Saws s.accesses words
   access_saw element request next words s None there h = absurd (cc)
   access_saw element request next words s (Some word) there h =
       let access : Access = record { element = element; action = action_of request word } in
-      let before = mapped_from (with_first (access ∷ [])) (go_on (told request word next) (words_after access words)) s h in
+      let before = mapped_from (with_first_step (access ∷ [])) (go_on (after_request request word next) (words_after access words)) s h in
       let word_there : slice_index words element ≡ word = get_or_from_slice_get words element word 0 there in
-      subst (λ (t : Stretch). Saws t.accesses words) (sym before.2)
+      subst (λ (t : RunSegment). Saws t.accesses words) (sym before.2)
       (saws_cons access before.0.accesses words (subst (Saw (action_of request word)) (sym word_there) (action_saw request word))
-      (is_local.saw (told request word next) (words_after access words) before.0 before.1))
+      (is_local.saw (after_request request word next) (words_after access words) before.0 before.1))
 
-  move_saw : (slot : ℕ) (move : Move) (words : List ℕ) (s : Stretch) → after_move go_on slot move words ≡ Ended s → Saws s.accesses words
+  move_saw : (slot : ℕ) (move : StepOutcome) (words : List ℕ) (s : RunSegment) → after_step go_on slot move words ≡ Ended s → Saws s.accesses words
   move_saw slot NoStep words s h = absurd (cc)
   move_saw slot (Next next) words s h =
-      let before = mapped_from (with_first []) (go_on next words) s h in
-      subst (λ (t : Stretch). Saws t.accesses words) (sym before.2) (is_local.saw next words before.0 before.1)
+      let before = mapped_from (with_first_step []) (go_on next words) s h in
+      subst (λ (t : RunSegment). Saws t.accesses words) (sym before.2) (is_local.saw next words before.0 before.1)
   move_saw slot (Asks element request next) words s h = access_saw element request next words s (slice_get words element) refl h
-  move_saw slot (Loops call next) words s h = subst (λ (t : Stretch). Saws t.accesses words) (ended_same (at_once (Loop call next) words) s h) (λ e inside. tt)
+  move_saw slot (Loops call next) words s h = subst (λ (t : RunSegment). Saws t.accesses words) (ended_same (at_once (Loop call next) words) s h) (λ e inside. tt)
   move_saw slot (Refuses answer next) words s h =
-      subst (λ (t : Stretch). Saws t.accesses words) (ended_same (at_once (Refused slot answer next) words) s h) (λ e inside. tt)
-  move_saw slot (Exits ret) words s h = subst (λ (t : Stretch). Saws t.accesses words) (ended_same (at_once (Exit ret) words) s h) (λ e inside. tt)
+      subst (λ (t : RunSegment). Saws t.accesses words) (ended_same (at_once (Refused slot answer next) words) s h) (λ e inside. tt)
+  move_saw slot (Exits ret) words s h = subst (λ (t : RunSegment). Saws t.accesses words) (ended_same (at_once (Exit ret) words) s h) (λ e inside. tt)
 
-  access_left : (element : ℕ) (request : Request) (next : Machine) (words : List ℕ) (s : Stretch) (o : Option ℕ) →
+  access_left : (element : ℕ) (request : Request) (next : Machine) (words : List ℕ) (s : RunSegment) (o : Option ℕ) →
       after_access go_on element request next words o ≡ Ended s → s.words ≡ words_after_all s.accesses words
   access_left element request next words s None h = absurd (cc)
   access_left element request next words s (Some word) h =
       let access : Access = record { element = element; action = action_of request word } in
-      let before = mapped_from (with_first (access ∷ [])) (go_on (told request word next) (words_after access words)) s h in
-      subst (λ (t : Stretch). t.words ≡ words_after_all t.accesses words) (sym before.2)
-      (is_local.left (told request word next) (words_after access words) before.0 before.1)
+      let before = mapped_from (with_first_step (access ∷ [])) (go_on (after_request request word next) (words_after access words)) s h in
+      subst (λ (t : RunSegment). t.words ≡ words_after_all t.accesses words) (sym before.2)
+      (is_local.left (after_request request word next) (words_after access words) before.0 before.1)
 
-  move_left : (slot : ℕ) (move : Move) (words : List ℕ) (s : Stretch) → after_move go_on slot move words ≡ Ended s → s.words ≡ words_after_all s.accesses words
+  move_left : (slot : ℕ) (move : StepOutcome) (words : List ℕ) (s : RunSegment) → after_step go_on slot move words ≡ Ended s → s.words ≡ words_after_all s.accesses words
   move_left slot NoStep words s h = absurd (cc)
   move_left slot (Next next) words s h =
-      let before = mapped_from (with_first []) (go_on next words) s h in
-      subst (λ (t : Stretch). t.words ≡ words_after_all t.accesses words) (sym before.2) (is_local.left next words before.0 before.1)
+      let before = mapped_from (with_first_step []) (go_on next words) s h in
+      subst (λ (t : RunSegment). t.words ≡ words_after_all t.accesses words) (sym before.2) (is_local.left next words before.0 before.1)
   move_left slot (Asks element request next) words s h = access_left element request next words s (slice_get words element) h
-  move_left slot (Loops call next) words s h = subst (λ (t : Stretch). t.words ≡ words_after_all t.accesses words) (ended_same (at_once (Loop call next) words) s h) refl
+  move_left slot (Loops call next) words s h = subst (λ (t : RunSegment). t.words ≡ words_after_all t.accesses words) (ended_same (at_once (Loop call next) words) s h) refl
   move_left slot (Refuses answer next) words s h =
-      subst (λ (t : Stretch). t.words ≡ words_after_all t.accesses words) (ended_same (at_once (Refused slot answer next) words) s h) refl
-  move_left slot (Exits ret) words s h = subst (λ (t : Stretch). t.words ≡ words_after_all t.accesses words) (ended_same (at_once (Exit ret) words) s h) refl
+      subst (λ (t : RunSegment). t.words ≡ words_after_all t.accesses words) (ended_same (at_once (Refused slot answer next) words) s h) refl
+  move_left slot (Exits ret) words s h = subst (λ (t : RunSegment). t.words ≡ words_after_all t.accesses words) (ended_same (at_once (Exit ret) words) s h) refl
 
-  access_again : (element : ℕ) (request : Request) (next : Machine) (words others : List ℕ) (s : Stretch) (o : Option ℕ) → slice_get words element ≡ o →
+  access_again : (element : ℕ) (request : Request) (next : Machine) (words others : List ℕ) (s : RunSegment) (o : Option ℕ) → slice_get words element ≡ o →
       after_access go_on element request next words o ≡ Ended s → length others ≡ length words → Saws s.accesses others →
       after_access go_on element request next others (slice_get others element) ≡ Ended (over others s)
   access_again element request next words others s None there h same saws = absurd (cc)
   access_again element request next words others s (Some word) there h same saws =
       let access : Access = record { element = element; action = action_of request word } in
-      let before = mapped_from (with_first (access ∷ [])) (go_on (told request word next) (words_after access words)) s h in
+      let before = mapped_from (with_first_step (access ∷ [])) (go_on (after_request request word next) (words_after access words)) s h in
       let inside : element < length others = subst (λ (n : ℕ). element < n) (sym same) (slice_get_within words element word there) in
-      let saws' : Saws (access ∷ before.0.accesses) others = subst (λ (t : Stretch). Saws t.accesses others) before.2 saws in
+      let saws' : Saws (access ∷ before.0.accesses) others = subst (λ (t : RunSegment). Saws t.accesses others) before.2 saws in
       let saw : Saw (action_of request word) (slice_index others element) = saws_head access before.0.accesses others inside saws' in
       let longer : length (words_after access others) ≡ length (words_after access words) =
       length-words_after access others ∙ same ∙ sym (length-words_after access words) in
-      let rest : go_on (told request word next) (words_after access others) ≡ Ended (over (words_after access others) before.0) =
-      is_local.again (told request word next) (words_after access words) (words_after access others) before.0 before.1 longer
+      let rest : go_on (after_request request word next) (words_after access others) ≡ Ended (over (words_after access others) before.0) =
+      is_local.again (after_request request word next) (words_after access words) (words_after access others) before.0 before.1 longer
       (saws_tail access before.0.accesses others saws') in
-      let whole : mapped (with_first (access ∷ [])) (go_on (told request word next) (words_after access others)) ≡ Ended (over others (with_first (access ∷ []) before.0)) =
-      ap (mapped (with_first (access ∷ []))) rest in
+      let whole : mapped (with_first_step (access ∷ [])) (go_on (after_request request word next) (words_after access others)) ≡ Ended (over others (with_first_step (access ∷ []) before.0)) =
+      ap (mapped (with_first_step (access ∷ []))) rest in
       let there_too : slice_get others element ≡ Some (slice_index others element) = slice_get-get_or others element 0 inside in
       subst (λ (o : Option ℕ). after_access go_on element request next others o ≡ Ended (over others s)) (sym there_too)
-      (subst (λ (a : Action). mapped (with_first (record { element = element; action = a } ∷ []))
-      (go_on (told request (slice_index others element) next) (words_after (record { element = element; action = a }) others)) ≡ Ended (over others s))
+      (subst (λ (a : Action). mapped (with_first_step (record { element = element; action = a } ∷ []))
+      (go_on (after_request request (slice_index others element) next) (words_after (record { element = element; action = a }) others)) ≡ Ended (over others s))
       (sym (same_action request word (slice_index others element) saw))
-      (subst (λ (m : Machine). mapped (with_first (access ∷ [])) (go_on m (words_after access others)) ≡ Ended (over others s))
+      (subst (λ (m : Machine). mapped (with_first_step (access ∷ [])) (go_on m (words_after access others)) ≡ Ended (over others s))
       (sym (same_told request word (slice_index others element) next saw))
-      (subst (λ (t : Stretch). mapped (with_first (access ∷ [])) (go_on (told request word next) (words_after access others)) ≡ Ended (over others t))
+      (subst (λ (t : RunSegment). mapped (with_first_step (access ∷ [])) (go_on (after_request request word next) (words_after access others)) ≡ Ended (over others t))
       (sym before.2) whole)))
 
-  move_again : (slot : ℕ) (move : Move) (words others : List ℕ) (s : Stretch) → after_move go_on slot move words ≡ Ended s →
-      length others ≡ length words → Saws s.accesses others → after_move go_on slot move others ≡ Ended (over others s)
+  move_again : (slot : ℕ) (move : StepOutcome) (words others : List ℕ) (s : RunSegment) → after_step go_on slot move words ≡ Ended s →
+      length others ≡ length words → Saws s.accesses others → after_step go_on slot move others ≡ Ended (over others s)
   move_again slot NoStep words others s h same saws = absurd (cc)
   move_again slot (Next next) words others s h same saws =
-      let before = mapped_from (with_first []) (go_on next words) s h in
-      subst (λ (t : Stretch). mapped (with_first []) (go_on next others) ≡ Ended (over others t)) (sym before.2)
-      (ap (mapped (with_first [])) (is_local.again next words others before.0 before.1 same (subst (λ (t : Stretch). Saws t.accesses others) before.2 saws)))
+      let before = mapped_from (with_first_step []) (go_on next words) s h in
+      subst (λ (t : RunSegment). mapped (with_first_step []) (go_on next others) ≡ Ended (over others t)) (sym before.2)
+      (ap (mapped (with_first_step [])) (is_local.again next words others before.0 before.1 same (subst (λ (t : RunSegment). Saws t.accesses others) before.2 saws)))
   move_again slot (Asks element request next) words others s h same saws =
       access_again element request next words others s (slice_get words element) refl h same saws
   move_again slot (Loops call next) words others s h same saws =
-      subst (λ (t : Stretch). ended_by (Loop call next) others ≡ Ended (over others t)) (ended_same (at_once (Loop call next) words) s h) refl
+      subst (λ (t : RunSegment). ended_by (Loop call next) others ≡ Ended (over others t)) (ended_same (at_once (Loop call next) words) s h) refl
   move_again slot (Refuses answer next) words others s h same saws =
-      subst (λ (t : Stretch). ended_by (Refused slot answer next) others ≡ Ended (over others t)) (ended_same (at_once (Refused slot answer next) words) s h) refl
+      subst (λ (t : RunSegment). ended_by (Refused slot answer next) others ≡ Ended (over others t)) (ended_same (at_once (Refused slot answer next) words) s h) refl
   move_again slot (Exits ret) words others s h same saws =
-      subst (λ (t : Stretch). ended_by (Exit ret) others ≡ Ended (over others t)) (ended_same (at_once (Exit ret) words) s h) refl
+      subst (λ (t : RunSegment). ended_by (Exit ret) others ≡ Ended (over others t)) (ended_same (at_once (Exit ret) words) s h) refl
 
 never_local : (program : Program) → IsLocal (run program zero)
 never_local program = record {
@@ -199,18 +199,18 @@ pub record IterationIsLocal (program : Program) (bound : ℕ) (call : LoopCall) 
       iteration program bound call index others ≡ Ended (record { ret = it.ret; steps = it.steps; accesses = it.accesses; words = words_after_all it.accesses others })
 
 -- the stretch that an iteration is
-abbrev pub stretch_of : Iterated → Stretch
+abbrev pub stretch_of : Iterated → RunSegment
 stretch_of it = record { turn = Exit it.ret; steps = it.steps; accesses = it.accesses; words = it.words }
 
-exited_from : (s : Stretch) (turn : Turn) (it : Iterated) → s.turn ≡ turn → exited_by turn s ≡ Ended it → s ≡ stretch_of it
+exited_from : (s : RunSegment) (turn : StopReason) (it : Iterated) → s.turn ≡ turn → exited_by turn s ≡ Ended it → s ≡ stretch_of it
 exited_from s (Exit ret) it same h = exit_same s ret it same (cc)
   where
-    exit_same : (s : Stretch) (ret : ℕ) (it : Iterated) → s.turn ≡ Exit ret → record { ret = ret; steps = s.steps; accesses = s.accesses; words = s.words } ≡ it → s ≡ stretch_of it
+    exit_same : (s : RunSegment) (ret : ℕ) (it : Iterated) → s.turn ≡ Exit ret → record { ret = ret; steps = s.steps; accesses = s.accesses; words = s.words } ≡ it → s ≡ stretch_of it
     exit_same s ret it turns e = subst (λ (i : Iterated). s ≡ stretch_of i) e (ap (λ turn. record { turn = turn; steps = s.steps; accesses = s.accesses; words = s.words }) turns)
 exited_from s (Loop call next) it same h = absurd (cc)
 exited_from s (Refused slot answer next) it same h = absurd (cc)
 
-to_exit_from : (e : Ending Stretch) (it : Iterated) → followed exited e ≡ Ended it → e ≡ Ended (stretch_of it)
+to_exit_from : (e : BoundedResult RunSegment) (it : Iterated) → followed exited e ≡ Ended it → e ≡ Ended (stretch_of it)
 to_exit_from (Ended s) it h = ap Ended (exited_from s s.turn it refl h)
 to_exit_from Stuck it h = absurd (cc)
 to_exit_from Unfinished it h = absurd (cc)

@@ -2,18 +2,18 @@
 use Rattle.std.proofs.Common.{◌≡◌, ℕ, zero, suc, ◌+◌, ◌≤◌, Bool, true, false, [], ◌∷◌, map, refl, ◌∙◌, ap, arith}
 use Rattle.std.specs.Prelude.{if◌then◌else◌, ◌==◌}
 use Rattle.std.specs.List.{range_with_len}
-use Rattle.bpf_step_model.specs.Run.{Ending, Ended, Stuck, Unfinished, followed}
+use Rattle.bpf_step_model.specs.Run.{BoundedResult, Ended, Stuck, Unfinished, followed}
 use Rattle.bpf_step_model.specs.Iteration.{Iterated, iteration}
 use Rattle.loop_core_model.specs.LeastBreak.{is_break, least_below, count_to, in_front_of, all_ended}
 use Rattle.loop_core_model.specs.Scan.{up_to_break, scan, CountedAreScanned}
 use Rattle.loop_core_model.proofs.Least.{EndsAt, counts_to, ends_here, ends_next, ends_somewhere, ends_at_zero}
 
-module _ (iterate : ℕ → Ending Iterated) where
+module _ (iterate : ℕ → BoundedResult Iterated) where
   abbrev pub breaks_at : ℕ → Bool
   breaks_at index = is_break (iterate index)
 
   -- the counted iterations are those up to the first that breaks
-  one_scanned : (count left index : ℕ) (e : Ending Iterated) → iterate index ≡ e → EndsAt breaks_at (suc count) (suc left) index →
+  one_scanned : (count left index : ℕ) (e : BoundedResult Iterated) → iterate index ≡ e → EndsAt breaks_at (suc count) (suc left) index →
       (breaks_at index ≡ false → all_ended (map iterate (range_with_len (index + 1) count)) ≡ scan iterate left (index + 1)) →
       all_ended (e ∷ map iterate (range_with_len (index + 1) count)) ≡ followed (up_to_break (scan iterate left (index + 1))) e
   one_scanned count left index Stuck same ends later = refl

@@ -3,7 +3,7 @@ use Rattle.std.proofs.Common.{ℕ, zero, suc, ◌+◌, ◌≤◌, Bool, true, fa
 use Rattle.std.specs.Prelude.{if◌then◌else◌, ◌==◌}
 use Rattle.bpf_insn_types.specs.Program.{Program}
 use Rattle.bpf_step_model.specs.State.{LoopCall}
-use Rattle.bpf_step_model.specs.Run.{Ending, Ended}
+use Rattle.bpf_step_model.specs.Run.{BoundedResult, Ended}
 use Rattle.bpf_step_model.specs.Iteration.{Iterated, iteration}
 use Rattle.bpf_step_model.specs.ProgramInOrder.{LoopMade, Finished, program_in_order}
 use Rattle.bpf_step_model.specs.Bounds.{Extends}
@@ -18,14 +18,14 @@ use Rattle.loop_core_model.specs.VerdictBounds.{VerdictsAgree}
 use Rattle.loop_core_model.proofs.ScanLaws.{counted_are_scanned}
 
 -- a scan that is there stays the same
-breaking_extends : (low high : Ending (List Iterated)) → Extends low high → (it : Iterated) → Extends (up_to_break low it) (up_to_break high it)
+breaking_extends : (low high : BoundedResult (List Iterated)) → Extends low high → (it : Iterated) → Extends (up_to_break low it) (up_to_break high it)
 breaking_extends low high ext it = go (it.ret == 1)
   where
     go : (one : Bool) → Extends (if one then Ended (it ∷ []) else in_front_of low it) (if one then Ended (it ∷ []) else in_front_of high it)
     go true = inr refl
     go false = mapped_extends (λ others. it ∷ others) ext
 
-scan_extends : (few many : ℕ → Ending Iterated) → ((index : ℕ) → Extends (few index) (many index)) → (left index : ℕ) → Extends (scan few left index) (scan many left index)
+scan_extends : (few many : ℕ → BoundedResult Iterated) → ((index : ℕ) → Extends (few index) (many index)) → (left index : ℕ) → Extends (scan few left index) (scan many left index)
 scan_extends few many each zero index = inr refl
 scan_extends few many each (suc left) index =
     followed_extends (up_to_break (scan few left (index + 1))) (up_to_break (scan many left (index + 1)))
@@ -34,12 +34,12 @@ scan_extends few many each (suc left) index =
 pub runs_extend : (program : Program) (low high : ℕ) → low ≤ high → (call : LoopCall) (words : List ℕ) →
     Extends (counted_runs program low call words) (counted_runs program high call words)
 runs_extend program low high h call words =
-    let few : ℕ → Ending Iterated = λ index. iteration program low call index words in
-    let many : ℕ → Ending Iterated = λ index. iteration program high call index words in
+    let few : ℕ → BoundedResult Iterated = λ index. iteration program low call index words in
+    let many : ℕ → BoundedResult Iterated = λ index. iteration program high call index words in
     let scans : Extends (scan few call.n 0) (scan many call.n 0) = scan_extends few many (λ index. iteration_extends program low high h call index words) call.n 0 in
     mapped_extends accesses_of_each
-    (subst (λ (g : Ending (List Iterated)). Extends g (all_ended (counted_iterations program high call words))) (sym (counted_are_scanned program low call words))
-    (subst (λ (g : Ending (List Iterated)). Extends (scan few call.n 0) g) (sym (counted_are_scanned program high call words)) scans))
+    (subst (λ (g : BoundedResult (List Iterated)). Extends g (all_ended (counted_iterations program high call words))) (sym (counted_are_scanned program low call words))
+    (subst (λ (g : BoundedResult (List Iterated)). Extends (scan few call.n 0) g) (sym (counted_are_scanned program high call words)) scans))
 
 pub verdict_extends : (test : Test) (program : Program) (low high : ℕ) → low ≤ high → (call : LoopCall) (words : List ℕ) →
     Extends (verdict test program low call words) (verdict test program high call words)
@@ -56,14 +56,14 @@ line_extends : (test : Test) (program : Program) (low high : ℕ) → low ≤ hi
     Extends (loop_report test program low made) (loop_report test program high made)
 line_extends test program low high h made = mapped_extends (line made) (if_valid_extends test program low high h made.words made.call)
 
-lines_extend : (few many : LoopMade → Ending LoopReport) → ((made : LoopMade) → Extends (few made) (many made)) → (loops : List LoopMade) →
+lines_extend : (few many : LoopMade → BoundedResult LoopReport) → ((made : LoopMade) → Extends (few made) (many made)) → (loops : List LoopMade) →
     Extends (all_ended (map few loops)) (all_ended (map many loops))
 lines_extend few many each [] = inr refl
 lines_extend few many each (made ∷ loops) =
     followed_extends (in_front_of (all_ended (map few loops))) (in_front_of (all_ended (map many loops)))
     (λ line. mapped_extends (λ others. line ∷ others) (lines_extend few many each loops)) (few made) (many made) (each made)
 
-reported_extends : (few many : LoopMade → Ending LoopReport) → ((made : LoopMade) → Extends (few made) (many made)) → (e f : Ending Finished) → Extends e f →
+reported_extends : (few many : LoopMade → BoundedResult LoopReport) → ((made : LoopMade) → Extends (few made) (many made)) → (e f : BoundedResult Finished) → Extends e f →
     Extends (reported_with few e) (reported_with many f)
 reported_extends few many each e f ext =
     followed_extends (with_each_line few) (with_each_line many) (λ finished. mapped_extends (with_lines finished) (lines_extend few many each finished.loops)) e f ext

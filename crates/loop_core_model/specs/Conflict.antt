@@ -7,19 +7,19 @@ use Rattle.loop_core_model.specs.declared.loop_test.Test.TheVariants.{Lrpd, Flow
 use Rattle.loop_core_model.specs.Actions.{writes, exposed, joined, only_operator}
 
 -- two different iterations, of which one writes the element and the other has an exposed read of it
-abbrev pub clash : List (List Action) → Bool
-clash [] = false
-clash (first ∷ rest) = (writes first && list_any exposed rest) || ((exposed first && list_any writes rest) || clash rest)
+abbrev pub fails_lrpd : List (List Action) → Bool
+fails_lrpd [] = false
+fails_lrpd (first ∷ rest) = (writes first && list_any exposed rest) || ((exposed first && list_any writes rest) || fails_lrpd rest)
 
 -- the same, where the one that writes has the lesser index
-abbrev pub harm : List (List Action) → Bool
-harm [] = false
-harm (first ∷ rest) = (writes first && list_any exposed rest) || harm rest
+abbrev pub fails_flow : List (List Action) → Bool
+fails_flow [] = false
+fails_flow (first ∷ rest) = (writes first && list_any exposed rest) || fails_flow rest
 
 -- what either test looks for
 abbrev pub fails : Test → List (List Action) → Bool
-fails Lrpd iterations = clash iterations
-fails Flow iterations = harm iterations
+fails Lrpd iterations = fails_lrpd iterations
+fails Flow iterations = fails_flow iterations
 
 -- by a test the element conflicts: it isn't reduction-only, and two iterations fail the test there
 abbrev pub conflicts : Test → List (List Action) → Bool

@@ -5,7 +5,7 @@ use Rattle.std.specs.Option.{option_or}
 use Rattle.array_maps.specs.Accesses.{Access}
 use Rattle.bpf_insn_types.specs.Program.{Program}
 use Rattle.bpf_step_model.specs.State.{LoopCall}
-use Rattle.bpf_step_model.specs.Run.{Ending, Ended, Stuck, Unfinished, mapped, followed}
+use Rattle.bpf_step_model.specs.Run.{BoundedResult, Ended, Stuck, Unfinished, mapped, followed}
 use Rattle.bpf_step_model.specs.Iteration.{Iterated, iteration}
 
 -- the least number below n that passes a test
@@ -20,7 +20,7 @@ lesser (Some a) None = Some a
 lesser (Some a) (Some b) = Some (min a b)
 
 -- an iteration ended and returned 1
-abbrev pub is_break : Ending Iterated → Bool
+abbrev pub is_break : BoundedResult Iterated → Bool
 is_break Stuck = false
 is_break Unfinished = false
 is_break (Ended it) = it.ret == 1
@@ -39,16 +39,16 @@ abbrev pub counted : Program → ℕ → LoopCall → List ℕ → ℕ
 counted program bound call words = count_to call.n (least_break program bound call words)
 
 -- the counted iterations on the start words, by rising index
-abbrev pub counted_iterations : Program → ℕ → LoopCall → List ℕ → List (Ending Iterated)
+abbrev pub counted_iterations : Program → ℕ → LoopCall → List ℕ → List (BoundedResult Iterated)
 counted_iterations program bound call words =
     map (λ index. iteration program bound call index words) (range_with_len 0 (counted program bound call words))
 
 -- a value in front of others that ended
-abbrev pub in_front_of : {A : Type 0} → Ending (List A) → A → Ending (List A)
+abbrev pub in_front_of : {A : Type 0} → BoundedResult (List A) → A → BoundedResult (List A)
 in_front_of rest a = mapped (λ others. a ∷ others) rest
 
 -- what all of a list gave, where each ended; else how the first that didn't stands
-abbrev pub all_ended : {A : Type 0} → List (Ending A) → Ending (List A)
+abbrev pub all_ended : {A : Type 0} → List (BoundedResult A) → BoundedResult (List A)
 all_ended [] = Ended []
 all_ended (e ∷ rest) = followed (in_front_of (all_ended rest)) e
 
@@ -57,5 +57,5 @@ abbrev pub accesses_of_each : List Iterated → List (List Access)
 accesses_of_each iterations = map (λ (it : Iterated). it.accesses) iterations
 
 -- the accesses of each counted iteration on the start words, where all of them end
-abbrev pub counted_runs : Program → ℕ → LoopCall → List ℕ → Ending (List (List Access))
+abbrev pub counted_runs : Program → ℕ → LoopCall → List ℕ → BoundedResult (List (List Access))
 counted_runs program bound call words = mapped accesses_of_each (all_ended (counted_iterations program bound call words))

@@ -2,16 +2,16 @@
 use Rattle.std.specs.Prelude.{◌≡◌, ℕ, zero, suc, ◌+◌, ◌==◌, if◌then◌else◌, List, [], ◌∷◌}
 use Rattle.bpf_insn_types.specs.Program.{Program}
 use Rattle.bpf_step_model.specs.State.{LoopCall}
-use Rattle.bpf_step_model.specs.Run.{Ending, Ended, followed}
+use Rattle.bpf_step_model.specs.Run.{BoundedResult, Ended, followed}
 use Rattle.bpf_step_model.specs.Iteration.{Iterated, iteration}
 use Rattle.loop_core_model.specs.LeastBreak.{in_front_of, all_ended, counted_iterations}
 
 -- an iteration, and unless it breaks the ones behind it
-abbrev pub up_to_break : Ending (List Iterated) → Iterated → Ending (List Iterated)
+abbrev pub up_to_break : BoundedResult (List Iterated) → Iterated → BoundedResult (List Iterated)
 up_to_break behind it = if it.ret == 1 then Ended (it ∷ []) else in_front_of behind it
 
 -- at most so many iterations from an index on, up to the first that breaks
-abbrev pub scan : (ℕ → Ending Iterated) → (left index : ℕ) → Ending (List Iterated)
+abbrev pub scan : (ℕ → BoundedResult Iterated) → (left index : ℕ) → BoundedResult (List Iterated)
 scan iterate zero index = Ended []
 scan iterate (suc left) index = followed (up_to_break (scan iterate left (index + 1))) (iterate index)
 

@@ -57,7 +57,7 @@ pub record ParallelRows (test : Test) : Type 0 where
   pub ands : Reports test (1 ∷ []) 3 and_operands (15 ∷ []) 3 Parallel (12 ∷ [])
 
 -- loops that conflict by a test, with how many elements do and the least of them
-pub record ConflictRows (test : Test) : Type 0 where
+pub record ConflictVerdictRows (test : Test) : Type 0 where
   pub carried_right : Reports test (5 ∷ []) 4 shift_right (9 ∷ 0 ∷ 0 ∷ 0 ∷ 0 ∷ []) 4 (Conflict 3 1) (9 ∷ 9 ∷ 9 ∷ 9 ∷ 9 ∷ [])
   pub two_operators : Reports test (1 ∷ []) 4 mixed_operators (1 ∷ []) 4 (Conflict 1 0) (27 ∷ [])
   pub no_break_in_order : Reports test (1 ∷ []) 8 break_that_never_comes (0 ∷ []) 8 (Conflict 1 0) (1 ∷ [])
@@ -71,7 +71,7 @@ pub record AheadRows (test : Test) (carried one : Verdict) : Type 0 where
 
 -- loops over halves of words: halves are added apart, by an operator of their own, and a half is stored by a read and a
 -- write of its word
-pub record HalfRows (test : Test) : Type 0 where
+pub record HalfElementRows (test : Test) : Type 0 where
   pub apart : Reports test (1 ∷ []) 4 add_halves (4294967295 ∷ []) 4 Parallel (25769803779 ∷ [])
   pub two_adds : Reports test (1 ∷ []) 2 add_half_and_whole (0 ∷ []) 2 (Conflict 1 0) (4 ∷ [])
   pub one_or : Reports test (1 ∷ []) 4 or_half_and_whole (0 ∷ []) 4 Parallel (12884901891 ∷ [])
@@ -91,8 +91,8 @@ pub record CallRows (test : Test) : Type 0 where
 -- all of them
 pub record VerdictRows : Type 0 where
   pub parallel : (test : Test) → ParallelRows test
-  pub conflict : (test : Test) → ConflictRows test
+  pub conflict : (test : Test) → ConflictVerdictRows test
   pub ahead_by_lrpd : AheadRows Lrpd (Conflict 3 1) (Conflict 1 0)
   pub ahead_by_flow : AheadRows Flow Parallel Parallel
-  pub halves : (test : Test) → HalfRows test
+  pub halves : (test : Test) → HalfElementRows test
   pub calls : (test : Test) → CallRows test

@@ -4,13 +4,13 @@ use Rattle.std.specs.Prelude.{replicate, slice_index_or, slice_set, is_some}
 use Rattle.std.specs.List.{AllByRecursion, insert}
 use Rattle.std.proofs.lemmas.Bool.{cases_eq}
 use Rattle.std.proofs.lemmas.List.{length-set, get_or-set_same, get_or-set_other, length-replicate, replicate_more}
-use Rattle.loop_core_blocks.specs.Block.{block, break_from}
+use Rattle.loop_core_blocks.specs.Block.{block_run, break_from}
 use Rattle.loop_core_schedule.specs.Intervals.{blocks_of, end_of}
 use Rattle.loop_core_block.specs.declared.block.Block.{Block}
 use Rattle.loop_core_block.specs.Blocks.{BlockOf}
 use Rattle.loop_core_block.specs.Shown.{shown}
 use Rattle.loop_core_replay.specs.Settings.{SettingOf}
-use Rattle.loop_core_replay.specs.Replays.{BlocksOf, numbers_of, IsBlockOf, IfBlockOf, AreBlocks, IsUnderWay, BreaksAt, HasRun}
+use Rattle.loop_core_replay.specs.Replays.{BlocksOf, block_numbers, IsBlockOf, IfBlockOf, AreBlocks, IsUnderWay, BreaksAt, BlockHasRun}
 
 none_at : (n k : ℕ) (nothing : Option Block) → slice_index_or (replicate n nothing) k nothing ≡ nothing
 none_at zero k nothing = refl
@@ -62,7 +62,7 @@ is_begun s old new number b are is set =
 
 -- it has ended
 pub ended : (s : SettingOf) (old new : BlocksOf) (number : ℕ) (b : Block) → number < length old.under_way → slice_index_or old.under_way number None ≡ Some b →
-    new.under_way ≡ slice_set old.under_way number None → new.ran ≡ insert old.ran 0 b → AreBlocks s old → HasRun s number old new
+    new.under_way ≡ slice_set old.under_way number None → new.ran ≡ insert old.ran 0 b → AreBlocks s old → BlockHasRun s number old new
 ended s old new number b within there set pushed are =
     let is : IsBlockOf s number (shown b) = subst (IfBlockOf s number) there (are.under_way number) in
     let own : IsBlockOf s (shown b).number (shown b) = subst (λ (n : ℕ). IsBlockOf s n (shown b)) (sym is.number_is) is in
@@ -73,7 +73,7 @@ ended s old new number b within there set pushed are =
         under_way = λ k. subst (λ (us : List (Option Block)). IfBlockOf s k (slice_index_or us k None)) (sym set) (changed s old.under_way number None within tt are.under_way k);
         ran = subst (AllByRecursion (λ (b : Block). IsBlockOf s (shown b).number (shown b))) (sym longer) (own, are.ran);
       };
-      numbers = ap numbers_of longer ∙ ap (λ (n : ℕ). n ∷ numbers_of old.ran) is.number_is;
+      numbers = ap block_numbers longer ∙ ap (λ (n : ℕ). n ∷ block_numbers old.ran) is.number_is;
     }
 
 -- where a block breaks
@@ -81,8 +81,8 @@ pub breaks : (s : SettingOf) (number : ℕ) (b : BlockOf) → IsBlockOf s number
 breaks s number b is = record {
   ran = is.ran.ran;
   told =
-      ap (λ (first : ℕ). block s.program 4096 s.call s.start.words first (end_of s.bounds number)) (sym is.first_is)
-      ∙ (ap (λ (past : ℕ). block s.program 4096 s.call s.start.words b.first past) (sym is.past_is) ∙ is.ran.told);
+      ap (λ (first : ℕ). block_run s.program 4096 s.call s.start.words first (end_of s.bounds number)) (sym is.first_is)
+      ∙ (ap (λ (past : ℕ). block_run s.program 4096 s.call s.start.words b.first past) (sym is.past_is) ∙ is.ran.told);
   broke_is = is.ran.broke ∙ ap (λ (first : ℕ). break_from first is.ran.ran) is.first_is;
 }
 
@@ -106,9 +106,9 @@ module _ (us : List (Option Block)) (ran : List Block) (old : BlocksOf) (number 
       begun s (record { under_way = us; ran = ran }) (record { under_way = slice_set us number (Some b); ran = ran }) number b (subst (AreBlocks s) (sym seen_as) are) is refl refl
 
   pub ended_in : (was taken slot : Option Block) (b : Block) (longer : List Block) → IsUnderWay old number → was ≡ slice_index_or us number was → taken ≡ was → taken ≡ Some b →
-      slot ≡ None → longer ≡ insert ran 0 b → (s : SettingOf) → AreBlocks s old → HasRun s number old (record { under_way = slice_set us number slot; ran = longer })
+      slot ≡ None → longer ≡ insert ran 0 b → (s : SettingOf) → AreBlocks s old → BlockHasRun s number old (record { under_way = slice_set us number slot; ran = longer })
   ended_in was taken slot b longer under_way there took is empty pushed s are =
       let within : number < length us = subst (λ (o : BlocksOf). number < length o.under_way) (sym seen_as) under_way.within in
-      subst (λ (o : BlocksOf). HasRun s number o (record { under_way = slice_set us number slot; ran = longer })) seen_as
+      subst (λ (o : BlocksOf). BlockHasRun s number o (record { under_way = slice_set us number slot; ran = longer })) seen_as
       (ended s (record { under_way = us; ran = ran }) (record { under_way = slice_set us number slot; ran = longer }) number b within
       (same_there us number None was within ∙ (sym there ∙ (sym took ∙ is))) (ap (slice_set us number) empty) pushed (subst (AreBlocks s) (sym seen_as) are))

@@ -13,12 +13,12 @@ use Rattle.loop_core_schedule.specs.ScheduleLaw.{EndedSchedulesComplete}
 use Rattle.loop_core_event.specs.declared.event.Event.{Event}
 use Rattle.loop_core_block.specs.declared.block.Block.{Block}
 use Rattle.loop_core_block.specs.Blocks.{BlockOf}
-use Rattle.loop_core_block.specs.Ran.{as_gathered, iterations_of, IsRunOf}
+use Rattle.loop_core_block.specs.Ran.{as_gathered, iterations_of, RecordsRun}
 use Rattle.loop_core_block.specs.Shown.{shown}
 use Rattle.loop_core_gather.specs.Gathered.{all_gathered}
 use Rattle.loop_core_workers.specs.Standing.{state}
 use Rattle.loop_core_replay.specs.Settings.{SettingOf, IsSetting}
-use Rattle.loop_core_replay.specs.Replays.{numbers_of, IsBlockOf, IsLeft}
+use Rattle.loop_core_replay.specs.Replays.{block_numbers, IsBlockOf, IsLeft}
 
 bound_at : (bounds : List ℕ) (k : ℕ) → k < length bounds → is_bound (slice_get bounds k) (slice_index bounds k) ≡ true
 bound_at [] k h = absurd (omega (arith, h))
@@ -32,7 +32,7 @@ module _ (s : SettingOf) where
   abbrev gathered_of : List Block → List gather.Block
   gathered_of blocks = all_gathered s.program s.call s.start.words (map shown blocks)
 
-  numbered : (blocks : List Block) → map (λ (b : gather.Block). b.number) (gathered_of blocks) ≡ numbers_of blocks
+  numbered : (blocks : List Block) → map (λ (b : gather.Block). b.number) (gathered_of blocks) ≡ block_numbers blocks
   numbered [] = refl
   numbered (b ∷ blocks) = ap (λ (ns : List ℕ). (shown b).number ∷ ns) (numbered blocks)
 
@@ -54,14 +54,14 @@ module _ (s : SettingOf) where
   run (b ∷ blocks) own = (own.0.ran.told ∙ ap (λ e. Ended (iterations_of e)) (sym own.0.ran.told), run blocks own.1)
 
   -- each of them was run
-  pub all_run : (blocks : List Block) → AreOwn blocks → All (λ (b : Block). IsRunOf s.test s.program s.call s.start.words (shown b)) blocks
-  all_run [] own = All-nil (λ (b : Block). IsRunOf s.test s.program s.call s.start.words (shown b))
-  all_run (b ∷ blocks) own = All-cons (λ (b : Block). IsRunOf s.test s.program s.call s.start.words (shown b)) b blocks own.0.ran (all_run blocks own.1)
+  pub all_run : (blocks : List Block) → AreOwn blocks → All (λ (b : Block). RecordsRun s.test s.program s.call s.start.words (shown b)) blocks
+  all_run [] own = All-nil (λ (b : Block). RecordsRun s.test s.program s.call s.start.words (shown b))
+  all_run (b ∷ blocks) own = All-cons (λ (b : Block). RecordsRun s.test s.program s.call s.start.words (shown b)) b blocks own.0.ran (all_run blocks own.1)
 
   -- they are gathered
   pub no_fault : EndedSchedulesComplete → IsSetting s → (events : List Event) (ran : List Block) → IsLeft s events ran → gather_fault s.bounds (gathered_of ran) ≡ None
   no_fault law is events ran left =
-      ((law s.program 4096 s.call s.start.words s.bounds events (state left.standing (numbers_of ran)) is.split left.ended).complete (gathered_of ran)
+      ((law s.program 4096 s.call s.start.words s.bounds events (state left.standing (block_numbers ran)) is.split left.ended).complete (gathered_of ran)
       (record { numbered = numbered ran; stand = stand ran left.blocks; run = run ran left.blocks })).gathered
 
   -- and the list comes to the loop's outcome

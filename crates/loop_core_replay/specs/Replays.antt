@@ -3,17 +3,17 @@ use Rattle.std.specs.Prelude.{◌≡◌, ℕ, ◌<◌, true, List, ◌∷◌, ma
 use Rattle.std.specs.List.{AllByRecursion}
 use Rattle.bpf_step_model.specs.Run.{Ended}
 use Rattle.bpf_step_model.specs.Iteration.{Iterated}
-use Rattle.loop_core_blocks.specs.Block.{block, break_from}
+use Rattle.loop_core_blocks.specs.Block.{block_run, break_from}
 use Rattle.loop_core_event.specs.declared.event.Event.{Event}
 use Rattle.loop_core_schedule.specs.Intervals.{blocks_of, start_of, end_of}
-use Rattle.loop_core_schedule.specs.Schedule.{State, replay}
-use Rattle.loop_core_workers.specs.Standing.{Standing, Fits, state}
+use Rattle.loop_core_schedule.specs.Schedule.{ScheduleState, replay}
+use Rattle.loop_core_workers.specs.Standing.{Standing, WorkersFit, state}
 use Rattle.loop_core_workers.specs.InTurn.{LeadTo}
 use Rattle.loop_core_block.specs.declared.block.Block.{Block}
 use Rattle.loop_core_block.specs.Blocks.{BlockOf}
-use Rattle.loop_core_block.specs.Ran.{IsRunOf}
+use Rattle.loop_core_block.specs.Ran.{RecordsRun}
 use Rattle.loop_core_block.specs.Shown.{shown}
-use Rattle.loop_core_replay.specs.Settings.{SettingOf, breaks_of}
+use Rattle.loop_core_replay.specs.Settings.{SettingOf, setting_breaks}
 
 -- the blocks that are under way, by number, and those that were run, the latest first
 pub record BlocksOf : Type 0 where
@@ -26,12 +26,12 @@ pub record ReplayOf : Type 0 where
   pub blocks : BlocksOf
 
 -- the numbers of blocks
-abbrev pub numbers_of : List Block → List ℕ
-numbers_of blocks = map (λ b. (shown b).number) blocks
+abbrev pub block_numbers : List Block → List ℕ
+block_numbers blocks = map (λ b. (shown b).number) blocks
 
 -- a replay as a schedule's state
-abbrev pub state_of : ReplayOf → State
-state_of r = state r.workers (numbers_of r.blocks.ran)
+abbrev pub state_of : ReplayOf → ScheduleState
+state_of r = state r.workers (block_numbers r.blocks.ran)
 
 -- the block of this number, run on the start words
 pub record IsBlockOf (s : SettingOf) (number : ℕ) (b : BlockOf) : Type 0 where
@@ -39,7 +39,7 @@ pub record IsBlockOf (s : SettingOf) (number : ℕ) (b : BlockOf) : Type 0 where
   pub number_is : b.number ≡ number
   pub first_is : b.first ≡ start_of s.bounds number
   pub past_is : b.past ≡ end_of s.bounds number
-  pub ran : IsRunOf s.test s.program s.call s.start.words b
+  pub ran : RecordsRun s.test s.program s.call s.start.words b
 
 -- the same, where it is there
 abbrev pub IfBlockOf : SettingOf → ℕ → Option Block → Type 0
@@ -60,22 +60,22 @@ pub record IsUnderWay (blocks : BlocksOf) (number : ℕ) : Type 0 where
 -- a block breaks here on the start words, or not at all
 pub record BreaksAt (s : SettingOf) (number : ℕ) (broke : Option ℕ) : Type 0 where
   pub ran : List Iterated
-  pub told : block s.program 4096 s.call s.start.words (start_of s.bounds number) (end_of s.bounds number) ≡ Ended ran
+  pub told : block_run s.program 4096 s.call s.start.words (start_of s.bounds number) (end_of s.bounds number) ≡ Ended ran
   pub broke_is : broke ≡ break_from (start_of s.bounds number) ran
 
 -- a block was run more
-pub record HasRun (s : SettingOf) (number : ℕ) (old new : BlocksOf) : Type 0 where
+pub record BlockHasRun (s : SettingOf) (number : ℕ) (old new : BlocksOf) : Type 0 where
   pub blocks : AreBlocks s new
-  pub numbers : numbers_of new.ran ≡ number ∷ numbers_of old.ran
+  pub numbers : block_numbers new.ran ≡ number ∷ block_numbers old.ran
 
 -- the events before this place lead to how it stands
 pub record HasCome (s : SettingOf) (events : List Event) (place : ℕ) (r : ReplayOf) : Type 0 where
-  pub led : LeadTo (breaks_of s) s.bounds events place (state_of r)
-  pub fits : Fits s.bounds r.workers
+  pub led : LeadTo (setting_breaks s) s.bounds events place (state_of r)
+  pub fits : WorkersFit s.bounds r.workers
   pub blocks : AreBlocks s r.blocks
 
 -- the list has ended, and these blocks were run
 pub record IsLeft (s : SettingOf) (events : List Event) (ran : List Block) : Type 0 where
   pub standing : Standing
-  pub ended : replay (breaks_of s) s.bounds events ≡ Ok (state standing (numbers_of ran))
+  pub ended : replay (setting_breaks s) s.bounds events ≡ Ok (state standing (block_numbers ran))
   pub blocks : AllByRecursion (λ b. IsBlockOf s (shown b).number (shown b)) ran

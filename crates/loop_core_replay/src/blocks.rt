@@ -4,7 +4,7 @@ ghost use Rattle.std.specs.Prelude.{◌≡◌, ◌<◌, [], ◌∷◌, replicate
 ghost use Rattle.loop_core_schedule.specs.Intervals.{blocks_of};
 ghost use Rattle.loop_core_block.specs.Shown.{shown};
 ghost use Rattle.loop_core_replay.specs.Settings.{SettingOf};
-ghost use Rattle.loop_core_replay.specs.Replays.{IsBlockOf, AreBlocks, IsUnderWay, BreaksAt, HasRun};
+ghost use Rattle.loop_core_replay.specs.Replays.{IsBlockOf, AreBlocks, IsUnderWay, BreaksAt, BlockHasRun};
 
 use crate::setting::Setting;
 use loop_core_block::{Block, run_block};
@@ -76,7 +76,7 @@ impl<'a> Blocks<'a> {
     /// A worker has run this block, which is under way.
     pub(crate) fn end(&mut self, number: u32) -> Result<(), AllocError>
         requires { IsUnderWay self.old number }
-        ensures { OnOk result ((setting : SettingOf) → AreBlocks setting self.old → HasRun setting number self.old self.new) }
+        ensures { OnOk result ((setting : SettingOf) → AreBlocks setting self.old → BlockHasRun setting number self.old self.new) }
     {
         match self.under_way[number as usize].take() {
             Some(block) => Ok(self.ran.insert(0, block)?),
@@ -88,7 +88,7 @@ impl<'a> Blocks<'a> {
     pub(crate) fn pass(&mut self, of: &Setting<'a>, number: u32) -> Result<(), AllocError>
         requires within { number < blocks_of of.now.bounds }
         requires blocks { AreBlocks of.now self.old }
-        ensures { OnOk result (HasRun of.now number self.old self.new) }
+        ensures { OnOk result (BlockHasRun of.now number self.old self.new) }
     {
         let _broke = self.begin(of, number)?;
         self.end(number)

@@ -5,7 +5,7 @@ ghost use Rattle.loop_core_blocks.specs.Gather.{is_bound};
 ghost use Rattle.loop_core_event.specs.declared.event.EventKind.TheVariants as kinds;
 ghost use Rattle.loop_core_schedule.specs.Schedule.{replay};
 ghost use Rattle.loop_core_workers.specs.Steps.{IsBefore};
-ghost use Rattle.loop_core_replay.specs.Settings.{breaks_of};
+ghost use Rattle.loop_core_replay.specs.Settings.{setting_breaks};
 ghost use Rattle.loop_core_replay.specs.Replays.{HasCome, IsLeft};
 
 use crate::blocks::Blocks;
@@ -14,7 +14,7 @@ use crate::setting::Setting;
 use loop_core_block::Block;
 use loop_core_event::Event;
 use loop_core_schedule::ReplayFault;
-use loop_core_workers::{Step, Turn, Workers, law_of_events_in_turn};
+use loop_core_workers::{PendingIteration, Step, Workers, law_of_events_in_turn};
 use std::alloc::AllocError;
 use std::marker::Model;
 
@@ -59,7 +59,7 @@ impl<'a> Replay<'a> {
         of: &Setting<'a>,
         events: &[Event],
         place: usize,
-        turn: Turn,
+        turn: PendingIteration,
     ) -> Result<(), AllocError>
         requires come { HasCome of.now events.now place self.old }
         requires event { slice_get events.now place ≡ Some (record { kind = kinds.Turn; worker = turn.worker }) }
@@ -80,7 +80,7 @@ impl<'a> Replay<'a> {
         requires place { place < length events.now }
         requires come { HasCome of.now events.now place self.old }
         ensures come { OnOk result (HasCome of.now events.now (place + 1) self.new) }
-        ensures fault { (fault : ReplayFault) → result ≡ Err (ReplayError.Fault fault) → replay (breaks_of of.now) of.now.bounds events.now ≡ Err fault }
+        ensures fault { (fault : ReplayFault) → result ≡ Err (ReplayError.Fault fault) → replay (setting_breaks of.now) of.now.bounds events.now ≡ Err fault }
     {
         law_of_events_in_turn();
         match self.workers.begin(of.split, events[place], place) {
@@ -95,7 +95,7 @@ impl<'a> Replay<'a> {
     fn end(self, of: &Setting<'a>, events: &[Event]) -> Result<Vec<Block<'a>>, ReplayFault>
         requires { HasCome of.now events.now (length events.now) self }
         ensures left { IfOk result (λ ran. IsLeft of.now events.now ran.items) }
-        ensures fault { IfErr result (λ fault. replay (breaks_of of.now) of.now.bounds events.now ≡ Err fault) }
+        ensures fault { IfErr result (λ fault. replay (setting_breaks of.now) of.now.bounds events.now ≡ Err fault) }
     {
         law_of_events_in_turn();
         let Replay { workers, blocks } = self;
@@ -112,7 +112,7 @@ pub(crate) fn run_events<'a>(
     events: &[Event],
 ) -> Result<Vec<Block<'a>>, ReplayError>
     ensures left { IfOk result (λ ran. IsLeft of.now events.now ran.items) }
-    ensures fault { (fault : ReplayFault) → result ≡ Err (ReplayError.Fault fault) → replay (breaks_of of.now) of.now.bounds events.now ≡ Err fault }
+    ensures fault { (fault : ReplayFault) → result ≡ Err (ReplayError.Fault fault) → replay (setting_breaks of.now) of.now.bounds events.now ≡ Err fault }
 {
     let mut replay = Replay::try_new(of)?;
     for place in 0..events.len() {

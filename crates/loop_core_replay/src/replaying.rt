@@ -2,7 +2,7 @@
 
 ghost use Rattle.std.specs.Prelude.{◌≡◌, None, Ok, Err, IfOk};
 ghost use Rattle.bpf_step_model.specs.Run.{Ended};
-ghost use Rattle.bpf_verify_sound.specs.Soundness.{IsKnownCall};
+ghost use Rattle.bpf_verify_sound.specs.Soundness.{OverApproximatesCall};
 ghost use Rattle.loop_core_blocks.specs.Split.{split_fault};
 ghost use Rattle.loop_core_schedule.specs.Outcome.{replayed};
 
@@ -34,7 +34,7 @@ pub fn replay_loop(
     events: &[Event],
     test: Test,
 ) -> Result<LoopOutcome, ReplayError>
-    requires known { IsKnownCall program.now call.now }
+    requires known { OverApproximatesCall program.now call.now }
     requires sizes { start.now.sizes ≡ program.now.sizes }
     requires split { split_fault split.now call.now.n ≡ None }
     ensures outcome { IfOk result (λ o. replayed test program.now 4096 call.now start.now.words split.now events.now ≡ Ok (Ended (record { verdict = o.verdict; answer = o.answer; words = o.maps.words }))) }

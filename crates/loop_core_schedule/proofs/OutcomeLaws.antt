@@ -3,7 +3,7 @@ use Rattle.std.proofs.Common.{◌≡◌, ℕ, List, length, ◌∙◌, ap}
 use Rattle.array_maps.specs.Accesses.{Access}
 use Rattle.bpf_insn_types.specs.Program.{Program}
 use Rattle.bpf_step_model.specs.State.{LoopCall}
-use Rattle.bpf_step_model.specs.Run.{Ending, Ended, mapped, followed}
+use Rattle.bpf_step_model.specs.Run.{BoundedResult, Ended, mapped, followed}
 use Rattle.bpf_step_model.specs.LoopInOrder.{Looped, loop_in_order}
 use Rattle.loop_core_model.specs.declared.loop_test.Test.{Test}
 use Rattle.loop_core_model.specs.declared.verdict.Verdict.{Verdict}
@@ -20,7 +20,7 @@ outcome_is : (test : Test) (program : Program) (bound : ℕ) (call : LoopCall) (
 outcome_is test program bound call words runs elements looped r c l =
     let told : verdict test program bound call words ≡ Ended (judged elements) =
     ap (mapped (λ (rs : List (List Access)). judged (conflicting test rs (length words)))) r ∙ ap (λ (es : List ℕ). Ended (judged es)) c in
-    ap (followed (judged_as (verdict test program bound call words))) l ∙ ap (λ (v : Ending Verdict). judged_as v looped) told
+    ap (followed (judged_as (verdict test program bound call words))) l ∙ ap (λ (v : BoundedResult Verdict). judged_as v looped) told
 
 pub outcome_by_test : OutcomeByTest
 outcome_by_test = record {

@@ -3,13 +3,13 @@ use Rattle.std.proofs.Common.{◌≡◌, ℕ, zero, suc, ◌+◌, ◌-◌, ◌<�
 use Rattle.std.specs.Prelude.{not, ◌&&◌, ◌==◌, map, length, cond, is_none, slice_get, slice_index, if◌then◌else◌}
 use Rattle.std.specs.List.{list_any, AllByRecursion}
 use Rattle.std.proofs.lemmas.Bool.{eqb-true, eq-eqb, cases_Bool, and_parts, and_left, and_right, not_from_true, or_from}
-use Rattle.bpf_step_model.specs.Run.{Ending, Ended, Stuck, Unfinished, followed}
+use Rattle.bpf_step_model.specs.Run.{BoundedResult, Ended, Stuck, Unfinished, followed}
 use Rattle.bpf_step_model.specs.Iteration.{Iterated}
 use Rattle.bpf_step_model.proofs.Endings.{mapped_from}
 use Rattle.loop_core_model.specs.LeastBreak.{is_break, lesser, in_front_of}
 use Rattle.loop_core_model.specs.Scan.{up_to_break, scan}
 use Rattle.loop_core_blocks.specs.Block.{break_from}
-use Rattle.loop_core_blocks.specs.Gather.{Block, starts_late, with_number, least_of, lacks, lacks_some, twice, is_bound, stands_in}
+use Rattle.loop_core_blocks.specs.Gather.{Block, starts_late, block_numbered, least_of, lacks_block, lacks_some, twice, is_bound, stands_in}
 use Rattle.loop_core_schedule.specs.Intervals.{blocks_of, start_of, end_of}
 use Rattle.loop_core_schedule.proofs.Steps.{bit, times, first_break, break_of, least_break_of}
 
@@ -27,15 +27,15 @@ none_times k (b ∷ blocks) h = go (cases_Bool (b.number == k)) (λ none. none_t
     go (inr other) later =
         or_from (b.number == k) (list_any (λ (other : Block). other.number == k) blocks) other (later (let none : bit (b.number == k) ≡ 0 = ap bit other in omega arith))
 
-pub some_times : (k : ℕ) (blocks : List Block) → 0 < times k (numbers blocks) → is_none (with_number k blocks) ≡ false
+pub some_times : (k : ℕ) (blocks : List Block) → 0 < times k (numbers blocks) → is_none (block_numbered k blocks) ≡ false
 some_times k [] h = absurd (omega arith)
 some_times k (b ∷ blocks) h = go (cases_Bool (b.number == k)) (λ some. some_times k blocks some)
   where
-    go : ((b.number == k) ≡ true) ⊎ ((b.number == k) ≡ false) → (0 < times k (numbers blocks) → is_none (with_number k blocks) ≡ false) →
-        is_none (with_number k (b ∷ blocks)) ≡ false
-    go (inl here) later = ap (λ (c : Bool). is_none (cond c (Some b) (with_number k blocks))) here
+    go : ((b.number == k) ≡ true) ⊎ ((b.number == k) ≡ false) → (0 < times k (numbers blocks) → is_none (block_numbered k blocks) ≡ false) →
+        is_none (block_numbered k (b ∷ blocks)) ≡ false
+    go (inl here) later = ap (λ (c : Bool). is_none (cond c (Some b) (block_numbered k blocks))) here
     go (inr other) later =
-        ap (λ (c : Bool). is_none (cond c (Some b) (with_number k blocks))) other ∙ later (let none : bit (b.number == k) ≡ 0 = ap bit other in omega arith)
+        ap (λ (c : Bool). is_none (cond c (Some b) (block_numbered k blocks))) other ∙ later (let none : bit (b.number == k) ≡ 0 = ap bit other in omega arith)
 
 -- no number stands twice
 pub once_each : (blocks : List Block) → ((k : ℕ) → times k (numbers blocks) ≤ 1) → twice blocks ≡ false
@@ -54,28 +54,28 @@ none_foreign bounds (b ∷ blocks) stand =
 
 -- none is missing that doesn't start past the least break
 none_lacks_from : (least : Option ℕ) (blocks : List Block) (number first : ℕ) (bounds : List ℕ) →
-    ((j : ℕ) → j < length bounds → (is_none (with_number (number + j) blocks) ≡ false) ⊎ (starts_late least (slice_index (first ∷ bounds) j) ≡ true)) →
-    lacks least blocks number first bounds ≡ false
+    ((j : ℕ) → j < length bounds → (is_none (block_numbered (number + j) blocks) ≡ false) ⊎ (starts_late least (slice_index (first ∷ bounds) j) ≡ true)) →
+    lacks_block least blocks number first bounds ≡ false
 none_lacks_from least blocks number first [] each = refl
 none_lacks_from least blocks number first (past ∷ bounds) each =
-    or_from (not (starts_late least first) && is_none (with_number number blocks)) (lacks least blocks (number + 1) past bounds) (go (each 0 (omega arith)))
+    or_from (not (starts_late least first) && is_none (block_numbered number blocks)) (lacks_block least blocks (number + 1) past bounds) (go (each 0 (omega arith)))
     (none_lacks_from least blocks (number + 1) past bounds (λ j h.
     let same : number + suc j ≡ number + 1 + j = omega arith in
-    subst (λ (k : ℕ). (is_none (with_number k blocks) ≡ false) ⊎ (starts_late least (slice_index (past ∷ bounds) j) ≡ true)) same (each (suc j) (omega arith))))
+    subst (λ (k : ℕ). (is_none (block_numbered k blocks) ≡ false) ⊎ (starts_late least (slice_index (past ∷ bounds) j) ≡ true)) same (each (suc j) (omega arith))))
   where
-    go : (is_none (with_number (number + 0) blocks) ≡ false) ⊎ (starts_late least first ≡ true) → (not (starts_late least first) && is_none (with_number number blocks)) ≡ false
+    go : (is_none (block_numbered (number + 0) blocks) ≡ false) ⊎ (starts_late least first ≡ true) → (not (starts_late least first) && is_none (block_numbered number blocks)) ≡ false
     go (inl there) =
         let same : number + 0 ≡ number = omega arith in
-        and_right (not (starts_late least first)) (is_none (with_number number blocks)) (subst (λ (k : ℕ). is_none (with_number k blocks) ≡ false) same there)
-    go (inr late) = and_left (not (starts_late least first)) (is_none (with_number number blocks)) (not_from_true (starts_late least first) late)
+        and_right (not (starts_late least first)) (is_none (block_numbered number blocks)) (subst (λ (k : ℕ). is_none (block_numbered k blocks) ≡ false) same there)
+    go (inr late) = and_left (not (starts_late least first)) (is_none (block_numbered number blocks)) (not_from_true (starts_late least first) late)
 
 pub none_lacks : (bounds : List ℕ) (blocks : List Block) →
-    ((k : ℕ) → k < blocks_of bounds → (is_none (with_number k blocks) ≡ false) ⊎ (starts_late (least_of blocks) (start_of bounds k) ≡ true)) → lacks_some bounds blocks ≡ false
+    ((k : ℕ) → k < blocks_of bounds → (is_none (block_numbered k blocks) ≡ false) ⊎ (starts_late (least_of blocks) (start_of bounds k) ≡ true)) → lacks_some bounds blocks ≡ false
 none_lacks [] blocks each = refl
 none_lacks (first ∷ bounds) blocks each =
     none_lacks_from (least_of blocks) blocks 0 first bounds (λ j h.
     let same : j ≡ 0 + j = omega arith in
-    subst (λ (k : ℕ). (is_none (with_number k blocks) ≡ false) ⊎ (starts_late (least_of blocks) (slice_index (first ∷ bounds) j) ≡ true)) same (each j (omega arith)))
+    subst (λ (k : ℕ). (is_none (block_numbered k blocks) ≡ false) ⊎ (starts_late (least_of blocks) (slice_index (first ∷ bounds) j) ≡ true)) same (each j (omega arith)))
 
 -- a bound that is there
 bound_is : (bounds : List ℕ) (k x : ℕ) → is_bound (slice_get bounds k) x ≡ true → slice_index bounds k ≡ x
@@ -83,7 +83,7 @@ bound_is [] k x h = absurd (cc)
 bound_is (bound ∷ bounds) zero x h = eqb-true bound x h
 bound_is (bound ∷ bounds) (suc k) x h = bound_is bounds k x h
 
-module _ (iterate : ℕ → Ending Iterated) where
+module _ (iterate : ℕ → BoundedResult Iterated) where
   abbrev breaking : ℕ → Bool
   breaking index = is_break (iterate index)
 
@@ -93,7 +93,7 @@ module _ (iterate : ℕ → Ending Iterated) where
   broke_once left index it ran same one is_one =
       sym (ap (break_from index) is_one)
       ∙ (ap (λ (b : Bool). if b then Some index else None) one
-      ∙ sym (ap (λ (e : Ending Iterated). if is_break e then Some index else first_break breaking left (index + 1)) same
+      ∙ sym (ap (λ (e : BoundedResult Iterated). if is_break e then Some index else first_break breaking left (index + 1)) same
       ∙ ap (λ (b : Bool). if b then Some index else first_break breaking left (index + 1)) one))
 
   went_on : (left index : ℕ) (it : Iterated) (others ran : List Iterated) → iterate index ≡ Ended it → (it.ret == 1) ≡ false → ran ≡ it ∷ others →
@@ -102,7 +102,7 @@ module _ (iterate : ℕ → Ending Iterated) where
       ap (break_from index) is_more
       ∙ (ap (λ (b : Bool). if b then Some index else break_from (index + 1) others) on
       ∙ (rest
-      ∙ sym (ap (λ (e : Ending Iterated). if is_break e then Some index else first_break breaking left (index + 1)) same
+      ∙ sym (ap (λ (e : BoundedResult Iterated). if is_break e then Some index else first_break breaking left (index + 1)) same
       ∙ ap (λ (b : Bool). if b then Some index else first_break breaking left (index + 1)) on)))
 
   pub scan_break : (left index : ℕ) (ran : List Iterated) → scan iterate left index ≡ Ended ran → break_from index ran ≡ first_break breaking left index
@@ -118,7 +118,7 @@ module _ (iterate : ℕ → Ending Iterated) where
           let parts = mapped_from (λ others. it ∷ others) (scan iterate left (index + 1)) ran h in
           went_on left index it parts.0 ran same on parts.2 (later parts.0 parts.1)
 
-      by_first : (e : Ending Iterated) → iterate index ≡ e → followed (up_to_break (scan iterate left (index + 1))) e ≡ Ended ran →
+      by_first : (e : BoundedResult Iterated) → iterate index ≡ e → followed (up_to_break (scan iterate left (index + 1))) e ≡ Ended ran →
           ((its : List Iterated) → scan iterate left (index + 1) ≡ Ended its → break_from (index + 1) its ≡ first_break breaking left (index + 1)) →
           break_from index ran ≡ first_break breaking (suc left) index
       by_first Stuck same h later = absurd (cc)

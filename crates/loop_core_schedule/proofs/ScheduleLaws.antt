@@ -11,14 +11,14 @@ use Rattle.loop_core_model.specs.LeastBreak.{lesser}
 use Rattle.loop_core_blocks.specs.declared.faults.GatherFault.{GatherFault}
 use Rattle.loop_core_blocks.specs.declared.faults.GatherFault.TheVariants.{Missing, Twice, Foreign}
 use Rattle.loop_core_blocks.specs.Split.{falls, split_fault}
-use Rattle.loop_core_blocks.specs.Gather.{Block, starts_late, with_number, least_of, lacks_some, twice, stands_in, gather_fault}
+use Rattle.loop_core_blocks.specs.Gather.{Block, starts_late, block_numbered, least_of, lacks_some, twice, stands_in, gather_fault}
 use Rattle.loop_core_blocks.proofs.GatherLaws.{blocks_gather}
 use Rattle.loop_core_event.specs.declared.event.Event.{Event}
 use Rattle.loop_core_schedule.specs.declared.replay_fault.ReplayFault.{ReplayFault}
 use Rattle.loop_core_schedule.specs.declared.replay_fault.ReplayFault.TheVariants as faults
 use Rattle.loop_core_schedule.specs.Intervals.{blocks_of, start_of}
-use Rattle.loop_core_schedule.specs.Events.{Worker, Idle, Holding, Running, Posting, Drained, Stopped, Shared, Moved, event}
-use Rattle.loop_core_schedule.specs.Schedule.{State, at_first, worker_of, if_enabled, after_event, and_then, after_events, is_stopped, has_ended, if_ended}
+use Rattle.loop_core_schedule.specs.Events.{Worker, Idle, Holding, Running, Posting, Drained, Stopped, Shared, Moved, transition}
+use Rattle.loop_core_schedule.specs.Schedule.{ScheduleState, at_first, worker_of, if_enabled, after_event, and_then, after_events, is_stopped, has_ended, if_ended}
 use Rattle.loop_core_schedule.specs.Outcome.{breaks_at}
 use Rattle.loop_core_schedule.specs.ScheduleLaw.{AreRun, Complete, EndedSchedulesComplete}
 use Rattle.loop_core_schedule.proofs.SplitLaws.{faultless}
@@ -37,7 +37,7 @@ add_swap : (a b c : ℕ) → a + (b + c) ≡ b + (a + c)
 add_swap a b c = omega arith
 
 -- what is known of every state that events lead to
-pub record Sound (breaks : ℕ → Bool) (bounds : List ℕ) (state : State) : Type 0 where
+pub record Sound (breaks : ℕ → Bool) (bounds : List ℕ) (state : ScheduleState) : Type 0 where
   pub sixteen : length state.workers ≡ 16
   pub within : state.shared.next ≤ blocks_of bounds
   pub fits : (w : ℕ) → Fits breaks bounds state.shared.next (worker_of state w)
@@ -49,7 +49,7 @@ abbrev pub names : ℕ → List Event → Bool
 names w events = list_any (λ (e : Event). e.worker == w) events
 
 module _ (breaks : ℕ → Bool) (bounds : List ℕ) (rises : falls 0 bounds ≡ false) where
-  sound_after : (state : State) (number : ℕ) (new : Worker) (after : Shared) → Sound breaks bounds state → number < 16 →
+  sound_after : (state : ScheduleState) (number : ℕ) (new : Worker) (after : Shared) → Sound breaks bounds state → number < 16 →
       Kept breaks bounds (worker_of state number) state.shared new after → Sound breaks bounds (record { shared = after; workers = slice_set state.workers number new })
   sound_after state number new after sound below kept = record {
     sixteen = length-set state.workers number new ∙ sound.sixteen;
@@ -77,32 +77,32 @@ module _ (breaks : ℕ → Bool) (bounds : List ℕ) (rises : falls 0 bounds ≡
           subst (λ (v : Worker). Fits breaks bounds after.next v) (sym (get_or-set_other state.workers number w new Idle other)) (kept.fit_on (worker_of state w) (sound.fits w))
 
   -- after an event: what is known of the state, and that no other worker did anything
-  abbrev pub OneOk : ℕ → State → Result State ReplayFault → Type 0
+  abbrev pub OneOk : ℕ → ScheduleState → Result ScheduleState ReplayFault → Type 0
   OneOk number state (Err fault) = Unit {0}
   OneOk number state (Ok after) = Sound breaks bounds after × ((w : ℕ) → (w ≡ number → ⊥) → worker_of after w ≡ worker_of state w)
 
-  enabled_ok : (place number : ℕ) (state : State) → Sound breaks bounds state → number < 16 → (o : Option Moved) →
+  enabled_ok : (place number : ℕ) (state : ScheduleState) → Sound breaks bounds state → number < 16 → (o : Option Moved) →
       KeptIfEnabled breaks bounds rises (worker_of state number) state.shared o → OneOk number state (if_enabled place number state o)
   enabled_ok place number state sound below None kept = tt
   enabled_ok place number state sound below (Some m) kept =
       (sound_after state number m.worker m.shared sound below kept, λ w other. get_or-set_other state.workers number w m.worker Idle other)
 
-  pub event_ok : (e : Event) (place : ℕ) (state : State) → Sound breaks bounds state → (above : Bool) → nat_lt 15 e.worker ≡ above →
-      OneOk e.worker state (if above then Err (faults.NoSuchWorker place) else if_enabled place e.worker state (event breaks bounds e.kind (worker_of state e.worker) state.shared))
+  pub event_ok : (e : Event) (place : ℕ) (state : ScheduleState) → Sound breaks bounds state → (above : Bool) → nat_lt 15 e.worker ≡ above →
+      OneOk e.worker state (if above then Err (faults.NoSuchWorker place) else if_enabled place e.worker state (transition breaks bounds e.kind (worker_of state e.worker) state.shared))
   event_ok e place state sound true h = tt
   event_ok e place state sound false h =
       let most = ltb-false 15 e.worker h in
-      enabled_ok place e.worker state sound (omega arith) (event breaks bounds e.kind (worker_of state e.worker) state.shared)
+      enabled_ok place e.worker state sound (omega arith) (transition breaks bounds e.kind (worker_of state e.worker) state.shared)
       (event_keeps breaks bounds rises e.kind (worker_of state e.worker) state.shared sound.within (sound.fits e.worker))
 
   -- after a list of events
-  abbrev pub AllOk : List Event → State → Result State ReplayFault → Type 0
+  abbrev pub AllOk : List Event → ScheduleState → Result ScheduleState ReplayFault → Type 0
   AllOk events state (Err fault) = Unit {0}
   AllOk events state (Ok after) = Sound breaks bounds after × ((w : ℕ) → names w events ≡ false → worker_of after w ≡ worker_of state w)
 
   -- an event before others
-  event_before : (e : Event) (events : List Event) (first next : State) → ((w : ℕ) → (w ≡ e.worker → ⊥) → worker_of next w ≡ worker_of first w) →
-      (r : Result State ReplayFault) → AllOk events next r → AllOk (e ∷ events) first r
+  event_before : (e : Event) (events : List Event) (first next : ScheduleState) → ((w : ℕ) → (w ≡ e.worker → ⊥) → worker_of next w ≡ worker_of first w) →
+      (r : Result ScheduleState ReplayFault) → AllOk events next r → AllOk (e ∷ events) first r
   event_before e events first next same (Err fault) ok = tt
   event_before e events first next same (Ok after) ok = (
     ok.0,
@@ -111,13 +111,13 @@ module _ (breaks : ℕ → Bool) (bounds : List ℕ) (rises : falls 0 bounds ≡
         ok.1 w parts.1 ∙ same w (λ here. both_ways (e.worker == w) parts.0 (eq-eqb e.worker w (sym here))),
   )
 
-  events_on : (e : Event) (events : List Event) (place : ℕ) (state : State) →
-      ((next : State) → Sound breaks bounds next → AllOk events next (after_events breaks bounds events (place + 1) next)) →
-      (r : Result State ReplayFault) → OneOk e.worker state r → AllOk (e ∷ events) state (and_then (after_events breaks bounds events (place + 1)) r)
+  events_on : (e : Event) (events : List Event) (place : ℕ) (state : ScheduleState) →
+      ((next : ScheduleState) → Sound breaks bounds next → AllOk events next (after_events breaks bounds events (place + 1) next)) →
+      (r : Result ScheduleState ReplayFault) → OneOk e.worker state r → AllOk (e ∷ events) state (and_then (after_events breaks bounds events (place + 1)) r)
   events_on e events place state later (Err fault) ok = tt
   events_on e events place state later (Ok next) ok = event_before e events state next ok.1 (after_events breaks bounds events (place + 1) next) (later next ok.0)
 
-  pub events_ok : (events : List Event) (place : ℕ) (state : State) → Sound breaks bounds state → AllOk events state (after_events breaks bounds events place state)
+  pub events_ok : (events : List Event) (place : ℕ) (state : ScheduleState) → Sound breaks bounds state → AllOk events state (after_events breaks bounds events place state)
   events_ok [] place state sound = (sound, λ w none. refl)
   events_ok (e ∷ events) place state sound =
       events_on e events place state (λ next ok. events_ok events (place + 1) next ok) (after_event breaks bounds e place state)
@@ -169,7 +169,7 @@ stopped_fits breaks bounds next Stopped h fits = fits
 stopped_fits breaks bounds next w h fits = absurd (cc)
 
 -- of a list that all passes, one that is named does
-named_stopped : (state : State) (events : List Event) → list_all (λ (e : Event). is_stopped (worker_of state e.worker)) events ≡ true → (w : ℕ) → names w events ≡ true →
+named_stopped : (state : ScheduleState) (events : List Event) → list_all (λ (e : Event). is_stopped (worker_of state e.worker)) events ≡ true → (w : ℕ) → names w events ≡ true →
     is_stopped (worker_of state w) ≡ true
 named_stopped state [] all w h = absurd (cc)
 named_stopped state (e ∷ events) all w h =
@@ -181,7 +181,7 @@ named_stopped state (e ∷ events) all w h =
     go here later (inl same) = subst (λ (i : ℕ). is_stopped (worker_of state i) ≡ true) (eqb-true e.worker w same) here
     go here later (inr found) = later found
 
-first_stopped : (state : State) (events : List Event) → nat_lt 0 (length events) ≡ true → list_all (λ (e : Event). is_stopped (worker_of state e.worker)) events ≡ true →
+first_stopped : (state : ScheduleState) (events : List Event) → nat_lt 0 (length events) ≡ true → list_all (λ (e : Event). is_stopped (worker_of state e.worker)) events ≡ true →
     (w : ℕ) × (is_stopped (worker_of state w) ≡ true)
 first_stopped state [] some all = absurd (cc)
 first_stopped state (e ∷ events) some all =
@@ -198,7 +198,7 @@ no_fault bounds blocks m t f =
     ∙ (ap (λ (b : Bool). fault_by false b (list_any (λ (c : Block). not (stands_in bounds c)) blocks)) t ∙ ap (λ (b : Bool). fault_by false false b) f)
 
 -- what is known at the end
-module _ (breaks : ℕ → Bool) (bounds : List ℕ) (rises : falls 0 bounds ≡ false) (events : List Event) (state : State) (sound : Sound breaks bounds state)
+module _ (breaks : ℕ → Bool) (bounds : List ℕ) (rises : falls 0 bounds ≡ false) (events : List Event) (state : ScheduleState) (sound : Sound breaks bounds state)
     (apart : (w : ℕ) → names w events ≡ false → worker_of state w ≡ worker_of at_first w) (some : nat_lt 0 (length events) ≡ true)
     (all : list_all (λ (e : Event). is_stopped (worker_of state e.worker)) events ≡ true) where
   quiet : (w : ℕ) → is_quiet (worker_of state w) ≡ true
@@ -239,8 +239,8 @@ pub record AtEnd (breaks : ℕ → Bool) (bounds : List ℕ) (shared : Shared) :
   pub run_or_late : (k : ℕ) → k < blocks_of bounds → (0 < times k shared.runs) ⊎ (starts_late shared.least (start_of bounds k) ≡ true)
   pub least : shared.least ≡ least_break_of breaks bounds shared.runs
 
-ended_by : (breaks : ℕ → Bool) (bounds : List ℕ) (rises : falls 0 bounds ≡ false) (events : List Event) (state : State)
-    (r : Result State ReplayFault) → AllOk breaks bounds rises events at_first r → and_then (if_ended events) r ≡ Ok state → AtEnd breaks bounds state.shared
+ended_by : (breaks : ℕ → Bool) (bounds : List ℕ) (rises : falls 0 bounds ≡ false) (events : List Event) (state : ScheduleState)
+    (r : Result ScheduleState ReplayFault) → AllOk breaks bounds rises events at_first r → and_then (if_ended events) r ≡ Ok state → AtEnd breaks bounds state.shared
 ended_by breaks bounds rises events state (Err fault) ok h = absurd (cc)
 ended_by breaks bounds rises events state (Ok last) ok h = go (has_ended events last) refl h
   where
@@ -248,7 +248,7 @@ ended_by breaks bounds rises events state (Ok last) ok h = go (has_ended events 
     go true e h =
         let parts = and_parts (nat_lt 0 (length events)) (list_all (λ (e : Event). is_stopped (worker_of last e.worker)) events) e in
         let same : last ≡ state = cc in
-        subst (λ (s : State). AtEnd breaks bounds s.shared) same (record {
+        subst (λ (s : ScheduleState). AtEnd breaks bounds s.shared) same (record {
           taken = all_taken breaks bounds rises events last ok.0 ok.1 parts.0 parts.1;
           once = once breaks bounds rises events last ok.0 ok.1 parts.0 parts.1;
           run_or_late = run_or_late breaks bounds rises events last ok.0 ok.1 parts.0 parts.1;
@@ -274,7 +274,7 @@ module _ (program : Program) (bound : ℕ) (call : LoopCall) (words : List ℕ) 
       (none_foreign bounds blocks are.stand)
     where
       go : (k : ℕ) → (0 < times k shared.runs) ⊎ (starts_late shared.least (start_of bounds k) ≡ true) →
-          (is_none (with_number k blocks) ≡ false) ⊎ (starts_late (least_of blocks) (start_of bounds k) ≡ true)
+          (is_none (block_numbered k blocks) ≡ false) ⊎ (starts_late (least_of blocks) (start_of bounds k) ≡ true)
       go k (inl some) = inl (some_times k blocks (let same = same_times k in omega arith))
       go k (inr late) = inr (subst (λ (o : Option ℕ). starts_late o (start_of bounds k) ≡ true) least_same late)
 

@@ -5,7 +5,7 @@ use Rattle.std.proofs.lemmas.Bool.{ltb-false, eqb-true, not-false, cases_lt, cas
 use Rattle.loop_core_blocks.specs.declared.faults.SplitFault.TheVariants.{Falling, Number, Ends}
 use Rattle.loop_core_blocks.specs.Split.{falls, last_bound, ends_amiss, split_fault}
 use Rattle.loop_core_schedule.specs.Intervals.{blocks_of}
-use Rattle.loop_core_schedule.specs.SplitLaw.{Has, Partition, SplitsPartition}
+use Rattle.loop_core_schedule.specs.SplitLaw.{HasIndex, Partition, SplitsPartition}
 
 -- what it is to have no fault
 pub record Faultless (n : ℕ) (bounds : List ℕ) : Type 0 where
@@ -83,10 +83,10 @@ between bound (next ∷ bounds) index low high = go (λ later. between next boun
     go on (inr later) = one_on bound next bounds index (on later)
 
 module _ (n : ℕ) (bounds : List ℕ) (sound : Faultless n bounds) where
-  each_has : (index : ℕ) → index < n → (block : ℕ) × Has bounds block index
+  each_has : (index : ℕ) → index < n → (block : ℕ) × HasIndex bounds block index
   each_has index h = go bounds refl
     where
-      go : (xs : List ℕ) → bounds ≡ xs → (block : ℕ) × Has bounds block index
+      go : (xs : List ℕ) → bounds ≡ xs → (block : ℕ) × HasIndex bounds block index
       go [] e = absurd (let several = sound.several in let same = ap length e in omega arith)
       go (x ∷ xs) e =
           let low : x ≤ index = (let first = sound.first in let same : slice_index bounds 0 ≡ x = ap (λ (ys : List ℕ). slice_index ys 0) e in omega arith) in
@@ -96,10 +96,10 @@ module _ (n : ℕ) (bounds : List ℕ) (sound : Faultless n bounds) where
           let found : Between bounds index = subst (λ (ys : List ℕ). Between ys index) (sym e) (between x xs index low high) in
           (found.block, record { block_within = (let w = found.within in omega arith); started = found.started; not_ended = found.not_ended })
 
-  has_once : (block other index : ℕ) → Has bounds block index → Has bounds other index → block ≡ other
+  has_once : (block other index : ℕ) → HasIndex bounds block index → HasIndex bounds other index → block ≡ other
   has_once block other index one two = go (cases_order block other)
     where
-      apart : (a b : ℕ) → Has bounds a index → Has bounds b index → a < b → ⊥
+      apart : (a b : ℕ) → HasIndex bounds a index → HasIndex bounds b index → a < b → ⊥
       apart a b x y below =
           let up = rising 0 bounds sound.rises (a + 1) b (omega arith) (let w = y.block_within in omega arith) in
           let before = x.not_ended in
@@ -111,7 +111,7 @@ module _ (n : ℕ) (bounds : List ℕ) (sound : Faultless n bounds) where
       go (inr (inl below)) = absurd (apart block other one two below)
       go (inr (inr below)) = absurd (apart other block two one below)
 
-  inside_has : (block index : ℕ) → Has bounds block index → index < n
+  inside_has : (block index : ℕ) → HasIndex bounds block index → index < n
   inside_has block index has =
       let up = rising 0 bounds sound.rises (block + 1) (blocks_of bounds) (let w = has.block_within in omega arith) (let s = sound.several in omega arith) in
       let before = has.not_ended in

@@ -9,7 +9,7 @@ use Rattle.loop_core_blocks.specs.Gather.{starts_late}
 use Rattle.loop_core_event.specs.declared.event.EventKind.{EventKind}
 use Rattle.loop_core_event.specs.declared.event.EventKind.TheVariants.{Claim, Look, Turn, Post, Stop}
 use Rattle.loop_core_schedule.specs.Intervals.{blocks_of, start_of, end_of}
-use Rattle.loop_core_schedule.specs.Events.{Worker, Idle, Holding, Running, Posting, Drained, Stopped, Shared, Moved, becomes, having_run, posts, event}
+use Rattle.loop_core_schedule.specs.Events.{Worker, Idle, Holding, Running, Posting, Drained, Stopped, Shared, Moved, becomes, having_run, posts, transition}
 use Rattle.loop_core_schedule.proofs.SplitLaws.{rising}
 
 abbrev pub bit : Bool → ℕ
@@ -282,7 +282,7 @@ module _ (breaks : ℕ → Bool) (bounds : List ℕ) (rises : falls 0 bounds ≡
   KeptIfEnabled old shared (Some m) = KeptBy breaks bounds old shared m
 
   pub event_keeps : (kind : EventKind) (old : Worker) (shared : Shared) → shared.next ≤ blocks_of bounds → Fits breaks bounds shared.next old →
-      KeptIfEnabled old shared (event breaks bounds kind old shared)
+      KeptIfEnabled old shared (transition breaks bounds kind old shared)
   event_keeps Claim Idle shared within fits = claimed shared within (nat_lt shared.next (blocks_of bounds)) refl
   event_keeps Look (Holding block) shared within fits = looked shared block within fits (starts_late shared.least (start_of bounds block)) refl
   event_keeps Turn (Running block index) shared within fits = turned shared block index within fits (breaks index) refl

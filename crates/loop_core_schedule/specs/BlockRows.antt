@@ -4,38 +4,38 @@ use Rattle.std.specs.Prelude.{◌≡◌, ℕ, ◌&&◌, Bool, List, [], ◌∷�
 use Rattle.std.specs.List.{filter, range_with_len}
 use Rattle.array_maps.specs.declared.access.Op.TheVariants.{Add, And, AddH}
 use Rattle.bpf_insn_types.specs.declared.insn.Insn.{Insn}
-use Rattle.bpf_step_model.specs.Run.{Ending, Ended, mapped}
+use Rattle.bpf_step_model.specs.Run.{BoundedResult, Ended, mapped}
 use Rattle.bpf_step_model.specs.Iteration.{Iterated}
-use Rattle.bpf_step_model.specs.LoopRows.{looping, call_of, add_index, shift_right, shift_left, last_writer, mixed_operators, and_operands}
+use Rattle.bpf_step_model.specs.LoopRows.{looping, worked_call, add_index, shift_right, shift_left, last_writer, mixed_operators, and_operands}
 use Rattle.loop_core_model.specs.Conflict.{at_element}
 use Rattle.loop_core_model.specs.LeastBreak.{accesses_of_each}
 use Rattle.loop_core_model.specs.VerdictRows.{add_halves, add_half_and_whole, store_half}
 use Rattle.loop_core_marks.specs.Marks.{Marks, marks_of, numbered}
-use Rattle.loop_core_blocks.specs.Block.{block}
+use Rattle.loop_core_blocks.specs.Block.{block_run}
 use Rattle.loop_core_blocks.specs.Kept.{Kept, kept}
 
 -- the loop of n iterations of a callback over so many elements, and its block of an interval
-abbrev pub block_of : (elements n : ℕ) → List Insn → (before : List ℕ) (first past : ℕ) → Ending (List Iterated)
-block_of elements n callback before first past = block (looping (elements ∷ []) n callback) 20 (call_of n) before first past
+abbrev pub block_of : (elements n : ℕ) → List Insn → (before : List ℕ) (first past : ℕ) → BoundedResult (List Iterated)
+block_of elements n callback before first past = block_run (looping (elements ∷ []) n callback) 20 (worked_call n) before first past
 
 -- the marks of an element
 abbrev pub marks_at : ℕ → ℕ → List Iterated → Marks
 marks_at first e ran = marks_of (numbered first (at_element e (accesses_of_each ran)))
 
 -- the elements of one map that have a mark
-abbrev pub marked : (elements first : ℕ) → (Marks → Bool) → Ending (List Iterated) → Ending (List ℕ)
+abbrev pub marked : (elements first : ℕ) → (Marks → Bool) → BoundedResult (List Iterated) → BoundedResult (List ℕ)
 marked elements first mark ran = mapped (λ its. filter (λ e. mark (marks_at first e its)) (range_with_len 0 elements)) ran
 
 -- something of the marks of each element
-abbrev pub of_each : {A : Type 0} → (elements first : ℕ) → (Marks → A) → Ending (List Iterated) → Ending (List A)
+abbrev pub of_each : {A : Type 0} → (elements first : ℕ) → (Marks → A) → BoundedResult (List Iterated) → BoundedResult (List A)
 of_each elements first pick ran = mapped (λ its. map (λ e. pick (marks_at first e its)) (range_with_len 0 elements)) ran
 
 -- what is kept of a block at element 0
-abbrev pub kept_at_0 : Ending (List Iterated) → ℕ → Ending Kept
+abbrev pub kept_at_0 : BoundedResult (List Iterated) → ℕ → BoundedResult Kept
 kept_at_0 ran word = mapped (λ its. kept (at_element 0 (accesses_of_each its)) word) ran
 
 -- each element gets the one before it: elements 1 to 4 are written, 0 to 3 read
-abbrev pub right : Ending (List Iterated)
+abbrev pub right : BoundedResult (List Iterated)
 right = block_of 5 4 shift_right (9 ∷ 0 ∷ 0 ∷ 0 ∷ 0 ∷ []) 0 4
 
 pub record RightRows : Type 0 where
@@ -43,15 +43,15 @@ pub record RightRows : Type 0 where
   pub last : of_each 5 0 (λ m. m.last) right ≡ Ended (1 ∷ 2 ∷ 3 ∷ 4 ∷ 0 ∷ [])
 
 -- each element gets the one behind it: each is read before it is written
-abbrev pub left : Ending (List Iterated)
+abbrev pub left : BoundedResult (List Iterated)
 left = block_of 5 4 shift_left (1 ∷ 2 ∷ 3 ∷ 4 ∷ 5 ∷ []) 0 4
 
-pub record LeftRows : Type 0 where
+pub record ShiftLeftRows : Type 0 where
   pub first : of_each 5 0 (λ m. m.first) left ≡ Ended (Some 0 ∷ Some 1 ∷ Some 2 ∷ Some 3 ∷ None ∷ [])
   pub last : of_each 5 0 (λ m. m.last) left ≡ Ended (0 ∷ 1 ∷ 2 ∷ 3 ∷ 4 ∷ [])
 
 -- four iterations that add or or to one element, as one block, and its later half
-abbrev pub mixed : Ending (List Iterated)
+abbrev pub mixed : BoundedResult (List Iterated)
 mixed = block_of 1 4 mixed_operators (1 ∷ []) 0 4
 
 pub record MixedRows : Type 0 where
@@ -61,7 +61,7 @@ pub record MixedRows : Type 0 where
   pub kept : kept_at_0 mixed 1 ≡ Ended (record { last_value = Some 9; partial = None })
 
 -- five iterations that write an element before they read it: the last of all wins
-abbrev pub writers : Ending (List Iterated)
+abbrev pub writers : BoundedResult (List Iterated)
 writers = block_of 1 5 last_writer (3 ∷ []) 0 5
 
 pub record WriterRows : Type 0 where
@@ -87,7 +87,7 @@ pub record HalfBlockRows : Type 0 where
 -- all of them
 pub record BlockRows : Type 0 where
   pub right : RightRows
-  pub left : LeftRows
+  pub left : ShiftLeftRows
   pub mixed : MixedRows
   pub writer : WriterRows
   pub partial : PartialRows

@@ -65,10 +65,10 @@ abbrev pub posts : ℕ → Shared → Moved
 posts index shared = becomes Idle (record { next = shared.next; least = lesser (Some index) shared.least; runs = shared.runs })
 
 -- which events are enabled, and what each does
-abbrev pub event : (ℕ → Bool) → List ℕ → EventKind → Worker → Shared → Option Moved
-event breaks bounds Claim Idle shared = Some (claims bounds shared)
-event breaks bounds Look (Holding block) shared = Some (looks bounds block shared)
-event breaks bounds Turn (Running block index) shared = Some (iterates breaks bounds block index shared)
-event breaks bounds Post (Posting index) shared = Some (posts index shared)
-event breaks bounds Stop Drained shared = Some (becomes Stopped shared)
-event breaks bounds kind worker shared = None
+abbrev pub transition : (ℕ → Bool) → List ℕ → EventKind → Worker → Shared → Option Moved
+transition breaks bounds Claim Idle shared = Some (claims bounds shared)
+transition breaks bounds Look (Holding block) shared = Some (looks bounds block shared)
+transition breaks bounds Turn (Running block index) shared = Some (iterates breaks bounds block index shared)
+transition breaks bounds Post (Posting index) shared = Some (posts index shared)
+transition breaks bounds Stop Drained shared = Some (becomes Stopped shared)
+transition breaks bounds kind worker shared = None

@@ -2,7 +2,7 @@
 -- tell. Each is worked out by hand.
 use Rattle.std.specs.Prelude.{◌≡◌, ℕ, zero, suc, ◌+◌, ◌*◌, Bool, if◌then◌else◌, List, [], ◌∷◌, map, take, drop, replicate, Option, Some, None}
 use Rattle.array_maps.specs.declared.access.Op.TheVariants.{Add, Or, And, Xor, AddH}
-use Rattle.bpf_step_model.specs.Run.{Ending, Ended, mapped}
+use Rattle.bpf_step_model.specs.Run.{BoundedResult, Ended, mapped}
 use Rattle.bpf_step_model.specs.Iteration.{Iterated}
 use Rattle.bpf_step_model.specs.LoopRows.{increment}
 use Rattle.loop_core_model.specs.declared.loop_test.Test.TheVariants.{Lrpd, Flow}
@@ -13,17 +13,17 @@ use Rattle.loop_core_marks.specs.Planes.{set_bits, least_bit, plane_verdict}
 use Rattle.loop_core_schedule.specs.BlockRows.{block_of, of_each, right, left, mixed, writers}
 
 -- the word of some bits, the lowest first
-abbrev pub word_of : List Bool → ℕ
-word_of [] = 0
-word_of (bit ∷ bits) = (if bit then 1 else 0) + 2 * word_of bits
+abbrev pub word_of_bits : List Bool → ℕ
+word_of_bits [] = 0
+word_of_bits (bit ∷ bits) = (if bit then 1 else 0) + 2 * word_of_bits bits
 
 -- so many words of some bits, 64 in each
 abbrev pub plane_of : ℕ → List Bool → List ℕ
 plane_of zero bits = []
-plane_of (suc words) bits = word_of (take 64 bits) ∷ plane_of words (drop 64 bits)
+plane_of (suc words) bits = word_of_bits (take 64 bits) ∷ plane_of words (drop 64 bits)
 
 -- the planes of marks, and of the conflicts by either test
-pub record Planes : Type 0 where
+pub record WorkedPlanes : Type 0 where
   pub w : List ℕ
   pub m : List ℕ
   pub r : List ℕ
@@ -38,7 +38,7 @@ pub record Planes : Type 0 where
   pub flow : List ℕ
 
 -- the planes, of so many words, of the marks of each element
-abbrev pub planes_of : ℕ → List Marks → Planes
+abbrev pub planes_of : ℕ → List Marks → WorkedPlanes
 planes_of words marks = record {
   w = plane_of words (map (λ (m : Marks). m.written) marks);
   m = plane_of words (map (λ (m : Marks). m.written_by_two) marks);
@@ -55,17 +55,17 @@ planes_of words marks = record {
 }
 
 -- a block from index 0 on over so many elements has these planes, of so many words
-abbrev pub HasPlanes : (elements words : ℕ) → Ending (List Iterated) → Planes → Type 0
+abbrev pub HasPlanes : (elements words : ℕ) → BoundedResult (List Iterated) → WorkedPlanes → Type 0
 HasPlanes elements words ran planes = mapped (planes_of words) (of_each elements 0 (λ marks. marks) ran) ≡ Ended planes
 
 -- no element has any mark: so many words 0
-abbrev pub unmarked : ℕ → Planes
+abbrev pub unmarked : ℕ → WorkedPlanes
 unmarked words =
     let none : List ℕ = replicate words 0 in
     record { w = none; m = none; r = none; np = none; nx = none; add = none; or = none; and = none; xor = none; addh = none; lrpd = none; flow = none }
 
 -- 65 iterations, each of which adds 1 to its own element
-abbrev pub increments : Ending (List Iterated)
+abbrev pub increments : BoundedResult (List Iterated)
 increments = block_of 65 65 increment (replicate 65 0) 0 65
 
 -- all 65 elements
@@ -73,8 +73,8 @@ abbrev pub all : List ℕ
 all = 18446744073709551615 ∷ 1 ∷ []
 
 -- one element
-abbrev pub one : List ℕ
-one = 1 ∷ []
+abbrev pub element_zero : List ℕ
+element_zero = 1 ∷ []
 
 -- each element gets the one before it: 1 to 4 are written, 0 to 3 read, 1 to 3 both, by different iterations; or the one
 -- behind it, where by the flow test none conflicts; 65 elements that are read and then written; adds and ors to one
@@ -83,23 +83,23 @@ pub record MarkRows : Type 0 where
   pub right : HasPlanes 5 1 right (record (unmarked 1) { w = 30 ∷ []; r = 15 ∷ []; nx = 31 ∷ []; lrpd = 14 ∷ []; flow = 14 ∷ [] })
   pub left : HasPlanes 5 1 left (record (unmarked 1) { w = 15 ∷ []; r = 30 ∷ []; nx = 31 ∷ []; lrpd = 14 ∷ [] })
   pub increments : HasPlanes 65 2 increments (record (unmarked 2) { w = all; np = all; nx = all })
-  pub mixed : HasPlanes 1 1 mixed (record (unmarked 1) { w = one; m = one; np = one; add = one; or = one; lrpd = one; flow = one })
-  pub writers : HasPlanes 1 1 writers (record (unmarked 1) { w = one; m = one; nx = one })
+  pub mixed : HasPlanes 1 1 mixed (record (unmarked 1) { w = element_zero; m = element_zero; np = element_zero; add = element_zero; or = element_zero; lrpd = element_zero; flow = element_zero })
+  pub writers : HasPlanes 1 1 writers (record (unmarked 1) { w = element_zero; m = element_zero; nx = element_zero })
 
 -- a plane has so many bits that are set, of which this is the least, and tells this verdict
-pub record Tells (plane : List ℕ) (many : ℕ) (first : Option ℕ) (verdict : Verdict) : Type 0 where
+pub record PlaneTells (plane : List ℕ) (many : ℕ) (first : Option ℕ) (verdict : Verdict) : Type 0 where
   pub count : set_bits plane ≡ many
   pub least : least_bit 0 plane ≡ first
   pub told : plane_verdict plane ≡ verdict
 
 -- conflicts in one word, in the second of two, and none
-pub record ConflictRows : Type 0 where
-  pub three : Tells (14 ∷ []) 3 (Some 1) (Conflict 3 1)
-  pub second_word : Tells (0 ∷ 1 ∷ []) 1 (Some 64) (Conflict 1 64)
-  pub both_words : Tells (8 ∷ 3 ∷ []) 3 (Some 3) (Conflict 3 3)
-  pub none : Tells (0 ∷ 0 ∷ []) 0 None Parallel
+pub record ConflictPlaneRows : Type 0 where
+  pub three : PlaneTells (14 ∷ []) 3 (Some 1) (Conflict 3 1)
+  pub second_word : PlaneTells (0 ∷ 1 ∷ []) 1 (Some 64) (Conflict 1 64)
+  pub both_words : PlaneTells (8 ∷ 3 ∷ []) 3 (Some 3) (Conflict 3 3)
+  pub none : PlaneTells (0 ∷ 0 ∷ []) 0 None Parallel
 
 -- all of them
 pub record PlaneRows : Type 0 where
   pub marks : MarkRows
-  pub conflicts : ConflictRows
+  pub conflicts : ConflictPlaneRows

@@ -9,7 +9,7 @@ use Rattle.bpf_insn_types.specs.declared.insn.Insn.TheVariants.{Exit, Jump, Stor
 use Rattle.bpf_insn_types.specs.Program.{Program}
 use Rattle.bpf_step_model.specs.Run.{Ended}
 use Rattle.bpf_step_model.specs.Lines.{mov, element_address}
-use Rattle.bpf_step_model.specs.LoopRows.{looping, call_of, skip_unless, shift_right}
+use Rattle.bpf_step_model.specs.LoopRows.{looping, worked_call, skip_unless, shift_right}
 use Rattle.loop_core_model.specs.declared.loop_test.Test.{Test}
 use Rattle.loop_core_model.specs.declared.verdict.Verdict.TheVariants.{Parallel, Conflict}
 use Rattle.loop_core_event.specs.declared.event.EventKind.TheVariants.{Claim, Look, Turn, Post, Stop}
@@ -17,7 +17,7 @@ use Rattle.loop_core_event.specs.declared.event.Event.{Event}
 use Rattle.loop_core_schedule.specs.declared.replay_fault.ReplayFault.{ReplayFault}
 use Rattle.loop_core_schedule.specs.declared.replay_fault.ReplayFault.TheVariants as faults
 use Rattle.loop_core_schedule.specs.Events.{Shared}
-use Rattle.loop_core_schedule.specs.Schedule.{State, replay}
+use Rattle.loop_core_schedule.specs.Schedule.{ScheduleState, replay}
 use Rattle.loop_core_schedule.specs.Outcome.{breaks_at, replayed}
 
 -- the events of a worker
@@ -49,14 +49,14 @@ abbrev pub quarters : List ℕ
 quarters = 0 ∷ 4 ∷ 8 ∷ 12 ∷ 16 ∷ []
 
 -- a list of events comes to this outcome: the loop stops at 3, and four elements are marked
-abbrev pub Ends : Test → List Event → Type 0
-Ends test events =
-    replayed test two_breaks 20 (call_of 16) (replicate 16 0) quarters events
+abbrev pub ScheduleEnds : Test → List Event → Type 0
+ScheduleEnds test events =
+    replayed test two_breaks 20 (worked_call 16) (replicate 16 0) quarters events
     ≡ Ok (Ended (record { verdict = Parallel; answer = 4; words = replicate 4 1 ++ replicate 12 0 }))
 
 -- a list of events has this fault first
-abbrev pub Refused : List Event → ReplayFault → Type 0
-Refused events fault = replay (breaks_at two_breaks 20 (call_of 16) (replicate 16 0)) quarters events ≡ Err fault
+abbrev pub EventIsRefused : List Event → ReplayFault → Type 0
+EventIsRefused events fault = replay (breaks_at two_breaks 20 (worked_call 16) (replicate 16 0)) quarters events ≡ Err fault
 
 -- worker 1 takes three blocks and posts 12 before worker 0 looks at its own, and posts 3
 abbrev pub two_workers : List Event
@@ -77,23 +77,23 @@ two_posts =
 -- lists that have ended: on that loop, where worker 0 skips three blocks in the second, and worker 1 the one that it
 -- holds in the third; on one that conflicts; and on one without iterations, whose blocks are empty
 pub record EndedRows (test : Test) : Type 0 where
-  pub two : Ends test (two_workers ++ s 0 ∷ [])
-  pub skips : Ends test (first_block ++ p 0 ∷ c 0 ∷ l 0 ∷ c 0 ∷ l 0 ∷ c 0 ∷ l 0 ∷ c 0 ∷ s 0 ∷ [])
-  pub lesser_post : Ends test (two_posts ++ l 1 ∷ c 1 ∷ s 1 ∷ c 2 ∷ s 2 ∷ c 0 ∷ s 0 ∷ [])
-  pub conflict : replayed test (looping (5 ∷ []) 4 shift_right) 20 (call_of 4) (9 ∷ replicate 4 0) (0 ∷ 4 ∷ []) (c 0 ∷ l 0 ∷ t 0 ∷ t 0 ∷ t 0 ∷ t 0 ∷ c 0 ∷ s 0 ∷ [])
+  pub two : ScheduleEnds test (two_workers ++ s 0 ∷ [])
+  pub skips : ScheduleEnds test (first_block ++ p 0 ∷ c 0 ∷ l 0 ∷ c 0 ∷ l 0 ∷ c 0 ∷ l 0 ∷ c 0 ∷ s 0 ∷ [])
+  pub lesser_post : ScheduleEnds test (two_posts ++ l 1 ∷ c 1 ∷ s 1 ∷ c 2 ∷ s 2 ∷ c 0 ∷ s 0 ∷ [])
+  pub conflict : replayed test (looping (5 ∷ []) 4 shift_right) 20 (worked_call 4) (9 ∷ replicate 4 0) (0 ∷ 4 ∷ []) (c 0 ∷ l 0 ∷ t 0 ∷ t 0 ∷ t 0 ∷ t 0 ∷ c 0 ∷ s 0 ∷ [])
       ≡ Ok (Ended (record { verdict = Conflict 3 1; answer = 4; words = replicate 5 9 }))
-  pub no_iterations : replayed test (looping (5 ∷ []) 0 shift_right) 20 (call_of 0) (replicate 5 9) (0 ∷ 0 ∷ 0 ∷ []) (c 2 ∷ l 2 ∷ c 2 ∷ l 2 ∷ c 2 ∷ s 2 ∷ [])
+  pub no_iterations : replayed test (looping (5 ∷ []) 0 shift_right) 20 (worked_call 0) (replicate 5 9) (0 ∷ 0 ∷ 0 ∷ []) (c 2 ∷ l 2 ∷ c 2 ∷ l 2 ∷ c 2 ∷ s 2 ∷ [])
       ≡ Ok (Ended (record { verdict = Parallel; answer = 0; words = replicate 5 9 }))
 
 -- what the workers share at the end of a list that has ended
-abbrev pub shared_after : Result State ReplayFault → Option Shared
+abbrev pub shared_after : Result ScheduleState ReplayFault → Option Shared
 shared_after (Err fault) = None
 shared_after (Ok state) = Some state.shared
 
 -- over this split of that loop the workers posted this least break and ran these blocks, the latest first
-abbrev pub Leaves : List ℕ → List Event → (least : ℕ) → (runs : List ℕ) → Type 0
-Leaves bounds events least runs =
-    shared_after (replay (breaks_at two_breaks 20 (call_of 16) (replicate 16 0)) bounds events)
+abbrev pub ReplayLeaves : List ℕ → List Event → (least : ℕ) → (runs : List ℕ) → Type 0
+ReplayLeaves bounds events least runs =
+    shared_after (replay (breaks_at two_breaks 20 (worked_call 16) (replicate 16 0)) bounds events)
     ≡ Some (record { next = length bounds - 1; least = Some least; runs = runs })
 
 -- while worker 1 holds the empty block from 3 on, worker 0 posts 3
@@ -101,31 +101,31 @@ abbrev pub held_empty : List Event
 held_empty = c 0 ∷ l 0 ∷ t 0 ∷ t 0 ∷ t 0 ∷ c 1 ∷ c 0 ∷ l 0 ∷ t 0 ∷ p 0 ∷ l 1 ∷ c 1 ∷ s 1 ∷ c 0 ∷ s 0 ∷ []
 
 -- which blocks are run: all, the first alone, and with those that start at the break an empty one
-pub record LeftRows : Type 0 where
-  pub all : Leaves quarters (two_workers ++ s 0 ∷ []) 3 (0 ∷ 3 ∷ 2 ∷ 1 ∷ [])
-  pub first : Leaves quarters (first_block ++ p 0 ∷ c 0 ∷ l 0 ∷ c 0 ∷ l 0 ∷ c 0 ∷ l 0 ∷ c 0 ∷ s 0 ∷ []) 3 (0 ∷ [])
-  pub empty_at_the_break : Leaves (0 ∷ 3 ∷ 3 ∷ 16 ∷ []) held_empty 3 (1 ∷ 2 ∷ 0 ∷ [])
+pub record LeftStateRows : Type 0 where
+  pub all : ReplayLeaves quarters (two_workers ++ s 0 ∷ []) 3 (0 ∷ 3 ∷ 2 ∷ 1 ∷ [])
+  pub first : ReplayLeaves quarters (first_block ++ p 0 ∷ c 0 ∷ l 0 ∷ c 0 ∷ l 0 ∷ c 0 ∷ l 0 ∷ c 0 ∷ s 0 ∷ []) 3 (0 ∷ [])
+  pub empty_at_the_break : ReplayLeaves (0 ∷ 3 ∷ 3 ∷ 16 ∷ []) held_empty 3 (1 ∷ 2 ∷ 0 ∷ [])
 
 -- lists on that loop that aren't schedules
-pub record RefusedRows : Type 0 where
-  pub not_ended : Refused two_workers (faults.NotEnded 26)
-  pub nobody : Refused [] (faults.NotEnded 0)
-  pub last_worker : Refused (c 15 ∷ []) (faults.NotEnded 1)
-  pub idle_again : Refused (first_block ++ p 0 ∷ []) (faults.NotEnded 7)
-  pub turn_of_a_skipped_block : Refused (first_block ++ p 0 ∷ c 0 ∷ l 0 ∷ t 0 ∷ []) (faults.NotEnabled 9)
-  pub claim_before_the_post : Refused (first_block ++ c 0 ∷ []) (faults.NotEnabled 6)
-  pub turn_after_the_break : Refused (first_block ++ t 0 ∷ []) (faults.NotEnabled 6)
-  pub turn_before_a_look : Refused (c 0 ∷ t 0 ∷ []) (faults.NotEnabled 1)
-  pub look_twice : Refused (c 0 ∷ l 0 ∷ l 0 ∷ []) (faults.NotEnabled 2)
-  pub stop_before_drained : Refused (s 0 ∷ []) (faults.NotEnabled 0)
-  pub claim_after_a_stop : Refused (two_workers ++ s 0 ∷ c 0 ∷ []) (faults.NotEnabled 27)
-  pub claim_when_drained : Refused (two_workers ++ c 0 ∷ []) (faults.NotEnabled 26)
-  pub no_such_worker : Refused (c 16 ∷ []) (faults.NoSuchWorker 0)
-  pub no_such_worker_first : Refused (t 16 ∷ []) (faults.NoSuchWorker 0)
-  pub first_fault : Refused (c 0 ∷ t 0 ∷ c 16 ∷ []) (faults.NotEnabled 1)
+pub record RefusedEventRows : Type 0 where
+  pub not_ended : EventIsRefused two_workers (faults.NotEnded 26)
+  pub nobody : EventIsRefused [] (faults.NotEnded 0)
+  pub last_worker : EventIsRefused (c 15 ∷ []) (faults.NotEnded 1)
+  pub idle_again : EventIsRefused (first_block ++ p 0 ∷ []) (faults.NotEnded 7)
+  pub turn_of_a_skipped_block : EventIsRefused (first_block ++ p 0 ∷ c 0 ∷ l 0 ∷ t 0 ∷ []) (faults.NotEnabled 9)
+  pub claim_before_the_post : EventIsRefused (first_block ++ c 0 ∷ []) (faults.NotEnabled 6)
+  pub turn_after_the_break : EventIsRefused (first_block ++ t 0 ∷ []) (faults.NotEnabled 6)
+  pub turn_before_a_look : EventIsRefused (c 0 ∷ t 0 ∷ []) (faults.NotEnabled 1)
+  pub look_twice : EventIsRefused (c 0 ∷ l 0 ∷ l 0 ∷ []) (faults.NotEnabled 2)
+  pub stop_before_drained : EventIsRefused (s 0 ∷ []) (faults.NotEnabled 0)
+  pub claim_after_a_stop : EventIsRefused (two_workers ++ s 0 ∷ c 0 ∷ []) (faults.NotEnabled 27)
+  pub claim_when_drained : EventIsRefused (two_workers ++ c 0 ∷ []) (faults.NotEnabled 26)
+  pub no_such_worker : EventIsRefused (c 16 ∷ []) (faults.NoSuchWorker 0)
+  pub no_such_worker_first : EventIsRefused (t 16 ∷ []) (faults.NoSuchWorker 0)
+  pub first_fault : EventIsRefused (c 0 ∷ t 0 ∷ c 16 ∷ []) (faults.NotEnabled 1)
 
 -- all of them, by either test
 pub record ReplayRows : Type 0 where
   pub ended : (test : Test) → EndedRows test
-  pub left : LeftRows
-  pub refused : RefusedRows
+  pub left : LeftStateRows
+  pub refused : RefusedEventRows

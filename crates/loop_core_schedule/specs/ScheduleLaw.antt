@@ -9,7 +9,7 @@ use Rattle.loop_core_blocks.specs.Gather.{Block, IsRunOf, least_of, stands_in, g
 use Rattle.loop_core_event.specs.declared.event.Event.{Event}
 use Rattle.loop_core_schedule.specs.Intervals.{blocks_of}
 use Rattle.loop_core_schedule.specs.Events.{Shared}
-use Rattle.loop_core_schedule.specs.Schedule.{State, replay}
+use Rattle.loop_core_schedule.specs.Schedule.{ScheduleState, replay}
 use Rattle.loop_core_schedule.specs.Outcome.{breaks_at}
 
 -- these are the blocks of a split that have these numbers, each run up to its first break or to its end
@@ -32,6 +32,6 @@ pub record Left (program : Program) (bound : ℕ) (call : LoopCall) (words : Lis
 
 -- whatever the workers do, in whatever order, an ended list leaves that
 abbrev pub EndedSchedulesComplete : Type 0
-EndedSchedulesComplete = (program : Program) (bound : ℕ) (call : LoopCall) (words : List ℕ) (bounds : List ℕ) (events : List Event) (state : State) →
+EndedSchedulesComplete = (program : Program) (bound : ℕ) (call : LoopCall) (words : List ℕ) (bounds : List ℕ) (events : List Event) (state : ScheduleState) →
     split_fault bounds call.n ≡ None → replay (breaks_at program bound call words) bounds events ≡ Ok state →
     Left program bound call words bounds state.shared

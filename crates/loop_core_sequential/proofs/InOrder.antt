@@ -4,7 +4,7 @@ use Rattle.std.specs.List.{sum}
 use Rattle.array_maps.specs.MapList.{MapList}
 use Rattle.bpf_insn_types.specs.Program.{Program}
 use Rattle.bpf_step_model.specs.State.{LoopCall}
-use Rattle.bpf_step_model.specs.Run.{Ending, Ended, followed}
+use Rattle.bpf_step_model.specs.Run.{BoundedResult, Ended, followed}
 use Rattle.bpf_step_model.specs.Iteration.{Iterated, iteration}
 use Rattle.bpf_step_model.specs.LoopInOrder.{Looped, behind, loop_from, loop_in_order}
 use Rattle.bpf_step.specs.Iterations.{CallbackOf, RanCallback}

@@ -2,14 +2,14 @@
 use Rattle.std.proofs.Common.{◌≡◌, ℕ, zero, suc, ◌+◌, ◌<◌, Bool, true, false, ◌==◌, if◌then◌else◌, List, refl, sym, ap, subst, ◌∙◌, arith}
 use Rattle.bpf_insn_types.specs.Program.{Program}
 use Rattle.bpf_step_model.specs.State.{LoopCall}
-use Rattle.bpf_step_model.specs.Run.{Ending, Ended, Stuck, Unfinished, followed}
+use Rattle.bpf_step_model.specs.Run.{BoundedResult, Ended, Stuck, Unfinished, followed}
 use Rattle.bpf_step_model.specs.Iteration.{Iterated, iteration}
 use Rattle.bpf_step_model.specs.LoopInOrder.{Looped, behind, loop_from, loop_in_order}
-use Rattle.bpf_verify_sound.specs.Soundness.{IsSoundProgram, AreMapWords, IsKnownCall, IterationEnds, EachProgramEnds, EachCountIsSmall, callback_count}
+use Rattle.bpf_verify_sound.specs.Soundness.{IsSoundProgram, AreMapWords, OverApproximatesCall, IterationEnds, EachProgramEnds, EachCountIsSmall, callback_count}
 use Rattle.bpf_step.specs.Turns.{IsFilled}
 use Rattle.bpf_step.proofs.Limits.{few_counts}
 
-module _ (laws : EachProgramEnds) (counts : EachCountIsSmall) (program : Program) (sound : IsSoundProgram program) (made call : LoopCall) (filled : IsFilled program made call) (known : IsKnownCall program call) where
+module _ (laws : EachProgramEnds) (counts : EachCountIsSmall) (program : Program) (sound : IsSoundProgram program) (made call : LoopCall) (filled : IsFilled program made call) (known : OverApproximatesCall program call) where
   abbrev On : ℕ → ℕ → Type 0
   On left index = (words : List ℕ) → AreMapWords program words → loop_from program 4096 call left index words ≡ loop_from program 4096 made left index words
 
@@ -19,7 +19,7 @@ module _ (laws : EachProgramEnds) (counts : EachCountIsSmall) (program : Program
   behind_same left index rest it fit true = refl
   behind_same left index rest it fit false = rest it.words fit
 
-  followed_same : (left index : ℕ) → On left (index + 1) → (e : Ending Iterated) → IterationEnds program (callback_count program call) e →
+  followed_same : (left index : ℕ) → On left (index + 1) → (e : BoundedResult Iterated) → IterationEnds program (callback_count program call) e →
       followed (behind (loop_from program 4096 call left (index + 1)) index) e ≡ followed (behind (loop_from program 4096 made left (index + 1)) index) e
   followed_same left index rest (Ended it) ends = behind_same left index rest it ends.2 (it.ret == 1)
   followed_same left index rest Stuck ends = absurd ends

@@ -6,10 +6,10 @@ use Rattle.std.specs.Option.{option_or}
 use Rattle.array_maps.specs.Accesses.{Access}
 use Rattle.bpf_insn_types.specs.Program.{Program}
 use Rattle.bpf_step_model.specs.State.{LoopCall}
-use Rattle.bpf_step_model.specs.Run.{Ending, mapped, followed}
+use Rattle.bpf_step_model.specs.Run.{BoundedResult, mapped, followed}
 use Rattle.bpf_step_model.specs.Iteration.{Iterated, iteration}
 use Rattle.bpf_step_model.specs.LoopInOrder.{loop_in_order}
-use Rattle.bpf_verify_sound.specs.Soundness.{IsSoundProgram, AreMapWords, IsKnownCall, EachProgramEnds, EachCountIsSmall}
+use Rattle.bpf_verify_sound.specs.Soundness.{IsSoundProgram, AreMapWords, OverApproximatesCall, EachProgramEnds, EachCountIsSmall}
 use Rattle.bpf_step.specs.Turns.{IsFilled}
 use Rattle.loop_core_model.specs.declared.loop_test.Test.{Test}
 use Rattle.loop_core_model.specs.declared.verdict.Verdict.{Verdict}
@@ -40,10 +40,10 @@ map_same {A} f g from (suc count) same =
     ∙ ap (λ (xs : List A). g from ∷ xs) (map_same f g (from + 1) count (λ i h. same i (omega arith)))
 
 -- the counted of so many iterations
-abbrev counted_of : (n : ℕ) → (ℕ → Ending Iterated) → List (Ending Iterated)
+abbrev counted_of : (n : ℕ) → (ℕ → BoundedResult Iterated) → List (BoundedResult Iterated)
 counted_of n iterate = map iterate (range_with_len 0 (count_to n (least_below (λ (i : ℕ). is_break (iterate i)) n)))
 
-counted_same : (n : ℕ) (f g : ℕ → Ending Iterated) → ((i : ℕ) → i < n → f i ≡ g i) → counted_of n f ≡ counted_of n g
+counted_same : (n : ℕ) (f g : ℕ → BoundedResult Iterated) → ((i : ℕ) → i < n → f i ≡ g i) → counted_of n f ≡ counted_of n g
 counted_same n f g same =
     let few = (counts_to (λ (i : ℕ). is_break (f i)) n).within in
     map_same f g 0 (count_to n (least_below (λ (i : ℕ). is_break (f i)) n)) (λ i h. same i (omega arith))
@@ -51,7 +51,7 @@ counted_same n f g same =
     (least_same (λ (i : ℕ). is_break (f i)) (λ (i : ℕ). is_break (g i)) n (λ i h. ap is_break (same i h)))
 
 module _ (laws : EachProgramEnds) (counts : EachCountIsSmall) (program : Program) (sound : IsSoundProgram program) (made call : LoopCall) (filled : IsFilled program made call)
-    (known : IsKnownCall program call) (words : List ℕ) (fit : AreMapWords program words) where
+    (known : OverApproximatesCall program call) (words : List ℕ) (fit : AreMapWords program words) where
   same_iteration : (index : ℕ) → index < made.n → iteration program 4096 call index words ≡ iteration program 4096 made index words
   same_iteration index below = filled.same 4096 index below words fit
 
@@ -62,14 +62,14 @@ module _ (laws : EachProgramEnds) (counts : EachCountIsSmall) (program : Program
 
   same_verdict : (test : Test) → verdict test program 4096 call words ≡ verdict test program 4096 made words
   same_verdict test =
-      ap (λ (its : List (Ending Iterated)). mapped (λ (runs : List (List Access)). judged (conflicting test runs (length words))) (mapped accesses_of_each (all_ended its))) same_counted
+      ap (λ (its : List (BoundedResult Iterated)). mapped (λ (runs : List (List Access)). judged (conflicting test runs (length words))) (mapped accesses_of_each (all_ended its))) same_counted
 
   same_in_order : loop_in_order program 4096 call words ≡ loop_in_order program 4096 made words
   same_in_order = same_loop laws counts program sound made call filled known words fit
 
   same_outcome : (test : Test) → outcome test program 4096 call words ≡ outcome test program 4096 made words
   same_outcome test =
-      ap (λ (v : Ending Verdict). followed (judged_as v) (loop_in_order program 4096 call words)) (same_verdict test)
+      ap (λ (v : BoundedResult Verdict). followed (judged_as v) (loop_in_order program 4096 call words)) (same_verdict test)
       ∙ ap (followed (judged_as (verdict test program 4096 made words))) same_in_order
 
   same_breaks : (index : ℕ) → index < call.n → breaks_at program 4096 call words index ≡ breaks_at program 4096 made words index
@@ -80,7 +80,7 @@ module _ (laws : EachProgramEnds) (counts : EachCountIsSmall) (program : Program
   same_replayed test bounds events fine =
       ap (unless_fault (outcome test program 4096 call words))
       (same_replay call.n bounds (breaks_at program 4096 call words) (breaks_at program 4096 made words) fine same_breaks events)
-      ∙ ap (λ (o : Ending Outcome). unless_fault o (replay (breaks_at program 4096 made words) bounds events)) (same_outcome test)
+      ∙ ap (λ (o : BoundedResult Outcome). unless_fault o (replay (breaks_at program 4096 made words) bounds events)) (same_outcome test)
 
   one_loop : AreOneLoop program made call words
   one_loop = record { orders = same_in_order; judges = same_verdict; comes_to = same_outcome; replays = same_replayed }

@@ -3,7 +3,7 @@ use Rattle.std.specs.Prelude.{◌≡◌, ℕ, List, None}
 use Rattle.bpf_insn_types.specs.Program.{Program}
 use Rattle.bpf_step_model.specs.State.{LoopCall}
 use Rattle.bpf_step_model.specs.LoopInOrder.{loop_in_order}
-use Rattle.bpf_verify_sound.specs.Soundness.{IsSoundProgram, AreMapWords, IsKnownCall}
+use Rattle.bpf_verify_sound.specs.Soundness.{IsSoundProgram, AreMapWords, OverApproximatesCall}
 use Rattle.bpf_step.specs.Turns.{IsFilled}
 use Rattle.loop_core_model.specs.declared.loop_test.Test.{Test}
 use Rattle.loop_core_model.specs.Report.{verdict}
@@ -22,5 +22,5 @@ pub record AreOneLoop (program : Program) (made call : LoopCall) (words : List �
 
 -- of an accepted program a call that main made and the same call with its frame filled are one loop, from any words of its maps
 abbrev pub FilledCallsAreOneLoop : Type 0
-FilledCallsAreOneLoop = (program : Program) → IsSoundProgram program → (made call : LoopCall) → IsFilled program made call → IsKnownCall program call →
+FilledCallsAreOneLoop = (program : Program) → IsSoundProgram program → (made call : LoopCall) → IsFilled program made call → OverApproximatesCall program call →
     (words : List ℕ) → AreMapWords program words → AreOneLoop program made call words

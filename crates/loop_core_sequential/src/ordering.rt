@@ -1,7 +1,7 @@
 //! A loop in order.
 
 ghost use Rattle.std.specs.Prelude.{◌≡◌};
-ghost use Rattle.bpf_verify_sound.specs.Soundness.{IsKnownCall};
+ghost use Rattle.bpf_verify_sound.specs.Soundness.{OverApproximatesCall};
 ghost use Rattle.loop_core_sequential.specs.Loops.{RanLoopInOrder};
 
 use array_maps::Maps;
@@ -12,7 +12,7 @@ use bpf_verify::Verified;
 /// to the first that returns 1, or all. Gives the loop's answer: how many ran. The maps are of the
 /// program's sizes.
 pub fn in_order(program: &Verified, call: &LoopCall, maps: &mut Maps) -> u32
-    requires known { IsKnownCall program.now call.now }
+    requires known { OverApproximatesCall program.now call.now }
     requires sizes { maps.old.sizes ≡ program.now.sizes }
     ensures { RanLoopInOrder program.now call.now maps.old maps.new result }
 {

@@ -4,40 +4,40 @@ use Rattle.std.specs.Option.{option_to_list}
 use Rattle.loop_core_event.specs.declared.event.EventKind.{EventKind}
 use Rattle.loop_core_event.specs.declared.event.EventKind.TheVariants as kinds
 use Rattle.loop_core_schedule.specs.Intervals.{blocks_of}
-use Rattle.loop_core_schedule.specs.Events.{Moved, becomes, event}
+use Rattle.loop_core_schedule.specs.Events.{Moved, becomes, transition}
 use Rattle.loop_core_workers.specs.declared.worker.Worker.{Worker}
 use Rattle.loop_core_workers.specs.declared.worker.Worker.TheVariants.{Running}
 use Rattle.loop_core_workers.specs.declared.worker.Shared.{Shared}
-use Rattle.loop_core_workers.specs.declared.moves.Move.{Move}
+use Rattle.loop_core_workers.specs.declared.moves.WorkerTransition.{WorkerTransition}
 use Rattle.loop_core_workers.specs.declared.moves.Asked.{Asked}
 use Rattle.loop_core_workers.specs.declared.moves.Asked.TheVariants.{Moves, Iteration}
-use Rattle.loop_core_workers.specs.Standing.{seen, shared_of, Standing, WorkerFits}
+use Rattle.loop_core_workers.specs.Standing.{schedule_worker, shared_of, Standing, WorkerFits}
 
 -- what a worker and what it shares become, where these blocks were run before
-abbrev pub moved_of : Move → List ℕ → Moved
-moved_of move runs = becomes (seen move.worker) (shared_of move.shared (option_to_list move.ran ++ runs))
+abbrev pub transition_result : WorkerTransition → List ℕ → Moved
+transition_result move runs = becomes (schedule_worker move.worker) (shared_of move.shared (option_to_list move.ran ++ runs))
 
 -- it is a worker of this split, and what its workers share; a block that was run with it is one of the split's
-pub record MoveFits (bounds : List ℕ) (move : Move) : Type 0 where
+pub record TransitionFits (bounds : List ℕ) (move : WorkerTransition) : Type 0 where
   pub next : move.shared.next ≤ blocks_of bounds
   pub worker : WorkerFits bounds move.worker
   pub ran : IfSome move.ran (λ block. block < blocks_of bounds)
 
 -- workers after one of them moved
-abbrev pub after_move : Standing → (number : ℕ) → Move → Standing
-after_move standing number move = record { shared = move.shared; workers = slice_set standing.workers number move.worker }
+abbrev pub after_transition : Standing → (number : ℕ) → WorkerTransition → Standing
+after_transition standing number move = record { shared = move.shared; workers = slice_set standing.workers number move.worker }
 
 -- the event is enabled: whatever breaks it moves the worker so
-pub record IsMove (bounds : List ℕ) (kind : EventKind) (worker : Worker) (shared : Shared) (move : Move) : Type 0 where
-  pub fits : MoveFits bounds move
-  pub moves : (breaks : ℕ → Bool) (runs : List ℕ) → event breaks bounds kind (seen worker) (shared_of shared runs) ≡ Some (moved_of move runs)
+pub record IsTransition (bounds : List ℕ) (kind : EventKind) (worker : Worker) (shared : Shared) (move : WorkerTransition) : Type 0 where
+  pub fits : TransitionFits bounds move
+  pub moves : (breaks : ℕ → Bool) (runs : List ℕ) → transition breaks bounds kind (schedule_worker worker) (shared_of shared runs) ≡ Some (transition_result move runs)
 
 -- the same, or it is this iteration's turn
-abbrev pub Asks : List ℕ → EventKind → Worker → Shared → Asked → Type 0
-Asks bounds kind worker shared (Moves move) = IsMove bounds kind worker shared move
-Asks bounds kind worker shared (Iteration block index) = (kind ≡ kinds.Turn) × (worker ≡ Running block index)
+abbrev pub IsAskedFor : List ℕ → EventKind → Worker → Shared → Asked → Type 0
+IsAskedFor bounds kind worker shared (Moves move) = IsTransition bounds kind worker shared move
+IsAskedFor bounds kind worker shared (Iteration block index) = (kind ≡ kinds.Turn) × (worker ≡ Running block index)
 
 -- it isn't, whatever breaks
 abbrev pub IsNeverEnabled : List ℕ → EventKind → Worker → Shared → Type 0
 IsNeverEnabled bounds kind worker shared =
-    (breaks : ℕ → Bool) (runs : List ℕ) → event breaks bounds kind (seen worker) (shared_of shared runs) ≡ None
+    (breaks : ℕ → Bool) (runs : List ℕ) → transition breaks bounds kind (schedule_worker worker) (shared_of shared runs) ≡ None

@@ -2,19 +2,19 @@
 use Rattle.std.specs.Prelude.{ℕ, ◌<◌, ◌≤◌, List, map, slice_index_or}
 use Rattle.loop_core_schedule.specs.Intervals.{blocks_of, end_of}
 use Rattle.loop_core_schedule.specs.Events as events
-use Rattle.loop_core_schedule.specs.Schedule.{State}
+use Rattle.loop_core_schedule.specs.Schedule.{ScheduleState}
 use Rattle.loop_core_workers.specs.declared.worker.Worker.{Worker}
 use Rattle.loop_core_workers.specs.declared.worker.Worker.TheVariants.{Idle, Holding, Running, Posting, Drained, Stopped}
 use Rattle.loop_core_workers.specs.declared.worker.Shared.{Shared}
 
 -- what a worker does, as schedules say it
-abbrev pub seen : Worker → events.Worker
-seen Idle = events.Idle
-seen (Holding block) = events.Holding block
-seen (Running block index) = events.Running block index
-seen (Posting index) = events.Posting index
-seen Drained = events.Drained
-seen Stopped = events.Stopped
+abbrev pub schedule_worker : Worker → events.Worker
+schedule_worker Idle = events.Idle
+schedule_worker (Holding block) = events.Holding block
+schedule_worker (Running block index) = events.Running block index
+schedule_worker (Posting index) = events.Posting index
+schedule_worker Drained = events.Drained
+schedule_worker Stopped = events.Stopped
 
 -- what is shared, where these blocks were run
 abbrev pub shared_of : Shared → List ℕ → events.Shared
@@ -26,8 +26,8 @@ pub record Standing : Type 0 where
   pub workers : List Worker
 
 -- the state of a schedule, where these blocks were run, the latest first
-abbrev pub state : Standing → List ℕ → State
-state standing runs = record { shared = shared_of standing.shared runs; workers = map seen standing.workers }
+abbrev pub state : Standing → List ℕ → ScheduleState
+state standing runs = record { shared = shared_of standing.shared runs; workers = map schedule_worker standing.workers }
 
 -- a worker's block is one of the split's, and its index one of the block's
 abbrev pub WorkerFits : List ℕ → Worker → Type 0
@@ -39,6 +39,6 @@ WorkerFits bounds Drained = Unit {0}
 WorkerFits bounds Stopped = Unit {0}
 
 -- they share the blocks of this split
-pub record Fits (bounds : List ℕ) (standing : Standing) : Type 0 where
+pub record WorkersFit (bounds : List ℕ) (standing : Standing) : Type 0 where
   pub next : standing.shared.next ≤ blocks_of bounds
   pub each : (number : ℕ) → WorkerFits bounds (slice_index_or standing.workers number Idle)

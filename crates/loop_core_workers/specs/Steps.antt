@@ -7,7 +7,7 @@ use Rattle.loop_core_schedule.specs.declared.replay_fault.ReplayFault.{ReplayFau
 use Rattle.loop_core_schedule.specs.Intervals.{blocks_of}
 use Rattle.loop_core_schedule.specs.Schedule.{after_event}
 use Rattle.loop_core_workers.specs.declared.worker.Worker.TheVariants.{Running}
-use Rattle.loop_core_workers.specs.declared.worker.Turn.{Turn}
+use Rattle.loop_core_workers.specs.declared.worker.PendingIteration.{PendingIteration}
 use Rattle.loop_core_workers.specs.declared.worker.Step.{Step}
 use Rattle.loop_core_workers.specs.declared.worker.Step.TheVariants as steps
 use Rattle.loop_core_workers.specs.Standing.{Standing, state}
@@ -34,17 +34,17 @@ StepFits bounds (steps.Ran block) = block < blocks_of bounds
 StepFits bounds (steps.Turn turn) = turn.block < blocks_of bounds
 
 -- the worker of a turn runs that block, and has that index before it
-abbrev pub IsBefore : Standing → Turn → Type 0
+abbrev pub IsBefore : Standing → PendingIteration → Type 0
 IsBefore standing turn = slice_get standing.workers turn.worker ≡ Some (Running turn.block turn.index)
 
 -- what came of an event: it was done, and a block run with it or not; or it is a turn, and nothing has changed
-abbrev pub Follows : List ℕ → Event → (place : ℕ) → (old new : Standing) → Step → Type 0
-Follows bounds e place old new steps.Done = Leads bounds e place old new []
-Follows bounds e place old new (steps.Ran block) = Leads bounds e place old new (block ∷ [])
-Follows bounds e place old new (steps.Turn turn) = (e ≡ record { kind = kinds.Turn; worker = turn.worker }) × IsBefore old turn × (new ≡ old)
+abbrev pub StepFollows : List ℕ → Event → (place : ℕ) → (old new : Standing) → Step → Type 0
+StepFollows bounds e place old new steps.Done = Leads bounds e place old new []
+StepFollows bounds e place old new (steps.Ran block) = Leads bounds e place old new (block ∷ [])
+StepFollows bounds e place old new (steps.Turn turn) = (e ≡ record { kind = kinds.Turn; worker = turn.worker }) × IsBefore old turn × (new ≡ old)
 
 -- what comes of a turn whose iteration broke or not; the block was run with it or not
-abbrev pub Turned : List ℕ → Turn → (broke : Bool) → (old new : Standing) → Option ℕ → Type 0
-Turned bounds turn broke old new ran =
+abbrev pub IterationFinished : List ℕ → PendingIteration → (broke : Bool) → (old new : Standing) → Option ℕ → Type 0
+IterationFinished bounds turn broke old new ran =
     (breaks : ℕ → Bool) (runs : List ℕ) (place : ℕ) → breaks turn.index ≡ broke →
     after_event breaks bounds (record { kind = kinds.Turn; worker = turn.worker }) place (state old runs) ≡ Ok (state new (option_to_list ran ++ runs))

@@ -10,7 +10,7 @@ mod workers;
 
 ghost use Rattle.loop_core_workers.specs.InTurn.{EventsInTurn};
 
-pub use worker::{Shared, Step, Turn, Worker};
+pub use worker::{PendingIteration, Shared, Step, Worker};
 pub use workers::Workers;
 
 /// The law of events in turn: the state after the events so far, and one event more, make the state after that; the

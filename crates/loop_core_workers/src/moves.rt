@@ -3,8 +3,8 @@
 ghost use Rattle.std.specs.Prelude.{◌≡◌, ◌<◌, ◌≤◌, ℕ, Bool, List, IfSome, IfNone, Some, None};
 ghost use Rattle.loop_core_schedule.specs.Intervals.{blocks_of, end_of};
 ghost use Rattle.loop_core_schedule.specs.Events.{claims, looks, iterates, posts};
-ghost use Rattle.loop_core_workers.specs.Standing.{seen, shared_of, WorkerFits};
-ghost use Rattle.loop_core_workers.specs.Moves.{MoveFits, moved_of, Asks, IsNeverEnabled};
+ghost use Rattle.loop_core_workers.specs.Standing.{schedule_worker, shared_of, WorkerFits};
+ghost use Rattle.loop_core_workers.specs.Moves.{TransitionFits, transition_result, IsAskedFor, IsNeverEnabled};
 
 use crate::worker::{Shared, Worker};
 use loop_core_event::EventKind;
@@ -12,7 +12,7 @@ use loop_core_split::{Split, is_late, lesser};
 
 /// What a worker and what it shares become, and the block that was run to its break or its end with it.
 #[derive(Clone, Copy)]
-pub(crate) struct Move {
+pub(crate) struct WorkerTransition {
     pub(crate) worker: Worker,
     pub(crate) shared: Shared,
     pub(crate) ran: Option<u32>,
@@ -21,34 +21,34 @@ pub(crate) struct Move {
 /// What an enabled event is.
 #[derive(Clone, Copy)]
 pub(crate) enum Asked {
-    Moves(Move),
+    Moves(WorkerTransition),
     Iteration { block: u32, index: u32 },
 }
 
-fn becomes(worker: Worker, shared: Shared) -> Move
+fn becomes(worker: Worker, shared: Shared) -> WorkerTransition
     ensures { result ≡ record { worker = worker; shared = shared; ran = None } }
 {
-    Move {
+    WorkerTransition {
         worker,
         shared,
         ran: None,
     }
 }
 
-fn having_run(block: u32, worker: Worker, shared: Shared) -> Move
+fn having_run(block: u32, worker: Worker, shared: Shared) -> WorkerTransition
     ensures { result ≡ record { worker = worker; shared = shared; ran = Some block } }
 {
-    Move {
+    WorkerTransition {
         worker,
         shared,
         ran: Some(block),
     }
 }
 
-fn claim(split: &Split, shared: Shared) -> Move
+fn claim(split: &Split, shared: Shared) -> WorkerTransition
     requires { shared.next ≤ blocks_of split.now }
-    ensures fits { MoveFits split.now result }
-    ensures claims { (runs : List ℕ) → claims split.now (shared_of shared runs) ≡ moved_of result runs }
+    ensures fits { TransitionFits split.now result }
+    ensures claims { (runs : List ℕ) → claims split.now (shared_of shared runs) ≡ transition_result result runs }
 {
     if shared.next < split.blocks() {
         let next = shared.next + 1;
@@ -61,11 +61,11 @@ fn claim(split: &Split, shared: Shared) -> Move
     }
 }
 
-fn look(split: &Split, block: u32, shared: Shared) -> Move
+fn look(split: &Split, block: u32, shared: Shared) -> WorkerTransition
     requires next { shared.next ≤ blocks_of split.now }
     requires block { block < blocks_of split.now }
-    ensures fits { MoveFits split.now result }
-    ensures looks { (runs : List ℕ) → looks split.now block (shared_of shared runs) ≡ moved_of result runs }
+    ensures fits { TransitionFits split.now result }
+    ensures looks { (runs : List ℕ) → looks split.now block (shared_of shared runs) ≡ transition_result result runs }
 {
     let start = split.start(block);
     if is_late(shared.least, start) {
@@ -84,14 +84,20 @@ fn look(split: &Split, block: u32, shared: Shared) -> Move
 }
 
 /// What comes of the iteration of this index, which broke or not.
-pub(crate) fn iterate(split: &Split, block: u32, index: u32, broke: bool, shared: Shared) -> Move
+pub(crate) fn iterate(
+    split: &Split,
+    block: u32,
+    index: u32,
+    broke: bool,
+    shared: Shared,
+) -> WorkerTransition
     requires next { shared.next ≤ blocks_of split.now }
     requires block { block < blocks_of split.now }
     requires index { index < end_of split.now block }
-    ensures fits { MoveFits split.now result }
+    ensures fits { TransitionFits split.now result }
     ensures ran { IfSome result.ran (λ ran. ran ≡ block) }
     ensures iterates { (breaks : ℕ → Bool) (runs : List ℕ) → breaks index ≡ broke →
-        iterates breaks split.now block index (shared_of shared runs) ≡ moved_of result runs }
+        iterates breaks split.now block index (shared_of shared runs) ≡ transition_result result runs }
 {
     let end = split.end(block);
     if broke {
@@ -109,10 +115,10 @@ pub(crate) fn iterate(split: &Split, block: u32, index: u32, broke: bool, shared
     }
 }
 
-fn post(split: &Split, index: u32, shared: Shared) -> Move
+fn post(split: &Split, index: u32, shared: Shared) -> WorkerTransition
     requires { shared.next ≤ blocks_of split.now }
-    ensures fits { MoveFits split.now result }
-    ensures posts { (runs : List ℕ) → posts index (shared_of shared runs) ≡ moved_of result runs }
+    ensures fits { TransitionFits split.now result }
+    ensures posts { (runs : List ℕ) → posts index (shared_of shared runs) ≡ transition_result result runs }
 {
     becomes(
         Worker::Idle,
@@ -132,7 +138,7 @@ pub(crate) fn asked_of(
 ) -> Option<Asked>
     requires next { shared.next ≤ blocks_of split.now }
     requires worker { WorkerFits split.now worker }
-    ensures some { IfSome result (Asks split.now kind worker shared) }
+    ensures some { IfSome result (IsAskedFor split.now kind worker shared) }
     ensures none { IfNone result (IsNeverEnabled split.now kind worker shared) }
 {
     match (kind, worker) {

@@ -28,7 +28,7 @@ pub struct Shared {
 
 /// An iteration that a worker is about to run.
 #[derive(Clone, Copy)]
-pub struct Turn {
+pub struct PendingIteration {
     /// The worker's number, 0 to 15.
     pub worker: u8,
     /// The block that it runs.
@@ -45,5 +45,5 @@ pub enum Step {
     /// It was done, and with it this block, which is empty, was run.
     Ran { block: u32 },
     /// It is done once this iteration was run, by `Workers::finish`.
-    Turn(Turn),
+    Turn(PendingIteration),
 }

@@ -4,12 +4,12 @@ ghost use Rattle.std.specs.Prelude.{◌≡◌, ◌<◌, ◌≤◌, ℕ, Bool, tr
 ghost use Rattle.std.specs.List.{list_all};
 ghost use Rattle.loop_core_schedule.specs.declared.replay_fault.ReplayFault.TheVariants.{NotEnded};
 ghost use Rattle.loop_core_schedule.specs.Schedule.{at_first, has_ended, is_stopped, worker_of};
-ghost use Rattle.loop_core_workers.specs.Standing.{Fits, state};
-ghost use Rattle.loop_core_workers.specs.Moves.{after_move};
-ghost use Rattle.loop_core_workers.specs.Steps.{IsStepOf, StepFits, Follows, Faults, IsBefore, Turned};
+ghost use Rattle.loop_core_workers.specs.Standing.{WorkersFit, state};
+ghost use Rattle.loop_core_workers.specs.Moves.{after_transition};
+ghost use Rattle.loop_core_workers.specs.Steps.{IsStepOf, StepFits, StepFollows, Faults, IsBefore, IterationFinished};
 
-use crate::moves::{Asked, Move, asked_of, iterate};
-use crate::worker::{Shared, Step, Turn, Worker};
+use crate::moves::{Asked, WorkerTransition, asked_of, iterate};
+use crate::worker::{PendingIteration, Shared, Step, Worker};
 use loop_core_event::Event;
 use loop_core_schedule::ReplayFault;
 use loop_core_split::Split;
@@ -60,7 +60,7 @@ impl Workers {
     /// Workers that haven't done anything.
     pub fn new() -> Workers
         ensures first { state result [] ≡ at_first }
-        ensures fits { (bounds : List ℕ) → Fits bounds result }
+        ensures fits { (bounds : List ℕ) → WorkersFit bounds result }
     {
         Workers {
             shared: Shared {
@@ -77,10 +77,10 @@ impl Workers {
     /// E1 (`NoSuchWorker`) a worker above 15, E2 (`NotEnabled`) an event that isn't enabled, each with the place;
     /// nothing has changed then. The split is the one that these workers share.
     pub fn begin(&mut self, split: &Split, event: Event, place: usize) -> Result<Step, ReplayFault>
-        requires { Fits split.now self.old }
-        ensures fits { Fits split.now self.new }
+        requires { WorkersFit split.now self.old }
+        ensures fits { WorkersFit split.now self.new }
         ensures within { IfOk result (StepFits split.now) }
-        ensures follows { IfOk result (Follows split.now event place self.old self.new) }
+        ensures follows { IfOk result (StepFollows split.now event place self.old self.new) }
         ensures fault { IfErr result (Faults split.now event place self.old) }
         ensures kept { OnErr result (self.new ≡ self.old) }
     {
@@ -90,13 +90,13 @@ impl Workers {
         }
         match asked_of(split, event.kind, self.workers[number], self.shared) {
             None => Err(ReplayFault::NotEnabled { event: place }),
-            Some(Asked::Iteration { block, index }) => Ok(Step::Turn(Turn {
+            Some(Asked::Iteration { block, index }) => Ok(Step::Turn(PendingIteration {
                 worker: event.worker,
                 block,
                 index,
             })),
             Some(Asked::Moves(change)) => {
-                self.make(number, change);
+                self.apply(number, change);
                 Ok(step_of(change.ran))
             }
         }
@@ -104,15 +104,15 @@ impl Workers {
 
     /// Does a turn that `begin` told, whose iteration broke or not, and tells the block where it was run to its
     /// break or its end with it. The split is the one that these workers share.
-    pub fn finish(&mut self, split: &Split, turn: Turn, broke: bool) -> Option<u32>
-        requires fits { Fits split.now self.old }
+    pub fn finish(&mut self, split: &Split, turn: PendingIteration, broke: bool) -> Option<u32>
+        requires fits { WorkersFit split.now self.old }
         requires before { IsBefore self.old turn }
-        ensures fits { Fits split.now self.new }
+        ensures fits { WorkersFit split.now self.new }
         ensures ran { IfSome result (λ block. block ≡ turn.block) }
-        ensures turned { Turned split.now turn broke self.old self.new result }
+        ensures turned { IterationFinished split.now turn broke self.old self.new result }
     {
         let change = iterate(split, turn.block, turn.index, broke, self.shared);
-        self.make(usize::from(turn.worker), change);
+        self.apply(usize::from(turn.worker), change);
         change.ran
     }
 
@@ -132,9 +132,9 @@ impl Workers {
         }
     }
 
-    fn make(&mut self, number: usize, change: Move)
+    fn apply(&mut self, number: usize, change: WorkerTransition)
         requires { number < 16 }
-        ensures { self.new ≡ after_move self.old number change }
+        ensures { self.new ≡ after_transition self.old number change }
     {
         self.workers[number] = change.worker;
         self.shared = change.shared;

@@ -10,7 +10,7 @@ use Rattle.loop_core_model.specs.Actions.{is_write}
 use Rattle.loop_core_marks.specs.Flags.{kind_of, flagged}
 use Rattle.loop_core_marks.specs.declared.access.Access.{Access as Kind}
 use Rattle.loop_core_marks.specs.declared.access.Access.TheVariants.{Read as Reads}
-use Rattle.shadow_marks.specs.Iteration.{elements_of, flags_at}
+use Rattle.shadow_marks.specs.Iteration.{element_count, flags_at}
 use Rattle.private_copy.specs.declared.page.Combining.{Combining}
 use Rattle.private_copy.specs.declared.page.Combining.TheVariants.{Mixed}
 use Rattle.private_copy.specs.declared.page.Cell.{Cell}
@@ -18,14 +18,14 @@ use Rattle.private_copy.specs.declared.private.Private.{Private}
 use Rattle.private_copy.specs.Cells.{PlacedPages, cell_at, blank, blank_cells, mixed_cell, reduction_in}
 use Rattle.private_copy.specs.Reductions.{reduction_after}
 use Rattle.private_copy.specs.Copies.{last_after, Accessed}
-use Rattle.private_copy.specs.Shown.{copy_of, seen, last_in}
-use Rattle.private_copy.specs.Steps.{IsAdmitted, IsKept}
+use Rattle.private_copy.specs.Shown.{copy_of, seen_word, last_in}
+use Rattle.private_copy.specs.Steps.{IsAdmitted, CellIsSet}
 
 -- a cell that this iteration wrote, and another
-pub seen_own : (cell : Cell) (number word : ℕ) → cell.writer ≡ number → seen cell number word ≡ cell.value
+pub seen_own : (cell : Cell) (number word : ℕ) → cell.writer ≡ number → seen_word cell number word ≡ cell.value
 seen_own cell number word own = ap (λ (b : Bool). if b then cell.value else word) (eq-eqb cell.writer number own)
 
-pub seen_start : (cell : Cell) (number word : ℕ) → cell.writer ≢ number → seen cell number word ≡ word
+pub seen_start : (cell : Cell) (number word : ℕ) → cell.writer ≢ number → seen_word cell number word ≡ word
 seen_start cell number word other = ap (λ (b : Bool). if b then cell.value else word) (ne_eqb cell.writer number other)
 
 -- a list of values of a function
@@ -54,18 +54,18 @@ shown_set f g n e value here others =
     ])
 
 -- the word that the iteration sees
-pub word_is : (p : Private) (e : ℕ) → e < length p.start.now → slice_index (copy_of p).words e ≡ seen (cell_at p.pages e) p.begun (slice_index p.start.now e)
-word_is p e inside = shown_at (λ x. seen (cell_at p.pages x) p.begun (slice_index p.start.now x)) (length p.start.now) e inside
+pub word_is : (p : Private) (e : ℕ) → e < length p.start.now → slice_index (copy_of p).words e ≡ seen_word (cell_at p.pages e) p.begun (slice_index p.start.now e)
+word_is p e inside = shown_at (λ x. seen_word (cell_at p.pages x) p.begun (slice_index p.start.now x)) (length p.start.now) e inside
 
 pub in_range : (p : Private) (e : ℕ) → e < length (copy_of p).words → e < length p.start.now
-in_range p e inside = let long = shown_length (λ x. seen (cell_at p.pages x) p.begun (slice_index p.start.now x)) (length p.start.now) in omega (arith, inside, long)
+in_range p e inside = let long = shown_length (λ x. seen_word (cell_at p.pages x) p.begun (slice_index p.start.now x)) (length p.start.now) in omega (arith, inside, long)
 
 pub same_cell : (a b : PlacedPages) (e : ℕ) → a.pages ≡ b.pages → cell_at a e ≡ cell_at b e
 same_cell a b e same = ap (λ pages. slice_index_or (slice_index_or pages (e / 64) blank_cells) (e % 64) blank) same
 
 pub accessed : (old mid new : Private) (e : ℕ) (kind : Kind) (action : Action) (kept : Cell) →
-    IsAdmitted old e kind mid → IsKept mid e kept new → e < length (copy_of old).words → kind ≡ kind_of action →
-    seen kept old.begun (slice_index old.start.now e) ≡ left_by action (slice_index (copy_of old).words e) →
+    IsAdmitted old e kind mid → CellIsSet mid e kept new → e < length (copy_of old).words → kind ≡ kind_of action →
+    seen_word kept old.begun (slice_index old.start.now e) ≡ left_by action (slice_index (copy_of old).words e) →
     last_in kept ≡ last_after (last_in (cell_at old.pages e)) action (slice_index (copy_of old).words e) →
     reduction_in kept ≡ reduction_after (reduction_in (cell_at old.pages e)) action →
     Accessed (copy_of old) (record { element = e; action = action }) (copy_of new)
@@ -75,15 +75,15 @@ accessed old mid new e kind action kept admitted keeps inside is_kind sees lasts
     let others : (x : ℕ) → x ≢ e → cell_at new.pages x ≡ cell_at old.pages x = λ x differs. keeps.others x differs ∙ same_cell mid.pages old.pages x admitted.cells in
     record {
       start = start;
-      words = ap (λ (b : ℕ). map (λ x. seen (cell_at new.pages x) b (slice_index new.start.now x)) (range_with_len 0 (length new.start.now))) begun
-          ∙ ap (λ (s : List ℕ). map (λ x. seen (cell_at new.pages x) old.begun (slice_index s x)) (range_with_len 0 (length s))) start
-          ∙ shown_set (λ x. seen (cell_at old.pages x) old.begun (slice_index old.start.now x)) (λ x. seen (cell_at new.pages x) old.begun (slice_index old.start.now x))
+      words = ap (λ (b : ℕ). map (λ x. seen_word (cell_at new.pages x) b (slice_index new.start.now x)) (range_with_len 0 (length new.start.now))) begun
+          ∙ ap (λ (s : List ℕ). map (λ x. seen_word (cell_at new.pages x) old.begun (slice_index s x)) (range_with_len 0 (length s))) start
+          ∙ shown_set (λ x. seen_word (cell_at old.pages x) old.begun (slice_index old.start.now x)) (λ x. seen_word (cell_at new.pages x) old.begun (slice_index old.start.now x))
           (length old.start.now) e (left_by action (slice_index (copy_of old).words e))
-          (ap (λ (cell : Cell). seen cell old.begun (slice_index old.start.now e)) keeps.cell ∙ sees)
-          (λ x differs. ap (λ (cell : Cell). seen cell old.begun (slice_index old.start.now x)) (others x differs));
+          (ap (λ (cell : Cell). seen_word cell old.begun (slice_index old.start.now e)) keeps.cell ∙ sees)
+          (λ x differs. ap (λ (cell : Cell). seen_word cell old.begun (slice_index old.start.now x)) (others x differs));
       mark = ap (λ f. flags_at f e) keeps.flags ∙ admitted.mark ∙ ap (flagged (flags_at old.flags e)) is_kind;
       other_marks = λ x differs. ap (λ f. flags_at f x) keeps.flags ∙ admitted.other_marks x differs;
-      elements = ap elements_of keeps.flags ∙ admitted.elements;
+      elements = ap element_count keeps.flags ∙ admitted.elements;
       last = ap last_in keeps.cell ∙ lasts;
       other_lasts = λ x differs. ap last_in (others x differs);
       reduction = ap reduction_in keeps.cell ∙ reduces;
@@ -100,7 +100,7 @@ last_own cell written = ap (λ (b : Bool). if b then None else Some cell.value) 
 
 -- an access that leaves a word
 pub leaves : (old mid new : Private) (e : ℕ) (kind : Kind) (action : Action) (kept : Cell) →
-    IsAdmitted old e kind mid → IsKept mid e kept new → e < length (copy_of old).words →
+    IsAdmitted old e kind mid → CellIsSet mid e kept new → e < length (copy_of old).words →
     kind ≡ kind_of action → is_write action ≡ true → kept.writer ≡ mid.begun → kept.value ≡ left_by action (slice_index (copy_of old).words e) →
     reduction_in kept ≡ reduction_after (reduction_in (cell_at old.pages e)) action →
     Accessed (copy_of old) (record { element = e; action = action }) (copy_of new)
@@ -114,11 +114,11 @@ leaves old mid new e kind action kept admitted keeps inside is_kind writing own 
 
 -- an access that reads
 pub reads : (old mid new : Private) (e saw : ℕ) (cell : Cell) → IsAdmitted old e Reads mid → cell ≡ cell_at old.pages e →
-    IsKept mid e (mixed_cell cell) new → e < length (copy_of old).words →
+    CellIsSet mid e (mixed_cell cell) new → e < length (copy_of old).words →
     Accessed (copy_of old) (record { element = e; action = Read saw }) (copy_of new)
 reads old mid new e saw cell admitted is keeps inside =
     accessed old mid new e Reads (Read saw) (mixed_cell cell) admitted keeps inside refl
-    (ap (λ (c : Cell). seen c old.begun (slice_index old.start.now e)) is ∙ sym (word_is old e (in_range old e inside)))
+    (ap (λ (c : Cell). seen_word c old.begun (slice_index old.start.now e)) is ∙ sym (word_is old e (in_range old e inside)))
     (ap last_in is)
     refl
 
@@ -126,7 +126,7 @@ reads old mid new e saw cell admitted is keeps inside =
 pub words_small : (p : Private) (k d : ℕ) → k < length (copy_of p).words → get_or (copy_of p).words k d < 18446744073709551616
 words_small p k d inside =
     let within : k < length p.start.now = in_range p k inside in
-    let f : ℕ → ℕ = λ e. seen (cell_at p.pages e) p.begun (slice_index p.start.now e) in
+    let f : ℕ → ℕ = λ e. seen_word (cell_at p.pages e) p.begun (slice_index p.start.now e) in
     subst (λ (w : ℕ). w < 18446744073709551616) (sym (get_or-map-range_with_len f 0 (length p.start.now) k k d within (omega arith)))
     (go (eqb (cell_at p.pages k).writer p.begun) (p.values k) (p.fit k 0 within))
   where
@@ -136,7 +136,7 @@ words_small p k d inside =
     go false h w = w
 
 -- a cell that is mixed already is kept as it is
-pub stays_mixed : (p : Private) (e : ℕ) (cell : Cell) → cell ≡ cell_at p.pages e → cell.combining ≡ Mixed → IsKept p e (mixed_cell cell) p
+pub stays_mixed : (p : Private) (e : ℕ) (cell : Cell) → cell ≡ cell_at p.pages e → cell.combining ≡ Mixed → CellIsSet p e (mixed_cell cell) p
 stays_mixed p e cell is mixed = record {
   start = refl;
   cell = sym is ∙ ap (λ (c : Combining). (let kept : Cell = record { value = cell.value; combined = cell.combined; writer = cell.writer; combining = c } in kept)) mixed;

@@ -12,16 +12,16 @@ use Rattle.shadow_marks.specs.Iteration.{touched_count, IsEmptied}
 use Rattle.shadow_marks.proofs.TouchLaws.{nothing_flagged, none_touched}
 use Rattle.private_copy.specs.Cells.{PlacedPages, cell_at}
 use Rattle.private_copy.specs.Reductions.{reduction_of}
-use Rattle.private_copy.specs.Copies.{PrivateCopy, StandsFor, StandsWithin}
-use Rattle.private_copy.specs.Shown.{seen, IsBegun}
+use Rattle.private_copy.specs.Copies.{PrivateCopy, CopyRecords, CopyRecordsWithin}
+use Rattle.private_copy.specs.Shown.{seen_word, IsBegun}
 use Rattle.private_copy.proofs.IterationLaws.{at_last, last_none, reduction_none, pages_none}
 use Rattle.private_copy.proofs.AccessLaws.{shown_at, shown_length}
 
 -- where no cell was written by an iteration of this number it sees the start words
 pub shows_start : (pages : PlacedPages) (begun : ℕ) (start : List ℕ) → ((e : ℕ) → (cell_at pages e).writer ≤ begun) →
-    map (λ e. seen (cell_at pages e) (begun + 1) (slice_index start e)) (range_with_len 0 (length start)) ≡ start
+    map (λ e. seen_word (cell_at pages e) (begun + 1) (slice_index start e)) (range_with_len 0 (length start)) ≡ start
 shows_start pages begun start writers =
-    let f : ℕ → ℕ = λ e. seen (cell_at pages e) (begun + 1) (slice_index start e) in
+    let f : ℕ → ℕ = λ e. seen_word (cell_at pages e) (begun + 1) (slice_index start e) in
     let long = shown_length f (length start) in
     ext_get_or 0 (map f (range_with_len 0 (length start))) start long
     (λ i inside.
@@ -33,7 +33,7 @@ shows_start pages begun start writers =
 pub none_flagged : (flags : IterFlags) → touched_count flags ≡ 0 → IsEmptied flags
 none_flagged flags none = record { count = none; each = λ e. nothing_flagged _ (flags.covered e (none_touched flags.touched.items e none)) }
 
-pub begins : (old new : PrivateCopy) (need : ℕ) → IsBegun old need new → (runs : List (List Access)) → StandsFor old runs → StandsWithin new runs []
+pub begins : (old new : PrivateCopy) (need : ℕ) → IsBegun old need new → (runs : List (List Access)) → CopyRecords old runs → CopyRecordsWithin new runs []
 begins old new need begun runs stands =
     let long : length new.start ≡ length old.start = ap length begun.start in
     record {

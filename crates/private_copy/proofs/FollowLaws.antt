@@ -15,9 +15,9 @@ use Rattle.shadow_marks.specs.Iteration.{flags_at}
 use Rattle.private_copy.specs.declared.private.Private.{Private}
 use Rattle.private_copy.specs.Reductions.{reduction_of, reduction_after}
 use Rattle.private_copy.specs.Touched.{with_page, page_of}
-use Rattle.private_copy.specs.Copies.{PrivateCopy, last_after, Accessed, StandsWithin}
+use Rattle.private_copy.specs.Copies.{PrivateCopy, last_after, Accessed, CopyRecordsWithin}
 use Rattle.private_copy.specs.Shown.{copy_of}
-use Rattle.private_copy.specs.CopyLaw.{Follows, AccessesFollow}
+use Rattle.private_copy.specs.CopyLaw.{AccessEffect, AccessesFollow}
 use Rattle.private_copy.proofs.IterationLaws.{last_more, reduction_more, pages_more, at_last, actions_here, actions_other}
 
 -- the flags at an element
@@ -77,7 +77,7 @@ reduction_step old new runs accesses access e done was false is =
 
 -- one access more
 step : (old new : PrivateCopy) (runs : List (List Access)) (accesses : List Access) (access : Access) →
-    StandsWithin old runs accesses → Accessed old access new → StandsWithin new runs (accesses ++ access ∷ [])
+    CopyRecordsWithin old runs accesses → Accessed old access new → CopyRecordsWithin new runs (accesses ++ access ∷ [])
 step old new runs accesses access within done =
     let long : length new.start ≡ length old.start = ap length done.start in
     record {
@@ -98,24 +98,24 @@ step old new runs accesses access within done =
 
 -- and accesses in turn
 stands : (old new : Private) (runs : List (List Access)) (before more : List Access) →
-    StandsWithin (copy_of old) runs before → Effects Follows old more new → StandsWithin (copy_of new) runs (before ++ more)
+    CopyRecordsWithin (copy_of old) runs before → Effects AccessEffect old more new → CopyRecordsWithin (copy_of new) runs (before ++ more)
 stands old new runs before [] within same =
-    subst (λ (l : List Access). StandsWithin (copy_of new) runs l) (sym (append-nil before))
-    (subst (λ (p : Private). StandsWithin (copy_of p) runs before) (sym same) within)
+    subst (λ (l : List Access). CopyRecordsWithin (copy_of new) runs l) (sym (append-nil before))
+    (subst (λ (p : Private). CopyRecordsWithin (copy_of p) runs before) (sym same) within)
 stands old new runs before (access ∷ more) within effects =
     let next = step (copy_of old) (copy_of effects.0) runs before access within effects.1 in
-    subst (λ (l : List Access). StandsWithin (copy_of new) runs l) (append_assoc before (access ∷ []) more)
+    subst (λ (l : List Access). CopyRecordsWithin (copy_of new) runs l) (append_assoc before (access ∷ []) more)
     (stands effects.0 new runs (before ++ access ∷ []) more next effects.2)
 
-start : (old new : Private) (more : List Access) → Effects Follows old more new → (copy_of new).start ≡ (copy_of old).start
+start : (old new : Private) (more : List Access) → Effects AccessEffect old more new → (copy_of new).start ≡ (copy_of old).start
 start old new [] same = ap (λ (p : Private). (copy_of p).start) same
 start old new (access ∷ more) effects = start effects.0 new more effects.2 ∙ effects.1.start
 
-begun : (old new : Private) (more : List Access) → Effects Follows old more new → (copy_of new).begun ≡ (copy_of old).begun
+begun : (old new : Private) (more : List Access) → Effects AccessEffect old more new → (copy_of new).begun ≡ (copy_of old).begun
 begun old new [] same = ap (λ (p : Private). (copy_of p).begun) same
 begun old new (access ∷ more) effects = begun effects.0 new more effects.2 ∙ effects.1.begun
 
-serves : (old new : Private) (more : List Access) → Effects Follows old more new → (copy_of new).serves + length more ≡ (copy_of old).serves
+serves : (old new : Private) (more : List Access) → Effects AccessEffect old more new → (copy_of new).serves + length more ≡ (copy_of old).serves
 serves old new [] same = let h = ap (λ (p : Private). (copy_of p).serves) same in omega (arith, h)
 serves old new (access ∷ more) effects = let h = serves effects.0 new more effects.2 in let k = effects.1.serves in omega (arith, h, k)
 

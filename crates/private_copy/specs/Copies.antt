@@ -6,7 +6,7 @@ use Rattle.loop_core_model.specs.Committed.{last_value}
 use Rattle.loop_core_model.specs.Conflict.{at_element}
 use Rattle.loop_core_marks.specs.Flags.{flagged, kind_of}
 use Rattle.shadow_marks.specs.declared.iter_flags.IterFlags.{IterFlags}
-use Rattle.shadow_marks.specs.Iteration.{elements_of, flags_at, AreFlagsOf}
+use Rattle.shadow_marks.specs.Iteration.{element_count, flags_at, AreFlagsOf}
 use Rattle.private_copy.specs.declared.reduction.Reduction.{Reduction}
 use Rattle.private_copy.specs.Reductions.{reduction_of, reduction_after}
 use Rattle.private_copy.specs.Touched.{page_of, with_page, pages_after}
@@ -37,7 +37,7 @@ pub record Accessed (old : PrivateCopy) (access : Access) (new : PrivateCopy) : 
   pub words : new.words ≡ words_after access old.words
   pub mark : flags_at new.flags access.element ≡ flagged (flags_at old.flags access.element) (kind_of access.action)
   pub other_marks : (e : ℕ) → e ≢ access.element → flags_at new.flags e ≡ flags_at old.flags e
-  pub elements : elements_of new.flags ≡ elements_of old.flags
+  pub elements : element_count new.flags ≡ element_count old.flags
   pub last : new.last access.element ≡ last_after (old.last access.element) access.action (slice_index old.words access.element)
   pub other_lasts : (e : ℕ) → e ≢ access.element → new.last e ≡ old.last e
   pub reduction : new.reduction access.element ≡ reduction_after (old.reduction access.element) access.action
@@ -54,13 +54,13 @@ pub record Remembers (copy : PrivateCopy) (runs : List (List Access)) : Type 0 w
   pub pages : copy.pages ≡ pages_after [] (joined runs)
 
 -- the copy stands for these iterations, which ended
-pub record StandsFor (copy : PrivateCopy) (runs : List (List Access)) : Type 0 where
+pub record CopyRecords (copy : PrivateCopy) (runs : List (List Access)) : Type 0 where
   pub ended : copy.under_way ≡ false
   pub remembers : Remembers copy runs
 
 -- it stands for these iterations, which ended, and one under way, which made these accesses: the words that it shows
 -- are the start words changed by them alone
-pub record StandsWithin (copy : PrivateCopy) (runs : List (List Access)) (accesses : List Access) : Type 0 where
+pub record CopyRecordsWithin (copy : PrivateCopy) (runs : List (List Access)) (accesses : List Access) : Type 0 where
   pub under_way : copy.under_way ≡ true
   pub words : copy.words ≡ words_after_all accesses copy.start
   pub flags : AreFlagsOf (λ e. actions_at e accesses) copy.flags

@@ -3,13 +3,13 @@ use Rattle.std.specs.Prelude.{◌≡◌, ℕ, ◌+◌, true, false, ◌==◌, if
 use Rattle.std.specs.List.{range_with_len}
 use Rattle.private_copy.specs.declared.page.Cell.{Cell}
 use Rattle.private_copy.specs.declared.private.Private.{Private}
-use Rattle.shadow_marks.specs.Iteration.{elements_of, IsEmptied}
+use Rattle.shadow_marks.specs.Iteration.{element_count, IsEmptied}
 use Rattle.private_copy.specs.Cells.{cell_at, reduction_in}
 use Rattle.private_copy.specs.Copies.{PrivateCopy}
 
 -- what an iteration of a number sees of an element: what it wrote there, or the start word
-abbrev pub seen : Cell → (number word : ℕ) → ℕ
-seen cell number word = if cell.writer == number then cell.value else word
+abbrev pub seen_word : Cell → (number word : ℕ) → ℕ
+seen_word cell number word = if cell.writer == number then cell.value else word
 
 -- what the last iteration that writes an element left there
 abbrev pub last_in : Cell → Option ℕ
@@ -19,7 +19,7 @@ last_in cell = if cell.writer == 0 then None else Some cell.value
 abbrev pub copy_of : Private → PrivateCopy
 copy_of p = record {
   start = p.start.now;
-  words = map (λ e. seen (cell_at p.pages e) p.begun (slice_index p.start.now e)) (range_with_len 0 (length p.start.now));
+  words = map (λ e. seen_word (cell_at p.pages e) p.begun (slice_index p.start.now e)) (range_with_len 0 (length p.start.now));
   flags = p.flags;
   last = λ e. last_in (cell_at p.pages e);
   reduction = λ e. reduction_in (cell_at p.pages e);
@@ -34,7 +34,7 @@ pub record IsBegun (old : PrivateCopy) (need : ℕ) (new : PrivateCopy) : Type 0
   pub start : new.start ≡ old.start
   pub words : new.words ≡ old.start
   pub flags : IsEmptied new.flags
-  pub elements : elements_of new.flags ≡ length old.start
+  pub elements : element_count new.flags ≡ length old.start
   pub last : (e : ℕ) → new.last e ≡ old.last e
   pub reduction : (e : ℕ) → new.reduction e ≡ old.reduction e
   pub pages : new.pages ≡ old.pages

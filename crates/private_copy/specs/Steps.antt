@@ -2,7 +2,7 @@
 use Rattle.std.specs.Prelude.{◌≡◌, ◌≢◌, ℕ, ◌+◌, ◌<◌, true}
 use Rattle.loop_core_marks.specs.Flags.{flagged}
 use Rattle.loop_core_marks.specs.declared.access.Access.{Access as Kind}
-use Rattle.shadow_marks.specs.Iteration.{elements_of, flags_at}
+use Rattle.shadow_marks.specs.Iteration.{element_count, flags_at}
 use Rattle.private_copy.specs.declared.page.Cell.{Cell}
 use Rattle.private_copy.specs.declared.private.Private.{Private}
 use Rattle.private_copy.specs.Cells.{cell_at}
@@ -16,14 +16,14 @@ pub record IsAdmitted (old : Private) (e : ℕ) (kind : Kind) (new : Private) : 
   pub placed : has_page new.pages.order (page_of e) ≡ true
   pub mark : flags_at new.flags e ≡ flagged (flags_at old.flags e) kind
   pub other_marks : (other : ℕ) → other ≢ e → flags_at new.flags other ≡ flags_at old.flags other
-  pub elements : elements_of new.flags ≡ elements_of old.flags
+  pub elements : element_count new.flags ≡ element_count old.flags
   pub serves : new.serves + 1 ≡ old.serves
   pub begun : new.begun ≡ old.begun
   pub some : 0 < new.begun
   pub under_way : new.under_way ≡ old.under_way
 
 -- the cell of an element is this, and all else is as it was
-pub record IsKept (old : Private) (e : ℕ) (kept : Cell) (new : Private) : Type 0 where
+pub record CellIsSet (old : Private) (e : ℕ) (kept : Cell) (new : Private) : Type 0 where
   pub start : new.start.now ≡ old.start.now
   pub cell : cell_at new.pages e ≡ kept
   pub others : (other : ℕ) → other ≢ e → cell_at new.pages other ≡ cell_at old.pages other

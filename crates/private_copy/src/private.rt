@@ -3,7 +3,7 @@
 ghost use Rattle.std.specs.Prelude.{◌≡◌, ◌≢◌, ℕ, ◌+◌, ◌-◌, ◌*◌, ◌/◌, ◌^◌, ◌<◌, ◌≤◌, ◌++◌, ◌∷◌, [], false, true, min, length, slice_get, IfOk, OnErr, OnOk, List};
 ghost use Rattle.std.specs.List.{All};
 ghost use Rattle.array_maps.specs.Accesses.{Access};
-ghost use Rattle.shadow_marks.specs.Iteration.{elements_of, touched_count};
+ghost use Rattle.shadow_marks.specs.Iteration.{element_count, touched_count};
 ghost use Rattle.private_copy.specs.Cells.{total_of, cell_at};
 
 use crate::page::Cell;
@@ -30,7 +30,7 @@ pub struct Private<'a> {
     pub(crate) under_way: bool,
     ghost small: { length start.now ≤ 65536 },
     ghost fit: { All (λ word. word < 2 ^ 64) start.now },
-    ghost flagged: { elements_of flags ≡ length start.now },
+    ghost flagged: { element_count flags ≡ length start.now },
     ghost paged: { total_of pages ≡ (length start.now + 63) / 64 },
     ghost writers: { (e : ℕ) → (cell_at pages e).writer ≤ begun },
     ghost values: { (e : ℕ) → (cell_at pages e).value < 2 ^ 64 },
@@ -57,15 +57,15 @@ impl<'a> Private<'a> {
     ghost use Rattle.shadow_marks.specs.Standing.{ArePlanes, StandAt, StandFor, one_more};
     ghost use Rattle.shadow_marks.specs.Ending.{KeepsShape};
     ghost use Rattle.private_copy.specs.Reductions.{combination};
-    ghost use Rattle.private_copy.specs.Copies.{Accessed, StandsFor, StandsWithin};
+    ghost use Rattle.private_copy.specs.Copies.{Accessed, CopyRecords, CopyRecordsWithin};
     ghost use Rattle.private_copy.specs.Visits.{visits_of};
-    ghost use Rattle.private_copy.specs.Shown.{copy_of, seen, IsBegun, IsEnded};
+    ghost use Rattle.private_copy.specs.Shown.{copy_of, seen_word, IsBegun, IsEnded};
 
     /// A copy of these maps, which no iteration used. All page numbers are noted here.
     pub fn try_new(alloc: Global, start: &'a Maps) -> Result<Private<'a>, AllocError>
         ensures start { IfOk result (λ copy. (copy_of copy).start ≡ start.now.words) }
         ensures begun { IfOk result (λ copy. (copy_of copy).begun ≡ 0) }
-        ensures stands { IfOk result (λ copy. StandsFor (copy_of copy) []) }
+        ensures stands { IfOk result (λ copy. CopyRecords (copy_of copy) []) }
     {
         let start = words_of(start);
         let elements = start.len() as u32;
@@ -88,7 +88,7 @@ impl<'a> Private<'a> {
         requires count { (copy_of self.old).begun < 4294967295 }
         ensures err { OnErr result (copy_of self.new ≡ copy_of self.old) }
         ensures ok { OnOk result (IsBegun (copy_of self.old) need (copy_of self.new)) }
-        ensures stands { OnOk result ((runs : List (List Access)) → StandsFor (copy_of self.old) runs → StandsWithin (copy_of self.new) runs []) }
+        ensures stands { OnOk result ((runs : List (List Access)) → CopyRecords (copy_of self.old) runs → CopyRecordsWithin (copy_of self.new) runs []) }
     {
         self.pages.prepare(alloc, need)?;
         self.begun += 1;
@@ -106,10 +106,10 @@ impl<'a> Private<'a> {
         requires index { index < 4294967295 }
         ensures shape { KeepsShape planes.old planes.new }
         ensures marks { (e : ℕ) (marks : Marks) → StandAt planes.old e marks → StandAt planes.new e (merged marks (marks_of_one index (flags_at (copy_of self.old).flags e))) }
-        ensures visits { (visits : ℕ → List Visit) (runs : List (List Access)) (accesses : List Access) → StandsWithin (copy_of self.old) runs accesses → StandFor planes.old visits → StandFor planes.new (one_more visits index (λ e. actions_at e accesses)) }
-        ensures planes { (first : ℕ) (runs : List (List Access)) (accesses : List Access) → index ≡ first + length runs → StandsWithin (copy_of self.old) runs accesses → StandFor planes.old (visits_of first runs) → StandFor planes.new (visits_of first (runs ++ accesses ∷ [])) }
+        ensures visits { (visits : ℕ → List Visit) (runs : List (List Access)) (accesses : List Access) → CopyRecordsWithin (copy_of self.old) runs accesses → StandFor planes.old visits → StandFor planes.new (one_more visits index (λ e. actions_at e accesses)) }
+        ensures planes { (first : ℕ) (runs : List (List Access)) (accesses : List Access) → index ≡ first + length runs → CopyRecordsWithin (copy_of self.old) runs accesses → StandFor planes.old (visits_of first runs) → StandFor planes.new (visits_of first (runs ++ accesses ∷ [])) }
         ensures ended { IsEnded (copy_of self.old) (copy_of self.new) }
-        ensures stands { (runs : List (List Access)) (accesses : List Access) → StandsWithin (copy_of self.old) runs accesses → StandsFor (copy_of self.new) (runs ++ accesses ∷ []) }
+        ensures stands { (runs : List (List Access)) (accesses : List Access) → CopyRecordsWithin (copy_of self.old) runs accesses → CopyRecords (copy_of self.new) (runs ++ accesses ∷ []) }
     {
         planes.end_iteration(&mut self.flags, index);
         self.serves = 0;

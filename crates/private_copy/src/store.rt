@@ -10,13 +10,13 @@ use loop_core_marks::Access;
 impl<'a> Store for Private<'a> {
     ghost use Rattle.std.proofs.Common.{arith};
     ghost use Rattle.private_copy.specs.Shown.{copy_of};
-    ghost use Rattle.private_copy.specs.CopyLaw.{Follows};
+    ghost use Rattle.private_copy.specs.CopyLaw.{AccessEffect};
 
     ghost words = { λ copy. (copy_of copy).words };
 
     ghost serves = { λ copy. (copy_of copy).serves };
 
-    ghost effect = { Follows };
+    ghost effect = { AccessEffect };
 
     fn words_fit(&self) {
         let _begun = self.begun;
@@ -63,11 +63,11 @@ impl<'a> Store for Private<'a> {
 }
 
 impl<'a> Private<'a> {
-    ghost use Rattle.shadow_marks.specs.Iteration.{elements_of};
+    ghost use Rattle.shadow_marks.specs.Iteration.{element_count};
     ghost use Rattle.private_copy.specs.Cells.{cell_at, mixed_cell, left_cell};
     ghost use Rattle.private_copy.specs.Touched.{has_page, page_of};
     ghost use Rattle.private_copy.specs.Shown.{copy_of};
-    ghost use Rattle.private_copy.specs.Steps.{IsAdmitted, IsKept};
+    ghost use Rattle.private_copy.specs.Steps.{IsAdmitted, CellIsSet};
 
     /// Counts and marks an access, and tells the element's cell and the word that the iteration sees.
     #[inline]
@@ -98,7 +98,7 @@ impl<'a> Private<'a> {
         requires within { e < length self.old.start.now }
         requires placed { has_page self.old.pages.order (page_of e) ≡ true }
         requires cell { cell ≡ cell_at self.old.pages e }
-        ensures { IsKept self.old e (mixed_cell cell) self.new }
+        ensures { CellIsSet self.old e (mixed_cell cell) self.new }
     {
         let mixed = cell.combining.is_mixed();
         if mixed {
@@ -120,7 +120,7 @@ impl<'a> Private<'a> {
     fn leave(&mut self, e: u32, value: u64)
         requires within { e < length self.old.start.now }
         requires placed { has_page self.old.pages.order (page_of e) ≡ true }
-        ensures { IsKept self.old e (left_cell value self.old.begun) self.new }
+        ensures { CellIsSet self.old e (left_cell value self.old.begun) self.new }
     {
         let writer = self.begun;
         self.keep(
@@ -140,7 +140,7 @@ impl<'a> Private<'a> {
         requires within { e < length self.old.start.now }
         requires placed { has_page self.old.pages.order (page_of e) ≡ true }
         requires writer { cell.writer ≤ self.old.begun }
-        ensures { IsKept self.old e cell self.new }
+        ensures { CellIsSet self.old e cell self.new }
     {
         self.pages.set(e, cell);
     }

@@ -11,7 +11,7 @@ use Rattle.shadow_marks.specs.declared.element_flags.ElementFlags.{ElementFlags}
 use Rattle.shadow_marks.specs.declared.iter_flags.IterFlags.{IterFlags}
 use Rattle.shadow_marks.specs.declared.planes.Planes.{Planes}
 use Rattle.shadow_marks.specs.Kept.{flags_in}
-use Rattle.shadow_marks.specs.Iteration.{elements_of, flags_at, AreFlagsOf, IsEmptied, TakesFlags}
+use Rattle.shadow_marks.specs.Iteration.{element_count, flags_at, AreFlagsOf, IsEmptied, TakesFlags}
 use Rattle.shadow_marks.specs.Standing.{ArePlanes, StandAt, StandFor, one_more}
 use Rattle.shadow_marks.specs.Ending.{KeepsShape, Folds}
 
@@ -54,7 +54,7 @@ pub record IsFolded (old now : Planes) (start flags : IterFlags) (index e : ℕ)
 -- how far the end of an iteration has come
 pub record Comes (old now : Planes) (start flags : IterFlags) (index : ℕ) : Type 0 where
   pub shape : KeepsShape old now
-  pub elements : elements_of flags ≡ elements_of start
+  pub elements : element_count flags ≡ element_count start
   pub each : (e : ℕ) → Waits old now start flags e ⊎ IsFolded old now start flags index e
 
 pub begins : (old : Planes) (start : IterFlags) (index : ℕ) → ArePlanes old → Comes old old start start index
@@ -126,14 +126,14 @@ pub all_come : (old now : Planes) (start flags : IterFlags) (index : ℕ) → Is
 all_come old now start flags index emptied comes e marks stand = all_here old now start flags index e marks (emptied.each e) (comes.each e) stand
 
 -- so planes that stood for iterations stand for one more
-pub stand_for_more : (old now : Planes) (start : IterFlags) (index : ℕ) → elements_of start ≡ old.elements → KeepsShape old now →
+pub stand_for_more : (old now : Planes) (start : IterFlags) (index : ℕ) → element_count start ≡ old.elements → KeepsShape old now →
     ((e : ℕ) (marks : Marks) → StandAt old e marks → StandAt now e (merged marks (marks_of_one index (flags_at start e)))) →
     (visits : ℕ → List Visit) (actions : ℕ → List Action) → AreFlagsOf actions start → StandFor old visits → StandFor now (one_more visits index actions)
 stand_for_more old now start index elements shape ended visits actions flags stand = record {
   whole = shape.whole;
   marks = λ e h.
       let within : e < old.elements = omega (arith, shape.elements) in
-      let inside : e < elements_of start = omega (arith, elements) in
+      let inside : e < element_count start = omega (arith, elements) in
       let visit : Visit = record { index = index; actions = actions e } in
       let same : merged (marks_of (visits e)) (marks_of_one index (flags_at start e)) ≡ marks_of (visits e ++ visit ∷ []) =
       ap (λ (f : Flags). merged (marks_of (visits e)) (marks_of_one index f)) (flags e inside)

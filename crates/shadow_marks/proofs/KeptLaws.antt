@@ -11,7 +11,7 @@ use Rattle.loop_core_marks.proofs.FlagLaws.{same_flags}
 use Rattle.shadow_marks.specs.declared.element_flags.Flag.{Flag}
 use Rattle.shadow_marks.specs.declared.element_flags.Flag.TheVariants.{Wrote, Looked, Plain, By}
 use Rattle.shadow_marks.specs.declared.element_flags.ElementFlags.{ElementFlags}
-use Rattle.shadow_marks.specs.Kept.{place_by, place_of, flags_in, with_flag, with_look}
+use Rattle.shadow_marks.specs.Kept.{place_by, bit_place, flags_in, with_flag, with_read}
 use Rattle.shadow_marks.proofs.BitLaws.{bit_ored, same_place}
 
 or_true : (b : Bool) → (b || true) ≡ true
@@ -41,7 +41,7 @@ changed : (bits mask place : ℕ) → mask ≡ 2 ^ place → eqb (bit_at (bit_or
 changed bits mask place m =
     bit_ored bits mask place place m ∙ ap (λ b. eqb (bit_at bits place) 1 || b) (eq-eqb place place refl) ∙ or_true (eqb (bit_at bits place) 1)
 
-pub flag_ored : (kept : ElementFlags) (flag : Flag) (mask : ℕ) → mask ≡ 2 ^ place_of flag →
+pub flag_ored : (kept : ElementFlags) (flag : Flag) (mask : ℕ) → mask ≡ 2 ^ bit_place flag →
     flags_in (record { bits = bit_or kept.bits mask }) ≡ with_flag flag (flags_in kept)
 flag_ored kept Wrote mask m = same_flags _ _ (record {
   wrote = changed kept.bits mask 0 m;
@@ -71,7 +71,7 @@ flag_ored kept (By op) mask m = same_flags _ _ (record {
 })
 
 -- a look
-pub look_after_write : (flags : Flags) → flags.wrote ≡ true → flags ≡ with_look flags
+pub look_after_write : (flags : Flags) → flags.wrote ≡ true → flags ≡ with_read flags
 look_after_write flags wrote = same_flags _ _ (record {
   wrote = refl;
   looked = sym (ap (λ b. flags.looked || not b) wrote ∙ or-false flags.looked);
@@ -79,7 +79,7 @@ look_after_write flags wrote = same_flags _ _ (record {
   by = λ op. refl;
 })
 
-pub look_before_write : (flags : Flags) → flags.wrote ≡ false → with_flag Looked flags ≡ with_look flags
+pub look_before_write : (flags : Flags) → flags.wrote ≡ false → with_flag Looked flags ≡ with_read flags
 look_before_write flags none = same_flags _ _ (record {
   wrote = refl;
   looked = sym (ap (λ b. flags.looked || not b) none ∙ or_true flags.looked);

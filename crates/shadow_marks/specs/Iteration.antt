@@ -7,8 +7,8 @@ use Rattle.shadow_marks.specs.declared.iter_flags.IterFlags.{IterFlags}
 use Rattle.shadow_marks.specs.Kept.{flags_in, nothing_kept}
 
 -- how many elements there are
-abbrev pub elements_of : IterFlags → ℕ
-elements_of flags = length flags.cells.items
+abbrev pub element_count : IterFlags → ℕ
+element_count flags = length flags.cells.items
 
 -- how many of them were touched
 abbrev pub touched_count : IterFlags → ℕ
@@ -20,7 +20,7 @@ flags_at flags e = flags_in (slice_index_or flags.cells.items e nothing_kept)
 
 -- the flags are those of an iteration that did these actions at each element
 abbrev pub AreFlagsOf : (ℕ → List Action) → IterFlags → Type 0
-AreFlagsOf actions flags = (e : ℕ) → e < elements_of flags → flags_at flags e ≡ flags_of (actions e)
+AreFlagsOf actions flags = (e : ℕ) → e < element_count flags → flags_at flags e ≡ flags_of (actions e)
 
 -- no element was touched
 pub record IsEmptied (flags : IterFlags) : Type 0 where
@@ -29,8 +29,8 @@ pub record IsEmptied (flags : IterFlags) : Type 0 where
 
 -- one element's flags are taken out and emptied
 pub record TakesFlags (old new : IterFlags) (e : ℕ) (kept : ElementFlags) : Type 0 where
-  pub within : e < elements_of old
-  pub elements : elements_of new ≡ elements_of old
+  pub within : e < element_count old
+  pub elements : element_count new ≡ element_count old
   pub count : touched_count new + 1 ≡ touched_count old
   pub taken : flags_in kept ≡ flags_at old e
   pub emptied : flags_at new e ≡ no_flags
@@ -40,4 +40,4 @@ pub record TakesFlags (old new : IterFlags) (e : ℕ) (kept : ElementFlags) : Ty
 pub record TakesNone (old new : IterFlags) : Type 0 where
   pub was : IsEmptied old
   pub still : IsEmptied new
-  pub elements : elements_of new ≡ elements_of old
+  pub elements : element_count new ≡ element_count old

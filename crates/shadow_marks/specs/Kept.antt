@@ -19,19 +19,19 @@ place_by Xor = 6
 place_by AddH = 7
 
 -- the bit of a flag
-abbrev pub place_of : Flag → ℕ
-place_of Wrote = 0
-place_of Looked = 1
-place_of Plain = 2
-place_of (By op) = place_by op
+abbrev pub bit_place : Flag → ℕ
+bit_place Wrote = 0
+bit_place Looked = 1
+bit_place Plain = 2
+bit_place (By op) = place_by op
 
 -- whether a flag is kept
-abbrev pub holds : ElementFlags → Flag → Bool
-holds kept flag = bit_at kept.bits (place_of flag) == 1
+abbrev pub has_flag : ElementFlags → Flag → Bool
+has_flag kept flag = bit_at kept.bits (bit_place flag) == 1
 
 -- the flags that are kept
 abbrev pub flags_in : ElementFlags → Flags
-flags_in kept = record { wrote = holds kept Wrote; looked = holds kept Looked; plain = holds kept Plain; by = λ op. holds kept (By op) }
+flags_in kept = record { wrote = has_flag kept Wrote; looked = has_flag kept Looked; plain = has_flag kept Plain; by = λ op. has_flag kept (By op) }
 
 -- nothing is kept of an element that wasn't touched
 abbrev pub nothing_kept : ElementFlags
@@ -50,8 +50,8 @@ with_flag (By op) flags = record {
 }
 
 -- flags after a look, which is exposed where the iteration hasn't written
-abbrev pub with_look : Flags → Flags
-with_look flags = record { wrote = flags.wrote; looked = flags.looked || not flags.wrote; plain = flags.plain; by = flags.by }
+abbrev pub with_read : Flags → Flags
+with_read flags = record { wrote = flags.wrote; looked = flags.looked || not flags.wrote; plain = flags.plain; by = flags.by }
 
 -- whether an element is in a list
 abbrev pub has_element : List ℕ → ℕ → Bool

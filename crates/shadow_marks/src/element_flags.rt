@@ -3,7 +3,7 @@
 ghost use Rattle.std.specs.Prelude.{◌≡◌, false, not, ◌&&◌, ◌==◌, ◌^◌};
 ghost use Rattle.array_maps.specs.declared.access.Op.{Op as Operator};
 ghost use Rattle.loop_core_marks.specs.Flags.{flagged};
-ghost use Rattle.shadow_marks.specs.Kept.{place_of, holds, flags_in, nothing_kept, with_flag, with_look};
+ghost use Rattle.shadow_marks.specs.Kept.{bit_place, has_flag, flags_in, nothing_kept, with_flag, with_read};
 
 use array_maps::Op;
 use loop_core_marks::Access;
@@ -51,7 +51,7 @@ impl ElementFlags {
     /// Whether a flag is set.
     #[inline]
     pub(crate) fn has(self, flag: Flag) -> bool
-        ensures { result ≡ holds self flag }
+        ensures { result ≡ has_flag self flag }
     {
         self.bits & bit(flag) != 0
     }
@@ -96,7 +96,7 @@ impl ElementFlags {
     /// The flags after a look at the element, which is exposed where the iteration hasn't written it.
     #[inline]
     fn look(self) -> ElementFlags
-        ensures { flags_in result ≡ with_look (flags_in self) }
+        ensures { flags_in result ≡ with_read (flags_in self) }
     {
         if self.has(Flag::Wrote) {
             return self;
@@ -118,7 +118,7 @@ impl ElementFlags {
 /// A flag's bit.
 #[inline]
 fn bit(flag: Flag) -> u8
-    ensures { result ≡ 2 ^ place_of flag }
+    ensures { result ≡ 2 ^ bit_place flag }
 {
     match flag {
         Flag::Wrote => 1,

@@ -3,7 +3,7 @@
 ghost use Rattle.std.specs.Prelude.{◌≡◌, ◌+◌, ◌<◌, ℕ, List, length, slice_index, min, max};
 ghost use Rattle.array_maps.specs.Accesses.{Action};
 ghost use Rattle.loop_core_marks.specs.Marks.{Visit, Marks, marks_of_one, merged};
-ghost use Rattle.shadow_marks.specs.Iteration.{elements_of, flags_at, AreFlagsOf, IsEmptied};
+ghost use Rattle.shadow_marks.specs.Iteration.{element_count, flags_at, AreFlagsOf, IsEmptied};
 ghost use Rattle.shadow_marks.specs.Kept.{flags_in};
 ghost use Rattle.shadow_marks.specs.Standing.{ArePlanes, StandAt, StandFor, one_more};
 ghost use Rattle.shadow_marks.specs.Bits.{ChangesNumber};
@@ -20,13 +20,13 @@ impl Planes {
     /// emptied. Planes and flags are for as many elements, and the index is below 4,294,967,295.
     pub fn end_iteration(&mut self, flags: &mut IterFlags, index: u32)
         requires whole { ArePlanes self.old }
-        requires elements { elements_of flags.old ≡ self.old.elements }
+        requires elements { element_count flags.old ≡ self.old.elements }
         requires index { index < NO_WRITER }
         ensures shape { KeepsShape self.old self.new }
         ensures marks { (e : ℕ) (marks : Marks) → StandAt self.old e marks → StandAt self.new e (merged marks (marks_of_one index (flags_at flags.old e))) }
         ensures visits { (visits : ℕ → List Visit) (actions : ℕ → List Action) → AreFlagsOf actions flags.old → StandFor self.old visits → StandFor self.new (one_more visits index actions) }
         ensures emptied { IsEmptied flags.new }
-        ensures same_elements { elements_of flags.new ≡ elements_of flags.old }
+        ensures same_elements { element_count flags.new ≡ element_count flags.old }
     {
         while let Some((e, kept)) = flags.take() {
             self.fold(e, kept, index);

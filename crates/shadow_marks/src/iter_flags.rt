@@ -24,11 +24,11 @@ pub struct IterFlags {
 impl IterFlags {
     ghost use Rattle.std.specs.Prelude.{◌≢◌, ◌+◌, ◌||◌, IfOk, MatchOption};
     ghost use Rattle.loop_core_marks.specs.Flags.{flagged};
-    ghost use Rattle.shadow_marks.specs.Iteration.{elements_of, touched_count, flags_at, IsEmptied, TakesFlags, TakesNone};
+    ghost use Rattle.shadow_marks.specs.Iteration.{element_count, touched_count, flags_at, IsEmptied, TakesFlags, TakesNone};
 
     /// Flags for so many elements, none of them touched. All room that an iteration needs is made here.
     pub fn try_new(alloc: Global, elements: u32) -> Result<IterFlags, AllocError>
-        ensures elements { IfOk result (λ flags. elements_of flags ≡ elements) }
+        ensures elements { IfOk result (λ flags. element_count flags ≡ elements) }
         ensures emptied { IfOk result IsEmptied }
     {
         Ok(IterFlags {
@@ -41,11 +41,11 @@ impl IterFlags {
     /// touched since the flags were emptied: so it is where fewer than 4,096 marks were made.
     #[inline]
     pub fn mark(&mut self, e: u32, access: Access)
-        requires in_range { e < elements_of self.old }
+        requires in_range { e < element_count self.old }
         requires room { touched_count self.old < MAX_MARKS }
         ensures here { flags_at self.new e ≡ flagged (flags_at self.old e) access }
         ensures others { (other : ℕ) → other ≢ e → flags_at self.new other ≡ flags_at self.old other }
-        ensures elements { elements_of self.new ≡ elements_of self.old }
+        ensures elements { element_count self.new ≡ element_count self.old }
         ensures count { touched_count self.new ≤ touched_count self.old + 1 }
     {
         let before = self.cells[e as usize];
@@ -56,7 +56,7 @@ impl IterFlags {
     /// Whether an element, which is in range, was touched since the flags were emptied.
     #[inline]
     pub fn is_touched(&self, e: u32) -> bool
-        requires { e < elements_of self.now }
+        requires { e < element_count self.now }
         ensures { result ≡ ((flags_at self.now e).plain || (flags_at self.now e).wrote) }
     {
         let kept = self.cells[e as usize];
@@ -66,7 +66,7 @@ impl IterFlags {
     /// Lists an element as touched, where its flags don't tell that it is.
     #[inline]
     fn touch(&mut self, e: u32)
-        requires in_range { e < elements_of self.old }
+        requires in_range { e < element_count self.old }
         requires room { touched_count self.old < MAX_MARKS }
         ensures listed { has_element self.new.touched.items e ≡ true }
         ensures cells { self.new.cells ≡ self.old.cells }

@@ -5,14 +5,14 @@ use Rattle.std.specs.List.{sum}
 use Rattle.array_maps.specs.MapList.{MapList, AreWords}
 use Rattle.bpf_insn_types.specs.Program.{Program}
 use Rattle.bpf_step_model.specs.State.{Machine, LoopCall, main_entry}
-use Rattle.bpf_step_model.specs.Run.{Ending, Ended, followed, Turn, Exit, Loop, Refused, Stretch, run}
+use Rattle.bpf_step_model.specs.Run.{BoundedResult, Ended, followed, StopReason, Exit, Loop, Refused, RunSegment, run}
 use Rattle.bpf_step_model.specs.LoopInOrder.{Looped, loop_in_order}
-use Rattle.bpf_step_model.specs.ProgramInOrder.{LoopMade, resumed, after_loop, after_turn, after_stretch, main_from, program_in_order}
-use Rattle.bpf_verify_sound.specs.Soundness.{IsSoundProgram, AreMapWords, IsKnownCall, EachProgramEnds, LoopEnds, ProgramEnds, EachCountIsSmall, most_from, most_after}
+use Rattle.bpf_step_model.specs.ProgramInOrder.{LoopMade, resumed, after_loop, after_stop, after_segment, main_from, program_in_order}
+use Rattle.bpf_verify_sound.specs.Soundness.{IsSoundProgram, AreMapWords, OverApproximatesCall, EachProgramEnds, LoopEnds, ProgramEnds, EachCountIsSmall, most_from, most_after}
 use Rattle.bpf_step.specs.declared.main_function.Turned.{Turned}
 use Rattle.bpf_step.specs.declared.main_function.Turned.TheVariants as turned
 use Rattle.bpf_step.specs.Mains.{MainOf, IsAt, Waits}
-use Rattle.bpf_step.specs.Turns.{IsFilled, TurnsTo, RanMain}
+use Rattle.bpf_step.specs.Turns.{IsFilled, StopsAs, RanMain}
 use Rattle.bpf_step.proofs.Limits.{few_slots, few_steps, few_counts, map_words}
 use Rattle.loop_core_model.specs.declared.verdict.LoopReport.{LoopReport}
 use Rattle.loop_core_model.specs.declared.verdict.Verdict.{Verdict}
@@ -42,7 +42,7 @@ program_ends {program} laws argument small maps sizes count fit =
     (map_words program maps.words (count ∙ ap (λ (sizes : List ℕ). sum sizes) sizes) fit)
 
 -- before a turn the report is what main still does, behind the lines so far
-pub record StillRuns (line_of : LoopMade → Ending LoopReport) (whole : Ending Reported) (program : Program) (main : MainOf) (first now : MapList) (lines : List LoopReport) : Type 0 where
+pub record StillRuns (line_of : LoopMade → BoundedResult LoopReport) (whole : BoundedResult Reported) (program : Program) (main : MainOf) (first now : MapList) (lines : List LoopReport) : Type 0 where
   pub laws : Laws program
   pub same : main.program ≡ program
   pub m : Machine
@@ -55,7 +55,7 @@ pub record StillRuns (line_of : LoopMade → Ending LoopReport) (whole : Ending 
   pub kept : now.sizes ≡ first.sizes
 
 -- as it does at the beginning
-pub starts : (line_of : LoopMade → Ending LoopReport) (program : Program) (argument : ℕ) (main : MainOf) (maps : MapList) {lines : List LoopReport} → Laws program
+pub starts : (line_of : LoopMade → BoundedResult LoopReport) (program : Program) (argument : ℕ) (main : MainOf) (maps : MapList) {lines : List LoopReport} → Laws program
     → main.program ≡ program → IsAt main (main_entry argument) → maps.sizes ≡ program.sizes → length maps.words ≡ sum maps.sizes → AreWords maps.words → lines ≡ []
     → StillRuns line_of (reported_with line_of (program_in_order program 4096 argument maps.words)) program main maps maps lines
 unfolding program_in_order
@@ -74,13 +74,13 @@ starts line_of program argument main maps laws same at sizes count fit none_told
 }
 
 -- behind a turn
-pub record Came (line_of : LoopMade → Ending LoopReport) (whole : Ending Reported) (program : Program) (slot : ℕ) (turn : Turn) (words : List ℕ) (lines : List LoopReport) : Type 0 where
+pub record Came (line_of : LoopMade → BoundedResult LoopReport) (whole : BoundedResult Reported) (program : Program) (slot : ℕ) (turn : StopReason) (words : List ℕ) (lines : List LoopReport) : Type 0 where
   pub turns : ℕ
   pub few : most_after program turn ≤ turns
   pub fewer : most_after program turn < most_from program slot
-  pub rest : whole ≡ told_behind line_of lines (after_turn program 4096 (main_from program 4096 turns) turn words)
+  pub rest : whole ≡ told_behind line_of lines (after_stop program 4096 (main_from program 4096 turns) turn words)
 
-came_with : (line_of : LoopMade → Ending LoopReport) (whole : Ending Reported) (program : Program) (at : ℕ) (words : List ℕ) (lines : List LoopReport) (m : Machine) (turns : ℕ) (s : Stretch)
+came_with : (line_of : LoopMade → BoundedResult LoopReport) (whole : BoundedResult Reported) (program : Program) (at : ℕ) (words : List ℕ) (lines : List LoopReport) (m : Machine) (turns : ℕ) (s : RunSegment)
     → m.slot ≡ at → most_from program m.slot ≤ turns → run program 4096 m words ≡ Ended s
     → (0 < s.steps) × (s.steps + most_after program s.turn ≤ most_from program m.slot)
     → whole ≡ told_behind line_of lines (main_from program 4096 turns m words)
@@ -96,36 +96,36 @@ came_with line_of whole program at words lines m (suc turns) s slot enough told 
       turns = turns;
       few = omega (arith, some, most, enough);
       fewer = subst (λ (at : ℕ). most_after program s.turn < most_from program at) slot (omega (arith, some, most));
-      rest = rest ∙ ap (λ (e : Ending Stretch). told_behind line_of lines (followed (after_stretch program 4096 (main_from program 4096 turns)) e)) told;
+      rest = rest ∙ ap (λ (e : BoundedResult RunSegment). told_behind line_of lines (followed (after_segment program 4096 (main_from program 4096 turns)) e)) told;
     }
 
 -- a loop in order leaves words again
-looped_words : EachProgramEnds → EachCountIsSmall → (program : Program) → IsSoundProgram program → (call : LoopCall) → IsKnownCall program call → (words : List ℕ) → AreMapWords program words
+looped_words : EachProgramEnds → EachCountIsSmall → (program : Program) → IsSoundProgram program → (call : LoopCall) → OverApproximatesCall program call → (words : List ℕ) → AreMapWords program words
     → (l : Looped) → loop_in_order program 4096 call words ≡ Ended l → AreMapWords program l.words
 looped_words laws counts program sound call known words fit l told =
-    (subst (λ (e : Ending Looped). LoopEnds program call e) told (laws.loops program sound call known 4096 (few_counts counts program call sound.accepted) words fit)).1
+    (subst (λ (e : BoundedResult Looped). LoopEnds program call e) told (laws.loops program sound call known 4096 (few_counts counts program call sound.accepted) words fit)).1
 
 -- a turn that was told is a loop, with its call
-record IsLoop (main : MainOf) (turn : Turn) (call : LoopCall) : Type 0 where
+record IsLoop (main : MainOf) (turn : StopReason) (call : LoopCall) : Type 0 where
   made : LoopCall
   next : Machine
   turn_is : turn ≡ Loop made next
   filled : IsFilled main.program made call
-  known : IsKnownCall main.program call
+  known : OverApproximatesCall main.program call
   waits : Waits main next
 
-is_loop : (main : MainOf) (turn : Turn) (call : LoopCall) → TurnsTo main turn (turned.Loop call) → IsLoop main turn call
+is_loop : (main : MainOf) (turn : StopReason) (call : LoopCall) → StopsAs main turn (turned.Loop call) → IsLoop main turn call
 is_loop main (Loop made next) call turns = record { made = made; next = next; turn_is = refl; filled = turns.0; known = turns.1; waits = turns.2 }
 is_loop main (Exit ret) call turns = absurd turns
 is_loop main (Refused slot answer next) call turns = absurd turns
 
 -- or a refused call
-record IsRefused (main : MainOf) (turn : Turn) (slot : ℕ) (answer : ℤ) : Type 0 where
+record IsRefused (main : MainOf) (turn : StopReason) (slot : ℕ) (answer : ℤ) : Type 0 where
   next : Machine
   turn_is : turn ≡ Refused slot answer next
   at : IsAt main next
 
-is_refused : (main : MainOf) (turn : Turn) (slot : ℕ) (answer : ℤ) → TurnsTo main turn (turned.Refused slot answer) → IsRefused main turn slot answer
+is_refused : (main : MainOf) (turn : StopReason) (slot : ℕ) (answer : ℤ) → StopsAs main turn (turned.Refused slot answer) → IsRefused main turn slot answer
 is_refused main (Refused slot answer next) at told turns = record {
   next = next;
   turn_is = ap (λ (s : ℕ). Refused s answer next) (sym turns.0) ∙ ap (λ (a : ℤ). Refused at a next) (sym turns.1);
@@ -135,7 +135,7 @@ is_refused main (Loop made next) at told turns = absurd turns
 is_refused main (Exit ret) at told turns = absurd turns
 
 -- or main's end
-is_exit : (main : MainOf) (turn : Turn) (n : ℕ) → TurnsTo main turn (turned.Exit n) → turn ≡ Exit n
+is_exit : (main : MainOf) (turn : StopReason) (n : ℕ) → StopsAs main turn (turned.Exit n) → turn ≡ Exit n
 is_exit main (Exit ret) n turns = ap Exit (sym turns)
 is_exit main (Loop made next) n turns = absurd turns
 is_exit main (Refused slot answer next) n turns = absurd turns
@@ -144,7 +144,7 @@ is_exit main (Refused slot answer next) n turns = absurd turns
 abbrev pub NextTurn : MainOf → MapList → Turned → MainOf → MapList → Type 0
 NextTurn main now turn after new = (m : Machine) → IsAt main m → RanMain words_of map_effect m now turn after new
 
-module _ {line_of : LoopMade → Ending LoopReport} {whole : Ending Reported} {program : Program} {main : MainOf} {first now : MapList} {lines : List LoopReport}
+module _ {line_of : LoopMade → BoundedResult LoopReport} {whole : BoundedResult Reported} {program : Program} {main : MainOf} {first now : MapList} {lines : List LoopReport}
     (still : StillRuns line_of whole program main first now lines) where
   -- main takes at most so many instructions more
   pub few_left : most_from main.program main.slot ≤ 4096
@@ -184,7 +184,7 @@ module _ {line_of : LoopMade → Ending LoopReport} {whole : Ending Reported} {p
       record {
         sizes = still.sizes;
         told = came.rest
-            ∙ ap (λ (t : Turn). told_behind line_of lines (after_turn program 4096 (main_from program 4096 came.turns) t new.words)) turn
+            ∙ ap (λ (t : StopReason). told_behind line_of lines (after_stop program 4096 (main_from program 4096 came.turns) t new.words)) turn
             ∙ ap (λ (ls : List LoopReport). Ended (record { ret = ret; loops = ls; words = new.words })) (last_line lines ∙ sym all)
             ∙ ap (λ (n : ℕ). Ended (record { ret = n; loops = report.loops.items; words = new.words })) (sym returns);
         kept = turn_keeps after new (turned.Exit ret) ran;
@@ -200,7 +200,7 @@ module _ {line_of : LoopMade → Ending LoopReport} {whole : Ending Reported} {p
       let ran = next still.m still.at in
       let came = came after new (turned.Refused slot answer) same ran in
       let this = is_refused after ran.stretch.turn slot answer ran.turns in
-      let few = subst (λ (t : Turn). most_after program t ≤ came.turns) this.turn_is came.few in
+      let few = subst (λ (t : StopReason). most_after program t ≤ came.turns) this.turn_is came.few in
       let made : LoopMade = record { slot = slot; answer = answer; words = new.words; call = None } in
       let line : LoopReport = record { slot = slot; answer = answer; verdict = verdicts.Refused } in
       let goes_on = main_from program 4096 came.turns this.next new.words in
@@ -212,7 +212,7 @@ module _ {line_of : LoopMade → Ending LoopReport} {whole : Ending Reported} {p
         turns = came.turns;
         enough = subst (λ (at : ℕ). most_from program at ≤ came.turns) (sym this.at.stands.slot) few;
         rest = came.rest
-            ∙ ap (λ (t : Turn). told_behind line_of lines (after_turn program 4096 (main_from program 4096 came.turns) t new.words)) this.turn_is
+            ∙ ap (λ (t : StopReason). told_behind line_of lines (after_stop program 4096 (main_from program 4096 came.turns) t new.words)) this.turn_is
             ∙ one_line line_of lines made line goes_on (refused_line slot answer new.words)
             ∙ ap (λ (a : ℤ). told_behind line_of (lines ++ record { slot = slot; answer = a; verdict = verdicts.Refused } ∷ []) goes_on) (sym is_answer)
             ∙ ap (λ (ls : List LoopReport). told_behind line_of ls goes_on) (sym told);
@@ -227,7 +227,7 @@ module _ {line_of : LoopMade → Ending LoopReport} {whole : Ending Reported} {p
   refusal_lessens {after} {new} {slot} {answer} same next =
       let ran = next still.m still.at in
       let this = is_refused after ran.stretch.turn slot answer ran.turns in
-      let fewer = subst (λ (t : Turn). most_after program t < most_from program main.slot) this.turn_is (came after new (turned.Refused slot answer) same ran).fewer in
+      let fewer = subst (λ (t : StopReason). most_after program t < most_from program main.slot) this.turn_is (came after new (turned.Refused slot answer) same ran).fewer in
       subst (λ (at : ℕ). most_from program at < most_from program main.slot) (sym this.at.stands.slot) fewer
 
   -- it called a loop: the maps are of the program's sizes
@@ -247,8 +247,8 @@ module _ {line_of : LoopMade → Ending LoopReport} {whole : Ending Reported} {p
       let is = same ∙ still.same in
       let this = is_loop after ran.stretch.turn call ran.turns in
       let filled = subst (λ (p : Program). IsFilled p this.made call) is this.filled in
-      let known = subst (λ (p : Program). IsKnownCall p call) is this.known in
-      let few = subst (λ (t : Turn). most_after program t ≤ came.turns) this.turn_is came.few in
+      let known = subst (λ (p : Program). OverApproximatesCall p call) is this.known in
+      let few = subst (λ (t : StopReason). most_after program t ≤ came.turns) this.turn_is came.few in
       let at : IsAt on (resumed this.next answer) = goes this.next this.waits in
       let fit = turn_fits after new (turned.Loop call) same ran in
       let ended : loop_in_order program 4096 this.made new.words ≡ Ended (record { answer = answer; words = left.words }) =
@@ -264,8 +264,8 @@ module _ {line_of : LoopMade → Ending LoopReport} {whole : Ending Reported} {p
         turns = came.turns;
         enough = subst (λ (at : ℕ). most_from program at ≤ came.turns) (sym at.stands.slot) few;
         rest = came.rest
-            ∙ ap (λ (t : Turn). told_behind line_of lines (after_turn program 4096 (main_from program 4096 came.turns) t new.words)) this.turn_is
-            ∙ ap (λ (e : Ending Looped). told_behind line_of lines (followed (after_loop (main_from program 4096 came.turns) this.made this.next new.words) e)) ended
+            ∙ ap (λ (t : StopReason). told_behind line_of lines (after_stop program 4096 (main_from program 4096 came.turns) t new.words)) this.turn_is
+            ∙ ap (λ (e : BoundedResult Looped). told_behind line_of lines (followed (after_loop (main_from program 4096 came.turns) this.made this.next new.words) e)) ended
             ∙ one_line line_of lines made its_line goes_on (looped.told this.made filled known fit)
             ∙ ap (λ (s : ℕ). told_behind line_of (lines ++ record { slot = s; answer = pos answer; verdict = verdict } ∷ []) goes_on) (sym (is_slot ∙ filled.slot))
             ∙ ap (λ (a : ℤ). told_behind line_of (lines ++ record { slot = slot; answer = a; verdict = verdict } ∷ []) goes_on) (sym is_answer)
@@ -282,5 +282,5 @@ module _ {line_of : LoopMade → Ending LoopReport} {whole : Ending Reported} {p
   loop_lessens {after} {on} {new} {call} {answer} same next goes =
       let ran = next still.m still.at in
       let this = is_loop after ran.stretch.turn call ran.turns in
-      let fewer = subst (λ (t : Turn). most_after program t < most_from program main.slot) this.turn_is (came after new (turned.Loop call) same ran).fewer in
+      let fewer = subst (λ (t : StopReason). most_after program t < most_from program main.slot) this.turn_is (came after new (turned.Loop call) same ran).fewer in
       subst (λ (at : ℕ). most_from program at < most_from program main.slot) (sym (goes this.next this.waits).stands.slot) fewer

@@ -10,7 +10,7 @@ use Rattle.loop_core_model.specs.Report.{report_in_order}
 use Rattle.spec_run.specs.declared.running.Report.{Report}
 
 -- what a run in order gives is what the program in order gives, from the old maps
-pub record RanInOrder (program : Program) (argument : ℕ) (old new : MapList) (report : Report) : Type 0 where
+pub record IsReportInOrder (program : Program) (argument : ℕ) (old new : MapList) (report : Report) : Type 0 where
   -- the old maps are of the program's sizes, and the new ones too
   pub sizes : old.sizes ≡ program.sizes
   pub kept : new.sizes ≡ old.sizes
@@ -18,8 +18,8 @@ pub record RanInOrder (program : Program) (argument : ℕ) (old new : MapList) (
   -- 4,096 instructions up to each turn, and an iteration at most as many
   pub told : report_in_order program 4096 argument old.words
       ≡ Ended (record { ret = report.ret; loops = report.loops.items; words = new.words })
-  -- that program ends, and each valid loop call that it makes is as is known
+  -- that program ends, and each valid loop call that it makes is within the abstract states
   pub calls : ProgramEnds program (program_in_order program 4096 argument old.words)
-  -- each iteration of a call that is as is known, on any words of the maps, isn't stuck: it ends within its callback's count
-  -- with 0 or 1
+  -- each iteration of a call within the abstract states, on any words of the maps, isn't stuck: it ends within its
+  -- callback's count with 0 or 1
   pub ends : EachIterationEnds program

@@ -1,7 +1,7 @@
 //! Running a program with its loops in order.
 
 ghost use Rattle.std.specs.Prelude.{◌≡◌, ◌≢◌, IfOk, OnErr, Err};
-ghost use Rattle.spec_run.specs.InOrder.{RanInOrder};
+ghost use Rattle.spec_run.specs.InOrder.{IsReportInOrder};
 
 use array_maps::{Maps, Store};
 use bpf_step::{Main, Turned};
@@ -30,7 +30,7 @@ fn run_on(
     argument: u64,
 ) -> Result<Report, AllocError>
     requires { maps.old.sizes ≡ program.now.sizes }
-    ensures { IfOk result (λ report. RanInOrder program.now argument maps.old maps.new report) }
+    ensures { IfOk result (λ report. IsReportInOrder program.now argument maps.old maps.new report) }
 {
     law_of_accepted_runs();
     law_of_accepted_programs();
@@ -73,7 +73,7 @@ pub fn run_in_order(
     maps: &mut Maps,
     argument: u64,
 ) -> Result<Report, RunError>
-    ensures ran { IfOk result (λ report. RanInOrder program.now argument maps.old maps.new report) }
+    ensures ran { IfOk result (λ report. IsReportInOrder program.now argument maps.old maps.new report) }
     ensures refused { OnErr result (maps.new ≡ maps.old) }
     ensures sizes { maps.old.sizes ≢ program.now.sizes → result ≡ Err RunError.Sizes }
     ensures only { result ≡ Err RunError.Sizes → maps.old.sizes ≢ program.now.sizes }

@@ -1,9 +1,9 @@
 //! Running a program whose loops may run in parallel.
 
 ghost use Rattle.std.specs.Prelude.{◌≡◌, ◌≢◌, ◌↔◌, IfOk, OnErr, Err};
-ghost use Rattle.bpf_verify_sound.specs.Soundness.{IsKnownCall};
+ghost use Rattle.bpf_verify_sound.specs.Soundness.{OverApproximatesCall};
 ghost use Rattle.loop_core_gather.specs.Gathered.{IsOutcome};
-ghost use Rattle.spec_run.specs.AsInOrder.{RanAsInOrder, RunsAsInOrder};
+ghost use Rattle.spec_run.specs.AsInOrder.{IsReportByTest, RunsAsInOrder};
 ghost use Rattle.spec_run_plan.specs.Plans.{IsPlan};
 
 use crate::running::Report;
@@ -30,7 +30,7 @@ fn run_call<R: Threads + Sync, G: Gate>(
     plan: &Plan,
     gate: &G,
 ) -> Result<LoopOutcome, AllocError>
-    requires known { IsKnownCall program.now call.now }
+    requires known { OverApproximatesCall program.now call.now }
     requires sizes { maps.now.sizes ≡ program.now.sizes }
     requires plan { IsPlan plan.now }
     ensures { IfOk result (λ o. IsOutcome plan.now.test program.now call.now maps.now o.verdict o.answer o.maps) }
@@ -69,7 +69,7 @@ fn run_with<R: Threads + Sync, G: Gate>(
 ) -> Result<Report, AllocError>
     requires sizes { maps.old.sizes ≡ program.now.sizes }
     requires plan { IsPlan plan.now }
-    ensures { IfOk result (λ report. RanAsInOrder plan.now.test program.now argument maps.old maps.new report) }
+    ensures { IfOk result (λ report. IsReportByTest plan.now.test program.now argument maps.old maps.new report) }
 {
     law_of_accepted_runs();
     law_of_accepted_programs();

@@ -14,7 +14,7 @@ use Rattle.loop_core_schedule.specs.Intervals.{blocks_of}
 use Rattle.loop_board.specs.History.{Legal}
 use Rattle.loop_board.specs.Seats.{BoardId, SeatRecord, new_seat, histories}
 use Rattle.loop_core_block.specs.Blocks.{BlockOf}
-use Rattle.loop_core_block.specs.Ran.{as_gathered, IsRunOf}
+use Rattle.loop_core_block.specs.Ran.{as_gathered, RecordsRun}
 use Rattle.spec_run_work.specs.Worked.{Worked}
 use Rattle.spec_run_work.specs.CompleteLaw.{WorkerOf, seats_of, blocks_of_all, IsWorkerOf, WorkersComplete}
 use Rattle.spec_run_work.proofs.StillWorks.{all_append}
@@ -35,7 +35,7 @@ not_both o a is_none is_some = let both : None ≡ Some a = sym is_none ∙ is_s
 
 module _ (test : Test) (program : Program) (call : LoopCall) (words : List ℕ) (bounds : List ℕ) (board : BoardId) where
   -- one worker, from a new seat on
-  pub worker_at : (old : SeatRecord) (w : WorkerOf) → old ≡ new_seat board → Worked bounds old w.seat w.blocks → AllByRecursion (IsRunOf test program call words) w.blocks →
+  pub worker_at : (old : SeatRecord) (w : WorkerOf) → old ≡ new_seat board → Worked bounds old w.seat w.blocks → AllByRecursion (RecordsRun test program call words) w.blocks →
       IsWorkerAt test program call words bounds board w
   worker_at old w fresh worked ran =
       let here : w.seat.board ≡ board = worked.did.board ∙ ap (λ (s : SeatRecord). s.board) fresh in
@@ -88,8 +88,8 @@ module _ (test : Test) (program : Program) (call : LoopCall) (words : List ℕ) 
     count = ap length are.seats_are ∙ length_seats are.workers ∙ are.count
 
     -- their blocks were run
-    pub ran : AllByRecursion (IsRunOf test program call words) blocks
-    ran = subst (λ (bs : List BlockOf). AllByRecursion (IsRunOf test program call words) bs) (sym are.blocks_are) (each_runs test program call words bounds are.workers (each_worker are.workers are.are))
+    pub ran : AllByRecursion (RecordsRun test program call words) blocks
+    ran = subst (λ (bs : List BlockOf). AllByRecursion (RecordsRun test program call words) bs) (sym are.blocks_are) (each_runs test program call words bounds are.workers (each_worker are.workers are.are))
 
     -- and are complete
     pub complete : WorkersComplete → split_fault bounds call.n ≡ None → call.n ≤ 8388608 → 0 < number → (claimed all : ℕ) → all ≡ blocks_of bounds →

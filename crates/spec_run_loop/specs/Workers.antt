@@ -11,8 +11,8 @@ use Rattle.spec_run_work.specs.CompleteLaw.{WorkerOf, seats_of, blocks_of_all, I
 use Rattle.spec_run_loop.specs.declared.worker.Worker.{Worker}
 
 -- a worker as contracts see it
-abbrev pub worker_of : Worker → WorkerOf
-worker_of w = record { seat = w.seat; blocks = map shown w.blocks.items }
+abbrev pub board_worker : Worker → WorkerOf
+board_worker w = record { seat = w.seat; blocks = map shown w.blocks.items }
 
 -- it is one whole worker at this board
 pub record IsWorkerAt (test : Test) (program : Program) (call : LoopCall) (words : List ℕ) (bounds : List ℕ) (board : BoardId) (w : WorkerOf) : Type 0 where

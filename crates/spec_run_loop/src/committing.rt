@@ -1,8 +1,8 @@
 //! What a gathered loop comes to.
 
 ghost use Rattle.std.specs.Prelude.{◌≡◌, length, slice_index, IfOk};
-ghost use Rattle.bpf_verify_sound.specs.Soundness.{IsKnownCall};
-ghost use Rattle.loop_core_gather.specs.Gathered.{Tells, IsOutcome};
+ghost use Rattle.bpf_verify_sound.specs.Soundness.{OverApproximatesCall};
+ghost use Rattle.loop_core_gather.specs.Gathered.{HasOutcome, IsOutcome};
 
 use crate::worker::is_worth_threads;
 use array_maps::Maps;
@@ -80,9 +80,9 @@ pub(crate) fn settle_in_threads<R: Threads + Sync, G: Gate>(
     gate: &G,
     test: Test,
 ) -> Result<LoopOutcome, AllocError>
-    requires known { IsKnownCall program.now call.now }
+    requires known { OverApproximatesCall program.now call.now }
     requires sizes { start.now.sizes ≡ program.now.sizes }
-    requires told { Tells test program.now call.now start.now.words gathered.now }
+    requires told { HasOutcome test program.now call.now start.now.words gathered.now }
     ensures { IfOk result (λ o. IsOutcome test program.now call.now start.now o.verdict o.answer o.maps) }
 {
     if gathered.verdict() == Verdict::Parallel {

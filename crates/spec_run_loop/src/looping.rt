@@ -1,12 +1,12 @@
 //! Running a loop.
 
 ghost use Rattle.std.specs.Prelude.{◌≡◌, ◌≢◌, ◌<◌, ◌≤◌, ◌↔◌, None, Err, IsTrue, All, map, IfOk, IfErr};
-ghost use Rattle.bpf_verify_sound.specs.Soundness.{IsKnownCall};
+ghost use Rattle.bpf_verify_sound.specs.Soundness.{OverApproximatesCall};
 ghost use Rattle.loop_core_blocks.specs.Split.{split_fault};
 ghost use Rattle.loop_core_blocks.specs.Gather.{gather_fault};
-ghost use Rattle.loop_core_block.specs.Ran.{IsRunOf};
+ghost use Rattle.loop_core_block.specs.Ran.{RecordsRun};
 ghost use Rattle.loop_core_block.specs.Shown.{shown};
-ghost use Rattle.loop_core_gather.specs.Gathered.{all_gathered, Tells, IsOutcome};
+ghost use Rattle.loop_core_gather.specs.Gathered.{all_gathered, HasOutcome, IsOutcome};
 ghost use Rattle.spec_run_loop.specs.Plans.{IsLoopPlan};
 
 use crate::committing::settle_in_threads;
@@ -43,12 +43,12 @@ fn gather_all<'a>(
     blocks: Vec<Block<'a>>,
     test: Test,
 ) -> Result<Gathered<'a>, RunError>
-    requires known { IsKnownCall program.now call.now }
+    requires known { OverApproximatesCall program.now call.now }
     requires sizes { start.now.sizes ≡ program.now.sizes }
     requires split { split_fault split.now call.now.n ≡ None }
-    requires ran { All (λ b. IsRunOf test program.now call.now start.now.words (shown b)) blocks.items }
+    requires ran { All (λ b. RecordsRun test program.now call.now start.now.words (shown b)) blocks.items }
     requires faultless { gather_fault split.now (all_gathered program.now call.now start.now.words (map shown blocks.items)) ≡ None }
-    ensures told { IfOk result (Tells test program.now call.now start.now.words) }
+    ensures told { IfOk result (HasOutcome test program.now call.now start.now.words) }
     ensures refused { IfErr result (λ e. e ≡ RunError.Memory) }
 {
     match gather(alloc, program, call, start, split, blocks, test) {
@@ -68,9 +68,9 @@ fn speculate_alone<'a, G: Gate>(
     gate: &G,
     test: Test,
 ) -> Result<Gathered<'a>, RunError>
-    requires known { IsKnownCall program.now call.now }
+    requires known { OverApproximatesCall program.now call.now }
     requires sizes { start.now.sizes ≡ program.now.sizes }
-    ensures told { IfOk result (Tells test program.now call.now start.now.words) }
+    ensures told { IfOk result (HasOutcome test program.now call.now start.now.words) }
     ensures refused { IfErr result (λ e. e ≡ RunError.Memory) }
 {
     let Ok(whole) = Split::even(call.n(), 1) else {
@@ -92,10 +92,10 @@ fn speculate<'a, R: Threads + Sync, G: Gate>(
     gate: &G,
     test: Test,
 ) -> Result<Gathered<'a>, RunError>
-    requires known { IsKnownCall program.now call.now }
+    requires known { OverApproximatesCall program.now call.now }
     requires sizes { start.now.sizes ≡ program.now.sizes }
     requires plan { IsLoopPlan workers split.now call.now.n }
-    ensures told { IfOk result (Tells test program.now call.now start.now.words) }
+    ensures told { IfOk result (HasOutcome test program.now call.now start.now.words) }
     ensures refused { IfErr result (λ e. e ≡ RunError.Memory) }
 {
     law_of_workers();
@@ -135,10 +135,10 @@ fn speculate_evenly<'a, R: Threads + Sync, G: Gate>(
     gate: &G,
     test: Test,
 ) -> Result<Gathered<'a>, RunError>
-    requires known { IsKnownCall program.now call.now }
+    requires known { OverApproximatesCall program.now call.now }
     requires sizes { start.now.sizes ≡ program.now.sizes }
     requires plan { IsLoopPlan workers split.now call.now.n }
-    ensures told { IfOk result (Tells test program.now call.now start.now.words) }
+    ensures told { IfOk result (HasOutcome test program.now call.now start.now.words) }
     ensures refused { IfErr result (λ e. e ≡ RunError.Memory) }
 {
     let blocks = worthwhile_blocks(call.n(), start, split, workers);
@@ -160,7 +160,7 @@ fn outcome_of<R: Threads + Sync, G: Gate>(
     gate: &G,
     test: Test,
 ) -> Result<LoopOutcome, RunError>
-    requires known { IsKnownCall program.now call.now }
+    requires known { OverApproximatesCall program.now call.now }
     requires sizes { start.now.sizes ≡ program.now.sizes }
     requires plan { IsLoopPlan workers split.now call.now.n }
     ensures outcome { IfOk result (λ o. IsOutcome test program.now call.now start.now o.verdict o.answer o.maps) }
@@ -202,7 +202,7 @@ pub fn run_loop<R: Threads + Sync, G: Gate>(
     gate: &G,
     test: Test,
 ) -> Result<LoopOutcome, RunError>
-    requires { IsKnownCall program.now call.now }
+    requires { OverApproximatesCall program.now call.now }
     ensures outcome { IfOk result (λ o. IsOutcome test program.now call.now start.now o.verdict o.answer o.maps) }
     ensures sizes { (result ≡ Err RunError.Sizes) ↔ (start.now.sizes ≢ program.now.sizes) }
     ensures plan { (result ≡ Err RunError.Plan) ↔ ((start.now.sizes ≡ program.now.sizes) × (¬ IsLoopPlan workers split.now call.now.n)) }

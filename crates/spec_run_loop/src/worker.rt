@@ -4,15 +4,15 @@ ghost use Rattle.std.specs.Prelude.{◌≡◌, ℕ, List, None, All, map, vec_le
 ghost use Rattle.bpf_insn_types.specs.Program.{Program};
 ghost use Rattle.bpf_step_model.specs.State.{LoopCall as Call};
 ghost use Rattle.loop_board.specs.Seats.{BoardId};
-ghost use Rattle.bpf_verify_sound.specs.Soundness.{IsKnownCall};
+ghost use Rattle.bpf_verify_sound.specs.Soundness.{OverApproximatesCall};
 ghost use Rattle.loop_core_blocks.specs.Split.{split_fault, even_bounds};
 ghost use Rattle.loop_core_blocks.specs.Gather.{gather_fault};
 ghost use Rattle.loop_core_schedule.specs.Intervals.{blocks_of};
 ghost use Rattle.loop_board.specs.Seats.{new_seat};
-ghost use Rattle.loop_core_block.specs.Ran.{IsRunOf};
+ghost use Rattle.loop_core_block.specs.Ran.{RecordsRun};
 ghost use Rattle.loop_core_block.specs.Shown.{shown};
 ghost use Rattle.loop_core_gather.specs.Gathered.{all_gathered};
-ghost use Rattle.spec_run_loop.specs.Workers.{worker_of, IsWorkerAt, AreOfWorkers};
+ghost use Rattle.spec_run_loop.specs.Workers.{board_worker, IsWorkerAt, AreOfWorkers};
 
 use array_maps::Maps;
 use bpf_step::LoopCall;
@@ -48,12 +48,12 @@ fn one_worker<'a, G: Gate>(
     gate: &G,
     test: Test,
 ) -> Result<Worker<'a>, AllocError>
-    requires known { IsKnownCall program.now call.now }
+    requires known { OverApproximatesCall program.now call.now }
     requires sizes { start.now.sizes ≡ program.now.sizes }
     requires split { split_fault split.now call.now.n ≡ None }
     requires seat { seat ≡ new_seat board.now }
     requires blocks { board.now.blocks ≡ blocks_of split.now }
-    ensures { IfOk result (λ w. IsWorkerAt test program.now call.now start.now.words split.now board.now (worker_of w)) }
+    ensures { IfOk result (λ w. IsWorkerAt test program.now call.now start.now.words split.now board.now (board_worker w)) }
 {
     let mut seat = seat;
     let blocks = work(
@@ -75,28 +75,28 @@ fn in_threads<'a, R: Threads + Sync, G: Gate>(
     gate: &G,
     test: Test,
 ) -> Result<Vec<Result<Worker<'a>, AllocError>>, AllocError>
-    requires known { IsKnownCall program.now call.now }
+    requires known { OverApproximatesCall program.now call.now }
     requires sizes { start.now.sizes ≡ program.now.sizes }
     requires split { split_fault split.now call.now.n ≡ None }
     requires seats { All (λ s. s ≡ new_seat board.now) seats.items }
     requires blocks { board.now.blocks ≡ blocks_of split.now }
     ensures len { IfOk result (λ done. vec_len done ≡ vec_len seats) }
-    ensures each { IfOk result (λ done. All (λ r. IfOk r (λ w. IsWorkerAt test program.now call.now start.now.words split.now board.now (worker_of w))) done.items) }
+    ensures each { IfOk result (λ done. All (λ r. IfOk r (λ w. IsWorkerAt test program.now call.now start.now.words split.now board.now (board_worker w))) done.items) }
 {
     let one = |seat: BoardSeat| -> Result<Worker, AllocError>
-        requires { IsKnownCall program.now call.now × (start.now.sizes ≡ program.now.sizes) × (split_fault split.now call.now.n ≡ None) × (seat ≡ new_seat board.now) × (board.now.blocks ≡ blocks_of split.now) }
-        ensures { IfOk result (λ w. IsWorkerAt test program.entry.now call.entry.now start.entry.now.words split.entry.now board.entry.now (worker_of w)) }
+        requires { OverApproximatesCall program.now call.now × (start.now.sizes ≡ program.now.sizes) × (split_fault split.now call.now.n ≡ None) × (seat ≡ new_seat board.now) × (board.now.blocks ≡ blocks_of split.now) }
+        ensures { IfOk result (λ w. IsWorkerAt test program.entry.now call.entry.now start.entry.now.words split.entry.now board.entry.now (board_worker w)) }
     { one_worker(alloc, program, call, start, split, board, seat, gate, test) };
     thread::map_vec(rt, seats, &one)
 }
 
 /// The seats and the blocks of all workers, where each of them is done.
-fn parted<'a>(
+fn seats_and_blocks<'a>(
     alloc: Global,
     mut done: Vec<Result<Worker<'a>, AllocError>>,
 ) -> Result<(Vec<BoardSeat>, Vec<Block<'a>>), AllocError>
     ensures { IfOk result (λ parts. (test : Test) (program : Program) (call : Call) (words bounds : List ℕ) (board : BoardId) →
-        All (λ r. IfOk r (λ w. IsWorkerAt test program call words bounds board (worker_of w))) done.entry.items →
+        All (λ r. IfOk r (λ w. IsWorkerAt test program call words bounds board (board_worker w))) done.entry.items →
         AreOfWorkers test program call words bounds board (vec_len done.entry) parts.0.items (map shown parts.1.items)) }
 {
     let mut seats = Vec::new(alloc);
@@ -128,10 +128,10 @@ pub(crate) fn run_whole<'a, G: Gate>(
     gate: &G,
     test: Test,
 ) -> Result<Vec<Block<'a>>, AllocError>
-    requires known { IsKnownCall program.now call.now }
+    requires known { OverApproximatesCall program.now call.now }
     requires sizes { start.now.sizes ≡ program.now.sizes }
     requires whole { whole.now ≡ even_bounds call.now.n 1 }
-    ensures ran { IfOk result (λ blocks. All (λ b. IsRunOf test program.now call.now start.now.words (shown b)) blocks.items) }
+    ensures ran { IfOk result (λ blocks. All (λ b. RecordsRun test program.now call.now start.now.words (shown b)) blocks.items) }
     ensures faultless { IfOk result (λ blocks. gather_fault whole.now (all_gathered program.now call.now start.now.words (map shown blocks.items)) ≡ None) }
 {
     let block = run_block(alloc, program, call, start, whole, 0, gate, test)?;
@@ -154,7 +154,7 @@ pub(crate) fn run_workers<'a, R: Threads + Sync, G: Gate>(
     gate: &G,
     test: Test,
 ) -> Result<(Vec<BoardSeat>, Vec<Block<'a>>), AllocError>
-    requires known { IsKnownCall program.now call.now }
+    requires known { OverApproximatesCall program.now call.now }
     requires sizes { start.now.sizes ≡ program.now.sizes }
     requires split { split_fault split.now call.now.n ≡ None }
     requires seats { All (λ s. s ≡ new_seat board.now) seats.items }
@@ -164,5 +164,5 @@ pub(crate) fn run_workers<'a, R: Threads + Sync, G: Gate>(
     let done = in_threads(
         rt, alloc, program, call, start, split, board, seats, gate, test,
     )?;
-    parted(alloc, done)
+    seats_and_blocks(alloc, done)
 }

@@ -3,14 +3,14 @@ use Rattle.std.proofs.Common.{◌≡◌, ℕ, ℤ, zero, suc, ◌+◌, ◌<◌, 
 use Rattle.array_maps.specs.MapList.{MapList}
 use Rattle.bpf_insn_types.specs.Program.{Program}
 use Rattle.bpf_step_model.specs.State.{Machine, LoopCall, main_entry}
-use Rattle.bpf_step_model.specs.Run.{Ending, Ended, Stuck, Unfinished, mapped, followed, Turn, Exit, Loop, Refused, Stretch, run}
+use Rattle.bpf_step_model.specs.Run.{BoundedResult, Ended, Stuck, Unfinished, mapped, followed, StopReason, Exit, Loop, Refused, RunSegment, run}
 use Rattle.bpf_step_model.specs.LoopInOrder.{Looped, loop_in_order}
-use Rattle.bpf_step_model.specs.ProgramInOrder.{LoopMade, Finished, with_loop, after_loop, after_turn, after_stretch, main_from, program_in_order}
-use Rattle.bpf_verify_sound.specs.Soundness.{IsSoundProgram, AreMapWords, IsKnownCall, EachProgramEnds, ProgramEnds, most_from, most_after}
+use Rattle.bpf_step_model.specs.ProgramInOrder.{LoopMade, Finished, with_loop, after_loop, after_stop, after_segment, main_from, program_in_order}
+use Rattle.bpf_verify_sound.specs.Soundness.{IsSoundProgram, AreMapWords, OverApproximatesCall, EachProgramEnds, ProgramEnds, most_from, most_after}
 use Rattle.bpf_step.specs.declared.main_function.Turned.{Turned}
 use Rattle.bpf_step.specs.declared.main_function.Turned.TheVariants as turned
 use Rattle.bpf_step.specs.Mains.{MainOf, IsAt}
-use Rattle.bpf_step.specs.Turns.{IsFilled, TurnsTo, RanMain}
+use Rattle.bpf_step.specs.Turns.{IsFilled, StopsAs, RanMain}
 use Rattle.bpf_step.proofs.Limits.{few_slots, few_steps}
 use Rattle.loop_core_sequential.proofs.MapEffects.{map_effect, sizes_kept}
 use Rattle.spec_run_replay.specs.FirstLoop.{ValidLoop, first_of, first_loop}
@@ -22,20 +22,20 @@ abbrev pub words_of : MapList → List ℕ
 words_of maps = maps.words
 
 -- a refused call before is one number more
-one_refused : (number : ℕ) (made : LoopMade) → made.call ≡ None → (e : Ending Finished) → mapped (first_of number) (mapped (with_loop made) e) ≡ mapped (first_of (number + 1)) e
+one_refused : (number : ℕ) (made : LoopMade) → made.call ≡ None → (e : BoundedResult Finished) → mapped (first_of number) (mapped (with_loop made) e) ≡ mapped (first_of (number + 1)) e
 one_refused number made refused (Ended f) = rw refused refl
 one_refused number made refused Stuck = refl
 one_refused number made refused Unfinished = refl
 
 -- a valid call is the first, where what comes behind it ends
-valid_made : (number : ℕ) (slot : ℕ) (answer : ℤ) (words : List ℕ) (call : LoopCall) (e : Ending Finished) (valid : Option ValidLoop)
+valid_made : (number : ℕ) (slot : ℕ) (answer : ℤ) (words : List ℕ) (call : LoopCall) (e : BoundedResult Finished) (valid : Option ValidLoop)
     → mapped (first_of number) (mapped (with_loop (record { slot = slot; answer = answer; words = words; call = Some call })) e) ≡ Ended valid
     → valid ≡ Some (record { number = number; call = call; words = words })
 valid_made number slot answer words call (Ended f) valid told = cc
 valid_made number slot answer words call Stuck valid told = absurd cc
 valid_made number slot answer words call Unfinished valid told = absurd cc
 
-valid_first : (number : ℕ) (go_on : Machine → List ℕ → Ending Finished) (call : LoopCall) (next : Machine) (words : List ℕ) (e : Ending Looped) (valid : Option ValidLoop)
+valid_first : (number : ℕ) (go_on : Machine → List ℕ → BoundedResult Finished) (call : LoopCall) (next : Machine) (words : List ℕ) (e : BoundedResult Looped) (valid : Option ValidLoop)
     → mapped (first_of number) (followed (after_loop go_on call next words) e) ≡ Ended valid → valid ≡ Some (record { number = number; call = call; words = words })
 valid_first number go_on call next words (Ended l) valid told = valid_made number call.slot _ words call (go_on _ l.words) valid told
 valid_first number go_on call next words Stuck valid told = absurd cc
@@ -46,7 +46,7 @@ pub record IsTold (program : Program) (argument : ℕ) (words : List ℕ) : Type
   pub valid : Option ValidLoop
   pub told : first_loop program 4096 argument words ≡ Ended valid
 
-told_of : (program : Program) (argument : ℕ) (words : List ℕ) (e : Ending Finished) → program_in_order program 4096 argument words ≡ e → ProgramEnds program e → IsTold program argument words
+told_of : (program : Program) (argument : ℕ) (words : List ℕ) (e : BoundedResult Finished) → program_in_order program 4096 argument words ≡ e → ProgramEnds program e → IsTold program argument words
 told_of program argument words (Ended f) is ends = record { valid = first_of 0 f; told = ap (mapped (first_of 0)) is }
 told_of program argument words Stuck is ends = absurd ends
 told_of program argument words Unfinished is ends = absurd ends
@@ -84,52 +84,52 @@ starts program argument main maps sound same at fit sizes = record {
 }
 
 -- behind a turn
-record Came (program : Program) (argument : ℕ) (slot : ℕ) (first : MapList) (turn : Turn) (words : List ℕ) (number : ℕ) : Type 0 where
+record Came (program : Program) (argument : ℕ) (slot : ℕ) (first : MapList) (turn : StopReason) (words : List ℕ) (number : ℕ) : Type 0 where
   turns : ℕ
   few : most_after program turn ≤ turns
   fewer : most_after program turn < most_from program slot
   rest : first_loop program 4096 argument first.words
-      ≡ mapped (first_of number) (after_turn program 4096 (main_from program 4096 turns) turn words)
+      ≡ mapped (first_of number) (after_stop program 4096 (main_from program 4096 turns) turn words)
 
 -- a turn that was told is a loop, with its call
-record IsLoop (main : MainOf) (turn : Turn) (call : LoopCall) : Type 0 where
+record IsLoop (main : MainOf) (turn : StopReason) (call : LoopCall) : Type 0 where
   made : LoopCall
   next : Machine
   turn_is : turn ≡ Loop made next
   filled : IsFilled main.program made call
-  known : IsKnownCall main.program call
+  known : OverApproximatesCall main.program call
 
-is_loop : (main : MainOf) (turn : Turn) (call : LoopCall) → TurnsTo main turn (turned.Loop call) → IsLoop main turn call
+is_loop : (main : MainOf) (turn : StopReason) (call : LoopCall) → StopsAs main turn (turned.Loop call) → IsLoop main turn call
 is_loop main (Loop made next) call turns = record { made = made; next = next; turn_is = refl; filled = turns.0; known = turns.1 }
 is_loop main (Exit ret) call turns = absurd turns
 is_loop main (Refused slot answer next) call turns = absurd turns
 
 -- or a refused call
-record IsRefused (main : MainOf) (turn : Turn) : Type 0 where
+record IsRefused (main : MainOf) (turn : StopReason) : Type 0 where
   slot : ℕ
   answer : ℤ
   next : Machine
   turn_is : turn ≡ Refused slot answer next
   at : IsAt main next
 
-is_refused : (main : MainOf) (turn : Turn) (slot : ℕ) (answer : ℤ) → TurnsTo main turn (turned.Refused slot answer) → IsRefused main turn
+is_refused : (main : MainOf) (turn : StopReason) (slot : ℕ) (answer : ℤ) → StopsAs main turn (turned.Refused slot answer) → IsRefused main turn
 is_refused main (Refused slot answer next) at told turns = record { slot = slot; answer = answer; next = next; turn_is = refl; at = turns.2 }
 is_refused main (Loop made next) at told turns = absurd turns
 is_refused main (Exit ret) at told turns = absurd turns
 
 -- or main's end
-record IsEnd (turn : Turn) : Type 0 where
+record IsEnd (turn : StopReason) : Type 0 where
   ret : ℕ
   turn_is : turn ≡ Exit ret
 
-is_end : (main : MainOf) (turn : Turn) (n : ℕ) → TurnsTo main turn (turned.Exit n) → IsEnd turn
+is_end : (main : MainOf) (turn : StopReason) (n : ℕ) → StopsAs main turn (turned.Exit n) → IsEnd turn
 is_end main (Exit ret) n turns = record { ret = ret; turn_is = refl }
 is_end main (Loop made next) n turns = absurd turns
 is_end main (Refused slot answer next) n turns = absurd turns
 
 module _ (program : Program) (argument : ℕ) (main after : MainOf) (first now : MapList) (number : ℕ)
     (still : StillSeeks program argument main first now number) (same : after.program ≡ main.program) where
-  came_with : (m : Machine) (turns : ℕ) (s : Stretch) → m.slot ≡ main.slot → most_from program m.slot ≤ turns → run program 4096 m now.words ≡ Ended s
+  came_with : (m : Machine) (turns : ℕ) (s : RunSegment) → m.slot ≡ main.slot → most_from program m.slot ≤ turns → run program 4096 m now.words ≡ Ended s
       → (0 < s.steps) × (s.steps + most_after program s.turn ≤ most_from program m.slot)
       → first_loop program 4096 argument first.words ≡ mapped (first_of number) (main_from program 4096 turns m now.words)
       → Came program argument main.slot first s.turn s.words number
@@ -144,7 +144,7 @@ module _ (program : Program) (argument : ℕ) (main after : MainOf) (first now :
         turns = turns;
         few = omega (arith, some, most, enough);
         fewer = subst (λ (at : ℕ). most_after program s.turn < most_from program at) slot (omega (arith, some, most));
-        rest = rest ∙ ap (λ (e : Ending Stretch). mapped (first_of number) (followed (after_stretch program 4096 (main_from program 4096 turns)) e)) told;
+        rest = rest ∙ ap (λ (e : BoundedResult RunSegment). mapped (first_of number) (followed (after_segment program 4096 (main_from program 4096 turns)) e)) told;
       }
 
   came : (new : MapList) (turn : Turned) → (ran : RanMain words_of map_effect still.m now turn after new) → Came program argument main.slot first ran.stretch.turn new.words number
@@ -169,7 +169,7 @@ module _ (program : Program) (argument : ℕ) (main after : MainOf) (first now :
       let this = is_end after ran.stretch.turn ret ran.turns in
       record {
         valid = None;
-        told = came.rest ∙ ap (λ (t : Turn). mapped (first_of number) (after_turn program 4096 (main_from program 4096 came.turns) t new.words)) this.turn_is;
+        told = came.rest ∙ ap (λ (t : StopReason). mapped (first_of number) (after_stop program 4096 (main_from program 4096 came.turns) t new.words)) this.turn_is;
         is = tt;
       }
 
@@ -179,8 +179,8 @@ module _ (program : Program) (argument : ℕ) (main after : MainOf) (first now :
   refuses new slot answer ran =
       let came = came new (turned.Refused slot answer) ran in
       let this = is_refused after ran.stretch.turn slot answer ran.turns in
-      let turns = subst (λ (t : Turn). most_after program t ≤ came.turns) this.turn_is came.few in
-      let fewer = subst (λ (t : Turn). most_after program t < most_from program main.slot) this.turn_is came.fewer in
+      let turns = subst (λ (t : StopReason). most_after program t ≤ came.turns) this.turn_is came.few in
+      let fewer = subst (λ (t : StopReason). most_after program t < most_from program main.slot) this.turn_is came.fewer in
       let few = still.few in
       let slot_is = sym this.at.stands.slot in
       let made : LoopMade = record { slot = this.slot; answer = this.answer; words = new.words; call = None } in (
@@ -192,7 +192,7 @@ module _ (program : Program) (argument : ℕ) (main after : MainOf) (first now :
           enough = subst (λ (at : ℕ). most_from program at ≤ came.turns) slot_is turns;
           few = subst (λ (at : ℕ). number + 1 + most_from program at ≤ 4096) slot_is (omega (arith, fewer, few));
           rest = came.rest
-              ∙ ap (λ (t : Turn). mapped (first_of number) (after_turn program 4096 (main_from program 4096 came.turns) t new.words)) this.turn_is
+              ∙ ap (λ (t : StopReason). mapped (first_of number) (after_stop program 4096 (main_from program 4096 came.turns) t new.words)) this.turn_is
               ∙ one_refused number made refl (main_from program 4096 came.turns this.next new.words);
           fit = fits new (turned.Refused slot answer) ran;
           sizes = sized new (turned.Refused slot answer) ran;
@@ -206,7 +206,7 @@ module _ (program : Program) (argument : ℕ) (main after : MainOf) (first now :
   calls ends new call ran found is_number is_call =
       let came = came new (turned.Loop call) ran in
       let this = is_loop after ran.stretch.turn call ran.turns in
-      let rest = came.rest ∙ ap (λ (t : Turn). mapped (first_of number) (after_turn program 4096 (main_from program 4096 came.turns) t new.words)) this.turn_is in
+      let rest = came.rest ∙ ap (λ (t : StopReason). mapped (first_of number) (after_stop program 4096 (main_from program 4096 came.turns) t new.words)) this.turn_is in
       let first_is = valid_first number (main_from program 4096 came.turns) this.made this.next new.words (loop_in_order program 4096 this.made new.words) ends.valid (sym rest ∙ ends.told) in
       record {
         valid = Some (record { number = number; call = this.made; words = new.words });
@@ -214,7 +214,7 @@ module _ (program : Program) (argument : ℕ) (main after : MainOf) (first now :
         is = record {
           number = is_number;
           filled = subst (λ (c : LoopCall). IsFilled program this.made c) (sym is_call) (subst (λ (p : Program). IsFilled p this.made call) (same ∙ still.same) this.filled);
-          known = subst (λ (c : LoopCall). IsKnownCall program c) (sym is_call) (subst (λ (p : Program). IsKnownCall p call) (same ∙ still.same) this.known);
+          known = subst (λ (c : LoopCall). OverApproximatesCall program c) (sym is_call) (subst (λ (p : Program). OverApproximatesCall p call) (same ∙ still.same) this.known);
           words = refl;
           fit = fits new (turned.Loop call) ran;
           sizes = sized new (turned.Loop call) ran;

@@ -2,7 +2,7 @@
 use Rattle.std.proofs.Common.{◌≡◌, ℕ, pos, List, Option, Some, None, Result, Ok, Err, refl, sym, ap, ◌∙◌}
 use Rattle.array_maps.specs.MapList.{MapList}
 use Rattle.bpf_insn_types.specs.Program.{Program}
-use Rattle.bpf_step_model.specs.Run.{Ending, Ended}
+use Rattle.bpf_step_model.specs.Run.{BoundedResult, Ended}
 use Rattle.bpf_verify_sound.specs.Soundness.{IsSoundProgram}
 use Rattle.loop_core_event.specs.declared.event.Event.{Event}
 use Rattle.loop_core_model.specs.declared.loop_test.Test.{Test}
@@ -15,11 +15,11 @@ use Rattle.loop_core_sequential.specs.FilledCalls.{FilledCallsAreOneLoop}
 use Rattle.spec_run_replay.specs.declared.first_loop.NumberedCall.{NumberedCall}
 use Rattle.spec_run_replay.specs.declared.replaying.ReplayRefusal.TheVariants.{NoLoop, Split, Schedule}
 use Rattle.spec_run_replay.specs.FirstLoop.{ValidLoop, first_loop}
-use Rattle.spec_run_replay.specs.FoundLoop.{IsAtCall, IsFirst, CameToLoop}
+use Rattle.spec_run_replay.specs.FoundLoop.{IsAtCall, IsFirstLoop, CameToLoop}
 use Rattle.spec_run_replay.specs.ProgramReplay.{of_schedule, of_split, of_loop, ComesTo}
 
 module _ (test : Test) (program : Program) (argument : ℕ) (old new : MapList) (bounds : List ℕ) (events : List Event) where
-  no_loop_of : (valid : Option ValidLoop) → first_loop program 4096 argument old.words ≡ Ended valid → IsFirst program new valid None
+  no_loop_of : (valid : Option ValidLoop) → first_loop program 4096 argument old.words ≡ Ended valid → IsFirstLoop program new valid None
       → ComesTo test program argument old.words bounds events (Err NoLoop)
   no_loop_of None told is = record { valid = None; first = told; replays = refl }
   no_loop_of (Some valid) told is = absurd is
@@ -32,7 +32,7 @@ module _ (test : Test) (program : Program) (argument : ℕ) (old new : MapList) 
     split_is : (valid : ValidLoop) → IsAtCall program new valid found → (fault : Option SplitFault) → split_fault bounds found.call.n ≡ fault → split_fault bounds valid.call.n ≡ fault
     split_is valid is fault told = ap (split_fault bounds) (sym is.filled.n) ∙ told
 
-    split_refused_of : (valid : Option ValidLoop) → first_loop program 4096 argument old.words ≡ Ended valid → IsFirst program new valid (Some found)
+    split_refused_of : (valid : Option ValidLoop) → first_loop program 4096 argument old.words ≡ Ended valid → IsFirstLoop program new valid (Some found)
         → (fault : SplitFault) → split_fault bounds found.call.n ≡ Some fault → ComesTo test program argument old.words bounds events (Err (Split fault))
     split_refused_of None told is fault amiss = absurd is
     split_refused_of (Some valid) told is fault amiss = record {
@@ -48,7 +48,7 @@ module _ (test : Test) (program : Program) (argument : ℕ) (old new : MapList) 
 
     module _ (law : FilledCallsAreOneLoop) (sound : IsSoundProgram program) (split : split_fault bounds found.call.n ≡ None) where
       -- of a split the replay is that of the call as main made it
-      replays_of : (valid : ValidLoop) → IsAtCall program new valid found → (r : Result (Ending Outcome) ReplayFault) → replayed test program 4096 found.call new.words bounds events ≡ r
+      replays_of : (valid : ValidLoop) → IsAtCall program new valid found → (r : Result (BoundedResult Outcome) ReplayFault) → replayed test program 4096 found.call new.words bounds events ≡ r
           → of_loop test program 4096 bounds events (Some valid) ≡ of_schedule valid r
       replays_of valid is r told =
           let made = replayed test program 4096 valid.call valid.words bounds events in
@@ -58,7 +58,7 @@ module _ (test : Test) (program : Program) (argument : ℕ) (old new : MapList) 
           ∙ told in
           ap (of_split (of_schedule valid made)) (split_is valid is None split) ∙ ap (of_schedule valid) same
 
-      schedule_refused_of : (valid : Option ValidLoop) → first_loop program 4096 argument old.words ≡ Ended valid → IsFirst program new valid (Some found)
+      schedule_refused_of : (valid : Option ValidLoop) → first_loop program 4096 argument old.words ≡ Ended valid → IsFirstLoop program new valid (Some found)
           → (fault : ReplayFault) → replayed test program 4096 found.call new.words bounds events ≡ Err fault → ComesTo test program argument old.words bounds events (Err (Schedule fault))
       schedule_refused_of None told is fault amiss = absurd is
       schedule_refused_of (Some valid) told is fault amiss = record { valid = Some valid; first = told; replays = replays_of valid is (Err fault) amiss }
@@ -68,7 +68,7 @@ module _ (test : Test) (program : Program) (argument : ℕ) (old new : MapList) 
           → ComesTo test program argument old.words bounds events (Err (Schedule fault))
       schedule_refused came fault amiss = schedule_refused_of came.valid came.told came.is fault amiss
 
-      loop_replayed_of : (valid : Option ValidLoop) → first_loop program 4096 argument old.words ≡ Ended valid → IsFirst program new valid (Some found)
+      loop_replayed_of : (valid : Option ValidLoop) → first_loop program 4096 argument old.words ≡ Ended valid → IsFirstLoop program new valid (Some found)
           → (o : Outcome) → replayed test program 4096 found.call new.words bounds events ≡ Ok (Ended o) → (told : LoopReport)
           → told ≡ record { slot = found.call.slot; answer = pos o.answer; verdict = o.verdict }
           → ComesTo test program argument old.words bounds events (Ok (record { number = found.number; told = told; words = o.words }))

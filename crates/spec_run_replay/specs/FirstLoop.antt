@@ -2,7 +2,7 @@
 use Rattle.std.specs.Prelude.{ℕ, ◌+◌, List, [], ◌∷◌, Option, Some, None}
 use Rattle.bpf_insn_types.specs.Program.{Program}
 use Rattle.bpf_step_model.specs.State.{LoopCall}
-use Rattle.bpf_step_model.specs.Run.{Ending, mapped}
+use Rattle.bpf_step_model.specs.Run.{BoundedResult, mapped}
 use Rattle.bpf_step_model.specs.ProgramInOrder.{LoopMade, Finished, program_in_order}
 
 -- a valid loop call: its number among all that main made, the call, and the words as they stood at it
@@ -26,5 +26,5 @@ abbrev pub first_of : ℕ → Finished → Option ValidLoop
 first_of number f = first_valid number f.loops
 
 -- the first valid loop call of a program in order, numbered from 0
-abbrev pub first_loop : Program → ℕ → ℕ → List ℕ → Ending (Option ValidLoop)
+abbrev pub first_loop : Program → ℕ → ℕ → List ℕ → BoundedResult (Option ValidLoop)
 first_loop program bound argument words = mapped (first_of 0) (program_in_order program bound argument words)

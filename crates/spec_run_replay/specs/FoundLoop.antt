@@ -3,7 +3,7 @@ use Rattle.std.specs.Prelude.{◌≡◌, ℕ, Option, Some, None}
 use Rattle.array_maps.specs.MapList.{MapList}
 use Rattle.bpf_insn_types.specs.Program.{Program}
 use Rattle.bpf_step_model.specs.Run.{Ended}
-use Rattle.bpf_verify_sound.specs.Soundness.{AreMapWords, IsKnownCall}
+use Rattle.bpf_verify_sound.specs.Soundness.{AreMapWords, OverApproximatesCall}
 use Rattle.bpf_step.specs.Turns.{IsFilled}
 use Rattle.spec_run_replay.specs.declared.first_loop.NumberedCall.{NumberedCall}
 use Rattle.spec_run_replay.specs.FirstLoop.{ValidLoop, first_loop}
@@ -12,19 +12,19 @@ use Rattle.spec_run_replay.specs.FirstLoop.{ValidLoop, first_loop}
 pub record IsAtCall (program : Program) (maps : MapList) (valid : ValidLoop) (found : NumberedCall) : Type 0 where
   pub number : found.number ≡ valid.number
   pub filled : IsFilled program valid.call found.call
-  pub known : IsKnownCall program found.call
+  pub known : OverApproximatesCall program found.call
   pub words : maps.words ≡ valid.words
   pub fit : AreMapWords program maps.words
   pub sizes : maps.sizes ≡ program.sizes
 
 -- main handed out its first valid loop call, or has none
-abbrev pub IsFirst : Program → MapList → Option ValidLoop → Option NumberedCall → Type 0
-IsFirst program maps None None = Unit {0}
-IsFirst program maps (Some valid) (Some found) = IsAtCall program maps valid found
-IsFirst program maps _ _ = ⊥
+abbrev pub IsFirstLoop : Program → MapList → Option ValidLoop → Option NumberedCall → Type 0
+IsFirstLoop program maps None None = Unit {0}
+IsFirstLoop program maps (Some valid) (Some found) = IsAtCall program maps valid found
+IsFirstLoop program maps _ _ = ⊥
 
 -- main ran on the old maps up to there, which are the new ones then
 pub record CameToLoop (program : Program) (argument : ℕ) (old new : MapList) (found : Option NumberedCall) : Type 0 where
   pub valid : Option ValidLoop
   pub told : first_loop program 4096 argument old.words ≡ Ended valid
-  pub is : IsFirst program new valid found
+  pub is : IsFirstLoop program new valid found

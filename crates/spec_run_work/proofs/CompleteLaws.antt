@@ -8,13 +8,13 @@ use Rattle.std.proofs.lemmas.Grind.{flat_map-append}
 use Rattle.std.proofs.lemmas.List.{map-append}
 use Rattle.bpf_insn_types.specs.Program.{Program}
 use Rattle.bpf_step_model.specs.State.{LoopCall}
-use Rattle.bpf_step_model.specs.Run.{Ending}
+use Rattle.bpf_step_model.specs.Run.{BoundedResult}
 use Rattle.bpf_step_model.specs.Iteration.{Iterated}
 use Rattle.loop_core_model.specs.declared.loop_test.Test.{Test}
 use Rattle.loop_core_model.specs.LeastBreak.{lesser}
 use Rattle.loop_core_blocks.specs.Block.{break_from}
 use Rattle.loop_core_blocks.specs.Split.{split_fault}
-use Rattle.loop_core_blocks.specs.Gather.{Block, starts_late, with_number, least_of, is_bound, stands_in, gather_fault}
+use Rattle.loop_core_blocks.specs.Gather.{Block, starts_late, block_numbered, least_of, is_bound, stands_in, gather_fault}
 use Rattle.loop_core_schedule.specs.Intervals.{blocks_of, start_of}
 use Rattle.loop_core_schedule.proofs.SplitLaws.{faultless, rising}
 use Rattle.loop_core_schedule.proofs.ScheduleLaws.{no_fault}
@@ -25,7 +25,7 @@ use Rattle.loop_board.specs.History.{History, Legal, no_post, times_drawn, times
 use Rattle.loop_board.specs.Seats.{histories}
 use Rattle.loop_board.proofs.Sums.{times-append, times_first, times_more, once_below-below}
 use Rattle.loop_core_block.specs.Blocks.{BlockOf}
-use Rattle.loop_core_block.specs.Ran.{iterations_of, as_gathered, IsRunOf}
+use Rattle.loop_core_block.specs.Ran.{iterations_of, as_gathered, RecordsRun}
 use Rattle.spec_run_work.specs.Worked.{runs_of, numbers_of, breaks_of, StandsIn}
 use Rattle.spec_run_work.specs.CompleteLaw.{WorkerOf, seats_of, blocks_of_all, IsWorkerOf, WorkersComplete}
 use Rattle.spec_run_work.proofs.StillWorks.{all_append}
@@ -121,7 +121,7 @@ module _ (test : Test) (program : Program) (call : LoopCall) (words : List ℕ) 
   all_gathered blocks = map gathered_of blocks
 
   abbrev Runs : List BlockOf → Type 0
-  Runs blocks = AllByRecursion (IsRunOf test program call words) blocks
+  Runs blocks = AllByRecursion (RecordsRun test program call words) blocks
 
   abbrev AreWorkers : List WorkerOf → Type 0
   AreWorkers workers = AllByRecursion (IsWorkerOf test program call words bounds) workers
@@ -144,7 +144,7 @@ module _ (test : Test) (program : Program) (call : LoopCall) (words : List ℕ) 
 
   pub each_runs : (workers : List WorkerOf) → AreWorkers workers → Runs (blocks_of_all workers)
   each_runs [] are = tt
-  each_runs (w ∷ workers) are = all_append (IsRunOf test program call words) w.blocks (blocks_of_all workers) are.0.ran (each_runs workers are.1)
+  each_runs (w ∷ workers) are = all_append (RecordsRun test program call words) w.blocks (blocks_of_all workers) are.0.ran (each_runs workers are.1)
 
   -- how often a number stands in the blocks
   same_times : (k : ℕ) (blocks : List BlockOf) → steps.times k (numbers (all_gathered blocks)) ≡ times k (numbers_of blocks)
@@ -216,8 +216,8 @@ module _ (test : Test) (program : Program) (call : LoopCall) (words : List ℕ) 
       let rest = all_posted x workers are.1 in
       omega arith
 
-  break_is : (b : BlockOf) → IsRunOf test program call words b → break_from b.first (gathered_of b).ran ≡ b.broke
-  break_is b is = ap (λ (e : Ending (List Iterated)). break_from b.first (iterations_of e)) is.told ∙ sym is.broke
+  break_is : (b : BlockOf) → RecordsRun test program call words b → break_from b.first (gathered_of b).ran ≡ b.broke
+  break_is b is = ap (λ (e : BoundedResult (List Iterated)). break_from b.first (iterations_of e)) is.told ∙ sym is.broke
 
   late_by : (s x : ℕ) (o : Option ℕ) → 0 < times x (option_to_list o) → x < s → starts_late o s ≡ true
   late_by s x None there low = absurd (omega arith)
@@ -276,7 +276,7 @@ module _ (test : Test) (program : Program) (call : LoopCall) (words : List ℕ) 
             omega arith
 
         go : (k : ℕ) → k < blocks_of bounds → (0 < times k (numbers_of (blocks_of_all workers))) ⊎ Late bounds k (λ x. times_seen x (histories_of workers)) →
-            (is_none (with_number k (all_gathered (blocks_of_all workers))) ≡ false) ⊎ (starts_late (least_of (all_gathered (blocks_of_all workers))) (start_of bounds k) ≡ true)
+            (is_none (block_numbered k (all_gathered (blocks_of_all workers))) ≡ false) ⊎ (starts_late (least_of (all_gathered (blocks_of_all workers))) (start_of bounds k) ≡ true)
         go k below (inl run) = inl (some_times k (all_gathered (blocks_of_all workers)) (let same = same_times k (blocks_of_all workers) in omega arith))
         go k below (inr l) = inr (late_is k below l)
 

@@ -16,8 +16,8 @@ use Rattle.loop_core_schedule.specs.Intervals.{blocks_of, start_of, end_of}
 use Rattle.loop_core_schedule.proofs.SplitLaws.{faultless, rising}
 use Rattle.loop_board.specs.Seats.{SeatRecord, after_draw, after_none, after_look, after_post}
 use Rattle.loop_core_block.specs.Blocks.{BlockOf}
-use Rattle.loop_core_block.specs.Ran.{IsRunOf}
-use Rattle.spec_run_work.specs.Worked.{runs_of, numbers_of, breaks_of, StandsIn, DidMore, Worked, Stopped, Took, NotRun}
+use Rattle.loop_core_block.specs.Ran.{RecordsRun}
+use Rattle.spec_run_work.specs.Worked.{runs_of, numbers_of, breaks_of, StandsIn, DidMore, Worked, WorkerStopped, Took, NotRun}
 
 -- one more than the greatest number drawn
 abbrev pub above : List ℕ → ℕ
@@ -99,7 +99,7 @@ pub record StillWorks (test : Test) (program : Program) (call : LoopCall) (words
   pub each_look : length looks ≡ length draws
   pub numbers : numbers_of blocks ≡ runs_of bounds draws looks
   pub intervals : AllByRecursion (StandsIn bounds) blocks
-  pub ran : AllByRecursion (IsRunOf test program call words) blocks
+  pub ran : AllByRecursion (RecordsRun test program call words) blocks
 
 module _ (test : Test) (program : Program) (call : LoopCall) (words : List ℕ) (bounds : List ℕ) where
   pub begins : (seat : SeatRecord) (blocks : List BlockOf) → blocks ≡ [] → StillWorks test program call words bounds seat seat blocks
@@ -134,7 +134,7 @@ module _ (test : Test) (program : Program) (call : LoopCall) (words : List ℕ) 
         (did_both old drawn new (still.draws ++ number ∷ []) still.looks (breaks_of blocks) [] (answer ∷ []) posts did_draw did)
 
     -- a want of memory to run the block
-    pub stops : NotRun bounds number drawn new → Stopped test program call words bounds old new
+    pub stops : NotRun bounds number drawn new → WorkerStopped test program call words bounds old new
     stops not_run = record {
       earlier = still.draws;
       seen = still.looks;
@@ -165,15 +165,15 @@ module _ (test : Test) (program : Program) (call : LoopCall) (words : List ℕ) 
       intervals_taken : AllByRecursion (StandsIn bounds) (blocks ++ taken)
       intervals_taken = all_append (StandsIn bounds) blocks taken still.intervals took.intervals
 
-      ran_taken : AllByRecursion (IsRunOf test program call words) (blocks ++ taken)
-      ran_taken = all_append (IsRunOf test program call words) blocks taken still.ran took.ran
+      ran_taken : AllByRecursion (RecordsRun test program call words) (blocks ++ taken)
+      ran_taken = all_append (RecordsRun test program call words) blocks taken still.ran took.ran
 
       -- it drew that number alone
       pub drew_one : new.history.draws ≡ now.history.draws ++ number ∷ []
       drew_one = took.did.drew ∙ append-nil drawn.history.draws ∙ ap (λ (s : SeatRecord). s.history.draws) draws
 
       -- a want of memory to keep the block
-      pub stops_behind : 0 < length taken → Stopped test program call words bounds old new
+      pub stops_behind : 0 < length taken → WorkerStopped test program call words bounds old new
       stops_behind some = record {
         earlier = still.draws;
         seen = still.looks;
@@ -245,7 +245,7 @@ module _ (test : Test) (program : Program) (call : LoopCall) (words : List ℕ) 
   -- one that doesn't is run, and its break is posted
   module _ (seat looked new : SeatRecord) (number answer : ℕ) (b : BlockOf) (looks : looked ≡ after_look seat answer) (early : start_of bounds number ≤ answer)
       (within : number < blocks_of bounds) (is_number : b.number ≡ number) (first : b.first ≡ start_of bounds number) (past : b.past ≡ end_of bounds number)
-      (ran : IsRunOf test program call words b) where
+      (ran : RecordsRun test program call words b) where
     took : (posts : List ℕ) → option_to_list b.broke ≡ posts → DidMore seat new [] (answer ∷ []) posts → new.history.found_none ≡ seat.history.found_none →
         Took test program call words bounds number seat new (b ∷ [])
     took posts same did kept = record {

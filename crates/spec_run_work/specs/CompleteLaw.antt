@@ -10,7 +10,7 @@ use Rattle.loop_core_schedule.specs.Intervals.{blocks_of}
 use Rattle.loop_board.specs.History.{Legal}
 use Rattle.loop_board.specs.Seats.{SeatRecord, new_seat, histories}
 use Rattle.loop_core_block.specs.Blocks.{BlockOf}
-use Rattle.loop_core_block.specs.Ran.{as_gathered, IsRunOf}
+use Rattle.loop_core_block.specs.Ran.{as_gathered, RecordsRun}
 use Rattle.spec_run_work.specs.Worked.{Worked}
 
 -- a worker that is done: its seat, and the blocks that it ran
@@ -29,7 +29,7 @@ blocks_of_all workers = flat_map (λ (w : WorkerOf). w.blocks) workers
 -- it is one whole worker, at a seat that had done nothing
 pub record IsWorkerOf (test : Test) (program : Program) (call : LoopCall) (words : List ℕ) (bounds : List ℕ) (w : WorkerOf) : Type 0 where
   pub worked : Worked bounds (new_seat w.seat.board) w.seat w.blocks
-  pub ran : AllByRecursion (IsRunOf test program call words) w.blocks
+  pub ran : AllByRecursion (RecordsRun test program call words) w.blocks
 
 -- workers of a split, one at least, whose histories are legal on a board of its blocks: of the blocks that they ran none
 -- is missing, doubled or foreign

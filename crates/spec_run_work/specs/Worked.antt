@@ -8,7 +8,7 @@ use Rattle.loop_core_model.specs.declared.loop_test.Test.{Test}
 use Rattle.loop_core_schedule.specs.Intervals.{blocks_of, start_of, end_of}
 use Rattle.loop_board.specs.Seats.{SeatRecord}
 use Rattle.loop_core_block.specs.Blocks.{BlockOf}
-use Rattle.loop_core_block.specs.Ran.{IsRunOf}
+use Rattle.loop_core_block.specs.Ran.{RecordsRun}
 
 -- of the blocks drawn, in order, and of what the look behind each answered: the numbers of those that are run, which are
 -- all that don't start past that answer
@@ -54,7 +54,7 @@ pub record Worked (bounds : List ℕ) (old new : SeatRecord) (blocks : List Bloc
 -- a worker that met a want of memory at the last block that it drew: it looked once behind each block; of those before the
 -- last it ran those that don't start past the answer, in order; the last doesn't start past its answer, and either it
 -- wasn't run, or it was run and couldn't be kept; what was posted is the breaks of those that were run
-pub record Stopped (test : Test) (program : Program) (call : LoopCall) (words : List ℕ) (bounds : List ℕ) (old new : SeatRecord) : Type 0 where
+pub record WorkerStopped (test : Test) (program : Program) (call : LoopCall) (words : List ℕ) (bounds : List ℕ) (old new : SeatRecord) : Type 0 where
   pub earlier : List ℕ
   pub seen : List ℕ
   pub last : ℕ
@@ -65,7 +65,7 @@ pub record Stopped (test : Test) (program : Program) (call : LoopCall) (words : 
   pub on_time : nat_lt answer (start_of bounds last) ≡ false
   pub numbers : (numbers_of blocks ≡ runs_of bounds earlier seen) ⊎ (numbers_of blocks ≡ runs_of bounds earlier seen ++ last ∷ [])
   pub intervals : AllByRecursion (StandsIn bounds) blocks
-  pub ran : AllByRecursion (IsRunOf test program call words) blocks
+  pub ran : AllByRecursion (RecordsRun test program call words) blocks
   pub kept : new.history.found_none ≡ old.history.found_none
 
 -- what a worker does with one block that it drew: it looks once, runs the block unless it starts past the answer, and
@@ -76,7 +76,7 @@ pub record Took (test : Test) (program : Program) (call : LoopCall) (words : Lis
   pub kept : new.history.found_none ≡ old.history.found_none
   pub numbers : numbers_of taken ≡ runs_of bounds (number ∷ []) (answer ∷ [])
   pub intervals : AllByRecursion (StandsIn bounds) taken
-  pub ran : AllByRecursion (IsRunOf test program call words) taken
+  pub ran : AllByRecursion (RecordsRun test program call words) taken
 
 -- what a worker does with one block that it drew, where there is no memory to run it: it looks once, the block doesn't
 -- start past the answer, and nothing is posted

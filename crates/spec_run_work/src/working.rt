@@ -2,12 +2,12 @@
 
 ghost use Rattle.std.specs.Prelude.{◌≡◌, ◌<◌, None, All, map, IfOk, OnErr};
 ghost use Rattle.std.specs.Option.{option_to_list};
-ghost use Rattle.bpf_verify_sound.specs.Soundness.{IsKnownCall};
+ghost use Rattle.bpf_verify_sound.specs.Soundness.{OverApproximatesCall};
 ghost use Rattle.loop_core_blocks.specs.Split.{split_fault};
 ghost use Rattle.loop_core_schedule.specs.Intervals.{blocks_of};
-ghost use Rattle.loop_core_block.specs.Ran.{IsRunOf};
+ghost use Rattle.loop_core_block.specs.Ran.{RecordsRun};
 ghost use Rattle.loop_core_block.specs.Shown.{shown};
-ghost use Rattle.spec_run_work.specs.Worked.{Worked, Stopped, Took, NotRun};
+ghost use Rattle.spec_run_work.specs.Worked.{Worked, WorkerStopped, Took, NotRun};
 
 use array_maps::Maps;
 use bpf_step::LoopCall;
@@ -33,7 +33,7 @@ fn take<'a, G: Gate>(
     gate: &G,
     test: Test,
 ) -> Result<Option<Block<'a>>, AllocError>
-    requires known { IsKnownCall program.now call.now }
+    requires known { OverApproximatesCall program.now call.now }
     requires sizes { start.now.sizes ≡ program.now.sizes }
     requires split { split_fault split.now call.now.n ≡ None }
     requires board { seat.old.board ≡ board.now }
@@ -70,14 +70,14 @@ pub fn work<'a, G: Gate>(
     gate: &G,
     test: Test,
 ) -> Result<Vec<Block<'a>>, AllocError>
-    requires known { IsKnownCall program.now call.now }
+    requires known { OverApproximatesCall program.now call.now }
     requires sizes { start.now.sizes ≡ program.now.sizes }
     requires split { split_fault split.now call.now.n ≡ None }
     requires board { seat.old.board ≡ board.now }
     requires blocks { board.now.blocks ≡ blocks_of split.now }
     ensures worked { IfOk result (λ blocks. Worked split.now seat.old seat.new (map shown blocks.items)) }
-    ensures ran { IfOk result (λ blocks. All (λ b. IsRunOf test program.now call.now start.now.words (shown b)) blocks.items) }
-    ensures stopped { OnErr result (Stopped test program.now call.now start.now.words split.now seat.old seat.new) }
+    ensures ran { IfOk result (λ blocks. All (λ b. RecordsRun test program.now call.now start.now.words (shown b)) blocks.items) }
+    ensures stopped { OnErr result (WorkerStopped test program.now call.now start.now.words split.now seat.old seat.new) }
 {
     let mut blocks = Vec::new(alloc);
     while let Some(number) = board.claim(seat) {

@@ -2,7 +2,7 @@
 
 ghost use Rattle.std.specs.Prelude.{◌≡◌, ◌<◌, All, IfSome, IfOk};
 ghost use Rattle.loop_core_schedule.specs.Intervals.{blocks_of};
-ghost use Rattle.loop_core_gather.specs.Gathered.{Tells};
+ghost use Rattle.loop_core_gather.specs.Gathered.{HasOutcome};
 ghost use Rattle.tests_blocks.specs.Stages.{IsStage, IsRunOn};
 
 use array_maps::Maps;
@@ -89,7 +89,7 @@ pub fn gathered<'a>(
 ) -> Result<Gathered<'a>, GatherError>
     requires stage { IsStage stage.now }
     requires ran { All (IsRunOn test stage.now) blocks.items }
-    ensures { IfOk result (Tells test stage.now.program stage.now.call stage.now.maps.words) }
+    ensures { IfOk result (HasOutcome test stage.now.program stage.now.call stage.now.maps.words) }
 {
     gather(
         alloc,

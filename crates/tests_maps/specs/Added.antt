@@ -4,5 +4,5 @@ use Rattle.array_maps.specs.declared.access.Op.TheVariants.{Add}
 use Rattle.array_maps.specs.Accesses.{Access, Reduce}
 
 -- an operand added to an element
-abbrev pub added : ℕ → ℕ → Access
-added operand element = record { element = element; action = Reduce Add operand }
+abbrev pub addition : ℕ → ℕ → Access
+addition operand element = record { element = element; action = Reduce Add operand }

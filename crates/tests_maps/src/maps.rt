@@ -4,7 +4,7 @@ ghost use Rattle.std.specs.Prelude.{◌≡◌, ℕ, ◌<◌, ◌≤◌, ◌∷�
 ghost use Rattle.std.specs.List.{All};
 ghost use Rattle.array_maps.specs.Accesses.{words_after_all};
 ghost use Rattle.array_maps.specs.Store.{Effects};
-ghost use Rattle.tests_maps.specs.Added.{added};
+ghost use Rattle.tests_maps.specs.Added.{addition};
 
 use array_maps::{Half, Maps, MapsError, Op, Part, Rmw, Store};
 use std::alloc::Global;
@@ -149,8 +149,8 @@ fn a_store_reaches_halves(rt: HostRuntime) -> Result<(), Fail> {
 fn add_to_each<S: Store>(store: &mut S, elements: &[u32], operand: u64)
     requires within { All (λ e. e < length (S.words store.old)) elements.now }
     requires served { length elements.now ≤ S.serves store.old }
-    ensures done { Effects S.effect store.old (map (added operand) elements.now) store.new }
-    ensures words { S.words store.new ≡ words_after_all (map (added operand) elements.now) (S.words store.old) }
+    ensures done { Effects S.effect store.old (map (addition operand) elements.now) store.new }
+    ensures words { S.words store.new ≡ words_after_all (map (addition operand) elements.now) (S.words store.old) }
 {
     for e in elements {
         store.update(*e, Op::Add, operand);

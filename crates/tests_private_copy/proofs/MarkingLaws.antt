@@ -10,7 +10,7 @@ use Rattle.loop_core_marks.specs.Flags.{kind_of, flags_of, flagged}
 use Rattle.loop_core_marks.proofs.FlagLaws.{flags_follow_kinds}
 use Rattle.shadow_marks.specs.declared.iter_flags.IterFlags.{IterFlags}
 use Rattle.shadow_marks.specs.declared.planes.Planes.{Planes}
-use Rattle.shadow_marks.specs.Iteration.{elements_of, flags_at, AreFlagsOf, IsEmptied}
+use Rattle.shadow_marks.specs.Iteration.{element_count, flags_at, AreFlagsOf, IsEmptied}
 use Rattle.shadow_marks.specs.Standing.{StandFor, one_more}
 use Rattle.lane_planes.specs.Merged.{StandForSome, joined_visits}
 use Rattle.tests_private_copy.specs.Marking.{FlagsOfSome}
@@ -33,18 +33,18 @@ pub none_marked : (flags : IterFlags) → IsEmptied flags → FlagsOfSome flags
 none_marked flags none = record { actions = λ e. []; are = λ e small. none.each e ∙ sym flags_follow_kinds.start }
 
 -- and one that did more
-pub one_marked : (old new : IterFlags) (e : ℕ) (kind : Kind) → elements_of new ≡ elements_of old → flags_at new e ≡ flagged (flags_at old e) kind →
+pub one_marked : (old new : IterFlags) (e : ℕ) (kind : Kind) → element_count new ≡ element_count old → flags_at new e ≡ flagged (flags_at old e) kind →
     ((other : ℕ) → other ≢ e → flags_at new other ≡ flags_at old other) → FlagsOfSome old → FlagsOfSome new
 one_marked old new e kind same here others some = record {
   actions = λ k. if eqb k e then some.actions k ++ action_of kind ∷ [] else some.actions k;
   are = λ k small. go k (subst (λ n. k < n) same small) (eqb k e) refl;
 }
   where
-    go : (k : ℕ) → k < elements_of old → (is_it : Bool) → eqb k e ≡ is_it → flags_at new k ≡ flags_of (if is_it then some.actions k ++ action_of kind ∷ [] else some.actions k)
+    go : (k : ℕ) → k < element_count old → (is_it : Bool) → eqb k e ≡ is_it → flags_at new k ≡ flags_of (if is_it then some.actions k ++ action_of kind ∷ [] else some.actions k)
     go k small true is =
         let at_e : k ≡ e = eqb-true k e is in
         subst (λ j. flags_at new j ≡ flags_of (some.actions j ++ action_of kind ∷ [])) (sym at_e)
-        (here ∙ ap (λ flags. flagged flags kind) (some.are e (subst (λ j. j < elements_of old) at_e small)) ∙ ap (flagged (flags_of (some.actions e))) (sym (its_kind kind))
+        (here ∙ ap (λ flags. flagged flags kind) (some.are e (subst (λ j. j < element_count old) at_e small)) ∙ ap (flagged (flags_of (some.actions e))) (sym (its_kind kind))
         ∙ sym (flags_follow_kinds.next (some.actions e) (action_of kind)))
     go k small false is = others k (eqb-false k e is) ∙ some.are k small
 

@@ -1,7 +1,7 @@
 //! Planes that iterations marked at elements and in ways that a sequence of draws picks.
 
 ghost use Rattle.std.specs.Prelude.{◌≡◌, ◌<◌, ◌≤◌, IfOk};
-ghost use Rattle.shadow_marks.specs.Iteration.{elements_of, IsEmptied};
+ghost use Rattle.shadow_marks.specs.Iteration.{element_count, IsEmptied};
 ghost use Rattle.shadow_marks.specs.Standing.{ArePlanes, test_of};
 ghost use Rattle.lane_planes.specs.Merged.{StandForSome};
 ghost use Rattle.tests_private_copy.specs.Marking.{FlagsOfSome};
@@ -34,11 +34,11 @@ fn kind_of(draw: u64) -> Access {
 
 /// Marks about a quarter of the elements, and no more than so many, of at most 4,096.
 fn mark_some(flags: &mut IterFlags, elements: u32, most: u32, seed: u32)
-    requires elements { elements_of flags.old ≡ elements }
+    requires elements { element_count flags.old ≡ elements }
     requires some { 0 < elements }
     requires few { most ≤ 4096 }
     requires emptied { IsEmptied flags.old }
-    ensures elements { elements_of flags.new ≡ elements }
+    ensures elements { element_count flags.new ≡ elements }
     ensures marked { FlagsOfSome flags.new }
 {
     let mut draw = next_draw(seed as u64);

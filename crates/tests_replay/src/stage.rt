@@ -2,7 +2,7 @@
 
 ghost use Rattle.std.specs.Prelude.{◌≡◌, IfSome, None};
 ghost use Rattle.loop_core_blocks.specs.Split.{split_fault};
-ghost use Rattle.bpf_verify_sound.specs.Soundness.{IsKnownCall};
+ghost use Rattle.bpf_verify_sound.specs.Soundness.{OverApproximatesCall};
 
 use crate::loops::Row;
 use array_maps::Maps;
@@ -26,13 +26,13 @@ pub struct Stage {
 }
 
 impl Model for Stage {
-    ghost use Rattle.tests_replay.specs.Stages.{StageOf, IsStage};
+    ghost use Rattle.tests_replay.specs.Stages.{StageOf, IsReplayStage};
 
     ghost Value = { StageOf };
 
     ghost view = { λ s. record { program = s.program; call = s.call; start = s.maps; bounds = s.split } };
 
-    ghost invariant = { λ s. IsStage (record { program = s.program; call = s.call; start = s.maps; bounds = s.split }) };
+    ghost invariant = { λ s. IsReplayStage (record { program = s.program; call = s.call; start = s.maps; bounds = s.split }) };
 }
 
 fn program_of(alloc: Global, unit: &str) -> Option<Verified> {
@@ -45,7 +45,7 @@ fn program_of(alloc: Global, unit: &str) -> Option<Verified> {
 fn first_call(program: &Verified, maps: &mut Maps) -> Option<LoopCall>
     requires { maps.old.sizes ≡ program.now.sizes }
     ensures sizes { maps.new.sizes ≡ program.now.sizes }
-    ensures known { IfSome result (IsKnownCall program.now) }
+    ensures known { IfSome result (OverApproximatesCall program.now) }
 {
     let _unit = program.unit();
     let _sizes = maps.sizes();
@@ -64,7 +64,7 @@ fn call_and_split(
     bounds: &[u32],
 ) -> Option<(LoopCall, Split)>
     ensures sizes { IfSome result (λ _. maps.new.sizes ≡ program.now.sizes) }
-    ensures known { IfSome result (λ at. IsKnownCall program.now at.0) }
+    ensures known { IfSome result (λ at. OverApproximatesCall program.now at.0) }
     ensures split { IfSome result (λ at. split_fault at.1 at.0.n ≡ None) }
 {
     if maps.sizes() != program.sizes() {

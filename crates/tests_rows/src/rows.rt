@@ -2,7 +2,7 @@
 //! they aren't all zero.
 
 ghost use Rattle.std.specs.Prelude.{◌≡◌, IfSome};
-ghost use Rattle.bpf_verify_sound.specs.Soundness.{IsKnownCall};
+ghost use Rattle.bpf_verify_sound.specs.Soundness.{OverApproximatesCall};
 
 use array_maps::Maps;
 use bpf_step::{LoopCall, Main, Turned};
@@ -72,7 +72,7 @@ pub fn read_row(alloc: Global, row: &str) -> Option<Row>
 fn first_call(program: &Verified, maps: &mut Maps) -> Option<LoopCall>
     requires { maps.old.sizes ≡ program.now.sizes }
     ensures sizes { maps.new.sizes ≡ program.now.sizes }
-    ensures known { IfSome result (IsKnownCall program.now) }
+    ensures known { IfSome result (OverApproximatesCall program.now) }
 {
     // These tell the proof that the program is accepted, and how many words the maps have.
     let _unit = program.unit();
@@ -87,7 +87,7 @@ fn first_call(program: &Verified, maps: &mut Maps) -> Option<LoopCall>
 /// The first loop of a row's program; `None` where main makes no valid loop call first, or for want of memory.
 pub fn first_loop(alloc: Global, row: &Row) -> Option<FirstLoop>
     requires { row.now.maps.sizes ≡ row.now.program.sizes }
-    ensures known { IfSome result (λ first. IsKnownCall row.now.program first.call) }
+    ensures known { IfSome result (λ first. OverApproximatesCall row.now.program first.call) }
     ensures sizes { IfSome result (λ first. first.maps.sizes ≡ row.now.program.sizes) }
 {
     let mut maps = row.maps.try_copy(alloc).ok()?;

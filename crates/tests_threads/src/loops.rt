@@ -1,7 +1,7 @@
 //! What is told of rows, with any number of workers and blocks. A row has a program with its maps, and behind `=>` what is
 //! told of it.
 
-ghost use Rattle.bpf_verify_sound.specs.Soundness.{IsKnownCall};
+ghost use Rattle.bpf_verify_sound.specs.Soundness.{OverApproximatesCall};
 
 use crate::reports::{loop_report, report};
 use loop_core_model::Test;
@@ -58,7 +58,7 @@ fn loop_is_told<R: Threads + Sync + Abort>(
     test: Test,
     wanted: &str,
 ) -> Result<(), Fail>
-    requires { IsKnownCall row.now.program first.now.call }
+    requires { OverApproximatesCall row.now.program first.now.call }
 {
     for (workers, blocks) in WAYS {
         let plan = Plan {

@@ -1,6 +1,6 @@
 //! What is told of a row that is run by a plan: of its first loop alone, of its program, and of it as an input.
 
-ghost use Rattle.bpf_verify_sound.specs.Soundness.{IsKnownCall};
+ghost use Rattle.bpf_verify_sound.specs.Soundness.{OverApproximatesCall};
 
 use bpfspec_output::{print_replay, print_report};
 use bpfspec_serve::{Counted, UnitForm, serve_run};
@@ -22,7 +22,7 @@ pub fn loop_report<R: Threads + Sync, G: Gate>(
     plan: &Plan,
     gate: &G,
 ) -> Result<String, Fail>
-    requires { IsKnownCall row.now.program first.now.call }
+    requires { OverApproximatesCall row.now.program first.now.call }
 {
     let split = Split::even(first.call.n(), plan.blocks)?;
     let outcome = run_loop(

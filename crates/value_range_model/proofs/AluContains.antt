@@ -21,7 +21,7 @@ use Rattle.value_range_model.proofs.Multiples.{multiple-zero, zero-multiple}
 use Rattle.value_range_model.proofs.SpanLaws.{contains_by_test, exact-contains, exact-number, top-contains, number-word}
 use Rattle.value_range_model.specs.declared.operation.Operation.{Operation}
 use Rattle.value_range_model.specs.declared.operation.Operation.TheVariants.{Alu, Neg, Movsx, Endian}
-use Rattle.value_range_model.specs.AluRows.{meant, low32, operand_of, operand, negative, extended, top_bits, little, ordered, alu_row, row, alu_reads_exact, reads_exact, of_operands, span_of}
+use Rattle.value_range_model.specs.AluRows.{meant, low32, range_at_width, operand, negative, extended_range, top_bits, little, ordered, alu_row, row, alu_reads_exact, reads_exact, of_operands, span_of}
 use Rattle.value_range_model.proofs.RowContains.{difference-contains, alu_row-contains}
 
 -- the part of a word that an operation takes
@@ -46,15 +46,15 @@ low32-contains s x c =
     (exact-contains (s.lo % 2 ^ 32)))
     (λ open_. top-contains W32 (x % 2 ^ 32) (mod_below x (2 ^ 32) (omega arith))))
 
-operand_of-contains : (width : Width) (s : Span) (x : ℕ) → IsSpan (operand_of width s) → Contains s x → Contains (operand_of width s) (x % modulus width)
-operand_of-contains W32 s x i c = low32-contains s x c
-operand_of-contains W64 s x i c = subst (λ (n : ℕ). Contains s n) (sym (mod-eq_of_lt (number-word s x i c))) c
+range_at_width-contains : (width : Width) (s : Span) (x : ℕ) → IsSpan (range_at_width width s) → Contains s x → Contains (range_at_width width s) (x % modulus width)
+range_at_width-contains W32 s x i c = low32-contains s x c
+range_at_width-contains W64 s x i c = subst (λ (n : ℕ). Contains s n) (sym (mod-eq_of_lt (number-word s x i c))) c
 
 pub operand-contains : (operation : Operation) (width : Width) (s : Span) (x : ℕ) → IsSpan (operand operation width s) → Contains s x →
     Contains (operand operation width s) (taken_of operation width x)
-operand-contains (Alu op) width s x i c = operand_of-contains width s x i c
-operand-contains Neg width s x i c = operand_of-contains width s x i c
-operand-contains (Movsx bits) width s x i c = operand_of-contains width s x i c
+operand-contains (Alu op) width s x i c = range_at_width-contains width s x i c
+operand-contains Neg width s x i c = range_at_width-contains width s x i c
+operand-contains (Movsx bits) width s x i c = range_at_width-contains width s x i c
 operand-contains (Endian order bits) width s x i c = c
 
 -- what an operation takes decides its meaning
@@ -115,10 +115,10 @@ negative-contains width a x h c =
     subst (λ (n : ℕ). Contains (norm 0 (m - 1) a.zeros) (n % m)) e
     (difference-contains width a.zeros 0 x h (zero-multiple a.zeros) c.multiple)
 
-extended-contains : (width : Width) (bits : MovsxBits) (b : Span) (y : ℕ) → moved_signed width bits y < modulus width → Contains b y →
-    Contains (extended width bits b) (moved_signed width bits y)
-unfolding extended moved_signed
-extended-contains width bits b y fits d =
+extended_range-contains : (width : Width) (bits : MovsxBits) (b : Span) (y : ℕ) → moved_signed width bits y < modulus width → Contains b y →
+    Contains (extended_range width bits b) (moved_signed width bits y)
+unfolding extended_range moved_signed
+extended_range-contains width bits b y fits d =
     let low = low_modulus bits in
     let m = modulus width in
     contains_by_test (sign_extended low m (y % low)) b (top width) (nat_lt b.hi (low / 2))
@@ -170,7 +170,7 @@ row-contains fit (Alu op) width a b x y i j c d = operator-contains fit op width
 row-contains fit Neg width a b x y i j c d =
     negative-contains width a (x % modulus width) (mod_below x (modulus width) (modulus-positive width)) c
 row-contains fit (Movsx bits) width a b x y i j c d =
-    extended-contains width bits b (y % modulus width) (fit.moved_signed_fits width bits (y % modulus width)) d
+    extended_range-contains width bits b (y % modulus width) (fit.moved_signed_fits width bits (y % modulus width)) d
 row-contains fit (Endian order bits) width a b x y i j c d = ordered-contains order bits a x (fit.in_order_fits order bits x) c
 
 of_operands-contains : ResultsFit → (operation : Operation) (width : Width) (a b : Span) (x y : ℕ) → IsSpan a → IsSpan b →

@@ -14,11 +14,11 @@ use Rattle.value_range_model.proofs.Multiples.{apart, up-most, down-least}
 use Rattle.value_range_model.proofs.SpanLaws.{contains_by_test, norm-contains, exact-number, number-word, max-one}
 use Rattle.value_range_model.specs.declared.condition.Condition.{Condition}
 use Rattle.value_range_model.specs.declared.condition.Condition.TheVariants.{Holds, NotSet}
-use Rattle.value_range_model.specs.RefineLaw.{Has}
-use Rattle.value_range_model.specs.RefineRows.{Refined, says, within, equal, without, different, greater, not_less, exchanged, tested, refine_row, refined}
+use Rattle.value_range_model.specs.RefineLaw.{RefinedContains}
+use Rattle.value_range_model.specs.RefineRows.{Refined, says, within, equal, without, different, greater, not_less, swapped, tested, refine_row, refined}
 
 -- whichever is chosen, by what the test tells
-has_by_test : (x y : ℕ) (p q : Refined) (b : Bool) → (b ≡ true → Has p x y) → (b ≡ false → Has q x y) → Has (if b then p else q) x y
+has_by_test : (x y : ℕ) (p q : Refined) (b : Bool) → (b ≡ true → RefinedContains p x y) → (b ≡ false → RefinedContains q x y) → RefinedContains (if b then p else q) x y
 has_by_test x y p q true h k = h refl
 has_by_test x y p q false h k = k refl
 
@@ -30,14 +30,14 @@ common-multiple i j x h k =
     (λ (e : max i j ≡ j). subst (λ (z : ℕ). x % 2 ^ z ≡ 0) (sym e) k)
     (max-one i j)
 
-within-has : (lo hi z x : ℕ) → lo ≤ x → x ≤ hi → x % 2 ^ z ≡ 0 → Has (within lo hi z) x x
+within-has : (lo hi z x : ℕ) → lo ≤ x → x ≤ hi → x % 2 ^ z ≡ 0 → RefinedContains (within lo hi z) x x
 within-has lo hi z x above below multiple =
     let inside = norm-contains lo hi z x above below multiple in
     has_by_test x x None (Some (norm lo hi z, norm lo hi z)) (nat_lt hi lo)
     (λ e. omega (arith, ltb-true hi lo e))
     (λ e. (inside, inside))
 
-equal-has : (a b : Span) (x : ℕ) → Contains a x → Contains b x → Has (equal a b) x x
+equal-has : (a b : Span) (x : ℕ) → Contains a x → Contains b x → RefinedContains (equal a b) x x
 unfolding equal
 equal-has a b x c d =
     let z = max a.zeros b.zeros in
@@ -67,7 +67,7 @@ without-contains n s y i c other =
 abbrev second-cut : Span → Span → Refined
 second-cut a b = if is_exact b then Some (without b.lo a, b) else Some (a, b)
 
-different-has : (a b : Span) (x y : ℕ) → IsSpan a → IsSpan b → Contains a x → Contains b y → (x ≡ y → ⊥) → Has (different a b) x y
+different-has : (a b : Span) (x y : ℕ) → IsSpan a → IsSpan b → Contains a x → Contains b y → (x ≡ y → ⊥) → RefinedContains (different a b) x y
 unfolding different
 different-has a b x y i j c d other =
     has_by_test x y (if a.lo == b.lo then None else Some (a, b)) (if is_exact a then Some (a, without a.lo b) else second-cut a b)
@@ -86,7 +86,7 @@ different-has a b x y i j c d other =
     (λ _. (c, d))))
 
 -- GT
-greater-has : (a b : Span) (x y : ℕ) → Contains a x → Contains b y → y < x → Has (greater a b) x y
+greater-has : (a b : Span) (x y : ℕ) → Contains a x → Contains b y → y < x → RefinedContains (greater a b) x y
 unfolding greater
 greater-has a b x y c d more =
     has_by_test x y None (Some (norm (max a.lo (b.lo + 1)) a.hi a.zeros, norm b.lo (min b.hi (a.hi - 1)) b.zeros)) (nat_le a.hi b.lo)
@@ -97,7 +97,7 @@ greater-has a b x y c d more =
     ))
 
 -- GE
-not_less-has : (a b : Span) (x y : ℕ) → Contains a x → Contains b y → y ≤ x → Has (not_less a b) x y
+not_less-has : (a b : Span) (x y : ℕ) → Contains a x → Contains b y → y ≤ x → RefinedContains (not_less a b) x y
 unfolding not_less
 not_less-has a b x y c d more =
     has_by_test x y None (Some (norm (max a.lo b.lo) a.hi a.zeros, norm b.lo (min b.hi a.hi) b.zeros)) (nat_lt a.hi b.lo)
@@ -108,13 +108,13 @@ not_less-has a b x y c d more =
     ))
 
 -- LT and LE
-exchanged-has : (r : Refined) (x y : ℕ) → Has r y x → Has (exchanged r) x y
-exchanged-has None x y h = h
-exchanged-has (Some pair) x y h = (h.1, h.0)
+swapped-has : (r : Refined) (x y : ℕ) → RefinedContains r y x → RefinedContains (swapped r) x y
+swapped-has None x y h = h
+swapped-has (Some pair) x y h = (h.1, h.0)
 
 -- all others
 pub tested-has : (condition : Condition) (width : Width) (a b : Span) (x y : ℕ) → Contains a x → Contains b y →
-    says condition width x y ≡ true → Has (tested condition width a b) x y
+    says condition width x y ≡ true → RefinedContains (tested condition width a b) x y
 unfolding tested
 tested-has condition width a b x y c d met =
     has_by_test x y None (Some (a, b)) (is_exact a && is_exact b && not (says condition width a.lo b.lo))
@@ -136,18 +136,18 @@ plain width compare x y h k met =
 
 -- every row
 row-has : (condition : Condition) (width : Width) (a b : Span) (x y : ℕ) → IsSpan a → IsSpan b → x < modulus width → y < modulus width →
-    Contains a x → Contains b y → says condition width x y ≡ true → Has (refine_row condition width a b) x y
+    Contains a x → Contains b y → says condition width x y ≡ true → RefinedContains (refine_row condition width a b) x y
 row-has (Holds Eq) width a b x y i j h k c d met =
     let same : x ≡ y = eqb-true x y (plain width Eq x y h k met) in
-    subst (λ (n : ℕ). Has (equal a b) x n) same (equal-has a b x c (subst (λ (n : ℕ). Contains b n) (sym same) d))
+    subst (λ (n : ℕ). RefinedContains (equal a b) x n) same (equal-has a b x c (subst (λ (n : ℕ). Contains b n) (sym same) d))
 row-has (Holds Ne) width a b x y i j h k c d met =
     different-has a b x y i j c d (eqb-false x y (not-true (x == y) (plain width Ne x y h k met)))
 row-has (Holds Gt) width a b x y i j h k c d met = greater-has a b x y c d (ltb-true y x (plain width Gt x y h k met))
 row-has (Holds Ge) width a b x y i j h k c d met = not_less-has a b x y c d (leb-true y x (plain width Ge x y h k met))
 row-has (Holds Lt) width a b x y i j h k c d met =
-    exchanged-has (greater b a) x y (greater-has b a y x d c (ltb-true x y (plain width Lt x y h k met)))
+    swapped-has (greater b a) x y (greater-has b a y x d c (ltb-true x y (plain width Lt x y h k met)))
 row-has (Holds Le) width a b x y i j h k c d met =
-    exchanged-has (not_less b a) x y (not_less-has b a y x d c (leb-true x y (plain width Le x y h k met)))
+    swapped-has (not_less b a) x y (not_less-has b a y x d c (leb-true x y (plain width Le x y h k met)))
 row-has (Holds Set) width a b x y i j h k c d met = tested-has (Holds Set) width a b x y c d met
 row-has NotSet width a b x y i j h k c d met = tested-has NotSet width a b x y c d met
 row-has (Holds Sgt) width a b x y i j h k c d met = tested-has (Holds Sgt) width a b x y c d met
@@ -157,7 +157,7 @@ row-has (Holds Sle) width a b x y i j h k c d met = tested-has (Holds Sle) width
 
 -- at both widths
 pub refined-has : (condition : Condition) (width : Width) (a b : Span) → IsSpan a → IsSpan b → (x y : ℕ) → Contains a x → Contains b y →
-    says condition width x y ≡ true → Has (refined condition width a b) x y
+    says condition width x y ≡ true → RefinedContains (refined condition width a b) x y
 unfolding refined
 refined-has condition W64 a b i j x y c d met =
     row-has condition W64 a b x y i j (number-word a x i c) (number-word b y j d) c d met
@@ -174,12 +174,12 @@ pub kept : (condition : Condition) (width : Width) (a b : Span) (r : Refined) �
     IfSome r (λ pair. (x y : ℕ) → Contains a x → Contains b y → says condition width x y ≡ true → Contains pair.0 x × Contains pair.1 y)
 kept condition width a b None e i j = tt
 kept condition width a b (Some pair) e i j =
-    λ x y c d met. subst (λ (r : Refined). Has r x y) (sym e) (refined-has condition width a b i j x y c d met)
+    λ x y c d met. subst (λ (r : Refined). RefinedContains r x y) (sym e) (refined-has condition width a b i j x y c d met)
 
 pub empty : (condition : Condition) (width : Width) (a b : Span) (r : Refined) → r ≡ refined condition width a b → IsSpan a → IsSpan b →
     IfNone r ((x y : ℕ) → Contains a x → Contains b y → says condition width x y ≡ false)
 empty condition width a b None e i j =
     λ x y c d.
     false_from_ne_true (says condition width x y)
-    (λ met. subst (λ (r : Refined). Has r x y) (sym e) (refined-has condition width a b i j x y c d met))
+    (λ met. subst (λ (r : Refined). RefinedContains r x y) (sym e) (refined-has condition width a b i j x y c d met))
 empty condition width a b (Some pair) e i j = tt

@@ -13,7 +13,7 @@ use Rattle.value_range_model.proofs.SpanLaws.{is_by_test, norm-span, norm-some}
 use Rattle.value_range_model.specs.declared.condition.Condition.{Condition}
 use Rattle.value_range_model.specs.declared.condition.Condition.TheVariants.{Holds, NotSet}
 use Rattle.value_range_model.specs.RefineLaw.{AreSpans}
-use Rattle.value_range_model.specs.RefineRows.{Refined, says, equal, without, apart, different, greater, not_less, exchanged, tested, refine_row, refined}
+use Rattle.value_range_model.specs.RefineRows.{Refined, says, equal, without, apart, different, greater, not_less, swapped, tested, refine_row, refined}
 
 pub greater-first : (a : Span) (n : ℕ) → IsSpan a → n < a.hi → rounded_up a.zeros (max a.lo (n + 1)) ≤ a.hi
 greater-first a n i above =
@@ -127,9 +127,9 @@ not_less-spans a b i j =
       norm-span b.lo (min b.hi a.hi) b.zeros j.bits (omega (arith, min-le_left b.hi a.hi, j.word)) (not_less-second b a.hi j more),
     ))
 
-exchanged-spans : (r : Refined) → AreSpans r → AreSpans (exchanged r)
-exchanged-spans None h = h
-exchanged-spans (Some pair) h = (h.1, h.0)
+swapped-spans : (r : Refined) → AreSpans r → AreSpans (swapped r)
+swapped-spans None h = h
+swapped-spans (Some pair) h = (h.1, h.0)
 
 tested-spans : (condition : Condition) (width : Width) (a b : Span) → IsSpan a → IsSpan b → AreSpans (tested condition width a b)
 unfolding tested
@@ -141,8 +141,8 @@ row-spans (Holds Eq) width a b i j = equal-spans a b i j
 row-spans (Holds Ne) width a b i j = different-spans a b i j
 row-spans (Holds Gt) width a b i j = greater-spans a b i j
 row-spans (Holds Ge) width a b i j = not_less-spans a b i j
-row-spans (Holds Lt) width a b i j = exchanged-spans (greater b a) (greater-spans b a j i)
-row-spans (Holds Le) width a b i j = exchanged-spans (not_less b a) (not_less-spans b a j i)
+row-spans (Holds Lt) width a b i j = swapped-spans (greater b a) (greater-spans b a j i)
+row-spans (Holds Le) width a b i j = swapped-spans (not_less b a) (not_less-spans b a j i)
 row-spans (Holds Set) width a b i j = tested-spans (Holds Set) width a b i j
 row-spans NotSet width a b i j = tested-spans NotSet width a b i j
 row-spans (Holds Sgt) width a b i j = tested-spans (Holds Sgt) width a b i j

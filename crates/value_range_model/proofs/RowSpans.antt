@@ -19,7 +19,7 @@ use Rattle.value_range_model.specs.Spans.{Span, IsSpan, is_exact, exact, top, no
 use Rattle.value_range_model.proofs.SpanLaws.{is_by_test, exact-span, norm-span, top-span}
 use Rattle.value_range_model.specs.declared.operation.Operation.{Operation}
 use Rattle.value_range_model.specs.declared.operation.Operation.TheVariants.{Alu, Neg, Movsx, Endian}
-use Rattle.value_range_model.specs.AluRows.{meant, low32, operand_of, operand, filled, added, subtracted, multiplied, divided_by, divided, left_over_by, left_over, with_bits, common_bits, other_bits, shifted_left_by, shifted_left, shifted_right_by, shifted_right, shifted_signed, negative, extended, top_bits, little, ordered, alu_row, row, reads_exact, of_operands, span_of}
+use Rattle.value_range_model.specs.AluRows.{meant, low32, range_at_width, operand, filled, added, subtracted, multiplied, divided_by, divided, left_over_by, left_over, with_bits, common_bits, other_bits, shifted_left_by, shifted_left, shifted_right_by, shifted_right, shifted_signed, negative, extended_range, top_bits, little, ordered, alu_row, row, reads_exact, of_operands, span_of}
 use Rattle.value_range_model.proofs.RowBounds.{zero_some, added_some, subtracted_some, multiplied_some, divided_some, with_bits_some, shifted_left_some, shifted_right_some, or-word, filled-least}
 
 -- those with so many trailing zeros
@@ -166,7 +166,7 @@ ordered-span Be bits a i = top_bits-span bits
 ordered-span Swap bits a i = top_bits-span bits
 
 row-span : (operation : Operation) (width : Width) (a b : Span) → IsSpan a → IsSpan b → IsSpan (row operation width a b)
-unfolding negative extended
+unfolding negative extended_range
 row-span (Alu op) width a b i j = alu_row-span op width a b i j
 row-span Neg width a b i j = spread-span width a.zeros i.bits
 row-span (Movsx bits) width a b i j =
@@ -181,20 +181,20 @@ meant-word fit (Movsx bits) width x y = omega (arith, fit.moved_signed_fits widt
 meant-word fit (Endian order bits) width x y = fit.in_order_is_word order bits x
 
 -- operands are spans
-operand_of-span : (width : Width) (s : Span) → IsSpan s → IsSpan (operand_of width s)
+range_at_width-span : (width : Width) (s : Span) → IsSpan s → IsSpan (range_at_width width s)
 unfolding low32
-operand_of-span W32 s i =
+range_at_width-span W32 s i =
     is_by_test s (if is_exact s then exact (s.lo % 2 ^ 32) else top W32) (nat_lt s.hi (2 ^ 32))
     (λ _. i)
     (λ _.
     is_by_test (exact (s.lo % 2 ^ 32)) (top W32) (is_exact s)
     (λ _. exact-span (s.lo % 2 ^ 32) (omega arith)) (λ _. top-span W32))
-operand_of-span W64 s i = i
+range_at_width-span W64 s i = i
 
 pub operand-span : (operation : Operation) (width : Width) (s : Span) → IsSpan s → IsSpan (operand operation width s)
-operand-span (Alu op) width s i = operand_of-span width s i
-operand-span Neg width s i = operand_of-span width s i
-operand-span (Movsx bits) width s i = operand_of-span width s i
+operand-span (Alu op) width s i = range_at_width-span width s i
+operand-span Neg width s i = range_at_width-span width s i
+operand-span (Movsx bits) width s i = range_at_width-span width s i
 operand-span (Endian order bits) width s i = i
 
 -- and so is what an operation leaves

@@ -26,15 +26,15 @@ unfoldable pub low32 : Span → Span
 low32 r = if nat_lt r.hi (2 ^ 32) then r else if is_exact r then exact (r.lo % 2 ^ 32) else top W32
 
 -- an operand, at 32 bits of 32 bits
-abbrev pub operand_of : Width → Span → Span
-operand_of W32 r = low32 r
-operand_of W64 r = r
+abbrev pub range_at_width : Width → Span → Span
+range_at_width W32 r = low32 r
+range_at_width W64 r = r
 
 -- byte orders alone take it as it is
 abbrev pub operand : Operation → Width → Span → Span
-operand (Alu op) width r = operand_of width r
-operand Neg width r = operand_of width r
-operand (Movsx bits) width r = operand_of width r
+operand (Alu op) width r = range_at_width width r
+operand Neg width r = range_at_width width r
+operand (Movsx bits) width r = range_at_width width r
 operand (Endian order bits) width r = r
 
 -- the least 2 ^ k - 1 that is not below a word
@@ -116,8 +116,8 @@ unfoldable pub negative : Width → Span → Span
 negative width a = norm 0 (modulus width - 1) a.zeros
 
 -- MOVSX
-unfoldable pub extended : Width → MovsxBits → Span → Span
-extended width bits b = if nat_lt b.hi (low_modulus bits / 2) then b else top width
+unfoldable pub extended_range : Width → MovsxBits → Span → Span
+extended_range width bits b = if nat_lt b.hi (low_modulus bits / 2) then b else top width
 
 -- every number of so many bits
 abbrev pub top_bits : EndianBits → Span
@@ -154,7 +154,7 @@ alu_row Mov width a b = b
 abbrev pub row : Operation → Width → Span → Span → Span
 row (Alu op) width a b = alu_row op width a b
 row Neg width a b = negative width a
-row (Movsx bits) width a b = extended width bits b
+row (Movsx bits) width a b = extended_range width bits b
 row (Endian order bits) width a b = ordered order bits a
 
 -- whether all operands that an operator reads are exact

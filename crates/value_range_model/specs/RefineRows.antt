@@ -76,9 +76,9 @@ not_less a b =
     else Some (norm (max a.lo b.lo) a.hi a.zeros, norm b.lo (min b.hi a.hi) b.zeros)
 
 -- the operands exchanged
-abbrev pub exchanged : Refined → Refined
-exchanged None = None
-exchanged (Some pair) = Some (pair.1, pair.0)
+abbrev pub swapped : Refined → Refined
+swapped None = None
+swapped (Some pair) = Some (pair.1, pair.0)
 
 -- all others: of two exact spans whether the condition is met
 unfoldable pub tested : Condition → Width → Span → Span → Refined
@@ -91,8 +91,8 @@ refine_row (Holds Eq) width a b = equal a b
 refine_row (Holds Ne) width a b = different a b
 refine_row (Holds Gt) width a b = greater a b
 refine_row (Holds Ge) width a b = not_less a b
-refine_row (Holds Lt) width a b = exchanged (greater b a)
-refine_row (Holds Le) width a b = exchanged (not_less b a)
+refine_row (Holds Lt) width a b = swapped (greater b a)
+refine_row (Holds Le) width a b = swapped (not_less b a)
 refine_row (Holds Set) width a b = tested (Holds Set) width a b
 refine_row NotSet width a b = tested NotSet width a b
 refine_row (Holds Sgt) width a b = tested (Holds Sgt) width a b

@@ -1,7 +1,7 @@
 //! The rows of conditions, a function a row.
 
 ghost use Rattle.std.specs.Prelude.{◌≡◌, ◌≢◌};
-ghost use Rattle.value_range_model.specs.RefineRows.{equal, without, different, greater, not_less, exchanged, tested};
+ghost use Rattle.value_range_model.specs.RefineRows.{equal, without, different, greater, not_less, swapped, tested};
 
 use bpf_insn_types::Width;
 use value_range_model::{Condition, Range, norm, round_down};
@@ -82,7 +82,7 @@ pub fn not_less(a: Range, b: Range) -> Option<(Range, Range)>
 
 /// The operands exchanged.
 pub fn exchanged(refined: Option<(Range, Range)>) -> Option<(Range, Range)>
-    ensures { result ≡ exchanged refined }
+    ensures { result ≡ swapped refined }
 {
     match refined {
         None => None,

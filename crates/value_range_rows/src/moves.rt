@@ -2,7 +2,7 @@
 
 ghost use Rattle.std.specs.Prelude.{◌≡◌, ◌/◌};
 ghost use Rattle.bpf_insn_alu.specs.Words.{low_modulus, endian_modulus};
-ghost use Rattle.value_range_model.specs.AluRows.{low32, negative, extended, little, ordered, top_bits};
+ghost use Rattle.value_range_model.specs.AluRows.{low32, negative, extended_range, little, ordered, top_bits};
 
 use crate::widths::spread;
 use bpf_insn_types::{ByteOrder, EndianBits, MovsxBits, Width};
@@ -31,9 +31,9 @@ pub fn negative(width: Width, a: Range) -> Range
 }
 
 /// A sign-extending move: where the sign is clear, the operand.
-#[tactic(auto, using(value_range_model::proofs::RowBounds::zero_some), unfolding(value_range_model::specs::AluRows::extended))]
+#[tactic(auto, using(value_range_model::proofs::RowBounds::zero_some), unfolding(value_range_model::specs::AluRows::extended_range))]
 pub fn extended(width: Width, bits: MovsxBits, b: Range) -> Range
-    ensures { result ≡ extended width bits b }
+    ensures { result ≡ extended_range width bits b }
 {
     if b.hi() < sign_bit(bits) {
         b

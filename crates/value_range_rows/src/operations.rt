@@ -2,7 +2,7 @@
 
 ghost use Rattle.std.specs.Prelude.{◌≡◌, ℕ};
 ghost use Rattle.value_range_model.specs.Spans.{IsSpan, Contains};
-ghost use Rattle.value_range_model.specs.AluRows.{meant, operand_of, operand, alu_row, row, alu_reads_exact, reads_exact, of_operands, span_of};
+ghost use Rattle.value_range_model.specs.AluRows.{meant, range_at_width, operand, alu_row, row, alu_reads_exact, reads_exact, of_operands, span_of};
 
 use crate::bits::{common_bits, other_bits, with_bits};
 use crate::moves::{extended, low32, negative, ordered};
@@ -38,7 +38,7 @@ fn operand(operation: Operation, width: Width, range: Range) -> Range
 }
 
 fn operand_of(width: Width, range: Range) -> Range
-    ensures { result ≡ operand_of width range }
+    ensures { result ≡ range_at_width width range }
 {
     match width {
         Width::W32 => low32(range),

@@ -1,7 +1,7 @@
 -- Each row is computed.
 use Rattle.std.proofs.Common.{refl}
 use Rattle.bpf_insn_alu.specs.Words.{alu, negated, moved_signed, in_order, holds}
-use Rattle.bpf_insn_alu.specs.WordRows.{WideRows, HalfRows, ByteRows, CompareRows}
+use Rattle.bpf_insn_alu.specs.WordRows.{WideRows, NarrowRows, ByteRows, CompareRows}
 use Rattle.bpf_insn_alu.proofs.worked_words.Goals as goal
 
 wide : WideRows
@@ -30,7 +30,7 @@ wide = record {
   imm_extended = refl;
 }
 
-half : HalfRows
+half : NarrowRows
 unfolding alu negated
 half = record {
   add_clears = refl;

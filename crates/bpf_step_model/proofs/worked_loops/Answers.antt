@@ -5,7 +5,7 @@ use Rattle.array_maps.specs.Accesses.{combined}
 use Rattle.bpf_step_model.specs.Step.{step}
 use Rattle.bpf_step_model.specs.Iteration.{iteration}
 use Rattle.bpf_step_model.specs.ProgramInOrder.{program_in_order}
-use Rattle.bpf_step_model.specs.LoopRows.{OneLoopRows, RefusedRows, ArgumentRows, MainRows}
+use Rattle.bpf_step_model.specs.LoopRows.{OneLoopRows, RefusedCallRows, ArgumentRows, MainRows}
 use Rattle.bpf_step_model.proofs.worked_loops.Goals as goal
 
 one : OneLoopRows
@@ -24,7 +24,7 @@ one = record {
   fetches = refl;
 }
 
-refused : RefusedRows
+refused : RefusedCallRows
 unfolding program_in_order iteration step alu holds combined
 refused = record {
   too_many = refl;

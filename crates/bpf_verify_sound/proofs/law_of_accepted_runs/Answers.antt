@@ -1,4 +1,5 @@
--- A run goes on as is known at each of its steps, each of which is shorter; a callback starts where its function does.
+-- A run goes on within the abstract states at each of its steps, each of which is shorter; a callback starts where its
+-- function does.
 use Rattle.bpf_verify_sound.proofs.RunLaws.{run-known}
 use Rattle.bpf_verify_sound.proofs.CountLaws.{run-within, run-exit}
 use Rattle.bpf_verify_sound.proofs.StartIndex.{start-function}

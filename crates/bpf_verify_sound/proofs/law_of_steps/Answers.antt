@@ -1,4 +1,5 @@
--- Main starts as is known, each step goes on so, and what is known before a slot is of so many registers and bytes.
+-- Main starts within the abstract states, each step goes on so, and the abstract state before a slot is of so many registers
+-- and bytes.
 use Rattle.bpf_verify_sound.proofs.EntryLaws.{main-contained}
 use Rattle.bpf_verify_sound.proofs.SoundLaws.{entry-sound, call-sound, step-sound}
 use Rattle.bpf_verify_sound.proofs.RunLaws.{step-known}

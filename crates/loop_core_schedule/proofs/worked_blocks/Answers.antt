@@ -5,14 +5,14 @@ use Rattle.array_maps.specs.Accesses.{combined}
 use Rattle.array_maps.specs.Halves.{half_of, with_half, halves_added}
 use Rattle.bpf_step_model.specs.Step.{step}
 use Rattle.bpf_step_model.specs.Iteration.{iteration}
-use Rattle.loop_core_schedule.specs.BlockRows.{RightRows, LeftRows, MixedRows, WriterRows, PartialRows, HalfBlockRows}
+use Rattle.loop_core_schedule.specs.BlockRows.{RightRows, ShiftLeftRows, MixedRows, WriterRows, PartialRows, HalfBlockRows}
 use Rattle.loop_core_schedule.proofs.worked_blocks.Goals as goal
 
 right : RightRows
 unfolding iteration step alu holds combined half_of with_half halves_added
 right = record { first = refl; last = refl }
 
-left : LeftRows
+left : ShiftLeftRows
 unfolding iteration step alu holds combined half_of with_half halves_added
 left = record { first = refl; last = refl }
 

@@ -5,14 +5,14 @@ use Rattle.bpf_insn_alu.specs.Words.{alu, holds}
 use Rattle.array_maps.specs.Accesses.{combined}
 use Rattle.bpf_step_model.specs.Step.{step}
 use Rattle.bpf_step_model.specs.Iteration.{iteration}
-use Rattle.loop_core_schedule.specs.PlaneRows.{MarkRows, ConflictRows}
+use Rattle.loop_core_schedule.specs.PlaneRows.{MarkRows, ConflictPlaneRows}
 use Rattle.loop_core_schedule.proofs.worked_planes.Goals as goal
 
 marks : MarkRows
 unfolding iteration step alu holds combined
 marks = record { right = refl; left = refl; increments = refl; mixed = refl; writers = refl }
 
-conflicts : ConflictRows
+conflicts : ConflictPlaneRows
 unfolding ones ones_in count_trailing_zeros
 conflicts = record {
   three = record { count = refl; least = refl; told = refl };

@@ -6,7 +6,7 @@ use Rattle.bpf_step_model.specs.Step.{step}
 use Rattle.bpf_step_model.specs.Iteration.{iteration}
 use Rattle.loop_core_model.specs.declared.loop_test.Test.{Test}
 use Rattle.loop_core_model.specs.declared.loop_test.Test.TheVariants.{Lrpd, Flow}
-use Rattle.loop_core_schedule.specs.ReplayRows.{EndedRows, LeftRows, RefusedRows}
+use Rattle.loop_core_schedule.specs.ReplayRows.{EndedRows, LeftStateRows, RefusedEventRows}
 use Rattle.loop_core_schedule.proofs.worked_replays.Goals as goal
 
 ended : (test : Test) → EndedRows test
@@ -14,11 +14,11 @@ unfolding iteration step alu holds combined
 ended Lrpd = record { two = refl; skips = refl; lesser_post = refl; conflict = refl; no_iterations = refl }
 ended Flow = record { two = refl; skips = refl; lesser_post = refl; conflict = refl; no_iterations = refl }
 
-left : LeftRows
+left : LeftStateRows
 unfolding iteration step alu holds combined
 left = record { all = refl; first = refl; empty_at_the_break = refl }
 
-refused : RefusedRows
+refused : RefusedEventRows
 unfolding iteration step alu holds combined
 refused = record {
   not_ended = refl;

@@ -1,6 +1,6 @@
 use Rattle.std.proofs.Common.{◌≡◌, ◌++◌, ◌+◌, ◌∷◌, drop, sym, ap, ◌∙◌, add-one}
 use Rattle.std.specs.String.{string_bytes}
-use Rattle.bpf_text.specs.MapsText.{lists, map_spelling, spelling_from}
+use Rattle.bpf_text.specs.MapsText.{lists, map_spelling, map_spellings_from}
 use Rattle.bpf_text.proofs.PrintLaws.{prints_next, drop-lists}
 use Rattle.bpf_text.proofs.maps_print.print_maps.Goals as goal
 
@@ -14,7 +14,7 @@ loop-number-preserved c =
     let front : drop number (lists maps) ≡ values ∷ rest = rw add-one (drop-lists maps number c.index-maps-number.result c.loop-number-test.true c.index-maps-number.is) in
     let added : string_bytes c.print_map.new.out ≡ out ++ map_spelling number values =
     c.in_ok-print_map.ensures ∙ ap (λ vs. out ++ map_spelling number vs) c.deref.ensures.value in
-    ap (λ bytes. bytes ++ spelling_from (number + 1) rest) added
+    ap (λ bytes. bytes ++ map_spellings_from (number + 1) rest) added
     ∙ sym (prints_next out number values rest)
-    ∙ ap (λ vs. out ++ spelling_from number vs) (sym front)
+    ∙ ap (λ vs. out ++ map_spellings_from number vs) (sym front)
     ∙ c.loop-number.invariant

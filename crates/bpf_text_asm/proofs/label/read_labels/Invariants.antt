@@ -1,12 +1,12 @@
 use Rattle.std.proofs.Common.{◌≡◌, ◌≤◌, ◌+◌, ◌*◌, ℕ, List, length}
 use Rattle.std.specs.Option.{option_or}
-use Rattle.bpf_text_operands.specs.LabelTable.{found}
+use Rattle.bpf_text_operands.specs.LabelTable.{label_named}
 use Rattle.bpf_text_asm.specs.AssemblerText.{labels_from}
 use Rattle.bpf_text_asm.proofs.label.read_labels.Given as goal
 
 abbrev pub invariant-loop-line : goal.invariant-loop-line
 invariant-loop-line l = record {
-  same : (name : List ℕ) → option_or (found l.labels name) (labels_from l.slot l.lines name) ≡ labels_from 0 l.initial.lines name;
+  same : (name : List ℕ) → option_or (label_named l.labels name) (labels_from l.slot l.lines name) ≡ labels_from 0 l.initial.lines name;
   room : l.slot + 2 * length l.lines ≤ 2097152;
 }
 

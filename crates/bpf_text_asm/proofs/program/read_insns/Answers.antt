@@ -1,6 +1,6 @@
 use Rattle.std.proofs.Common.{◌+◌, sym, ap, ◌∙◌}
 use Rattle.std.proofs.lemmas.Result.{err_from_is_err_and}
-use Rattle.bpf_text_operands.specs.LabelTable.{found}
+use Rattle.bpf_text_operands.specs.LabelTable.{label_named}
 use Rattle.bpf_insn_types.specs.Program.{slot_count}
 use Rattle.bpf_text_asm.specs.AssemblerText.{insns_behind}
 use Rattle.bpf_insn_types.proofs.ProgramLaws.{slot_count-append}
@@ -11,7 +11,7 @@ pub returns-in_err-slot : goal.returns-in_err-slot
 returns-in_err-slot c =
     let p = err_from_is_err_and c.from_residual.result c.from_residual.ensures.1 in
     let e = c.in_err-slot.field-0.0 in
-    let labels = found c.args.labels.now in
+    let labels = label_named c.args.labels.now in
     let before = c.loop-line.insns.items in
     let line = c.in-Some.line in
     let lines = c.next.new.self in
@@ -20,7 +20,7 @@ returns-in_err-slot c =
 
 pub loop-line-preserved : goal.loop-line-preserved
 loop-line-preserved c =
-    let labels = found c.args.labels.now in
+    let labels = label_named c.args.labels.now in
     let before = c.loop-line.insns.items in
     let line = c.in-Some.line in
     let lines = c.next.new.self in
@@ -33,4 +33,4 @@ loop-line-preserved c =
     }
 
 pub returns : goal.returns
-returns c = sym c.loop-line.invariant.so_far ∙ ap (insns_behind (found c.args.labels.now) c.loop-line.insns.items) c.in_default.ensures.none ∙ insns_behind-end (found c.args.labels.now) c.loop-line.insns.items
+returns c = sym c.loop-line.invariant.so_far ∙ ap (insns_behind (label_named c.args.labels.now) c.loop-line.insns.items) c.in_default.ensures.none ∙ insns_behind-end (label_named c.args.labels.now) c.loop-line.insns.items

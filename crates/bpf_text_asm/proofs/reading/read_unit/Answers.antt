@@ -1,7 +1,7 @@
 use Rattle.std.proofs.Common.{sym, ap, ◌∙◌}
 use Rattle.std.proofs.lemmas.Result.{err_from_is_err_and}
 use Rattle.bpf_text_lex.specs.Lines.{contents_of}
-use Rattle.bpf_text_operands.specs.LabelTable.{found}
+use Rattle.bpf_text_operands.specs.LabelTable.{label_named}
 use Rattle.bpf_text_asm.specs.AssemblerText.{labels_from}
 use Rattle.bpf_text_asm.proofs.ReadingLaws.{no_head, head_fails, insns_fail, insns_read}
 use Rattle.bpf_text_asm.proofs.reading.read_unit.Goals as goal
@@ -22,11 +22,11 @@ returns-in_err-insns c =
     let head = c.in-Some.head in
     let all = sym c.of-lines.ensures.lines ∙ c.in-Some.ensures.some in
     rw (p.1, p.2) (insns_fail c.in_err-insns.field-0.0 (contents_of c.args.text.now) (head.number, head.content.now) c.next.new.self
-    c.in_ok-sizes.sizes.items (found c.in_ok-labels.labels) all c.in_ok-sizes.ensures (λ name. c.in_ok-labels.ensures name ∙ ap (λ lines. labels_from 0 lines name) c.again.ensures) c.in_err-insns.ensures)
+    c.in_ok-sizes.sizes.items (label_named c.in_ok-labels.labels) all c.in_ok-sizes.ensures (λ name. c.in_ok-labels.ensures name ∙ ap (λ lines. labels_from 0 lines name) c.again.ensures) c.in_err-insns.ensures)
 
 pub returns : goal.returns
 returns c =
     let head = c.in-Some.head in
     let all = sym c.of-lines.ensures.lines ∙ c.in-Some.ensures.some in
     insns_read (contents_of c.args.text.now) (head.number, head.content.now) c.next.new.self
-    c.in_ok-sizes.sizes.items c.in_ok-insns.insns.items (found c.in_ok-labels.labels) all c.in_ok-sizes.ensures (λ name. c.in_ok-labels.ensures name ∙ ap (λ lines. labels_from 0 lines name) c.again.ensures) c.in_ok-insns.ensures
+    c.in_ok-sizes.sizes.items c.in_ok-insns.insns.items (label_named c.in_ok-labels.labels) all c.in_ok-sizes.ensures (λ name. c.in_ok-labels.ensures name ∙ ap (λ lines. labels_from 0 lines name) c.again.ensures) c.in_ok-insns.ensures

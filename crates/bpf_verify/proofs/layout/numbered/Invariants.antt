@@ -1,7 +1,7 @@
 use Rattle.std.proofs.Common.{◌≡◌, ℕ, ◌<◌, length, get_or, None}
 use Rattle.std.specs.Prelude.{filter}
 use Rattle.std.specs.List.{range_with_len}
-use Rattle.bpf_verify.specs.Layout.{place_of}
+use Rattle.bpf_verify.specs.Layout.{function_starting_at}
 use Rattle.bpf_verify.proofs.StartLaws.{starts_at}
 use Rattle.bpf_verify.proofs.layout.numbered.Given as goal
 
@@ -9,5 +9,5 @@ abbrev pub invariant-loop-slot : goal.invariant-loop-slot
 invariant-loop-slot l = record {
   starts : l.starts.items ≡ filter (starts_at l.insns) (range_with_len 0 l.slot);
   size : length l.places.items ≡ l.slot;
-  places : (k : ℕ) → k < l.slot → get_or l.places.items k None ≡ place_of l.insns k;
+  places : (k : ℕ) → k < l.slot → get_or l.places.items k None ≡ function_starting_at l.insns k;
 }

@@ -7,7 +7,7 @@ use Rattle.bpf_verify_written.specs.Written.{none_written}
 use Rattle.bpf_verify_model.specs.States.{joined_states, known_main_entry}
 use Rattle.bpf_verify_model.specs.Rules.{state_fault}
 use Rattle.bpf_verify_model.specs.Flow.{known_behind, flow}
-use Rattle.bpf_verify_model.specs.RuleRows.{JoinRows, StoreRows, WayRows, NullRows, EndRows, BoundRows}
+use Rattle.bpf_verify_model.specs.RuleRows.{JoinRows, StoreRows, EdgeRows, NullRows, EndRows, BoundRows}
 use Rattle.bpf_verify_model.proofs.laws.worked_rules.Goals as goal
 
 joins : JoinRows
@@ -18,7 +18,7 @@ stores : StoreRows
 unfolding known_behind known_main_entry none_written
 stores = record { marked = refl; below = refl; above = refl }
 
-ways : WayRows
+ways : EdgeRows
 unfolding flow known_main_entry refined greater not_less equal different without norm rounded_up rounded_down count_trailing_zeros
 ways = record { greater = refl; never_greater = refl; equal = refl }
 

@@ -1,6 +1,6 @@
 use Rattle.std.proofs.Common.{◌≡◌, ℕ, ◌++◌, List, length, take, drop, sym, ◌∙◌, ap, arith}
 use Rattle.std.proofs.Math.Seq.{take-append_seam}
-use Rattle.loop_core_marks.specs.Planes.{elements_of}
+use Rattle.loop_core_marks.specs.Planes.{elements_in_plane}
 use Rattle.loop_core_gather.proofs.merged.conflicting_plane.Goals as goal
 
 taken : (xs rest : List ℕ) (many : ℕ) → length xs ≡ many → take many (xs ++ rest) ≡ xs
@@ -10,5 +10,5 @@ pub returns-clause-elements : goal.returns-clause-elements
 returns-clause-elements c visits stand =
     let count = c.conflicts_touched.ensures.plane.count in
     let long = c.in_ok-plane.ensures.len in
-    ap elements_of (taken c.conflicts_touched.new.into (drop (length c.conflicts_touched.new.into) c.in_ok-plane.plane.items) c.in_ok-plane.plane.len (omega (arith, count, long)))
+    ap elements_in_plane (taken c.conflicts_touched.new.into (drop (length c.conflicts_touched.new.into) c.in_ok-plane.plane.items) c.in_ok-plane.plane.len (omega (arith, count, long)))
     ∙ c.conflicts_touched.ensures.elements visits stand

@@ -1,6 +1,6 @@
 use Rattle.std.proofs.Common.{◌<◌, map, vec_len, ◌∙◌, rules, arith}
 use Rattle.std.proofs.lemmas.Grind.{common_steps}
-use Rattle.loop_core_block.specs.Ran.{IsRunOf}
+use Rattle.loop_core_block.specs.Ran.{RecordsRun}
 use Rattle.loop_core_block.specs.Shown.{shown}
 use Rattle.spec_run_work.proofs.StillWorks.{all_images}
 use Rattle.spec_run_loop.proofs.WorkerLaws.{boards, ran, complete}
@@ -13,7 +13,7 @@ gather-requires g c =
 
 pub gather_all-requires-clause-ran : goal.gather_all-requires-clause-ran
 gather_all-requires-clause-ran g c =
-    all_images (IsRunOf c.args.test c.args.program.now c.args.call.now c.args.start.now.words) shown c.in_ok-seats.blocks.items
+    all_images (RecordsRun c.args.test c.args.program.now c.args.call.now c.args.start.now.words) shown c.in_ok-seats.blocks.items
     (ran c.args.test c.args.program.now c.args.call.now c.args.start.now.words c.args.split.now c.in-Ok.board (vec_len c.in-Ok.seats)
     c.in_ok-seats.seats.items (map shown c.in_ok-seats.blocks.items) c.in_ok-seats.ensures)
 

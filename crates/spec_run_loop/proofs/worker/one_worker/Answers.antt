@@ -1,5 +1,5 @@
 use Rattle.std.proofs.Common.{map}
-use Rattle.loop_core_block.specs.Ran.{IsRunOf}
+use Rattle.loop_core_block.specs.Ran.{RecordsRun}
 use Rattle.loop_core_block.specs.Shown.{shown}
 use Rattle.spec_run_loop.proofs.WorkerLaws.{images_all, worker_at}
 use Rattle.spec_run_loop.proofs.worker.one_worker.Goals as goal
@@ -8,4 +8,4 @@ pub returns : goal.returns
 returns g c =
     worker_at c.args.test c.args.program.now c.args.call.now c.args.start.now.words c.args.split.now c.args.board.now c.args.seat
     (record { seat = c.work.new.seat; blocks = map shown c.in_ok-blocks.blocks.items }) c.requires.seat c.in_ok-blocks.ensures.worked
-    (images_all (IsRunOf c.args.test c.args.program.now c.args.call.now c.args.start.now.words) shown c.in_ok-blocks.blocks.items c.in_ok-blocks.ensures.ran)
+    (images_all (RecordsRun c.args.test c.args.program.now c.args.call.now c.args.start.now.words) shown c.in_ok-blocks.blocks.items c.in_ok-blocks.ensures.ran)

@@ -1,11 +1,11 @@
-use Rattle.loop_core_block.specs.Ran.{IsRunOf}
+use Rattle.loop_core_block.specs.Ran.{RecordsRun}
 use Rattle.loop_core_block.specs.Shown.{shown}
 use Rattle.spec_run_loop.proofs.WholeLaws.{all_of_one, whole_faultless}
 use Rattle.spec_run_loop.proofs.worker.run_whole.Goals as goal
 
 pub returns-clause-ran : goal.returns-clause-ran
 returns-clause-ran g c =
-    all_of_one (λ b. IsRunOf c.args.test c.args.program.now c.args.call.now c.args.start.now.words (shown b)) c.push.new.self.items c.new-blocks.result.items c.in_ok-block.block
+    all_of_one (λ b. RecordsRun c.args.test c.args.program.now c.args.call.now c.args.start.now.words (shown b)) c.push.new.self.items c.new-blocks.result.items c.in_ok-block.block
     c.new-blocks.ensures.items c.in_ok-push.ensures.items c.in_ok-block.ensures.ran
 
 pub returns-clause-faultless : goal.returns-clause-faultless

@@ -3,9 +3,9 @@ use Rattle.std.specs.Option.{option_to_list}
 use Rattle.std.proofs.lemmas.List.{map-append}
 use Rattle.loop_core_block.specs.declared.block.Block.{Block}
 use Rattle.loop_core_block.specs.Blocks.{BlockOf}
-use Rattle.loop_core_block.specs.Ran.{IsRunOf}
+use Rattle.loop_core_block.specs.Ran.{RecordsRun}
 use Rattle.loop_core_block.specs.Shown.{shown}
-use Rattle.spec_run_work.specs.Worked.{Stopped}
+use Rattle.spec_run_work.specs.Worked.{WorkerStopped}
 use Rattle.spec_run_work.proofs.StillWorks.{on_err, less_left, all_images, begins, drew_one, stops_behind, goes_on}
 use Rattle.spec_run_work.proofs.working.work.Goals as goal
 
@@ -45,11 +45,11 @@ loop-number-preserved g c =
 
 pub returns-clause-ran : goal.returns-clause-ran
 returns-clause-ran g c =
-    all_images (IsRunOf c.args.test c.args.program.now c.args.call.now c.args.start.now.words) shown c.loop-number.blocks.items c.loop-number.invariant.ran
+    all_images (RecordsRun c.args.test c.args.program.now c.args.call.now c.args.start.now.words) shown c.loop-number.blocks.items c.loop-number.invariant.ran
 
 pub returns-in_err-push-clause-stopped : goal.returns-in_err-push-clause-stopped
 returns-in_err-push-clause-stopped g c =
-    on_err (Stopped c.args.test c.args.program.now c.args.call.now c.args.start.now.words c.args.split.now c.args.seat.now c.take.new.seat) c.from_residual-in_err-push.result
+    on_err (WorkerStopped c.args.test c.args.program.now c.args.call.now c.args.start.now.words c.args.split.now c.args.seat.now c.take.new.seat) c.from_residual-in_err-push.result
     (stops_behind c.args.test c.args.program.now c.args.call.now c.args.start.now.words c.args.split.now c.args.seat.now c.loop-number.seat c.claim.new.seat c.take.new.seat
     (map shown c.loop-number.blocks.items) c.in-Some.number c.loop-number.invariant c.in-Some.ensures.drawn (map shown (option_to_list c.in_ok-taken.taken)) c.in_ok-taken.ensures.took
     (subst (λ (o : Option Block). 0 < length (map shown (option_to_list o))) (sym c.in-Some-taken.is) (omega arith)))

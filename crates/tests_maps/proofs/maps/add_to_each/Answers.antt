@@ -2,7 +2,7 @@ use Rattle.std.proofs.Common.{◌≡◌, ℕ, ◌+◌, ◌<◌, List, [], ◌∷
 use Rattle.std.proofs.lemmas.List.{take_more, map-append}
 use Rattle.array_maps.specs.Accesses.{Access, words_after, words_after_all}
 use Rattle.array_maps.specs.Store.{Effects}
-use Rattle.tests_maps.specs.Added.{added}
+use Rattle.tests_maps.specs.Added.{addition}
 use Rattle.array_maps.proofs.ElementLaws.{length-words_after_all}
 use Rattle.array_maps.proofs.StoreLaws.{effects-more, words_after_all-more}
 use Rattle.tests_maps.proofs.maps.add_to_each.Goals as goal
@@ -10,19 +10,19 @@ use Rattle.tests_maps.proofs.maps.add_to_each.Goals as goal
 pub update-requires-clause-within : goal.update-requires-clause-within
 update-requires-clause-within g c =
     let inside : c.loop-e.e-index < length c.args.elements.now = omega arith in
-    let same : length (g.S.Store.words c.loop-e.store) ≡ length (g.S.Store.words c.args.store.now) = ap length c.loop-e.invariant.words ∙ length-words_after_all (map (added c.args.operand) (take c.loop-e.e-index c.args.elements.now)) (g.S.Store.words c.args.store.now) in
+    let same : length (g.S.Store.words c.loop-e.store) ≡ length (g.S.Store.words c.args.store.now) = ap length c.loop-e.invariant.words ∙ length-words_after_all (map (addition c.args.operand) (take c.loop-e.e-index c.args.elements.now)) (g.S.Store.words c.args.store.now) in
     subst (λ (n : ℕ). get_or c.args.elements.now c.loop-e.e-index 0 < n) (sym same) (c.requires.within c.loop-e.e-index 0 inside)
 
 -- the accesses so far and the next
 accesses-more : (operand : ℕ) (elements : List ℕ) (i : ℕ) → i < length elements →
-    map (added operand) (take (i + 1) elements) ≡ map (added operand) (take i elements) ++ added operand (get_or elements i 0) ∷ []
-accesses-more operand elements i inside = ap (map (added operand)) (take_more elements i 0 inside) ∙ map-append (added operand) (take i elements) (get_or elements i 0 ∷ [])
+    map (addition operand) (take (i + 1) elements) ≡ map (addition operand) (take i elements) ++ addition operand (get_or elements i 0) ∷ []
+accesses-more operand elements i inside = ap (map (addition operand)) (take_more elements i 0 inside) ∙ map-append (addition operand) (take i elements) (get_or elements i 0 ∷ [])
 
 pub loop-e-preserved : goal.loop-e-preserved
 loop-e-preserved g c =
     let inside : c.loop-e.e-index < length c.args.elements.now = omega arith in
-    let access : Access = added c.args.operand (get_or c.args.elements.now c.loop-e.e-index 0) in
-    let before : List Access = map (added c.args.operand) (take c.loop-e.e-index c.args.elements.now) in
+    let access : Access = addition c.args.operand (get_or c.args.elements.now c.loop-e.e-index 0) in
+    let before : List Access = map (addition c.args.operand) (take c.loop-e.e-index c.args.elements.now) in
     let more = accesses-more c.args.operand c.args.elements.now c.loop-e.e-index inside in
     let shown = g.met.S.Store.shows c.loop-e.store c.update.new.self access c.update.ensures.done in
     let used = g.met.S.Store.uses_one c.loop-e.store c.update.new.self access c.update.ensures.done in

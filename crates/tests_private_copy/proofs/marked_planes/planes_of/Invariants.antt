@@ -1,5 +1,5 @@
 use Rattle.std.proofs.Common.{◌≡◌}
-use Rattle.shadow_marks.specs.Iteration.{elements_of, IsEmptied}
+use Rattle.shadow_marks.specs.Iteration.{element_count, IsEmptied}
 use Rattle.shadow_marks.specs.Standing.{ArePlanes, test_of}
 use Rattle.lane_planes.specs.Merged.{StandForSome}
 use Rattle.tests_private_copy.proofs.marked_planes.planes_of.Given as goal
@@ -10,6 +10,6 @@ invariant-loop-turn l = record {
   stand : StandForSome l.planes;
   elements : l.planes.elements ≡ l.elements;
   test : test_of l.planes.tested ≡ l.fn.test;
-  flags : elements_of l.flags ≡ l.elements;
+  flags : element_count l.flags ≡ l.elements;
   emptied : IsEmptied l.flags;
 }

@@ -1,7 +1,7 @@
 use Rattle.std.proofs.Common.{◌≤◌, ◌∙◌, sym, subst}
 use Rattle.bpf_insn_types.specs.Program.{Program}
 use Rattle.bpf_step_model.specs.State.{main_entry}
-use Rattle.bpf_verify_sound.specs.Soundness.{IsKnownCall, most_from}
+use Rattle.bpf_verify_sound.specs.Soundness.{OverApproximatesCall, most_from}
 use Rattle.bpf_step.proofs.Limits.{few_steps}
 use Rattle.loop_core_sequential.proofs.MapEffects.{sizes_kept}
 use Rattle.tests_rows.proofs.CallLaws.{known_call}
@@ -20,7 +20,7 @@ returns-in-Loop-clause-sizes c =
 pub returns-in-Loop-clause-known : goal.returns-in-Loop-clause-known
 returns-in-Loop-clause-known c =
     let ran = c.in-Loop.ensures.ran (main_entry 0) c.new-main.ensures.at in
-    subst (λ (program : Program). IsKnownCall program c.in-Loop.call) (c.next.ensures.program ∙ c.new-main.ensures.program)
+    subst (λ (program : Program). OverApproximatesCall program c.in-Loop.call) (c.next.ensures.program ∙ c.new-main.ensures.program)
     (known_call c.next.new.self ran.stretch.turn c.in-Loop.call ran.turns)
 
 pub returns-in_default : goal.returns-in_default

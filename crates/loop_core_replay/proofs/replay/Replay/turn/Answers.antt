@@ -1,12 +1,12 @@
 use Rattle.std.proofs.Common.{◌+◌}
 use Rattle.loop_core_replay.specs.Settings.{SettingOf}
-use Rattle.loop_core_replay.specs.Replays.{AreBlocks, HasRun, HasCome}
+use Rattle.loop_core_replay.specs.Replays.{AreBlocks, BlockHasRun, HasCome}
 use Rattle.loop_core_replay.proofs.EventLaws.{on_ok, turn_on, turn_last}
 use Rattle.loop_core_replay.proofs.replay.Replay.turn.Goals as goal
 
 pub returns-in-Some : goal.returns-in-Some
 returns-in-Some c =
-    on_ok ((setting : SettingOf) → AreBlocks setting c.begin.new.self → HasRun setting c.in-Some.block c.begin.new.self c.end.new.self)
+    on_ok ((setting : SettingOf) → AreBlocks setting c.begin.new.self → BlockHasRun setting c.in-Some.block c.begin.new.self c.end.new.self)
     (HasCome c.args.of.now c.args.events.now (c.args.place + 1) (record { workers = c.finish.new.self; blocks = c.end.new.self })) c.end.result
     (λ run.
     turn_last c.law_of_events_in_turn.ensures _ c.args.of.now c.of.view_is c.of.invariant c.args.events.now c.args.place c.args.self.now c.self.inside.workers c.self.inside.blocks c.self.view_is

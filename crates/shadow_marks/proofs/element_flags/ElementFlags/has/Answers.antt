@@ -1,6 +1,6 @@
-use Rattle.shadow_marks.specs.Kept.{place_of}
+use Rattle.shadow_marks.specs.Kept.{bit_place}
 use Rattle.shadow_marks.proofs.BitLaws.{bit_tested}
 use Rattle.shadow_marks.proofs.element_flags.ElementFlags.has.Goals as goal
 
 pub returns : goal.returns
-returns c = bit_tested c.args.self.bits c.bit.result (place_of c.args.flag) c.bit.ensures
+returns c = bit_tested c.args.self.bits c.bit.result (bit_place c.args.flag) c.bit.ensures

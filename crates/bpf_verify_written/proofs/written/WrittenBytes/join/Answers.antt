@@ -1,10 +1,10 @@
 use Rattle.std.proofs.Common.{◌≡◌, refl, sym, ◌∙◌, ap, arith, List, Bool, get_or}
 use Rattle.std.specs.Prelude.{bit_and}
 use Rattle.bpf_verify_written.specs.Written.{joined_written}
-use Rattle.bpf_verify_written.specs.Words.{bytes_in}
+use Rattle.bpf_verify_written.specs.Words.{marks_in_words}
 use Rattle.bpf_verify_written.proofs.MeetLaws.{met_to, met_to-none, met_to-step}
-use Rattle.bpf_verify_written.proofs.WordMeetLaws.{AreWords-met, bytes_in-met}
-use Rattle.bpf_verify_written.proofs.written.WrittenBytes.meet.Goals as goal
+use Rattle.bpf_verify_written.proofs.WordMeetLaws.{AreMarkWords-met, marks_in_words-met}
+use Rattle.bpf_verify_written.proofs.written.WrittenBytes.join.Goals as goal
 
 pub loop-row-init : goal.loop-row-init
 loop-row-init c = sym (met_to-none bit_and c.self.inside.words c.others.inside.words)
@@ -20,12 +20,12 @@ invariant_of-self c =
     let end : c.loop-row.row ≡ 8 = omega arith in
     let met : c.loop-row.self-inside.words ≡ met_to bit_and c.self.inside.words c.others.inside.words 8 =
     c.loop-row.invariant ∙ ap (met_to bit_and c.self.inside.words c.others.inside.words) end in
-    rw met (AreWords-met c.self.inside.words c.others.inside.words c.self.invariant c.others.invariant)
+    rw met (AreMarkWords-met c.self.inside.words c.others.inside.words c.self.invariant c.others.invariant)
 
 pub returns : goal.returns
 returns c =
     let end : c.loop-row.row ≡ 8 = omega arith in
-    ap bytes_in (c.loop-row.invariant ∙ ap (met_to bit_and c.self.inside.words c.others.inside.words) end)
-    ∙ bytes_in-met c.self.inside.words c.others.inside.words c.self.invariant.count c.others.invariant.count
-    ∙ ap (λ (l : List Bool). joined_written l (bytes_in c.others.inside.words)) c.self.view_is
+    ap marks_in_words (c.loop-row.invariant ∙ ap (met_to bit_and c.self.inside.words c.others.inside.words) end)
+    ∙ marks_in_words-met c.self.inside.words c.others.inside.words c.self.invariant.count c.others.invariant.count
+    ∙ ap (λ (l : List Bool). joined_written l (marks_in_words c.others.inside.words)) c.self.view_is
     ∙ ap (joined_written c.args.self.now) c.others.view_is

@@ -4,16 +4,16 @@ use Rattle.std.proofs.lemmas.List.{map-append}
 use Rattle.loop_core_block.specs.declared.block.Block.{Block}
 use Rattle.loop_core_block.specs.Shown.{shown}
 use Rattle.spec_run_loop.specs.declared.worker.Worker.{Worker}
-use Rattle.spec_run_loop.specs.Workers.{worker_of, IsWorkerAt, AreOfWorkers}
+use Rattle.spec_run_loop.specs.Workers.{board_worker, IsWorkerAt, AreOfWorkers}
 use Rattle.spec_run_loop.proofs.WorkerLaws.{popped, one_more}
-use Rattle.spec_run_loop.proofs.worker.parted.Goals as goal
+use Rattle.spec_run_loop.proofs.worker.seats_and_blocks.Goals as goal
 
 pub loop-worker-preserved : goal.loop-worker-preserved
 loop-worker-preserved c = record {
   count = omega (arith, c.loop-worker.invariant.count, c.in-Some.ensures.len);
   parts = λ test program call words bounds board all.
       let so_far = c.loop-worker.invariant.parts test program call words bounds board all in
-      let less = popped (λ (w : Worker). IsWorkerAt test program call words bounds board (worker_of w)) c.loop-worker.done.items c.pop.new.self.items c.in-Some.worker c.in-Some.ensures.items so_far.0 in
+      let less = popped (λ (w : Worker). IsWorkerAt test program call words bounds board (board_worker w)) c.loop-worker.done.items c.pop.new.self.items c.in-Some.worker c.in-Some.ensures.items so_far.0 in
       let number : vec_len c.args.done - vec_len c.loop-worker.done + 1 ≡ vec_len c.args.done - vec_len c.pop.new.self = omega (arith, c.loop-worker.invariant.count, c.in-Some.ensures.len) in
       let pushed = c.in_ok-push.ensures.items in
       let appended = c.in_ok-append.ensures.items in
@@ -24,8 +24,8 @@ loop-worker-preserved c = record {
         less.0,
         subst (λ (n : ℕ). AreOfWorkers test program call words bounds board n c.push.new.self.items (map shown c.append.new.self.items)) number
             (one_more test program call words bounds board (vec_len c.args.done - vec_len c.loop-worker.done) c.loop-worker.seats.items c.push.new.self.items
-            (map shown c.loop-worker.blocks.items) (map shown c.append.new.self.items) (worker_of c.in_ok-seat.field-0) so_far.1
-            (subst (λ r. IfOk r (λ (w : Worker). IsWorkerAt test program call words bounds board (worker_of w))) c.in_ok-seat.was less.1)
+            (map shown c.loop-worker.blocks.items) (map shown c.append.new.self.items) (board_worker c.in_ok-seat.field-0) so_far.1
+            (subst (λ r. IfOk r (λ (w : Worker). IsWorkerAt test program call words bounds board (board_worker w))) c.in_ok-seat.was less.1)
             seats_are
             (ap (λ (bs : List Block). map shown bs) blocks_are
             ∙ map-append shown c.loop-worker.blocks.items c.in_ok-seat.field-0.blocks.items)),

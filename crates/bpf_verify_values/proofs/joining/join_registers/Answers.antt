@@ -3,7 +3,7 @@ use Rattle.bpf_verify_model.specs.declared.abstract_value.AbstractValue.{Abstrac
 use Rattle.bpf_verify_model.specs.declared.abstract_value.AbstractValue.TheVariants.{Unwritten}
 use Rattle.bpf_verify_model.specs.States.{joined_values}
 use Rattle.bpf_verify_written.proofs.MeetLaws.{met_to-none, met_to-step, met_to-end}
-use Rattle.bpf_verify_values.proofs.joining.meet_registers.Goals as goal
+use Rattle.bpf_verify_values.proofs.joining.join_registers.Goals as goal
 
 pub loop-number-init : goal.loop-number-init
 loop-number-init c = sym (met_to-none joined_values c.args.registers.now c.args.others.now)
