@@ -22,14 +22,14 @@ memory_access_of (Store size dst src offset) = Some (record { kind = Writes; bas
 memory_access_of (Atomic width op dst src offset) = Some (record { kind = Changes; base = dst; offset = offset; size = atomic_bytes width })
 memory_access_of _ = None
 
--- whether its base is the address of memory
+-- whether it is the address of memory, as V16 asks of the base of an access
 abbrev pub is_memory : AbstractValue → Bool
 is_memory (Frame position) = true
 is_memory (Ctx position) = true
 is_memory (Area map offset) = true
 is_memory _ = false
 
--- whether an access of so many bytes is of a map's values, and neither of a value nor of a half
+-- V17: an access of so many bytes is of a map's values, and neither of a value nor of a half
 abbrev pub is_part_of_half : ℕ → AbstractValue → Bool
 is_part_of_half size (Area map offset) = not (size == 8 || size == 4)
 is_part_of_half size _ = false
@@ -42,7 +42,7 @@ is_misaligned size place = not (int_eq (int_rem place (pos size)) (pos 0))
 abbrev pub is_spread : ℕ → Span → Bool
 is_spread size offset = nat_lt offset.lo offset.hi && nat_lt (2 ^ offset.zeros) size
 
--- whether an access of so many bytes at an offset from this base isn't aligned
+-- V18: an access of so many bytes at an offset from this base isn't aligned
 abbrev pub misses_alignment : ℕ → ℤ → AbstractValue → Bool
 misses_alignment size offset (Frame position) = is_misaligned size (pos position +ℤ offset)
 misses_alignment size offset (Ctx position) = is_misaligned size (pos position +ℤ offset)
@@ -62,7 +62,7 @@ abbrev pub is_outside_map : Option ℕ → ℕ → ℤ → Span → Bool
 is_outside_map None size offset range = true
 is_outside_map (Some count) size offset range = is_outside_bytes (8 * count) size (pos range.lo +ℤ offset) (pos range.hi +ℤ offset)
 
--- whether an access isn't within its frame, or within its map's values
+-- V19: an access isn't within its frame, or within its map's values
 abbrev pub is_outside : List ℕ → ℕ → ℤ → AbstractValue → Bool
 is_outside sizes size offset (Frame position) = is_outside_frame size (pos position +ℤ offset)
 is_outside sizes size offset (Ctx position) = is_outside_frame size (pos position +ℤ offset)

@@ -221,8 +221,8 @@ stores_no_number state (Store size dst src offset) = not (is_number_value (known
 stores_no_number state (Atomic width op dst src offset) = not (is_number_value (known_register state src)) || compares_with_no_number state op
 stores_no_number state _ = false
 
--- V16 to V19: the base of an access isn't the address of memory; an access of a map's values isn't of 8 or
--- 4 bytes; an access isn't aligned; an access isn't within its frame or its map's values
+-- V16, V17, V18, V19: the base of an access isn't the address of memory; an access of a map's values isn't of 8 or 4 bytes;
+-- an access isn't aligned; an access isn't within its frame or its map's values
 abbrev pub place_fault : List ℕ → MemoryAccess → AbstractValue → Option Rule
 place_fault sizes access base =
     if not (is_memory base) then Some AccessBase
@@ -243,7 +243,7 @@ abbrev pub or_else : {A : Type 0} → Option A → Option A → Option A
 or_else (Some a) later = Some a
 or_else None later = later
 
--- V16 to V21, of the access that an instruction makes
+-- V16, V17, V18, V19, V20 and V21, of the access that an instruction makes
 abbrev pub access_fault : List ℕ → State → Option MemoryAccess → Option Rule
 access_fault sizes state None = None
 access_fault sizes state (Some access) =

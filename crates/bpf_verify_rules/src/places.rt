@@ -8,7 +8,7 @@ use bpf_verify_model::{AbstractValue, State};
 use bpf_verify_written::WrittenBytes;
 use value_range_model::Range;
 
-/// Whether it is the address of memory.
+/// Whether it is the address of memory, as V16 asks of the base of an access.
 pub fn is_memory(base: AbstractValue) -> bool
     ensures { result ≡ is_memory base }
 {
@@ -18,7 +18,7 @@ pub fn is_memory(base: AbstractValue) -> bool
     }
 }
 
-/// Whether an access of so many bytes is of a map's values, and neither of a value nor of a half.
+/// V17: an access of so many bytes is of a map's values, and neither of a value nor of a half.
 pub fn is_part_of_half(size: u32, base: AbstractValue) -> bool
     ensures { result ≡ is_part_of_half size base }
 {
@@ -82,7 +82,7 @@ fn multiple_of(range: Range) -> u128
     1u128 << range.zeros()
 }
 
-/// Whether an access of so many bytes at an offset from this base isn't aligned.
+/// V18: an access of so many bytes at an offset from this base isn't aligned.
 pub fn misses_alignment(size: u32, offset: i16, base: AbstractValue) -> bool
     requires { 1 ≤ size }
     ensures { result ≡ misses_alignment size offset base }
@@ -105,8 +105,7 @@ fn is_outside_frame(size: u32, position: u32, offset: i16) -> bool
     place < 0 || (FRAME_BYTES as i64) < place + size as i64
 }
 
-/// Whether an access of so many bytes at an offset from this base isn't within its frame, or within
-/// its map's values.
+/// V19: an access of so many bytes at an offset from this base isn't within its frame, or within its map's values.
 pub fn is_outside(sizes: &[u32], size: u32, offset: i16, base: AbstractValue) -> bool
     ensures { result ≡ is_outside sizes.now size offset base }
 {

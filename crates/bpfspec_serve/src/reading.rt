@@ -23,7 +23,7 @@ use std::str;
 const MAX_INPUT: usize = 3_145_728;
 
 /// The most bytes that are read of one: a byte past the limit tells that it is too long.
-pub const MOST_READ: usize = MAX_INPUT + 1;
+pub const MAX_READ: usize = MAX_INPUT + 1;
 
 /// A fault of the unit's text as a whole.
 fn unit_refusal(fault: TextFault) -> AnswerError

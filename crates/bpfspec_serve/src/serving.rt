@@ -9,7 +9,7 @@ ghost use Rattle.bpfspec_streams.specs.Streams.{ConsumesAtMost};
 
 use crate::answer_error::AnswerError;
 use crate::answering::{outcome, run_outcome};
-use crate::reading::MOST_READ;
+use crate::reading::MAX_READ;
 use bpfspec_command_line::{Mode, Plan, UnitForm};
 use bpfspec_output::{MEMORY_LINE, Refusal, print_refusal};
 use bpfspec_streams::{ReadAllError, Sink, Source, read_all, write_all};
@@ -105,7 +105,7 @@ pub fn serve<R: Source, W: Sink>(alloc: Global, mode: &Mode, source: &mut R, sin
         (λ n. R.failed source.new ≡ R.failed source.old + n) (λ n. W.failed sink.new ≡ W.failed sink.old + n)
         (W.taken sink.old) (W.taken sink.new) }
 {
-    match read_all(alloc, source, MOST_READ) {
+    match read_all(alloc, source, MAX_READ) {
         Ok(input) => tell(alloc, outcome(alloc, mode, &input), sink),
         Err(ReadAllError::Device) => Served::Device,
         Err(ReadAllError::Memory) => write(sink, MEMORY_LINE, Served::Memory),
@@ -135,7 +135,7 @@ pub fn serve_run<T: Threads + Sync, G: Gate, R: Source, W: Sink>(
         (λ n. R.failed source.new ≡ R.failed source.old + n) (λ n. W.failed sink.new ≡ W.failed sink.old + n)
         (W.taken sink.old) (W.taken sink.new) }
 {
-    match read_all(alloc, source, MOST_READ) {
+    match read_all(alloc, source, MAX_READ) {
         Ok(input) => tell(
             alloc,
             run_outcome(rt, alloc, form, arg, plan, gate, &input),

@@ -10,12 +10,9 @@ use crate::gathering::{close, join};
 use crate::rule::{BoardTable, Claim, Look, Post};
 use crate::seat::BoardSeat;
 use crate::view::Extent;
+use loop_core_event::{MAX_BLOCKS, MAX_WORKERS};
 use std::alloc::Global;
 use std::marker::Model;
-
-const MOST_BLOCKS: u32 = 64;
-
-const MOST_WORKERS: u32 = 16;
 
 /// What the least break is where no index was posted.
 const NO_POST: u32 = u32::MAX;
@@ -52,7 +49,7 @@ impl Model for Board {
 fn is_within_limits(blocks: u32, workers: u32) -> bool
     ensures { IsTrue result ↔ IsWithinLimits blocks workers }
 {
-    (1..=MOST_BLOCKS).contains(&blocks) && (1..=MOST_WORKERS).contains(&workers)
+    (1..=MAX_BLOCKS).contains(&blocks) && (1..=MAX_WORKERS).contains(&workers)
 }
 
 impl Board {

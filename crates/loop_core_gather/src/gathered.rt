@@ -5,7 +5,7 @@ ghost use Rattle.std.specs.Prelude.{◌≡◌, ◌<◌, length, slice_index, IfO
 use crate::committing::commit;
 use crate::kept::{combined, last_written};
 use crate::merged::is_reduction;
-use crate::order::MOST_BLOCKS;
+use crate::order::PLACES;
 use arrayvec::ArrayVec;
 use loop_core_block::Block;
 use loop_core_model::Verdict;
@@ -22,7 +22,7 @@ pub struct Gathered<'a> {
     pub(crate) start: &'a [u64],
     pub(crate) blocks: Vec<Block<'a>>,
     /// The places of the blocks that count, in order.
-    pub(crate) counting: ArrayVec<usize, MOST_BLOCKS>,
+    pub(crate) counting: ArrayVec<usize, PLACES>,
     /// The planes of those blocks, merged.
     pub(crate) planes: Planes,
     /// A word for each page of 64 elements: a bit for each of those blocks that touched it.

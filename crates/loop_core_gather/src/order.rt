@@ -8,10 +8,11 @@ ghost use Rattle.loop_core_gather.specs.Counting.{told_fault, Counts};
 use crate::summary::Summary;
 use arrayvec::ArrayVec;
 use loop_core_blocks::GatherFault;
+use loop_core_event::MAX_BLOCKS;
 use loop_core_split::{Split, is_late, lesser};
 
-/// The most blocks of a split.
-pub(crate) const MOST_BLOCKS: usize = 64;
+/// So many places of blocks at most.
+pub(crate) const PLACES: usize = MAX_BLOCKS as usize;
 
 /// The blocks that count.
 #[derive(Drop)]
@@ -19,7 +20,7 @@ pub struct Counting {
     /// The least break of all blocks, which is the loop's.
     pub least: Option<u32>,
     /// The places, in the list of blocks, of those that don't start past it, in the order of the split.
-    pub places: ArrayVec<usize, MOST_BLOCKS>,
+    pub places: ArrayVec<usize, PLACES>,
 }
 
 #[tactic(auto, using(crate::proofs::ToldLaws::lesser_assoc))]
@@ -49,7 +50,7 @@ fn places_of(
     split: &Split,
     blocks: &[Summary],
     least: Option<u32>,
-) -> Option<ArrayVec<usize, MOST_BLOCKS>>
+) -> Option<ArrayVec<usize, PLACES>>
     ensures some { IfSome result (λ places. order_told least blocks.now split.now ≡ Some places.items) }
     ensures none { IfNone result (order_told least blocks.now split.now ≡ None) }
 {

@@ -6,17 +6,17 @@ ghost use Rattle.loop_core_schedule.specs.Intervals.{blocks_of, start_of, end_of
 
 use arrayvec::ArrayVec;
 pub use loop_core_blocks::SplitFault as SplitError;
+use loop_core_event::MAX_BLOCKS;
 use std::marker::Model;
 
-const MOST_BLOCKS: u32 = 64;
-
-const MOST_BOUNDS: usize = 65;
+/// A bound more than blocks.
+const MAX_BOUNDS: usize = MAX_BLOCKS as usize + 1;
 
 /// A split of a loop's iterations into 1 to 64 blocks, which may be empty. Contracts see its bounds: block
 /// k goes from bound k up to, and not with, bound k + 1.
 #[derive(Drop)]
 pub struct Split {
-    bounds: ArrayVec<u32, MOST_BOUNDS>,
+    bounds: ArrayVec<u32, MAX_BOUNDS>,
 }
 
 impl Model for Split {
@@ -60,7 +60,7 @@ fn fault_of(bounds: &[u32], n: u32) -> Option<SplitError>
 {
     if falls(bounds) {
         Some(SplitError::Falling)
-    } else if bounds.len() < 2 || bounds.len() > MOST_BOUNDS {
+    } else if bounds.len() < 2 || bounds.len() > MAX_BOUNDS {
         Some(SplitError::Number)
     } else if ends_elsewhere(bounds, n) {
         Some(SplitError::Ends)
@@ -77,7 +77,7 @@ impl Split {
         ensures split { OnOk result (split_fault (even_bounds n blocks) n ≡ None) }
         ensures err { IfErr result (λ e. split_fault (even_bounds n blocks) n ≡ Some e) }
     {
-        if blocks == 0 || blocks > MOST_BLOCKS {
+        if blocks == 0 || blocks > MAX_BLOCKS {
             return Err(SplitError::Number);
         }
         let mut bounds = ArrayVec::new();

@@ -10,18 +10,18 @@ ghost use Rattle.loop_core_workers.specs.Steps.{IsStepOf, StepFits, StepFollows,
 
 use crate::moves::{Asked, WorkerTransition, asked_of, iterate};
 use crate::worker::{PendingIteration, Shared, Step, Worker};
-use loop_core_event::Event;
+use loop_core_event::{Event, MAX_WORKERS};
 use loop_core_schedule::ReplayFault;
 use loop_core_split::Split;
 use std::marker::Model;
 
-const MOST_WORKERS: usize = 16;
+const WORKERS: usize = MAX_WORKERS as usize;
 
 /// Sixteen workers that share the blocks of a split, while a list of events goes by. They take no memory.
 #[derive(Drop)]
 pub struct Workers {
     shared: Shared,
-    workers: [Worker; MOST_WORKERS],
+    workers: [Worker; WORKERS],
 }
 
 impl Model for Workers {
@@ -67,7 +67,7 @@ impl Workers {
                 next: 0,
                 least: None,
             },
-            workers: [Worker::Idle; MOST_WORKERS],
+            workers: [Worker::Idle; WORKERS],
         }
     }
 
@@ -85,7 +85,7 @@ impl Workers {
         ensures kept { OnErr result (self.new ≡ self.old) }
     {
         let number = usize::from(event.worker);
-        if number >= MOST_WORKERS {
+        if number >= WORKERS {
             return Err(ReplayFault::NoSuchWorker { event: place });
         }
         match asked_of(split, event.kind, self.workers[number], self.shared) {

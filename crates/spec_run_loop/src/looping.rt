@@ -17,6 +17,7 @@ use bpf_step::LoopCall;
 use bpf_verify::Verified;
 use loop_board::Board;
 use loop_core_block::Block;
+use loop_core_event::MAX_WORKERS;
 use loop_core_gather::{GatherError, Gathered, LoopOutcome, gather};
 use loop_core_model::Test;
 use loop_core_split::{Gate, Split};
@@ -24,13 +25,11 @@ use spec_run_work::law_of_workers;
 use std::alloc::Global;
 use std::thread::Threads;
 
-const MOST_WORKERS: u32 = 16;
-
 /// Whether there are 1 to 16 workers, and the split is of so many iterations.
 fn is_loop_plan(workers: u32, split: &Split, n: u32) -> bool
     ensures { IsTrue result ↔ IsLoopPlan workers split.now n }
 {
-    (1..=MOST_WORKERS).contains(&workers) && split.iterations() == n
+    (1..=MAX_WORKERS).contains(&workers) && split.iterations() == n
 }
 
 /// Gathers the blocks of a loop, all of which are there. Only memory may be lacking.

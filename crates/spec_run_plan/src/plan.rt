@@ -3,11 +3,8 @@
 ghost use Rattle.std.specs.Prelude.{◌↔◌, IsTrue};
 ghost use Rattle.spec_run_plan.specs.Plans.{IsPlan};
 
+use loop_core_event::{MAX_BLOCKS, MAX_WORKERS};
 use loop_core_model::Test;
-
-const MOST_WORKERS: u32 = 16;
-
-const MOST_BLOCKS: u32 = 64;
 
 /// How the loops of a program are run.
 #[derive(Clone, Copy, Debug)]
@@ -25,6 +22,6 @@ impl Plan {
     pub fn is_within_limits(&self) -> bool
         ensures { IsTrue result ↔ IsPlan self.now }
     {
-        (1..=MOST_WORKERS).contains(&self.workers) && (1..=MOST_BLOCKS).contains(&self.blocks)
+        (1..=MAX_WORKERS).contains(&self.workers) && (1..=MAX_BLOCKS).contains(&self.blocks)
     }
 }

@@ -11,7 +11,7 @@ use shadow_marks::Planes;
 use std::alloc::{AllocError, Global};
 
 /// The most iterations of a row.
-const MOST_ITERATIONS: u32 = 1000;
+const MAX_ITERATIONS: u32 = 1000;
 
 /// Begins an iteration, by a second try where memory was refused at the first.
 fn begin(alloc: Global, copy: &mut Private, need: u32) -> Result<(), AllocError>
@@ -57,7 +57,7 @@ fn run_iteration(
     iteration: &str,
 ) -> Option<()>
     requires rests { Rests copy.old planes.old index }
-    requires index { index < MOST_ITERATIONS }
+    requires index { index < MAX_ITERATIONS }
     ensures rests { IfSome result (λ _. Rests copy.new planes.new (index + 1)) }
     ensures start { IfSome result (λ _. (copy_of copy.new).start ≡ (copy_of copy.old).start) }
 {
@@ -86,7 +86,7 @@ pub fn run_iterations(
 {
     let mut index = 0;
     for iteration in iterations.split_terminator(';') {
-        if index >= MOST_ITERATIONS {
+        if index >= MAX_ITERATIONS {
             return None;
         }
         run_iteration(alloc, copy, planes, index, iteration)?;

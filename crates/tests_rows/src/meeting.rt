@@ -5,7 +5,7 @@ use std::hint::spin_loop;
 use std::sync::atomic::{AtomicBool, AtomicU64, Ordering};
 
 /// For how many rounds one is held at most.
-const MOST_ROUNDS: u32 = 1 << 24;
+const MAX_ROUNDS: u32 = 1 << 24;
 
 /// Numbers below 64, each of which comes once, and pairs of which the first is held until the second has come.
 #[derive(Drop)]
@@ -45,7 +45,7 @@ impl Meeting {
     }
 
     fn wait_for(&self, number: u32) {
-        for _ in 0..MOST_ROUNDS {
+        for _ in 0..MAX_ROUNDS {
             if self.has_come(number) {
                 return;
             }
