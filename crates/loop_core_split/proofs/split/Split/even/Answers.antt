@@ -6,10 +6,10 @@ use Rattle.loop_core_blocks.specs.Split.{split_fault}
 use Rattle.loop_core_blocks.proofs.SplitLaws.{even_is_split}
 use Rattle.loop_core_split.proofs.SplitFacts.{no_even_split, split_is}
 use Rattle.loop_core_split.proofs.split.Split.even.Goals as goal
-use Rattle.loop_core_split.proofs.split.Split.even.Goals.{then-blocks-eq0-via-then-blocks-eq0, then-blocks-eq0-via-else-blocks-eq0+then-blocks-gt-MOST_BLOCKS, else-loop-k-test, then-loop-k-test+else-k-blocks}
+use Rattle.loop_core_split.proofs.split.Split.even.Goals.{then-blocks-eq0-via-then-blocks-eq0, then-blocks-eq0-via-else-blocks-eq0+then-blocks-gt-MAX_BLOCKS, else-loop-k-test, then-loop-k-test+else-k-blocks}
 
 pub returns-then-blocks-eq0-clause-err : goal.returns-then-blocks-eq0-clause-err
-returns-then-blocks-eq0-clause-err c = no_even_split c.args.n c.args.blocks (λ some. elim c.then-blocks-eq0.branch [ then-blocks-eq0-via-then-blocks-eq0 w ↦ absurd (omega arith) | then-blocks-eq0-via-else-blocks-eq0+then-blocks-gt-MOST_BLOCKS w ↦ omega arith ])
+returns-then-blocks-eq0-clause-err c = no_even_split c.args.n c.args.blocks (λ some. elim c.then-blocks-eq0.branch [ then-blocks-eq0-via-then-blocks-eq0 w ↦ absurd (omega arith) | then-blocks-eq0-via-else-blocks-eq0+then-blocks-gt-MAX_BLOCKS w ↦ omega arith ])
 
 -- the bounds with one more
 one_more : (items new : List ℕ) (n blocks k next x : ℕ) → items ≡ map (λ j. j * n / blocks) (range_with_len 0 k) → new ≡ items ++ x ∷ [] → x ≡ k * n / blocks →
