@@ -25,19 +25,4 @@ returns-clause-ok c =
     }
 
 pub returns-clause-stands : goal.returns-clause-stands
-returns-clause-stands c runs stands =
-    let old = c.args.self.now in
-    let cells : (e : ℕ) → cell_at c.prepare.new.self e ≡ cell_at old.pages e = λ e. same_cell c.prepare.new.self old.pages e c.prepare.ensures.pages in
-    begins (copy_of c.args.self.now) _ c.args.need (record {
-      start = refl;
-      words = shows_start c.prepare.new.self old.begun old.start.now (λ e.
-          let same = ap (λ (cell : Cell). cell.writer) (cells e) in let early = old.writers e in omega (arith, same, early));
-      flags = none_flagged old.flags (let none = old.settled c.requires.ended in omega (arith, none));
-      elements = old.flagged;
-      last = λ e. ap last_in (cells e);
-      reduction = λ e. ap reduction_in (cells e);
-      pages = c.prepare.ensures.order;
-      serves = refl;
-      under_way = refl;
-      begun = refl;
-    }) runs stands
+returns-clause-stands c runs stands = begins (copy_of c.args.self.now) _ c.args.need (returns-clause-ok c) runs stands
