@@ -3,13 +3,10 @@ use Rattle.std.proofs.Common.{◌≡◌, ℕ, zero, suc, ◌<◌, Bool, true, fa
 use Rattle.std.specs.Prelude.{IfSome, ◌&&◌}
 use Rattle.std.proofs.lemmas.Bool.{eqb-true, cases_eq}
 use Rattle.bpf_insn_types.specs.declared.insn.Width.{Width}
-use Rattle.bpf_insn_types.specs.declared.insn.Width.TheVariants.{W32, W64}
 use Rattle.bpf_insn_types.specs.declared.insn.Size.{Size}
-use Rattle.bpf_insn_types.specs.declared.insn.Size.TheVariants.{B, H, W, Dw}
 use Rattle.bpf_insn_types.specs.declared.insn.ByteOrder.{ByteOrder}
-use Rattle.bpf_insn_types.specs.declared.insn.ByteOrder.TheVariants as order
 use Rattle.bpf_insn_types.specs.declared.insn.Compare.{Compare}
-use Rattle.bpf_insn_types.specs.declared.insn.Compare.TheVariants as compare
+use Rattle.bpf_insn_types.proofs.Cases.{each_width, each_size, each_order, EachCompare, each_compare}
 use Rattle.bpf_insn.specs.declared.form.AluCode.{AluCode}
 use Rattle.bpf_insn.specs.declared.form.AluCode.TheVariants as alu
 use Rattle.bpf_insn.specs.declared.form.Form.{Form}
@@ -55,134 +52,43 @@ is_opcode (Some f) n h = eqb-true (opcode f) n h
 pub opcode-form_at : (n : ℕ) → n < 256 → IfSome (form_at n) (λ f. opcode f ≡ n)
 opcode-form_at n lt = is_opcode (form_at n) n (below agrees 256 n all_agree lt)
 
+-- a property of the code of each arithmetic operation
+abbrev pub EachCode : (AluCode → Type 0) → Type 0
+EachCode P = P alu.Add × P alu.Sub × P alu.Mul × P alu.Div × P alu.Or × P alu.And × P alu.Lsh × P alu.Rsh × P alu.Mod × P alu.Xor × P alu.Mov × P alu.Arsh
+
+pub each_code : (P : AluCode → Type 0) → EachCode P → (c : AluCode) → P c
+each_code P h c = elim c as (λ c. P c) [ alu.Add ↦ h.0 | alu.Sub ↦ h.1 | alu.Mul ↦ h.2 | alu.Div ↦ h.3 | alu.Or ↦ h.4 | alu.And ↦ h.5 | alu.Lsh ↦ h.6 | alu.Rsh ↦ h.7 | alu.Mod ↦ h.8 | alu.Xor ↦ h.9 | alu.Mov ↦ h.10 | alu.Arsh ↦ h.11 ]
+
 -- an opcode says its form
-pub form_at-alu_imm : (w : Width) (c : AluCode) → form_at (opcode (form.AluImm w c)) ≡ Some (form.AluImm w c)
-form_at-alu_imm W32 alu.Add = refl
-form_at-alu_imm W32 alu.Sub = refl
-form_at-alu_imm W32 alu.Mul = refl
-form_at-alu_imm W32 alu.Div = refl
-form_at-alu_imm W32 alu.Or = refl
-form_at-alu_imm W32 alu.And = refl
-form_at-alu_imm W32 alu.Lsh = refl
-form_at-alu_imm W32 alu.Rsh = refl
-form_at-alu_imm W32 alu.Mod = refl
-form_at-alu_imm W32 alu.Xor = refl
-form_at-alu_imm W32 alu.Mov = refl
-form_at-alu_imm W32 alu.Arsh = refl
-form_at-alu_imm W64 alu.Add = refl
-form_at-alu_imm W64 alu.Sub = refl
-form_at-alu_imm W64 alu.Mul = refl
-form_at-alu_imm W64 alu.Div = refl
-form_at-alu_imm W64 alu.Or = refl
-form_at-alu_imm W64 alu.And = refl
-form_at-alu_imm W64 alu.Lsh = refl
-form_at-alu_imm W64 alu.Rsh = refl
-form_at-alu_imm W64 alu.Mod = refl
-form_at-alu_imm W64 alu.Xor = refl
-form_at-alu_imm W64 alu.Mov = refl
-form_at-alu_imm W64 alu.Arsh = refl
+abbrev SaysItsForm : Form → Type 0
+SaysItsForm f = form_at (opcode f) ≡ Some f
 
-pub form_at-alu_reg : (w : Width) (c : AluCode) → form_at (opcode (form.AluReg w c)) ≡ Some (form.AluReg w c)
-form_at-alu_reg W32 alu.Add = refl
-form_at-alu_reg W32 alu.Sub = refl
-form_at-alu_reg W32 alu.Mul = refl
-form_at-alu_reg W32 alu.Div = refl
-form_at-alu_reg W32 alu.Or = refl
-form_at-alu_reg W32 alu.And = refl
-form_at-alu_reg W32 alu.Lsh = refl
-form_at-alu_reg W32 alu.Rsh = refl
-form_at-alu_reg W32 alu.Mod = refl
-form_at-alu_reg W32 alu.Xor = refl
-form_at-alu_reg W32 alu.Mov = refl
-form_at-alu_reg W32 alu.Arsh = refl
-form_at-alu_reg W64 alu.Add = refl
-form_at-alu_reg W64 alu.Sub = refl
-form_at-alu_reg W64 alu.Mul = refl
-form_at-alu_reg W64 alu.Div = refl
-form_at-alu_reg W64 alu.Or = refl
-form_at-alu_reg W64 alu.And = refl
-form_at-alu_reg W64 alu.Lsh = refl
-form_at-alu_reg W64 alu.Rsh = refl
-form_at-alu_reg W64 alu.Mod = refl
-form_at-alu_reg W64 alu.Xor = refl
-form_at-alu_reg W64 alu.Mov = refl
-form_at-alu_reg W64 alu.Arsh = refl
+pub form_at-alu_imm : (w : Width) (c : AluCode) → SaysItsForm (form.AluImm w c)
+form_at-alu_imm w = each_code (λ c. SaysItsForm (form.AluImm w c)) (each_width (λ w. EachCode (λ c. SaysItsForm (form.AluImm w c))) (assumption) w)
 
-pub form_at-jump_imm : (w : Width) (c : Compare) → form_at (opcode (form.JumpImm w c)) ≡ Some (form.JumpImm w c)
-form_at-jump_imm W32 compare.Eq = refl
-form_at-jump_imm W32 compare.Gt = refl
-form_at-jump_imm W32 compare.Ge = refl
-form_at-jump_imm W32 compare.Set = refl
-form_at-jump_imm W32 compare.Ne = refl
-form_at-jump_imm W32 compare.Sgt = refl
-form_at-jump_imm W32 compare.Sge = refl
-form_at-jump_imm W32 compare.Lt = refl
-form_at-jump_imm W32 compare.Le = refl
-form_at-jump_imm W32 compare.Slt = refl
-form_at-jump_imm W32 compare.Sle = refl
-form_at-jump_imm W64 compare.Eq = refl
-form_at-jump_imm W64 compare.Gt = refl
-form_at-jump_imm W64 compare.Ge = refl
-form_at-jump_imm W64 compare.Set = refl
-form_at-jump_imm W64 compare.Ne = refl
-form_at-jump_imm W64 compare.Sgt = refl
-form_at-jump_imm W64 compare.Sge = refl
-form_at-jump_imm W64 compare.Lt = refl
-form_at-jump_imm W64 compare.Le = refl
-form_at-jump_imm W64 compare.Slt = refl
-form_at-jump_imm W64 compare.Sle = refl
+pub form_at-alu_reg : (w : Width) (c : AluCode) → SaysItsForm (form.AluReg w c)
+form_at-alu_reg w = each_code (λ c. SaysItsForm (form.AluReg w c)) (each_width (λ w. EachCode (λ c. SaysItsForm (form.AluReg w c))) (assumption) w)
 
-pub form_at-jump_reg : (w : Width) (c : Compare) → form_at (opcode (form.JumpReg w c)) ≡ Some (form.JumpReg w c)
-form_at-jump_reg W32 compare.Eq = refl
-form_at-jump_reg W32 compare.Gt = refl
-form_at-jump_reg W32 compare.Ge = refl
-form_at-jump_reg W32 compare.Set = refl
-form_at-jump_reg W32 compare.Ne = refl
-form_at-jump_reg W32 compare.Sgt = refl
-form_at-jump_reg W32 compare.Sge = refl
-form_at-jump_reg W32 compare.Lt = refl
-form_at-jump_reg W32 compare.Le = refl
-form_at-jump_reg W32 compare.Slt = refl
-form_at-jump_reg W32 compare.Sle = refl
-form_at-jump_reg W64 compare.Eq = refl
-form_at-jump_reg W64 compare.Gt = refl
-form_at-jump_reg W64 compare.Ge = refl
-form_at-jump_reg W64 compare.Set = refl
-form_at-jump_reg W64 compare.Ne = refl
-form_at-jump_reg W64 compare.Sgt = refl
-form_at-jump_reg W64 compare.Sge = refl
-form_at-jump_reg W64 compare.Lt = refl
-form_at-jump_reg W64 compare.Le = refl
-form_at-jump_reg W64 compare.Slt = refl
-form_at-jump_reg W64 compare.Sle = refl
+pub form_at-jump_imm : (w : Width) (c : Compare) → SaysItsForm (form.JumpImm w c)
+form_at-jump_imm w = each_compare (λ c. SaysItsForm (form.JumpImm w c)) (each_width (λ w. EachCompare (λ c. SaysItsForm (form.JumpImm w c))) (assumption) w)
 
-pub form_at-neg : (w : Width) → form_at (opcode (form.Neg w)) ≡ Some (form.Neg w)
-form_at-neg W32 = refl
-form_at-neg W64 = refl
+pub form_at-jump_reg : (w : Width) (c : Compare) → SaysItsForm (form.JumpReg w c)
+form_at-jump_reg w = each_compare (λ c. SaysItsForm (form.JumpReg w c)) (each_width (λ w. EachCompare (λ c. SaysItsForm (form.JumpReg w c))) (assumption) w)
 
-pub form_at-endian : (o : ByteOrder) → form_at (opcode (form.Endian o)) ≡ Some (form.Endian o)
-form_at-endian order.Le = refl
-form_at-endian order.Be = refl
-form_at-endian order.Swap = refl
+pub form_at-neg : (w : Width) → SaysItsForm (form.Neg w)
+form_at-neg = each_width (λ w. SaysItsForm (form.Neg w)) assumption
 
-pub form_at-load : (s : Size) → form_at (opcode (form.Load s)) ≡ Some (form.Load s)
-form_at-load B = refl
-form_at-load H = refl
-form_at-load W = refl
-form_at-load Dw = refl
+pub form_at-endian : (o : ByteOrder) → SaysItsForm (form.Endian o)
+form_at-endian = each_order (λ o. SaysItsForm (form.Endian o)) assumption
 
-pub form_at-store_imm : (s : Size) → form_at (opcode (form.StoreImm s)) ≡ Some (form.StoreImm s)
-form_at-store_imm B = refl
-form_at-store_imm H = refl
-form_at-store_imm W = refl
-form_at-store_imm Dw = refl
+pub form_at-load : (s : Size) → SaysItsForm (form.Load s)
+form_at-load = each_size (λ s. SaysItsForm (form.Load s)) assumption
 
-pub form_at-store : (s : Size) → form_at (opcode (form.Store s)) ≡ Some (form.Store s)
-form_at-store B = refl
-form_at-store H = refl
-form_at-store W = refl
-form_at-store Dw = refl
+pub form_at-store_imm : (s : Size) → SaysItsForm (form.StoreImm s)
+form_at-store_imm = each_size (λ s. SaysItsForm (form.StoreImm s)) assumption
 
-pub form_at-atomic : (w : Width) → form_at (opcode (form.Atomic w)) ≡ Some (form.Atomic w)
-form_at-atomic W32 = refl
-form_at-atomic W64 = refl
+pub form_at-store : (s : Size) → SaysItsForm (form.Store s)
+form_at-store = each_size (λ s. SaysItsForm (form.Store s)) assumption
+
+pub form_at-atomic : (w : Width) → SaysItsForm (form.Atomic w)
+form_at-atomic = each_width (λ w. SaysItsForm (form.Atomic w)) assumption

@@ -1,8 +1,10 @@
 -- What instructions spell is bytes, 8 a slot.
 use Rattle.std.proofs.Common.{◌≡◌, ℕ, zero, suc, ◌+◌, ◌*◌, ◌<◌, ◌≤◌, List, [], ◌∷◌, ◌++◌, length, get_or, Result, Ok, sym, subst, arith}
-use Rattle.std.specs.Prelude.{IfOk, ℤ, pos, negsuc, Bool, true, false}
+use Rattle.std.specs.Prelude.{IfOk, ℤ, pos, negsuc, Bool, true, false, nat_le}
 use Rattle.std.specs.Int.{w16, w32, to_le_bytes, cast_unsigned}
 use Rattle.std.proofs.lemmas.List.{length-append}
+use Rattle.std.proofs.lemmas.Bool.{leb-true}
+use Rattle.bpf_insn_types.proofs.Cases.{each_width, each_size, each_compare}
 use Rattle.bpf_insn_types.specs.declared.insn.Width.{Width}
 use Rattle.bpf_insn_types.specs.declared.insn.Width.TheVariants.{W32, W64}
 use Rattle.bpf_insn_types.specs.declared.insn.Size.{Size}
@@ -10,7 +12,6 @@ use Rattle.bpf_insn_types.specs.declared.insn.Size.TheVariants as size
 use Rattle.bpf_insn_types.specs.declared.insn.MovsxBits.TheVariants as movsx
 use Rattle.bpf_insn_types.specs.declared.insn.ByteOrder.TheVariants as order
 use Rattle.bpf_insn_types.specs.declared.insn.Compare.{Compare}
-use Rattle.bpf_insn_types.specs.declared.insn.Compare.TheVariants as compare
 use Rattle.bpf_insn_types.specs.declared.insn.Operand.TheVariants.{Imm, Reg}
 use Rattle.bpf_insn_types.specs.declared.insn.ImmKind.{ImmKind}
 use Rattle.bpf_insn_types.specs.declared.insn.Insn.{Insn}
@@ -27,6 +28,7 @@ use Rattle.bpf_insn.specs.SlotBytes.{slot_bytes, slots_bytes}
 use Rattle.bpf_insn.specs.Spelling.{code_of, has_next, two_slots, spelling, bytes_at, spelling_from}
 use Rattle.bpf_insn_types.specs.Values.{AreInsns}
 use Rattle.bpf_insn.proofs.Bytes.{HasBytes, HaveBytes}
+use Rattle.bpf_insn.proofs.Forms.{each_code}
 use Rattle.bpf_insn.proofs.HasBytes.{spelling_has}
 use Rattle.bpf_insn.proofs.Lengths.{spelled_len}
 use Rattle.bpf_insn.proofs.Programs.{of_ok, both_ok, bytes_ok}
@@ -35,45 +37,19 @@ use Rattle.bpf_insn_types.specs.Program.{slot_count}
 -- ---- opcodes
 
 class_small : (w : Width) → alu_class w ≤ 7
-class_small W32 = omega arith
-class_small W64 = omega arith
+class_small w = leb-true (alu_class w) 7 (each_width (λ w. nat_le (alu_class w) 7 ≡ true) (assumption) w)
 
 jump_small : (w : Width) → jump_class w ≤ 7
-jump_small W32 = omega arith
-jump_small W64 = omega arith
+jump_small w = leb-true (jump_class w) 7 (each_width (λ w. nat_le (jump_class w) 7 ≡ true) (assumption) w)
 
 alu_small : (c : AluCode) → alu_code c ≤ 12
-alu_small alu.Add = omega arith
-alu_small alu.Sub = omega arith
-alu_small alu.Mul = omega arith
-alu_small alu.Div = omega arith
-alu_small alu.Or = omega arith
-alu_small alu.And = omega arith
-alu_small alu.Lsh = omega arith
-alu_small alu.Rsh = omega arith
-alu_small alu.Mod = omega arith
-alu_small alu.Xor = omega arith
-alu_small alu.Mov = omega arith
-alu_small alu.Arsh = omega arith
+alu_small c = leb-true (alu_code c) 12 (each_code (λ c. nat_le (alu_code c) 12 ≡ true) (assumption) c)
 
 compare_small : (c : Compare) → jump_code c ≤ 13
-compare_small compare.Eq = omega arith
-compare_small compare.Gt = omega arith
-compare_small compare.Ge = omega arith
-compare_small compare.Set = omega arith
-compare_small compare.Ne = omega arith
-compare_small compare.Sgt = omega arith
-compare_small compare.Sge = omega arith
-compare_small compare.Lt = omega arith
-compare_small compare.Le = omega arith
-compare_small compare.Slt = omega arith
-compare_small compare.Sle = omega arith
+compare_small c = leb-true (jump_code c) 13 (each_compare (λ c. nat_le (jump_code c) 13 ≡ true) (assumption) c)
 
 size_small : (s : Size) → size_bits s ≤ 3
-size_small size.B = omega arith
-size_small size.H = omega arith
-size_small size.W = omega arith
-size_small size.Dw = omega arith
+size_small s = leb-true (size_bits s) 3 (each_size (λ s. nat_le (size_bits s) 3 ≡ true) (assumption) s)
 
 opcode_small : (f : Form) → opcode f < 256
 opcode_small (form.AluImm w c) = (let x = alu_small c in let y = class_small w in omega (arith, x, y))

@@ -55,8 +55,17 @@ pub record Front (text : List ℕ) : Type 0 where
   pub begins : (b : ℕ) × (bs : List ℕ) × (text ≡ b ∷ bs) × (is_solid b ≡ true)
   pub short : length text ≤ 20
 
-pub front_of : (b : ℕ) (bs : List ℕ) → is_solid b ≡ true → list_all in_line (b ∷ bs) ≡ true → nat_le (length (b ∷ bs)) 20 ≡ true → Front (b ∷ bs)
-front_of b bs e all short = record { inner = all; begins = (b, bs, refl, e); short = leb-true _ _ short }
+-- whether a text is that
+abbrev pub is_front : List ℕ → Bool
+is_front [] = false
+is_front (b ∷ bs) = is_solid b && (list_all in_line (b ∷ bs) && nat_le (length (b ∷ bs)) 20)
+
+pub front_of : (text : List ℕ) → is_front text ≡ true → Front text
+front_of [] e = absurd cc
+front_of (b ∷ bs) e =
+    let h = and_parts (is_solid b) (list_all in_line (b ∷ bs) && nat_le (length (b ∷ bs)) 20) e in
+    let rest = and_parts (list_all in_line (b ∷ bs)) (nat_le (length (b ∷ bs)) 20) h.1 in
+    record { inner = rest.0; begins = (b, bs, refl, h.0); short = leb-true _ _ rest.1 }
 
 pub digits_solid : (w : List ℕ) → list_all is_ascii_digit w ≡ true → list_all is_solid w ≡ true
 digits_solid [] e = refl
