@@ -109,58 +109,38 @@ area-follows fit m a b i j n k c d = by_test fit m a b i j n k c d (nat_le (a.hi
         (refl, subst (λ (o : ℕ). Contains (span_of (AluOperation Add) W64 a b) o) (small-sum n k small) (span-has fit (AluOperation Add) W64 a b i j n k c d))
     by_test fit m a b i j n k c d false e = tt
 
--- a sum
-added-follows : ResultsFit → (x : AbstractValue) (n : Span) (v : Value) (k : ℕ) → HasSpan x → IsSpan n → ContainsValue x v → Contains n k →
-    FollowsValue (known_moved Add x n) (shifted W64 Add v (Word k))
-added-follows fit (known.Number a) n (Word j) k i s c d = span-has fit (AluOperation Add) W64 a n i s j k c d
-added-follows fit (known.Number a) n v k i s c d = absurd c
-added-follows fit (known.Frame p) n (Frame q) k i s c d =
-    subst (λ (r : ℕ). FollowsValue (known_moved Add (known.Frame p) n) (within_frame Frame (alu W64 Add r k))) c
-    (position-follows known.Frame Frame (λ q. refl) Add p n k d)
-added-follows fit (known.Frame p) n v k i s c d = absurd c
-added-follows fit (known.Ctx p) n (Ctx q) k i s c d =
-    subst (λ (r : ℕ). FollowsValue (known_moved Add (known.Ctx p) n) (within_frame Ctx (alu W64 Add r k))) c
-    (position-follows known.Ctx Ctx (λ q. refl) Add p n k d)
-added-follows fit (known.Ctx p) n v k i s c d = absurd c
-added-follows fit (known.Area m a) n (Area m' o) k i s c d =
+-- a value moved by a number
+moved-follows : ResultsFit → (op : AluOp) (x : AbstractValue) (n : Span) (v : Value) (k : ℕ) → HasSpan x → IsSpan n → ContainsValue x v → Contains n k →
+    FollowsValue (known_moved op x n) (shifted W64 op v (Word k))
+moved-follows fit op (known.Number a) n (Word j) k i s c d = span-has fit (AluOperation op) W64 a n i s j k c d
+moved-follows fit op (known.Number a) n v k i s c d = absurd c
+moved-follows fit op (known.Frame p) n (Frame q) k i s c d =
+    subst (λ (r : ℕ). FollowsValue (known_moved op (known.Frame p) n) (within_frame Frame (alu W64 op r k))) c
+    (position-follows known.Frame Frame (λ q. refl) op p n k d)
+moved-follows fit op (known.Frame p) n v k i s c d = absurd c
+moved-follows fit op (known.Ctx p) n (Ctx q) k i s c d =
+    subst (λ (r : ℕ). FollowsValue (known_moved op (known.Ctx p) n) (within_frame Ctx (alu W64 op r k))) c
+    (position-follows known.Ctx Ctx (λ q. refl) op p n k d)
+moved-follows fit op (known.Ctx p) n v k i s c d = absurd c
+moved-follows fit Add (known.Area m a) n (Area m' o) k i s c d =
     subst (λ (r : ℕ). FollowsValue (known_area m a n) (area_address r (o + k))) c.0 (area-follows fit m a n i s o k c.1 d)
-added-follows fit (known.Area m a) n v k i s c d = absurd c
-added-follows fit x n v k i s c d = tt
+moved-follows fit Add (known.Area m a) n v k i s c d = absurd c
+moved-follows fit op x n v k i s c d = tt
 
--- a difference
-subtracted-follows : ResultsFit → (x : AbstractValue) (n : Span) (v : Value) (k : ℕ) → HasSpan x → IsSpan n → ContainsValue x v → Contains n k →
-    FollowsValue (known_moved Sub x n) (shifted W64 Sub v (Word k))
-subtracted-follows fit (known.Number a) n (Word j) k i s c d = span-has fit (AluOperation Sub) W64 a n i s j k c d
-subtracted-follows fit (known.Number a) n v k i s c d = absurd c
-subtracted-follows fit (known.Frame p) n (Frame q) k i s c d =
-    subst (λ (r : ℕ). FollowsValue (known_moved Sub (known.Frame p) n) (within_frame Frame (alu W64 Sub r k))) c
-    (position-follows known.Frame Frame (λ q. refl) Sub p n k d)
-subtracted-follows fit (known.Frame p) n v k i s c d = absurd c
-subtracted-follows fit (known.Ctx p) n (Ctx q) k i s c d =
-    subst (λ (r : ℕ). FollowsValue (known_moved Sub (known.Ctx p) n) (within_frame Ctx (alu W64 Sub r k))) c
-    (position-follows known.Ctx Ctx (λ q. refl) Sub p n k d)
-subtracted-follows fit (known.Ctx p) n v k i s c d = absurd c
-subtracted-follows fit x n v k i s c d = tt
-
-sum-follows : ResultsFit → (x y : AbstractValue) (v w : Value) → HasSpan x → HasSpan y → ContainsValue x v → ContainsValue y w →
-    FollowsValue (known_sum W64 Add x y) (shifted W64 Add v w)
-sum-follows fit x (known.Number n) v (Word k) i j c d = added-follows fit x n v k i j c d
-sum-follows fit x (known.Number n) v w i j c d = absurd d
-sum-follows fit x y v w i j c d = tt
-
-difference-follows : ResultsFit → (x y : AbstractValue) (v w : Value) → HasSpan x → HasSpan y → ContainsValue x v → ContainsValue y w →
-    FollowsValue (known_sum W64 Sub x y) (shifted W64 Sub v w)
-difference-follows fit x (known.Number n) v (Word k) i j c d = subtracted-follows fit x n v k i j c d
-difference-follows fit x (known.Number n) v w i j c d = absurd d
-difference-follows fit x y v w i j c d = tt
+-- a sum or a difference
+sum-follows : ResultsFit → (op : AluOp) (x y : AbstractValue) (v w : Value) → HasSpan x → HasSpan y → ContainsValue x v → ContainsValue y w →
+    FollowsValue (known_sum W64 op x y) (shifted W64 op v w)
+sum-follows fit op x (known.Number n) v (Word k) i j c d = moved-follows fit op x n v k i j c d
+sum-follows fit op x (known.Number n) v w i j c d = absurd d
+sum-follows fit op x y v w i j c d = tt
 
 -- an operator
 pub result-follows : ResultsFit → (width : Width) (op : AluOp) (x y : AbstractValue) (v w : Value) → HasSpan x → HasSpan y → ContainsValue x v → ContainsValue y w →
     FollowsValue (known_result width op x y) (result_of width op v w)
 result-follows fit W64 Mov x y v w i j c d = copied-follows y w d
 result-follows fit W32 Mov x y v w i j c d = number-follows fit (AluOperation Mov) W32 (alu W32 Mov 0) moved-low y w j d
-result-follows fit W64 Add x y v w i j c d = sum-follows fit x y v w i j c d
+result-follows fit W64 Add x y v w i j c d = sum-follows fit Add x y v w i j c d
 result-follows fit W32 Add x y v w i j c d = numbers-follow fit W32 Add x y v w i j c d
-result-follows fit W64 Sub x y v w i j c d = difference-follows fit x y v w i j c d
+result-follows fit W64 Sub x y v w i j c d = sum-follows fit Sub x y v w i j c d
 result-follows fit W32 Sub x y v w i j c d = numbers-follow fit W32 Sub x y v w i j c d
 result-follows fit width op x y v w i j c d = numbers-follow fit width op x y v w i j c d
