@@ -1,3 +1,4 @@
+pub mod Kept
 pub mod Writes
 pub mod Words
 pub mod Merged

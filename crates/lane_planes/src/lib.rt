@@ -16,6 +16,7 @@ mod counting;
 mod flow;
 mod indices;
 mod judging;
+mod kept;
 mod loading;
 mod merging;
 mod touching;

@@ -7,7 +7,8 @@ ghost use Rattle.shadow_marks.specs.Ending.{KeepsShape};
 ghost use Rattle.lane_planes.specs.Merged.{joined_visits, MergedOperators, MergedLrpd, MergedFlow, MergedTested, MergedPages, MergedPlanes, SameOperators, SameTested, SameLrpd, SameFlow, OperatorsReach, TestedReach, LrpdReach, FlowReach, FirstsFit};
 
 use crate::bits::{or_into, written_by_two_into};
-use crate::indices::{greater_into, lesser_into};
+use crate::indices::keep_into;
+use crate::kept::Kept;
 use crate::loading::are_numbers;
 use shadow_marks::{FlowPlanes, LrpdPlanes, OperatorPlanes, Planes, Tested};
 
@@ -138,13 +139,20 @@ fn merge_flow<const N: usize>(into: &mut FlowPlanes, from: &FlowPlanes, first: u
     requires room { FlowReach into.old first past }
     ensures { MergedFlow first past into.old from.now into.new }
 {
-    lesser_into::<N>(
+    keep_into::<N>(
+        Kept::Lesser,
         into.first.as_mut_slice(),
         from.first.as_slice(),
         first,
         past,
     );
-    greater_into::<N>(into.last.as_mut_slice(), from.last.as_slice(), first, past);
+    keep_into::<N>(
+        Kept::Greater,
+        into.last.as_mut_slice(),
+        from.last.as_slice(),
+        first,
+        past,
+    );
 }
 
 /// Tells that first writers are below 2^32. Nothing is computed.

@@ -1,37 +1,26 @@
-use Rattle.std.proofs.Common.{length, refl, ap, arith}
+use Rattle.std.proofs.Common.{◌≡◌, ℕ, List, length, refl, sym, ap, ◌∙◌, arith}
 use Rattle.array_maps.specs.declared.access.Op.TheVariants.{Add, Or, And, Xor, AddH}
 use Rattle.lane_planes.proofs.ConflictLaws.{AreSlices, conflict_at, conflict_past, conflict_elements, slices_fit, slices_cleared}
 use Rattle.lane_planes.proofs.judging.leave_conflicts.Goals as goal
 
+-- a plane's slice is as long as the plane of conflicts
+as_long : {slice plane : List ℕ} {n m : ℕ} → slice ≡ plane → length plane ≡ n → m ≡ n → m ≡ length slice
+as_long is count words = words ∙ sym count ∙ sym (ap length is)
+
 pub clear_reductions-requires-clause-same_add : goal.clear_reductions-requires-clause-same_add
-clear_reductions-requires-clause-same_add g c =
-    let is = ap length c.reduction_planes-reductions.ensures.add in
-    let words = (c.requires.whole.by Add).count in
-    omega (arith, is, words, c.requires.words)
+clear_reductions-requires-clause-same_add g c = as_long c.reduction_planes-reductions.ensures.add (c.requires.whole.by Add).count c.requires.words
 
 pub clear_reductions-requires-clause-same_or : goal.clear_reductions-requires-clause-same_or
-clear_reductions-requires-clause-same_or g c =
-    let is = ap length c.reduction_planes-reductions.ensures.or in
-    let words = (c.requires.whole.by Or).count in
-    omega (arith, is, words, c.requires.words)
+clear_reductions-requires-clause-same_or g c = as_long c.reduction_planes-reductions.ensures.or (c.requires.whole.by Or).count c.requires.words
 
 pub clear_reductions-requires-clause-same_and : goal.clear_reductions-requires-clause-same_and
-clear_reductions-requires-clause-same_and g c =
-    let is = ap length c.reduction_planes-reductions.ensures.and in
-    let words = (c.requires.whole.by And).count in
-    omega (arith, is, words, c.requires.words)
+clear_reductions-requires-clause-same_and g c = as_long c.reduction_planes-reductions.ensures.and (c.requires.whole.by And).count c.requires.words
 
 pub clear_reductions-requires-clause-same_xor : goal.clear_reductions-requires-clause-same_xor
-clear_reductions-requires-clause-same_xor g c =
-    let is = ap length c.reduction_planes-reductions.ensures.xor in
-    let words = (c.requires.whole.by Xor).count in
-    omega (arith, is, words, c.requires.words)
+clear_reductions-requires-clause-same_xor g c = as_long c.reduction_planes-reductions.ensures.xor (c.requires.whole.by Xor).count c.requires.words
 
 pub clear_reductions-requires-clause-same_addh : goal.clear_reductions-requires-clause-same_addh
-clear_reductions-requires-clause-same_addh g c =
-    let is = ap length c.reduction_planes-reductions.ensures.addh in
-    let words = (c.requires.whole.by AddH).count in
-    omega (arith, is, words, c.requires.words)
+clear_reductions-requires-clause-same_addh g c = as_long c.reduction_planes-reductions.ensures.addh (c.requires.whole.by AddH).count c.requires.words
 
 pub returns-clause-words : goal.returns-clause-words
 returns-clause-words g c =

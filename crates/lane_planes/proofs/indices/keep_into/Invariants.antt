@@ -1,12 +1,13 @@
-use Rattle.std.proofs.Common.{◌-◌, ◌*◌, ◌≤◌, slice_index, min}
+use Rattle.std.proofs.Common.{◌-◌, ◌*◌, ◌≤◌, slice_index}
+use Rattle.lane_planes.specs.Kept.{kept_of}
 use Rattle.lane_planes.specs.Writes.{Writes}
-use Rattle.lane_planes.proofs.indices.lesser_into.Given as goal
+use Rattle.lane_planes.proofs.indices.keep_into.Given as goal
 
 abbrev pub invariant-loop-at : goal.invariant-loop-at
 invariant-loop-at g l = record {
   order : 64 * l.first ≤ l.at;
   within : l.at ≤ l.end;
-  words : Writes (λ i. min (slice_index l.fn.into i) (slice_index l.from i)) (64 * l.first) l.at l.fn.into l.into;
+  words : Writes (λ i. kept_of l.kept (slice_index l.fn.into i) (slice_index l.from i)) (64 * l.first) l.at l.fn.into l.into;
 }
 
 abbrev pub decreases-loop-at : goal.decreases-loop-at
@@ -16,7 +17,7 @@ abbrev pub invariant-loop-at-2 : goal.invariant-loop-at-2
 invariant-loop-at-2 g l = record {
   order : 64 * l.first ≤ l.at;
   within : l.at ≤ l.end;
-  words : Writes (λ i. min (slice_index l.fn.into i) (slice_index l.from i)) (64 * l.first) l.at l.fn.into l.into;
+  words : Writes (λ i. kept_of l.kept (slice_index l.fn.into i) (slice_index l.from i)) (64 * l.first) l.at l.fn.into l.into;
 }
 
 abbrev pub decreases-loop-at-2 : goal.decreases-loop-at-2
