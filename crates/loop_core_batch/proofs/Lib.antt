@@ -1,0 +1,6 @@
+pub mod BatchLaws
+pub mod Meeting
+pub mod SiteLaws
+pub mod Swapping
+pub mod ApplyLaws
+pub mod Judging

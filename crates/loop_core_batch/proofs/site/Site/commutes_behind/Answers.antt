@@ -1,0 +1,18 @@
+use Rattle.std.proofs.Common.{refl}
+use Rattle.std.proofs.lemmas.List.{take_all}
+use Rattle.std.proofs.lemmas.List.Elements.{All-more, All-same, All-from_get_or}
+use Rattle.loop_core_batch.specs.declared.site.Site.{Site}
+use Rattle.loop_core_batch.specs.BySite.{Commute}
+use Rattle.loop_core_batch.proofs.Judging.{all_taken}
+use Rattle.loop_core_batch.proofs.site.Site.commutes_behind.Goals as goal
+
+pub loop-site-preserved : goal.loop-site-preserved
+loop-site-preserved c =
+    All-more (λ (site : Site). Commute c.args.lanes site c.args.self) c.args.before.now c.loop-site.site-index _ c.loop-site-test.true c.loop-site.invariant
+    (c.commutes.ensures.0 c.if-not-commutes.false)
+
+pub returns : goal.returns
+returns c = (
+  λ always. all_taken (λ (site : Site). Commute c.args.lanes site c.args.self) c.args.before.now c.loop-site.site-index c.loop-site-test.false c.loop-site.invariant,
+  λ all. refl,
+)

@@ -1,0 +1,42 @@
+-- What a batch leaves, when its accesses are applied site by site: at each site those of all lanes, in their order.
+use Rattle.std.specs.Prelude.{◌≡◌, ℕ, zero, suc, ◌<◌, Bool, true, false, List, [], ◌∷◌}
+use Rattle.std.specs.List.{AllPairs}
+use Rattle.array_maps.specs.declared.access.Op.{Op}
+use Rattle.array_maps.specs.Accesses.{Access, words_after}
+use Rattle.loop_core_marks.specs.declared.access.Access.{Access as Kind}
+use Rattle.loop_core_marks.specs.declared.access.Access.TheVariants.{Read, Write, Both, Reduce}
+use Rattle.loop_core_model.specs.Actions.{is_same}
+use Rattle.loop_core_batch.specs.declared.site.Site.{Site}
+use Rattle.loop_core_batch.specs.Lanes.{words_after_lanes}
+use Rattle.loop_core_batch.specs.Sites.{Log, of_lane, MayMeet, kind_leaves, IsLogOf}
+
+-- the words after one site's accesses of so many lanes
+abbrev pub words_after_site : (site : ℕ → Access) (lanes : ℕ) → List ℕ → List ℕ
+words_after_site site zero words = words
+words_after_site site (suc lanes) words = words_after (site lanes) (words_after_site site lanes words)
+
+-- the words after all sites, one behind another
+abbrev pub words_after_sites : Log → (lanes : ℕ) → List ℕ → List ℕ
+words_after_sites [] lanes words = words
+words_after_sites (site ∷ sites) lanes words = words_after_sites sites lanes (words_after_site site lanes words)
+
+-- both kinds are reduces, by one operator
+abbrev pub by_one_operator : Kind → Kind → Bool
+by_one_operator (Reduce op) (Reduce other) = is_same op other
+by_one_operator _ _ = false
+
+-- of two sites, one behind the other, the first may be applied for all lanes before the second is for any: one of them
+-- writes nothing, or both reduce by one operator, or no lane may write at the second an element that a later one may write
+-- at the first
+abbrev pub Commute : (lanes : ℕ) (first second : Site) → Type 0
+Commute lanes first second = kind_leaves first.kind ≡ true → kind_leaves second.kind ≡ true → by_one_operator first.kind second.kind ≡ false →
+    ¬ (MayMeet second.elements first.elements lanes)
+
+-- so of each two sites
+abbrev pub AllCommute : (lanes : ℕ) → List Site → Type 0
+AllCommute lanes sites = AllPairs (Commute lanes) sites
+
+-- where all sites commute, a batch leaves the same site by site as lane by lane
+abbrev pub SitesApply : Type 0
+SitesApply = (lanes : ℕ) (sites : List Site) (log : Log) → IsLogOf lanes sites log → AllCommute lanes sites → (words : List ℕ) →
+    words_after_sites log lanes words ≡ words_after_lanes (of_lane log) lanes words

@@ -1,0 +1,25 @@
+-- The law of batches: a loop in order may do a batch of iterations at once.
+use Rattle.std.specs.Prelude.{◌≡◌, ℕ, ◌+◌, ◌<◌, List}
+use Rattle.array_maps.specs.Accesses.{Access}
+use Rattle.bpf_insn_types.specs.Program.{Program}
+use Rattle.bpf_step_model.specs.State.{LoopCall}
+use Rattle.bpf_step_model.specs.Run.{Ended}
+use Rattle.bpf_step_model.specs.Iteration.{Iterated, iteration}
+use Rattle.bpf_step_model.specs.LoopInOrder.{loop_from}
+use Rattle.loop_core_batch.specs.Lanes.{NoneSees, words_after_lanes}
+
+-- the iteration of this index on these words ends, returns 0 and makes these accesses
+pub record GoesOn (program : Program) (bound : ℕ) (call : LoopCall) (index : ℕ) (words : List ℕ) (accesses : List Access) : Type 0 where
+  pub iterated : Iterated
+  pub ended : iteration program bound call index words ≡ Ended iterated
+  pub returned : iterated.ret ≡ 0
+  pub made : iterated.accesses ≡ accesses
+
+-- For every program, bound on an iteration's instructions, loop call and words: where the iterations from an index on, one
+-- a lane and each on these words, go on, and no lane sees an element that an earlier one writes, the loop from that index
+-- is the loop behind the batch, on the words after the accesses of all lanes. So many are left behind it as may be.
+abbrev pub LoopByBatch : Type 0
+LoopByBatch = (program : Program) (bound : ℕ) (call : LoopCall) (first lanes left : ℕ) (words : List ℕ) (accesses : ℕ → List Access) →
+    ((lane : ℕ) → lane < lanes → GoesOn program bound call (first + lane) words (accesses lane)) → NoneSees accesses lanes →
+    loop_from program bound call (lanes + left) first words
+    ≡ loop_from program bound call left (first + lanes) (words_after_lanes accesses lanes words)

@@ -1,0 +1,82 @@
+-- The accesses of a batch, site by site. All lanes went one way, so each lane made one access at each site.
+use Rattle.std.specs.Prelude.{◌≡◌, ℕ, ◌+◌, ◌<◌, ◌≤◌, Bool, true, false, List, map}
+use Rattle.std.specs.List.{All, AllZip}
+use Rattle.array_maps.specs.Accesses.{Access}
+use Rattle.loop_core_marks.specs.declared.access.Access.{Access as Kind}
+use Rattle.loop_core_marks.specs.declared.access.Access.TheVariants.{Read, Write, Both, Reduce}
+use Rattle.loop_core_marks.specs.Flags.{kind_of}
+use Rattle.loop_core_batch.specs.declared.elements.Elements.{Elements}
+use Rattle.loop_core_batch.specs.declared.elements.Elements.TheVariants.{One, Run, Between}
+use Rattle.loop_core_batch.specs.declared.site.Site.{Site}
+use Rattle.loop_core_batch.specs.Lanes.{NoneSees}
+
+-- what lanes did: at each site each lane's access, by its number
+abbrev pub Log : Type 0
+Log = List (ℕ → Access)
+
+-- a lane's accesses, site by site
+abbrev pub of_lane : Log → ℕ → List Access
+of_lane log lane = map (λ (site : ℕ → Access). site lane) log
+
+-- a lane may access the element: all lanes one, each the one that is its number behind the base, or each any between two
+abbrev pub MayAccess : Elements → (lane element : ℕ) → Type 0
+MayAccess (One only) lane element = element ≡ only
+MayAccess (Run base) lane element = element ≡ base + lane
+MayAccess (Between low high) lane element = (low ≤ element) × (element ≤ high)
+
+-- of so many lanes an earlier one may access an element by the first, and a later one the same by the second
+pub record MayMeet (first second : Elements) (lanes : ℕ) : Type 0 where
+  pub earlier : ℕ
+  pub later : ℕ
+  pub element : ℕ
+  pub in_order : earlier < later
+  pub within : later < lanes
+  pub by_first : MayAccess first earlier element
+  pub by_second : MayAccess second later element
+
+-- the least element that a lane, or one behind it, may access
+abbrev pub least_of : Elements → (lane : ℕ) → ℕ
+least_of (One only) lane = only
+least_of (Run base) lane = base + lane
+least_of (Between low high) lane = low
+
+-- the greatest element that a lane, or one before it, may access
+abbrev pub greatest_of : Elements → (lane : ℕ) → ℕ
+greatest_of (One only) lane = only
+greatest_of (Run base) lane = base + lane
+greatest_of (Between low high) lane = high
+
+-- accesses of this kind see the word
+abbrev pub kind_sees : Kind → Bool
+kind_sees Read = true
+kind_sees Write = false
+kind_sees Both = true
+kind_sees (Reduce op) = false
+
+-- accesses of this kind leave a word
+abbrev pub kind_leaves : Kind → Bool
+kind_leaves Read = false
+kind_leaves Write = true
+kind_leaves Both = true
+kind_leaves (Reduce op) = true
+
+-- no lane may see at one site an element that an earlier one may write at the other
+abbrev pub Unseen : (lanes : ℕ) (writer reader : Site) → Type 0
+Unseen lanes writer reader = kind_leaves writer.kind ≡ true → kind_sees reader.kind ≡ true → ¬ (MayMeet writer.elements reader.elements lanes)
+
+-- so of all pairs of sites, a site and itself among them
+abbrev pub AllUnseen : (lanes : ℕ) → List Site → Type 0
+AllUnseen lanes sites = All (λ writer. All (λ reader. Unseen lanes writer reader) sites) sites
+
+-- a lane's access is what its site tells: of its kind, and at one of its elements
+pub record IsAtSite (site : Site) (lane : ℕ) (access : Access) : Type 0 where
+  pub kind : kind_of access.action ≡ site.kind
+  pub element : MayAccess site.elements lane access.element
+
+-- the sites tell of all accesses of so many lanes
+abbrev pub IsLogOf : (lanes : ℕ) → List Site → Log → Type 0
+IsLogOf lanes sites log = AllZip (λ site (at : ℕ → Access). (lane : ℕ) → lane < lanes → IsAtSite site lane (at lane)) sites log
+
+-- where no site's writes may be seen, no lane sees what an earlier one writes
+abbrev pub SitesTell : Type 0
+SitesTell = (lanes : ℕ) (sites : List Site) (log : Log) → IsLogOf lanes sites log → AllUnseen lanes sites → NoneSees (of_lane log) lanes

@@ -1,0 +1,57 @@
+//! The elements that the lanes of a batch access at one site.
+
+ghost use Rattle.std.specs.Prelude.{◌≡◌, ◌↔◌, IsTrue};
+ghost use Rattle.loop_core_batch.specs.Sites.{MayMeet, least_of, greatest_of};
+
+/// The elements that lanes access, where lanes are numbered from 0 on.
+#[derive(Clone, Copy, Debug, PartialEq)]
+pub enum Elements {
+    /// All lanes access this element.
+    One(u32),
+    /// Each lane accesses the element that is its number behind this one.
+    Run(u32),
+    /// Each lane accesses some element from `low` to `high`, both among them.
+    Between { low: u32, high: u32 },
+}
+
+impl Elements {
+    /// Tells whether of so many lanes a later one may access an element by `later` that an earlier one
+    /// may access by these.
+    pub fn may_meet(self, later: Elements, lanes: u32) -> bool
+        ensures { IsTrue result ↔ MayMeet self later lanes }
+    {
+        if lanes < 2 {
+            return false;
+        }
+        match (self, later) {
+            (Elements::Run(base), Elements::Run(other)) => other < base && base - other < lanes,
+            _ => {
+                let low = self.least(0).max(later.least(1));
+                let high = self.greatest(lanes - 2).min(later.greatest(lanes - 1));
+                low <= high
+            }
+        }
+    }
+
+    /// The least element that a lane, or one behind it, may access.
+    fn least(self, lane: u32) -> u64
+        ensures { result ≡ least_of self lane }
+    {
+        match self {
+            Elements::One(only) => only as u64,
+            Elements::Run(base) => base as u64 + lane as u64,
+            Elements::Between { low, high: _ } => low as u64,
+        }
+    }
+
+    /// The greatest element that a lane, or one before it, may access.
+    fn greatest(self, lane: u32) -> u64
+        ensures { result ≡ greatest_of self lane }
+    {
+        match self {
+            Elements::One(only) => only as u64,
+            Elements::Run(base) => base as u64 + lane as u64,
+            Elements::Between { low: _, high } => high as u64,
+        }
+    }
+}

@@ -1,0 +1,48 @@
+//! Batches of a loop in order: iterations that are done at once, one a lane, each on the words from
+//! before the batch. When they are the loop's own iterations, how a test of the sites of their accesses
+//! tells that, and in which order the accesses may be applied.
+//!
+//! ```text
+//! let load = Site { kind: Access::Read, elements: Elements::Run(8) };
+//! let store = Site { kind: Access::Write, elements: Elements::Run(9) };
+//! none_sees(&[load, store], 64)       // false: lane 1 reads element 9, and lane 0 writes it
+//! ```
+#![tactic(auto)]
+
+pub mod elements;
+pub mod site;
+
+ghost use Rattle.loop_core_batch.specs.BySite.{SitesApply};
+ghost use Rattle.loop_core_batch.specs.Lanes.{SumsSeeNothing};
+ghost use Rattle.loop_core_batch.specs.LoopByBatch.{LoopByBatch};
+ghost use Rattle.loop_core_batch.specs.Sites.{SitesTell};
+
+pub use elements::Elements;
+use loop_core_blocks::law_of_operators;
+pub use loop_core_marks::Access;
+pub use site::{Site, all_commute, none_sees};
+
+/// The law of batches: where iterations go on that ran on the words from before them, and none sees an
+/// element that an earlier one writes, the loop in order is the loop behind them, on the words after
+/// their accesses.
+pub fn law_of_batches()
+    ensures { LoopByBatch }
+{}
+
+/// The law of sums: iterations whose accesses are all reduces by one operator see nothing.
+pub fn law_of_sums()
+    ensures { SumsSeeNothing }
+{}
+
+/// The law of sites: where no pair of sites lets a lane see what an earlier lane writes, no lane does.
+pub fn law_of_sites()
+    ensures { SitesTell }
+{}
+
+/// The law of application: where all sites commute, a batch leaves the same site by site as lane by
+/// lane.
+pub fn law_of_application()
+    ensures { SitesApply }
+{
+    law_of_operators();
+}

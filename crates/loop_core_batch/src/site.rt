@@ -1,0 +1,115 @@
+//! Sites: what the lanes of a batch do at one place of a callback.
+
+ghost use Rattle.std.specs.Prelude.{◌≡◌, ◌↔◌, IsTrue, All};
+ghost use Rattle.loop_core_batch.specs.BySite.{Commute, AllCommute, by_one_operator};
+ghost use Rattle.loop_core_batch.specs.Sites.{Unseen, AllUnseen, kind_sees, kind_leaves};
+
+use crate::elements::Elements;
+use loop_core_marks::Access;
+
+/// What lanes do at one place: each makes one access of this kind, at one of these elements.
+#[derive(Clone, Copy)]
+pub struct Site {
+    pub kind: Access,
+    pub elements: Elements,
+}
+
+impl Site {
+    /// Whether no lane may see at `reader` an element that an earlier one may write here.
+    fn is_unseen(self, reader: Site, lanes: u32) -> bool
+        ensures { IsTrue result ↔ Unseen lanes self reader }
+    {
+        if leaves(self.kind) && sees(reader.kind) {
+            return !self.elements.may_meet(reader.elements, lanes);
+        }
+        true
+    }
+
+    /// Whether no lane may see at one of the readers an element that an earlier one may write here.
+    fn is_unseen_by(self, readers: &[Site], lanes: u32) -> bool
+        ensures { IsTrue result ↔ All (λ reader. Unseen lanes self reader) readers.now }
+    {
+        for reader in readers {
+            if !self.is_unseen(*reader, lanes) {
+                return false;
+            }
+        }
+        true
+    }
+
+    /// Whether this site may be applied for all lanes before another, which lies behind it, is for any.
+    fn commutes(self, behind: Site, lanes: u32) -> bool
+        ensures { IsTrue result ↔ Commute lanes self behind }
+    {
+        if leaves(self.kind) && leaves(behind.kind) && !reduce_alike(self.kind, behind.kind) {
+            return !behind.elements.may_meet(self.elements, lanes);
+        }
+        true
+    }
+
+    /// Whether each of the sites before this one may be applied for all lanes before this one is for any.
+    fn commutes_behind(self, before: &[Site], lanes: u32) -> bool
+        ensures { IsTrue result ↔ All (λ site. Commute lanes site self) before.now }
+    {
+        for site in before {
+            if !site.commutes(self, lanes) {
+                return false;
+            }
+        }
+        true
+    }
+}
+
+/// Tells whether, by these sites, no lane of so many may see an element that an earlier one may write.
+pub fn none_sees(sites: &[Site], lanes: u32) -> bool
+    ensures { IsTrue result ↔ AllUnseen lanes sites.now }
+{
+    for writer in sites {
+        if !writer.is_unseen_by(sites, lanes) {
+            return false;
+        }
+    }
+    true
+}
+
+/// Tells whether each site may be applied for all lanes before those behind it are for any.
+pub fn all_commute(sites: &[Site], lanes: u32) -> bool
+    ensures { IsTrue result ↔ AllCommute lanes sites.now }
+{
+    for (k, site) in sites.iter().enumerate() {
+        if !site.commutes_behind(&sites[..k], lanes) {
+            return false;
+        }
+    }
+    true
+}
+
+/// Whether an access of this kind sees the word of its element.
+fn sees(kind: Access) -> bool
+    ensures { result ≡ kind_sees kind }
+{
+    match kind {
+        Access::Read | Access::Both => true,
+        Access::Write | Access::Reduce(_) => false,
+    }
+}
+
+/// Whether an access of this kind leaves a word.
+fn leaves(kind: Access) -> bool
+    ensures { result ≡ kind_leaves kind }
+{
+    match kind {
+        Access::Read => false,
+        Access::Write | Access::Both | Access::Reduce(_) => true,
+    }
+}
+
+/// Whether accesses of both kinds reduce, by one operator.
+fn reduce_alike(first: Access, second: Access) -> bool
+    ensures { result ≡ by_one_operator first second }
+{
+    match (first, second) {
+        (Access::Reduce(op), Access::Reduce(other)) => op == other,
+        _ => false,
+    }
+}
