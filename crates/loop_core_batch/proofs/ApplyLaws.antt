@@ -1,10 +1,11 @@
 -- Sites that commute are applied one behind another.
-use Rattle.std.proofs.Common.{◌≡◌, ◌≢◌, ℕ, zero, suc, ◌<◌, Bool, true, false, List, [], ◌∷◌, map, refl, sym, ◌∙◌, ap, subst, arith}
+use Rattle.std.proofs.Common.{◌≡◌, ℕ, zero, suc, ◌+◌, ◌<◌, Bool, true, false, List, [], ◌∷◌, refl, sym, ◌∙◌, ap, subst, arith}
 use Rattle.std.specs.List.{AllByRecursion, AllPairs}
 use Rattle.std.proofs.lemmas.List.Elements.{recursion_from_All}
 use Rattle.array_maps.specs.declared.access.Op.{Op}
 use Rattle.array_maps.specs.Accesses.{Action, Read, Write, ReadWrite, Reduce, Access, words_after, words_after_all}
-use Rattle.loop_core_model.specs.Actions.{is_write, is_same}
+use Rattle.bpf_step_model.specs.LoopInOrder.{loop_from}
+use Rattle.loop_core_model.specs.Actions.{is_write}
 use Rattle.loop_core_model.proofs.OneElement.{same_op}
 use Rattle.loop_core_marks.specs.declared.access.Access.{Access as Kind}
 use Rattle.loop_core_marks.specs.Flags.{kind_of}
@@ -12,7 +13,10 @@ use Rattle.loop_core_blocks.specs.Kept.{OperatorsAssociate}
 use Rattle.loop_core_batch.specs.declared.site.Site.{Site}
 use Rattle.loop_core_batch.specs.Lanes.{words_after_lanes}
 use Rattle.loop_core_batch.specs.Sites.{Log, of_lane, MayAccess, kind_leaves, IsAtSite, IsLogOf}
-use Rattle.loop_core_batch.specs.BySite.{words_after_site, words_after_sites, by_one_operator, Commute, AllCommute, SitesApply}
+use Rattle.loop_core_batch.specs.BySite.{words_after_site, words_after_sites, by_one_operator, Commute, SitesApply}
+use Rattle.loop_core_batch.specs.LoopByBatch.{LoopBySites}
+use Rattle.loop_core_batch.proofs.BatchLaws.{loop_by_batch}
+use Rattle.loop_core_batch.proofs.SiteLaws.{sites_tell}
 use Rattle.loop_core_batch.proofs.Swapping.{Swap, apart_swap, first_keeps, second_keeps, reduces_swap}
 
 -- an access that may change places with each of a list goes behind them
@@ -119,3 +123,9 @@ module _ (laws : OperatorsAssociate) (lanes : ℕ) where
 
 pub sites_apply : OperatorsAssociate → SitesApply
 sites_apply laws lanes sites log tells commute words = site_by_site log lanes (each_goes_first laws lanes sites log tells commute) words
+
+-- so a loop by sites
+pub loop_by_sites : OperatorsAssociate → LoopBySites
+loop_by_sites laws program bound call first lanes left words sites log goes_on told unseen commute =
+    loop_by_batch program bound call first lanes left words (of_lane log) goes_on (sites_tell lanes sites log told unseen)
+    ∙ ap (loop_from program bound call left (first + lanes)) (sym (sites_apply laws lanes sites log told commute words))

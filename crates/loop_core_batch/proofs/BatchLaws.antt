@@ -1,5 +1,5 @@
 -- A batch of iterations that ran on the words from before them is a part of the loop in order.
-use Rattle.std.proofs.Common.{◌≡◌, ℕ, zero, suc, ◌+◌, ◌<◌, ◌≤◌, Bool, true, false, ◌&&◌, ◌⊎◌, inl, inr, List, [], ◌∷◌, length, refl, sym, ◌∙◌, ap, subst, arith}
+use Rattle.std.proofs.Common.{◌≡◌, ℕ, zero, suc, ◌+◌, ◌<◌, ◌≤◌, Bool, true, false, ◌⊎◌, inl, inr, List, [], ◌∷◌, length, refl, sym, ◌∙◌, ap, subst, arith}
 use Rattle.std.specs.Prelude.{slice_index, if◌then◌else◌, ◌==◌}
 use Rattle.std.specs.List.{AllByRecursion}
 use Rattle.array_maps.specs.declared.access.Op.{Op}
@@ -7,11 +7,10 @@ use Rattle.array_maps.specs.Accesses.{Action, Read, Write, ReadWrite, Reduce, Ac
 use Rattle.array_maps.proofs.ElementLaws.{length-words_after_all, element_after_all}
 use Rattle.bpf_insn_types.specs.Program.{Program}
 use Rattle.bpf_step_model.specs.State.{LoopCall}
-use Rattle.bpf_step_model.specs.Run.{BoundedResult, Ended, followed}
-use Rattle.bpf_step_model.specs.Iteration.{iteration}
+use Rattle.bpf_step_model.specs.Run.{Ended, followed}
 use Rattle.bpf_step_model.specs.LoopInOrder.{behind, loop_from}
 use Rattle.loop_core_model.specs.Actions.{writes, reduces_by}
-use Rattle.loop_core_model.proofs.OneElement.{and_true_right, unwritten_left}
+use Rattle.loop_core_model.proofs.OneElement.{unwritten_left}
 use Rattle.loop_core_model.proofs.Turns.{Saws}
 use Rattle.loop_core_model.proofs.RunAgain.{iteration_local}
 use Rattle.loop_core_batch.specs.Lanes.{sees, NoneSees, words_after_lanes, SumsSeeNothing}

@@ -6,10 +6,6 @@ use Rattle.loop_core_batch.specs.declared.elements.Elements.{Elements}
 use Rattle.loop_core_batch.specs.declared.elements.Elements.TheVariants.{One, Run, Between}
 use Rattle.loop_core_batch.specs.Sites.{MayAccess, MayMeet, least_of, greatest_of}
 
--- no lane before another is below two
-pub alone : (first second : Elements) (lanes : ℕ) → lanes < 2 → ¬ (MayMeet first second lanes)
-alone first second lanes few meet = let order = meet.in_order in let within = meet.within in omega arith
-
 -- two runs: the first begins behind the second, by less than all lanes
 pub runs_meet : (base other lanes : ℕ) → other < base → base - other < lanes → MayMeet (Run base) (Run other) lanes
 runs_meet base other lanes behind near = record {

@@ -4,7 +4,7 @@ use Rattle.std.specs.Prelude.{if◌then◌else◌, ◌==◌}
 use Rattle.std.specs.List.{list_any, All}
 use Rattle.std.proofs.lemmas.Bool.{eqb-true}
 use Rattle.std.proofs.lemmas.List.Elements.{All-head, All-tail}
-use Rattle.array_maps.specs.Accesses.{Action, Read, Write, ReadWrite, Reduce, Access, actions_at}
+use Rattle.array_maps.specs.Accesses.{Action, Read, Write, ReadWrite, Reduce, actions_at}
 use Rattle.loop_core_model.specs.Actions.{is_write}
 use Rattle.loop_core_marks.specs.declared.access.Access.{Access as Kind}
 use Rattle.loop_core_marks.specs.Flags.{kind_of}

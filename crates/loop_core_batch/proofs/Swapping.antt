@@ -1,5 +1,5 @@
 -- Two accesses that may change places.
-use Rattle.std.proofs.Common.{◌≡◌, ◌≢◌, ℕ, zero, suc, Bool, true, false, ◌⊎◌, inl, inr, List, [], ◌∷◌, set, get_or, refl, sym, ◌∙◌, ap, subst, ◌+◌}
+use Rattle.std.proofs.Common.{◌≡◌, ◌≢◌, ℕ, zero, suc, Bool, true, false, List, [], ◌∷◌, set, get_or, refl, sym, ◌∙◌, ap, subst, ◌+◌}
 use Rattle.std.specs.Prelude.{◌==◌, ◌%◌, ◌^◌}
 use Rattle.std.proofs.Math.Nat.{add_comm}
 use Rattle.std.proofs.lemmas.Bool.{eqb-true, eqb-false}
@@ -13,6 +13,7 @@ use Rattle.array_maps.specs.Halves.{of_halves, half_of, halves_added}
 use Rattle.array_maps.specs.declared.access.Half.TheVariants.{Low, High}
 use Rattle.loop_core_model.specs.Actions.{is_write}
 use Rattle.loop_core_blocks.specs.Kept.{OperatorsAssociate}
+use Rattle.loop_core_batch.specs.BySite.{combined_to, SumsAtOnce}
 
 -- they leave the same in either order
 abbrev pub Swap : Access → Access → Type 0
@@ -82,3 +83,19 @@ reduces_swap laws op d e x y words = go (d == e) refl
         subst (λ (k : ℕ). changed_at (λ (word : ℕ). combined op word x) d (changed_at (λ (word : ℕ). combined op word y) k words)
         ≡ changed_at (λ (word : ℕ). combined op word y) k (changed_at (λ (word : ℕ). combined op word x) d words)) (eqb-true d e same)
         (same_place (λ (word : ℕ). combined op word x) (λ (word : ℕ). combined op word y) (λ word. in_either_order laws op word y x) words d)
+
+-- two changes at one place, at once
+at_once : (f g both : ℕ → ℕ) → ((word : ℕ) → f (g word) ≡ both word) → (words : List ℕ) (e : ℕ) → changed_at f e (changed_at g e words) ≡ changed_at both e words
+at_once f g both same [] e = refl
+at_once f g both same (word ∷ words) zero = ap (λ (w : ℕ). w ∷ words) (same word)
+at_once f g both same (word ∷ words) (suc e) = ap (λ (ws : List ℕ). word ∷ ws) (at_once f g both same words e)
+
+-- so of the reduces of all lanes
+pub sums_at_once : OperatorsAssociate → SumsAtOnce
+sums_at_once laws op element operands zero words = refl
+sums_at_once laws op element operands (suc last) words =
+    let so_far : ℕ = combined_to op operands last in
+    let next : ℕ = operands (suc last) in
+    ap (words_after (record { element = element; action = Reduce op next })) (sums_at_once laws op element operands last words)
+    ∙ at_once (λ (word : ℕ). combined op word next) (λ (word : ℕ). combined op word so_far) (λ (word : ℕ). combined op word (combined op so_far next))
+    (λ word. laws.each op word so_far next) words element

@@ -1,10 +1,10 @@
 -- What a batch leaves, when its accesses are applied site by site: at each site those of all lanes, in their order.
-use Rattle.std.specs.Prelude.{◌≡◌, ℕ, zero, suc, ◌<◌, Bool, true, false, List, [], ◌∷◌}
+use Rattle.std.specs.Prelude.{◌≡◌, ℕ, zero, suc, Bool, true, false, List, [], ◌∷◌}
 use Rattle.std.specs.List.{AllPairs}
 use Rattle.array_maps.specs.declared.access.Op.{Op}
-use Rattle.array_maps.specs.Accesses.{Access, words_after}
+use Rattle.array_maps.specs.Accesses.{Access, Reduce as Reduces, combined, words_after}
 use Rattle.loop_core_marks.specs.declared.access.Access.{Access as Kind}
-use Rattle.loop_core_marks.specs.declared.access.Access.TheVariants.{Read, Write, Both, Reduce}
+use Rattle.loop_core_marks.specs.declared.access.Access.TheVariants.{Reduce}
 use Rattle.loop_core_model.specs.Actions.{is_same}
 use Rattle.loop_core_batch.specs.declared.site.Site.{Site}
 use Rattle.loop_core_batch.specs.Lanes.{words_after_lanes}
@@ -32,7 +32,7 @@ abbrev pub Commute : (lanes : ℕ) (first second : Site) → Type 0
 Commute lanes first second = kind_leaves first.kind ≡ true → kind_leaves second.kind ≡ true → by_one_operator first.kind second.kind ≡ false →
     ¬ (MayMeet second.elements first.elements lanes)
 
--- so of each two sites
+-- each two sites commute, the earlier as the first
 abbrev pub AllCommute : (lanes : ℕ) → List Site → Type 0
 AllCommute lanes sites = AllPairs (Commute lanes) sites
 
@@ -40,3 +40,14 @@ AllCommute lanes sites = AllPairs (Commute lanes) sites
 abbrev pub SitesApply : Type 0
 SitesApply = (lanes : ℕ) (sites : List Site) (log : Log) → IsLogOf lanes sites log → AllCommute lanes sites → (words : List ℕ) →
     words_after_sites log lanes words ≡ words_after_lanes (of_lane log) lanes words
+
+-- the operands of lanes up to a last one, combined by an operator, beginning with lane 0's
+abbrev pub combined_to : Op → (operands : ℕ → ℕ) → (last : ℕ) → ℕ
+combined_to op operands zero = operands 0
+combined_to op operands (suc last) = combined op (combined_to op operands last) (operands (suc last))
+
+-- reduces of all lanes at one element, by one operator, are one reduce by their operands combined
+abbrev pub SumsAtOnce : Type 0
+SumsAtOnce = (op : Op) (element : ℕ) (operands : ℕ → ℕ) (last : ℕ) (words : List ℕ) →
+    words_after_site (λ lane. record { element = element; action = Reduces op (operands lane) }) (suc last) words
+    ≡ words_after (record { element = element; action = Reduces op (combined_to op operands last) }) words

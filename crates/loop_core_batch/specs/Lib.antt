@@ -1,4 +1,4 @@
 pub mod Lanes
-pub mod LoopByBatch
 pub mod Sites
 pub mod BySite
+pub mod LoopByBatch

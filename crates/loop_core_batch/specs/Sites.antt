@@ -1,6 +1,6 @@
 -- The accesses of a batch, site by site. All lanes went one way, so each lane made one access at each site.
 use Rattle.std.specs.Prelude.{◌≡◌, ℕ, ◌+◌, ◌<◌, ◌≤◌, Bool, true, false, List, map}
-use Rattle.std.specs.List.{All, AllZip}
+use Rattle.std.specs.List.{All, AllZip, Contains}
 use Rattle.array_maps.specs.Accesses.{Access}
 use Rattle.loop_core_marks.specs.declared.access.Access.{Access as Kind}
 use Rattle.loop_core_marks.specs.declared.access.Access.TheVariants.{Read, Write, Both, Reduce}
@@ -18,11 +18,20 @@ Log = List (ℕ → Access)
 abbrev pub of_lane : Log → ℕ → List Access
 of_lane log lane = map (λ (site : ℕ → Access). site lane) log
 
--- a lane may access the element: all lanes one, each the one that is its number behind the base, or each any between two
+-- a lane may access the element: all lanes the same, each the one that is its number behind the base, or each any from the
+-- low one to the high one
 abbrev pub MayAccess : Elements → (lane element : ℕ) → Type 0
 MayAccess (One only) lane element = element ≡ only
 MayAccess (Run base) lane element = element ≡ base + lane
 MayAccess (Between low high) lane element = (low ≤ element) × (element ≤ high)
+
+-- a row, which has an element for each lane, lies between the least of them and the greatest
+pub record IsAround (row : List ℕ) (elements : Elements) : Type 0 where
+  pub low : ℕ
+  pub high : ℕ
+  pub told : elements ≡ Between low high
+  pub least : All (λ element. low ≤ element) row × Contains row low
+  pub greatest : All (λ element. element ≤ high) row × Contains row high
 
 -- of so many lanes an earlier one may access an element by the first, and a later one the same by the second
 pub record MayMeet (first second : Elements) (lanes : ℕ) : Type 0 where
@@ -64,7 +73,7 @@ kind_leaves (Reduce op) = true
 abbrev pub Unseen : (lanes : ℕ) (writer reader : Site) → Type 0
 Unseen lanes writer reader = kind_leaves writer.kind ≡ true → kind_sees reader.kind ≡ true → ¬ (MayMeet writer.elements reader.elements lanes)
 
--- so of all pairs of sites, a site and itself among them
+-- no site's writes may be seen at any of them, the site itself among them
 abbrev pub AllUnseen : (lanes : ℕ) → List Site → Type 0
 AllUnseen lanes sites = All (λ writer. All (λ reader. Unseen lanes writer reader) sites) sites
 
@@ -73,10 +82,10 @@ pub record IsAtSite (site : Site) (lane : ℕ) (access : Access) : Type 0 where
   pub kind : kind_of access.action ≡ site.kind
   pub element : MayAccess site.elements lane access.element
 
--- the sites tell of all accesses of so many lanes
+-- the sites tell of each access of so many lanes
 abbrev pub IsLogOf : (lanes : ℕ) → List Site → Log → Type 0
 IsLogOf lanes sites log = AllZip (λ site (at : ℕ → Access). (lane : ℕ) → lane < lanes → IsAtSite site lane (at lane)) sites log
 
--- where no site's writes may be seen, no lane sees what an earlier one writes
+-- where no site's writes may be seen, no lane sees an element that an earlier one writes
 abbrev pub SitesTell : Type 0
 SitesTell = (lanes : ℕ) (sites : List Site) (log : Log) → IsLogOf lanes sites log → AllUnseen lanes sites → NoneSees (of_lane log) lanes

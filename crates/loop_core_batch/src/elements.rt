@@ -1,10 +1,10 @@
 //! The elements that the lanes of a batch access at one site.
 
-ghost use Rattle.std.specs.Prelude.{◌≡◌, ◌↔◌, IsTrue};
-ghost use Rattle.loop_core_batch.specs.Sites.{MayMeet, least_of, greatest_of};
+ghost use Rattle.std.specs.Prelude.{◌≡◌, ◌↔◌, ℕ, ◌<◌, [], length, slice_index, IsTrue, IsNone, IfSome};
+ghost use Rattle.loop_core_batch.specs.Sites.{IsAround, MayAccess, MayMeet, least_of, greatest_of};
 
 /// The elements that lanes access, where lanes are numbered from 0 on.
-#[derive(Clone, Copy, Debug, PartialEq)]
+#[derive(Clone, Copy)]
 pub enum Elements {
     /// All lanes access this element.
     One(u32),
@@ -15,7 +15,19 @@ pub enum Elements {
 }
 
 impl Elements {
-    /// Tells whether of so many lanes a later one may access an element by `later` that an earlier one
+    /// The elements of a row, which has one for each lane: from the least to the greatest. `None` where
+    /// there are no lanes.
+    pub fn around(row: &[u32]) -> Option<Elements>
+        ensures empty { IsNone result ↔ (row.now ≡ []) }
+        ensures around { IfSome result (IsAround row.now) }
+        ensures lanes { IfSome result (λ elements. (lane : ℕ) → lane < length row.now → MayAccess elements lane (slice_index row.now lane)) }
+    {
+        let low = row.iter().copied().min()?;
+        let high = row.iter().copied().max()?;
+        Some(Elements::Between { low, high })
+    }
+
+    /// Tells whether, of so many lanes, a later one may access an element by `later` that an earlier one
     /// may access by these.
     pub fn may_meet(self, later: Elements, lanes: u32) -> bool
         ensures { IsTrue result ↔ MayMeet self later lanes }

@@ -12,9 +12,9 @@
 pub mod elements;
 pub mod site;
 
-ghost use Rattle.loop_core_batch.specs.BySite.{SitesApply};
+ghost use Rattle.loop_core_batch.specs.BySite.{SitesApply, SumsAtOnce};
 ghost use Rattle.loop_core_batch.specs.Lanes.{SumsSeeNothing};
-ghost use Rattle.loop_core_batch.specs.LoopByBatch.{LoopByBatch};
+ghost use Rattle.loop_core_batch.specs.LoopByBatch.{LoopByBatch, LoopBySites};
 ghost use Rattle.loop_core_batch.specs.Sites.{SitesTell};
 
 pub use elements::Elements;
@@ -24,15 +24,22 @@ pub use site::{Site, all_commute, none_sees};
 
 /// The law of batches: where iterations go on that ran on the words from before them, and none sees an
 /// element that an earlier one writes, the loop in order is the loop behind them, on the words after
-/// their accesses.
+/// their accesses. The same is told by sites.
 pub fn law_of_batches()
-    ensures { LoopByBatch }
-{}
+    ensures lanes { LoopByBatch }
+    ensures sites { LoopBySites }
+{
+    law_of_operators();
+}
 
-/// The law of sums: iterations whose accesses are all reduces by one operator see nothing.
+/// The law of sums: iterations whose accesses are all reduces by one operator see nothing, and those
+/// at one element are one reduce by their operands combined.
 pub fn law_of_sums()
-    ensures { SumsSeeNothing }
-{}
+    ensures unseen { SumsSeeNothing }
+    ensures at_once { SumsAtOnce }
+{
+    law_of_operators();
+}
 
 /// The law of sites: where no pair of sites lets a lane see what an earlier lane writes, no lane does.
 pub fn law_of_sites()

@@ -7,10 +7,12 @@ ghost use Rattle.loop_core_batch.specs.Sites.{Unseen, AllUnseen, kind_sees, kind
 use crate::elements::Elements;
 use loop_core_marks::Access;
 
-/// What lanes do at one place: each makes one access of this kind, at one of these elements.
+/// What lanes do at one place: each makes one access.
 #[derive(Clone, Copy)]
 pub struct Site {
+    /// The kind of all these accesses.
     pub kind: Access,
+    /// The elements that they are of.
     pub elements: Elements,
 }
 
@@ -60,7 +62,8 @@ impl Site {
     }
 }
 
-/// Tells whether, by these sites, no lane of so many may see an element that an earlier one may write.
+/// Tells whether, by these sites of all their accesses, no lane of so many may see an element that an
+/// earlier one may write.
 pub fn none_sees(sites: &[Site], lanes: u32) -> bool
     ensures { IsTrue result ↔ AllUnseen lanes sites.now }
 {
@@ -72,7 +75,7 @@ pub fn none_sees(sites: &[Site], lanes: u32) -> bool
     true
 }
 
-/// Tells whether each site may be applied for all lanes before those behind it are for any.
+/// Tells whether each site may be applied for all of so many lanes before those behind it are for any.
 pub fn all_commute(sites: &[Site], lanes: u32) -> bool
     ensures { IsTrue result ↔ AllCommute lanes sites.now }
 {

@@ -1,6 +1,5 @@
 use Rattle.std.proofs.Common.{refl}
-use Rattle.std.proofs.lemmas.List.{take_all}
-use Rattle.std.proofs.lemmas.List.Elements.{All-more, All-same, All-from_get_or}
+use Rattle.std.proofs.lemmas.List.Elements.{All-more}
 use Rattle.loop_core_batch.specs.declared.site.Site.{Site}
 use Rattle.loop_core_batch.specs.BySite.{Commute}
 use Rattle.loop_core_batch.proofs.Judging.{all_taken}
