@@ -82,7 +82,7 @@ impl<'a> Gathered<'a> {
 
     /// What the loop leaves at each element after a pass, in order. Only elements of pages that were touched are
     /// worked out.
-    pub(crate) fn left_words(&self, alloc: Global) -> Result<Vec<u64>, AllocError>
+    pub fn left_words(&self, alloc: Global) -> Result<Vec<u64>, AllocError>
         ensures { IfOk result (λ words. words.items ≡ self.now.words) }
     {
         let mut words = self.start.to_vec(alloc)?;

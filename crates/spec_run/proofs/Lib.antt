@@ -1,4 +1,3 @@
 pub mod Lines
 pub mod Turns
 pub mod CallLaws
-pub mod PlanLaws

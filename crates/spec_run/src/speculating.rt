@@ -1,60 +1,21 @@
 //! Running a program whose loops may run in parallel.
 
 ghost use Rattle.std.specs.Prelude.{◌≡◌, ◌≢◌, ◌↔◌, IfOk, OnErr, Err};
-ghost use Rattle.bpf_verify_sound.specs.Soundness.{OverApproximatesCall};
-ghost use Rattle.loop_core_gather.specs.Gathered.{IsOutcome};
 ghost use Rattle.spec_run.specs.AsInOrder.{IsReportByTest, RunsAsInOrder};
 ghost use Rattle.spec_run_plan.specs.Plans.{IsPlan};
 
 use crate::running::Report;
 use array_maps::{Maps, Store};
-use bpf_step::{LoopCall, Main, Turned};
+use bpf_step::{Main, Turned};
 use bpf_verify::Verified;
 use bpf_verify_sound::{law_of_accepted_programs, law_of_accepted_runs};
 use loop_core_model::{LoopReport, Verdict};
 use loop_core_sequential::law_of_filled_calls;
-use loop_core_split::{Gate, Split};
-use spec_run_loop::{LoopOutcome, RunError, run_loop};
+use loop_core_split::Gate;
+use spec_run_loop::{RunError, run_loop_evenly};
 use spec_run_plan::Plan;
 use std::alloc::{AllocError, Global};
 use std::thread::Threads;
-
-/// Runs a loop call that main made, by the plan.
-#[tactic(auto, using(crate::proofs::PlanLaws::even_is, crate::proofs::PlanLaws::loop_plan))]
-fn run_call<R: Threads + Sync, G: Gate>(
-    rt: &R,
-    alloc: Global,
-    program: &Verified,
-    call: &LoopCall,
-    maps: &Maps,
-    plan: &Plan,
-    gate: &G,
-) -> Result<LoopOutcome, AllocError>
-    requires known { OverApproximatesCall program.now call.now }
-    requires sizes { maps.now.sizes ≡ program.now.sizes }
-    requires plan { IsPlan plan.now }
-    ensures { IfOk result (λ o. IsOutcome plan.now.test program.now call.now maps.now o.verdict o.answer o.maps) }
-{
-    let Ok(split) = Split::even(call.n(), plan.blocks) else {
-        unreachable!()
-    };
-    match run_loop(
-        rt,
-        alloc,
-        program,
-        call,
-        maps,
-        &split,
-        plan.workers,
-        gate,
-        plan.test,
-    ) {
-        Ok(outcome) => Ok(outcome),
-        Err(RunError::Memory) => Err(AllocError),
-        Err(RunError::Sizes) => unreachable!(),
-        Err(RunError::Plan) => unreachable!(),
-    }
-}
 
 /// Runs the program on these maps, which are of its sizes, and changes them as it goes. Where memory runs
 /// out they stay as they are then.
@@ -83,14 +44,23 @@ fn run_with<R: Threads + Sync, G: Gate>(
     loop {
         match main.next(maps) {
             Turned::Loop(call) => {
-                let outcome = run_call(rt, alloc, program, &call, maps, plan, gate)?;
-                main.resume(outcome.answer);
+                let answered = run_loop_evenly(
+                    rt,
+                    alloc,
+                    program,
+                    &call,
+                    maps,
+                    plan.blocks,
+                    plan.workers,
+                    gate,
+                    plan.test,
+                )?;
+                main.resume(answered.answer);
                 loops.push(LoopReport {
                     slot: call.slot(),
-                    answer: i64::from(outcome.answer),
-                    verdict: outcome.verdict,
+                    answer: i64::from(answered.answer),
+                    verdict: answered.verdict,
                 })?;
-                *maps = outcome.maps;
             }
             Turned::Refused { slot, answer } => loops.push(LoopReport {
                 slot,

@@ -1,4 +1,4 @@
+pub mod AloneLaws
 pub mod CommitLaws
 pub mod EvenLaws
-pub mod WholeLaws
 pub mod WorkerLaws

@@ -3,10 +3,12 @@
 #![tactic(auto)]
 
 mod committing;
+mod decision;
 mod error;
 mod looping;
 mod worker;
 
+pub use decision::LoopAnswer;
 pub use error::RunError;
 pub use loop_core_gather::LoopOutcome;
-pub use looping::run_loop;
+pub use looping::{run_loop, run_loop_evenly};

@@ -1,17 +1,20 @@
 //! Running a loop.
 
-ghost use Rattle.std.specs.Prelude.{◌≡◌, ◌≢◌, ◌<◌, ◌≤◌, ◌↔◌, None, Err, IsTrue, All, map, IfOk, IfErr};
+ghost use Rattle.std.specs.Prelude.{◌≡◌, ◌≢◌, ◌<◌, ◌≤◌, ◌↔◌, None, Err, IsTrue, All, map, IfOk, OnErr};
 ghost use Rattle.bpf_verify_sound.specs.Soundness.{OverApproximatesCall};
 ghost use Rattle.loop_core_blocks.specs.Split.{split_fault};
 ghost use Rattle.loop_core_blocks.specs.Gather.{gather_fault};
+ghost use Rattle.loop_core_schedule.specs.Intervals.{blocks_of};
 ghost use Rattle.loop_core_block.specs.Ran.{RecordsRun};
 ghost use Rattle.loop_core_block.specs.Shown.{shown};
 ghost use Rattle.loop_core_gather.specs.Gathered.{all_gathered, HasOutcome, IsOutcome};
 ghost use Rattle.spec_run_loop.specs.Plans.{IsLoopPlan};
+ghost use Rattle.spec_run_loop.specs.Decisions.{IsDecision};
 
-use crate::committing::settle_in_threads;
+use crate::committing::left_words;
+use crate::decision::{Decision, LoopAnswer};
 use crate::error::RunError;
-use crate::worker::{is_worth_threads, run_whole, run_workers};
+use crate::worker::{is_long, run_alone, run_workers};
 use array_maps::Maps;
 use bpf_step::LoopCall;
 use bpf_verify::Verified;
@@ -19,10 +22,11 @@ use loop_board::Board;
 use loop_core_block::Block;
 use loop_core_event::MAX_WORKERS;
 use loop_core_gather::{GatherError, Gathered, LoopOutcome, gather};
-use loop_core_model::Test;
+use loop_core_model::{Test, Verdict};
+use loop_core_sequential::in_order;
 use loop_core_split::{Gate, Split};
 use spec_run_work::law_of_workers;
-use std::alloc::Global;
+use std::alloc::{AllocError, Global};
 use std::thread::Threads;
 
 /// Whether there are 1 to 16 workers, and the split is of so many iterations.
@@ -32,7 +36,7 @@ fn is_loop_plan(workers: u32, split: &Split, n: u32) -> bool
     (1..=MAX_WORKERS).contains(&workers) && split.iterations() == n
 }
 
-/// Gathers the blocks of a loop, all of which are there. Only memory may be lacking.
+/// Gathers the blocks of a loop, all of which are there.
 fn gather_all<'a>(
     alloc: Global,
     program: &Verified,
@@ -41,46 +45,43 @@ fn gather_all<'a>(
     split: &Split,
     blocks: Vec<Block<'a>>,
     test: Test,
-) -> Result<Gathered<'a>, RunError>
+) -> Result<Gathered<'a>, AllocError>
     requires known { OverApproximatesCall program.now call.now }
     requires sizes { start.now.sizes ≡ program.now.sizes }
     requires split { split_fault split.now call.now.n ≡ None }
     requires ran { All (λ b. RecordsRun test program.now call.now start.now.words (shown b)) blocks.items }
     requires faultless { gather_fault split.now (all_gathered program.now call.now start.now.words (map shown blocks.items)) ≡ None }
-    ensures told { IfOk result (HasOutcome test program.now call.now start.now.words) }
-    ensures refused { IfErr result (λ e. e ≡ RunError.Memory) }
+    ensures { IfOk result (HasOutcome test program.now call.now start.now.words) }
 {
     match gather(alloc, program, call, start, split, blocks, test) {
         Ok(gathered) => Ok(gathered),
         Err(GatherError::Fault(_)) => unreachable!(),
-        Err(GatherError::Memory) => Err(RunError::Memory),
+        Err(GatherError::Memory) => Err(AllocError),
     }
 }
 
-/// Runs a loop in the calling thread, as one block, and gathers it.
-#[tactic(auto, using(crate::proofs::WholeLaws::whole_is, crate::proofs::WholeLaws::whole_split))]
+/// Runs the one block of a loop in the calling thread, and gathers it.
 fn speculate_alone<'a, G: Gate>(
     alloc: Global,
     program: &Verified,
     call: &LoopCall,
     start: &'a Maps,
+    split: &Split,
     gate: &G,
     test: Test,
-) -> Result<Gathered<'a>, RunError>
+) -> Result<Gathered<'a>, AllocError>
     requires known { OverApproximatesCall program.now call.now }
     requires sizes { start.now.sizes ≡ program.now.sizes }
-    ensures told { IfOk result (HasOutcome test program.now call.now start.now.words) }
-    ensures refused { IfErr result (λ e. e ≡ RunError.Memory) }
+    requires split { split_fault split.now call.now.n ≡ None }
+    requires alone { blocks_of split.now ≡ 1 }
+    ensures { IfOk result (HasOutcome test program.now call.now start.now.words) }
 {
-    let Ok(whole) = Split::even(call.n(), 1) else {
-        unreachable!()
-    };
-    let blocks = run_whole(alloc, program, call, start, &whole, gate, test)?;
-    gather_all(alloc, program, call, start, &whole, blocks, test)
+    let blocks = run_alone(alloc, program, call, start, split, gate, test)?;
+    gather_all(alloc, program, call, start, split, blocks, test)
 }
 
 /// Runs the blocks of a loop by its workers, and gathers them.
-fn speculate<'a, R: Threads + Sync, G: Gate>(
+fn speculate_by_workers<'a, R: Threads + Sync, G: Gate>(
     rt: &R,
     alloc: Global,
     program: &Verified,
@@ -90,65 +91,36 @@ fn speculate<'a, R: Threads + Sync, G: Gate>(
     workers: u32,
     gate: &G,
     test: Test,
-) -> Result<Gathered<'a>, RunError>
+) -> Result<Gathered<'a>, AllocError>
     requires known { OverApproximatesCall program.now call.now }
     requires sizes { start.now.sizes ≡ program.now.sizes }
     requires plan { IsLoopPlan workers split.now call.now.n }
-    ensures told { IfOk result (HasOutcome test program.now call.now start.now.words) }
-    ensures refused { IfErr result (λ e. e ≡ RunError.Memory) }
+    ensures { IfOk result (HasOutcome test program.now call.now start.now.words) }
 {
     law_of_workers();
     let Ok((board, seats)) = Board::new(alloc, split.blocks(), workers) else {
-        return Err(RunError::Memory);
+        return Err(AllocError);
     };
     let (seats, blocks) = run_workers(
         rt, alloc, program, call, start, split, &board, seats, gate, test,
     )?;
+    // The tally tells the proof that no block is lacking. The least break is read off the blocks, as where there was no
+    // board.
     let Ok(_tally) = board.gather(seats) else {
         unreachable!()
     };
     gather_all(alloc, program, call, start, split, blocks, test)
 }
 
-/// How many blocks are worth what each of them costs, which keeps marks of all elements: one for each worker, or one for
-/// as many iterations as there are elements, and no more than the split has.
-fn worthwhile_blocks(n: u32, start: &Maps, split: &Split, workers: u32) -> u32
-    requires { 0 < workers }
-    ensures some { 0 < result }
-    ensures few { result ≤ 64 }
+/// Whether a loop needs no workers: it is one block, and the gate holds nobody.
+fn needs_no_workers<G: Gate>(split: &Split, gate: &G) -> bool
+    ensures { IsTrue result → blocks_of split.now ≡ 1 }
 {
-    let elements = start.words().len() as u32;
-    (n / elements.max(1)).max(workers).min(split.blocks())
+    split.blocks() == 1 && !gate.may_hold()
 }
 
-/// Runs a loop by its workers, over as many even blocks as are worth it, and gathers them.
-#[tactic(auto, using(crate::proofs::EvenLaws::even_is, crate::proofs::EvenLaws::even_plan))]
-fn speculate_evenly<'a, R: Threads + Sync, G: Gate>(
-    rt: &R,
-    alloc: Global,
-    program: &Verified,
-    call: &LoopCall,
-    start: &'a Maps,
-    split: &Split,
-    workers: u32,
-    gate: &G,
-    test: Test,
-) -> Result<Gathered<'a>, RunError>
-    requires known { OverApproximatesCall program.now call.now }
-    requires sizes { start.now.sizes ≡ program.now.sizes }
-    requires plan { IsLoopPlan workers split.now call.now.n }
-    ensures told { IfOk result (HasOutcome test program.now call.now start.now.words) }
-    ensures refused { IfErr result (λ e. e ≡ RunError.Memory) }
-{
-    let blocks = worthwhile_blocks(call.n(), start, split, workers);
-    let Ok(even) = Split::even(call.n(), blocks) else {
-        unreachable!()
-    };
-    speculate(rt, alloc, program, call, start, &even, workers, gate, test)
-}
-
-/// What a loop comes to whose plan is within its limits. Only memory may be lacking.
-fn outcome_of<R: Threads + Sync, G: Gate>(
+/// What becomes of a loop whose plan is within its limits.
+fn decided<R: Threads + Sync, G: Gate>(
     rt: &R,
     alloc: Global,
     program: &Verified,
@@ -158,28 +130,137 @@ fn outcome_of<R: Threads + Sync, G: Gate>(
     workers: u32,
     gate: &G,
     test: Test,
-) -> Result<LoopOutcome, RunError>
+) -> Result<Decision, AllocError>
     requires known { OverApproximatesCall program.now call.now }
     requires sizes { start.now.sizes ≡ program.now.sizes }
     requires plan { IsLoopPlan workers split.now call.now.n }
-    ensures outcome { IfOk result (λ o. IsOutcome test program.now call.now start.now o.verdict o.answer o.maps) }
-    ensures refused { IfErr result (λ e. e ≡ RunError.Memory) }
+    ensures { IfOk result (IsDecision test program.now call.now start.now.words) }
 {
-    let speculated = if gate.may_hold() {
-        speculate(rt, alloc, program, call, start, split, workers, gate, test)
-    } else if is_worth_threads(call, gate) {
-        speculate_evenly(rt, alloc, program, call, start, split, workers, gate, test)
+    let gathered = if needs_no_workers(split, gate) {
+        speculate_alone(alloc, program, call, start, split, gate, test)?
     } else {
-        speculate_alone(alloc, program, call, start, gate, test)
+        speculate_by_workers(rt, alloc, program, call, start, split, workers, gate, test)?
     };
-    let gathered = match speculated {
-        Err(refused) => return Err(refused),
-        Ok(gathered) => gathered,
-    };
-    match settle_in_threads(rt, alloc, program, call, start, &gathered, gate, test) {
-        Err(_) => Err(RunError::Memory),
-        Ok(outcome) => Ok(outcome),
+    match gathered.verdict() {
+        Verdict::Parallel => Ok(Decision::Commit {
+            answer: gathered.answer(),
+            words: left_words(rt, alloc, call, &gathered, gate)?,
+        }),
+        verdict => Ok(Decision::Discard { verdict }),
     }
+}
+
+/// Runs a loop whose plan is within its limits, and leaves the maps as it leaves them.
+fn run_split<R: Threads + Sync, G: Gate>(
+    rt: &R,
+    alloc: Global,
+    program: &Verified,
+    call: &LoopCall,
+    maps: &mut Maps,
+    split: &Split,
+    workers: u32,
+    gate: &G,
+    test: Test,
+) -> Result<LoopAnswer, AllocError>
+    requires known { OverApproximatesCall program.now call.now }
+    requires sizes { maps.old.sizes ≡ program.now.sizes }
+    requires plan { IsLoopPlan workers split.now call.now.n }
+    ensures outcome { IfOk result (λ a. IsOutcome test program.now call.now maps.old a.verdict a.answer maps.new) }
+    ensures kept { OnErr result (maps.new ≡ maps.old) }
+{
+    match decided(rt, alloc, program, call, maps, split, workers, gate, test)? {
+        Decision::Commit { answer, words } => {
+            maps.set_words(words);
+            Ok(LoopAnswer {
+                verdict: Verdict::Parallel,
+                answer,
+            })
+        }
+        Decision::Discard { verdict } => Ok(LoopAnswer {
+            verdict,
+            answer: in_order(program, call, maps),
+        }),
+    }
+}
+
+/// How many even blocks a loop is run over, of at most so many. Where the gate holds nobody, only those that are worth what
+/// each of them costs, which keeps marks of all elements: one of a short loop; of a longer one as many as there are
+/// workers, or one for as many iterations as there are elements.
+fn worthwhile_blocks<G: Gate>(
+    call: &LoopCall,
+    maps: &Maps,
+    most: u32,
+    workers: u32,
+    gate: &G,
+) -> u32
+    requires workers { 0 < workers }
+    requires some { 0 < most }
+    requires few { most ≤ 64 }
+    ensures some { 0 < result }
+    ensures few { result ≤ 64 }
+{
+    if gate.may_hold() {
+        return most;
+    }
+    if !is_long(call) {
+        return 1;
+    }
+    let elements = maps.words().len() as u32;
+    (call.n() / elements.max(1)).max(workers).min(most)
+}
+
+/// Runs a loop call that main of this program made, as `run_loop` does, by 1 to 16 workers over at most so many even
+/// blocks, 1 to 64: on these maps themselves, which are of the program's sizes, and change only where it gives an answer.
+#[tactic(auto, using(crate::proofs::EvenLaws::even_is, crate::proofs::EvenLaws::even_plan))]
+pub fn run_loop_evenly<R: Threads + Sync, G: Gate>(
+    rt: &R,
+    alloc: Global,
+    program: &Verified,
+    call: &LoopCall,
+    maps: &mut Maps,
+    blocks: u32,
+    workers: u32,
+    gate: &G,
+    test: Test,
+) -> Result<LoopAnswer, AllocError>
+    requires known { OverApproximatesCall program.now call.now }
+    requires sizes { maps.old.sizes ≡ program.now.sizes }
+    requires some_block { 0 < blocks }
+    requires few_blocks { blocks ≤ 64 }
+    requires some_worker { 0 < workers }
+    requires few_workers { workers ≤ 16 }
+    ensures outcome { IfOk result (λ a. IsOutcome test program.now call.now maps.old a.verdict a.answer maps.new) }
+    ensures kept { OnErr result (maps.new ≡ maps.old) }
+{
+    let blocks = worthwhile_blocks(call, maps, blocks, workers, gate);
+    let Ok(even) = Split::even(call.n(), blocks) else {
+        unreachable!()
+    };
+    run_split(rt, alloc, program, call, maps, &even, workers, gate, test)
+}
+
+/// Runs a loop whose plan is within its limits: over this split where the gate may hold somebody, and else over even blocks.
+fn run_planned<R: Threads + Sync, G: Gate>(
+    rt: &R,
+    alloc: Global,
+    program: &Verified,
+    call: &LoopCall,
+    maps: &mut Maps,
+    split: &Split,
+    workers: u32,
+    gate: &G,
+    test: Test,
+) -> Result<LoopAnswer, AllocError>
+    requires known { OverApproximatesCall program.now call.now }
+    requires sizes { maps.old.sizes ≡ program.now.sizes }
+    requires plan { IsLoopPlan workers split.now call.now.n }
+    ensures { IfOk result (λ a. IsOutcome test program.now call.now maps.old a.verdict a.answer maps.new) }
+{
+    if gate.may_hold() {
+        return run_split(rt, alloc, program, call, maps, split, workers, gate, test);
+    }
+    let blocks = split.blocks();
+    run_loop_evenly(rt, alloc, program, call, maps, blocks, workers, gate, test)
 }
 
 /// Runs a loop call that main of this program made, from these maps, by so many workers, each in a thread of its
@@ -212,5 +293,13 @@ pub fn run_loop<R: Threads + Sync, G: Gate>(
     if !is_loop_plan(workers, split, call.n()) {
         return Err(RunError::Plan);
     }
-    outcome_of(rt, alloc, program, call, start, split, workers, gate, test)
+    let mut maps = start.try_copy(alloc)?;
+    let LoopAnswer { verdict, answer } = run_planned(
+        rt, alloc, program, call, &mut maps, split, workers, gate, test,
+    )?;
+    Ok(LoopOutcome {
+        verdict,
+        answer,
+        maps,
+    })
 }

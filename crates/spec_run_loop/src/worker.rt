@@ -5,7 +5,7 @@ ghost use Rattle.bpf_insn_types.specs.Program.{Program};
 ghost use Rattle.bpf_step_model.specs.State.{LoopCall as Call};
 ghost use Rattle.loop_board.specs.Seats.{BoardId};
 ghost use Rattle.bpf_verify_sound.specs.Soundness.{OverApproximatesCall};
-ghost use Rattle.loop_core_blocks.specs.Split.{split_fault, even_bounds};
+ghost use Rattle.loop_core_blocks.specs.Split.{split_fault};
 ghost use Rattle.loop_core_blocks.specs.Gather.{gather_fault};
 ghost use Rattle.loop_core_schedule.specs.Intervals.{blocks_of};
 ghost use Rattle.loop_board.specs.Seats.{new_seat};
@@ -112,29 +112,34 @@ fn seats_and_blocks<'a>(
     Ok((seats, blocks))
 }
 
-/// Whether a loop is worth threads: where it is long, or where the gate may hold one worker until another comes.
-pub(crate) fn is_worth_threads<G: Gate>(call: &LoopCall, gate: &G) -> bool {
-    gate.may_hold() || call.n() >= LONG
+/// Whether a loop is so long that it is worth threads.
+pub(crate) fn is_long(call: &LoopCall) -> bool {
+    call.n() >= LONG
 }
 
-/// Runs a loop in the calling thread, as the one block of its split.
-#[tactic(auto, using(crate::proofs::WholeLaws::whole_split, crate::proofs::WholeLaws::whole_has))]
-pub(crate) fn run_whole<'a, G: Gate>(
+/// Whether a loop is worth threads: where it is long, or where the gate may hold one worker until another comes.
+pub(crate) fn is_worth_threads<G: Gate>(call: &LoopCall, gate: &G) -> bool {
+    gate.may_hold() || is_long(call)
+}
+
+/// Runs the one block of a loop in the calling thread.
+pub(crate) fn run_alone<'a, G: Gate>(
     alloc: Global,
     program: &Verified,
     call: &LoopCall,
     start: &'a Maps,
-    whole: &Split,
+    split: &Split,
     gate: &G,
     test: Test,
 ) -> Result<Vec<Block<'a>>, AllocError>
     requires known { OverApproximatesCall program.now call.now }
     requires sizes { start.now.sizes ≡ program.now.sizes }
-    requires whole { whole.now ≡ even_bounds call.now.n 1 }
+    requires split { split_fault split.now call.now.n ≡ None }
+    requires alone { blocks_of split.now ≡ 1 }
     ensures ran { IfOk result (λ blocks. All (λ b. RecordsRun test program.now call.now start.now.words (shown b)) blocks.items) }
-    ensures faultless { IfOk result (λ blocks. gather_fault whole.now (all_gathered program.now call.now start.now.words (map shown blocks.items)) ≡ None) }
+    ensures faultless { IfOk result (λ blocks. gather_fault split.now (all_gathered program.now call.now start.now.words (map shown blocks.items)) ≡ None) }
 {
-    let block = run_block(alloc, program, call, start, whole, 0, gate, test)?;
+    let block = run_block(alloc, program, call, start, split, 0, gate, test)?;
     let mut blocks = Vec::new(alloc);
     blocks.push(block)?;
     Ok(blocks)

@@ -19,18 +19,18 @@ loop-call-init g c =
 pub next-requires-clause-served : goal.next-requires-clause-served
 next-requires-clause-served g c = few_left c.loop-call.invariant
 
-pub run_call-requires-clause-sizes : goal.run_call-requires-clause-sizes
-run_call-requires-clause-sizes g c κs outlives = call_sizes c.loop-call.invariant c.in-Loop.ensures.ran
+pub run_loop_evenly-requires-clause-sizes : goal.run_loop_evenly-requires-clause-sizes
+run_loop_evenly-requires-clause-sizes g c κs outlives = call_sizes c.loop-call.invariant c.in-Loop.ensures.ran
 
-pub loop-call-preserved-in-Loop : goal.loop-call-preserved-in-Loop
-loop-call-preserved-in-Loop g c =
+pub loop-call-preserved-in-Continue-branch-2 : goal.loop-call-preserved-in-Continue-branch-2
+loop-call-preserved-in-Continue-branch-2 g c =
     loops c.loop-call.invariant c.next.ensures.program c.in-Loop.ensures.ran
-    (call_by_test c.law_of_filled_calls.ensures c.loop-call.invariant.laws.sound c.in_ok-outcome-in-Loop.ensures)
+    (call_by_test c.law_of_filled_calls.ensures c.loop-call.invariant.laws.sound c.in_ok-answered-in-Loop.ensures.outcome)
     c.resume.ensures.program c.resume.ensures.at c.slot.ensures
     (to_z-of_z w64 c.from.result (search rules) ∙ c.from.ensures) c.in_ok-push-in-Loop.ensures.items
 
-pub loop-call-smaller-in-Loop : goal.loop-call-smaller-in-Loop
-loop-call-smaller-in-Loop g c = loop_lessens c.loop-call.invariant c.next.ensures.program c.in-Loop.ensures.ran c.resume.ensures.at
+pub loop-call-smaller-in-Continue-branch-2 : goal.loop-call-smaller-in-Continue-branch-2
+loop-call-smaller-in-Continue-branch-2 g c = loop_lessens c.loop-call.invariant c.next.ensures.program c.in-Loop.ensures.ran c.resume.ensures.at
 
 pub loop-call-preserved : goal.loop-call-preserved
 loop-call-preserved g c =

@@ -1,5 +1,5 @@
 -- A loop that is run as one block.
-use Rattle.std.proofs.Common.{◌≡◌, ℕ, ◌<◌, Bool, true, false, List, [], ◌∷◌, ◌++◌, map, None, refl, sym, ◌∙◌, ap, subst, arith}
+use Rattle.std.proofs.Common.{◌≡◌, ℕ, Bool, true, false, List, [], ◌∷◌, ◌++◌, map, None, refl, sym, ◌∙◌, ap, subst, arith}
 use Rattle.std.specs.Prelude.{not, ◌&&◌, ◌||◌, ◌==◌}
 use Rattle.std.specs.List.{All, list_any}
 use Rattle.std.proofs.lemmas.Bool.Decides.{nat_tests}
@@ -7,25 +7,12 @@ use Rattle.std.proofs.lemmas.List.Elements.{All-nil, All-cons}
 use Rattle.bpf_insn_types.specs.Program.{Program}
 use Rattle.bpf_step_model.specs.State.{LoopCall}
 use Rattle.bpf_step_model.specs.Iteration.{Iterated}
-use Rattle.loop_core_blocks.specs.Split.{split_fault, even_bounds}
 use Rattle.loop_core_blocks.specs.Gather.{Block, least_of, starts_late, lacks_some, twice, stands_in, gather_fault}
-use Rattle.loop_core_blocks.proofs.SplitLaws.{even_is_split}
 use Rattle.loop_core_schedule.specs.Intervals.{blocks_of, start_of, end_of}
 use Rattle.loop_core_block.specs.declared.block.Block.{Block as Held}
 use Rattle.loop_core_block.specs.Ran.{as_gathered}
 use Rattle.loop_core_block.specs.Shown.{shown}
 use Rattle.loop_core_gather.specs.Gathered.{all_gathered}
-
--- any number of iterations can be one block
-pub whole_is : (n : ℕ) → split_fault (even_bounds n 1) n ≡ None
-whole_is n = even_is_split.split n 1 (omega arith) (omega arith)
-
-pub whole_split : (bounds : List ℕ) (n : ℕ) → bounds ≡ even_bounds n 1 → split_fault bounds n ≡ None
-whole_split bounds n whole = subst (λ (bs : List ℕ). split_fault bs n ≡ None) (sym whole) (whole_is n)
-
--- which is there
-pub whole_has : (bounds : List ℕ) (n : ℕ) → bounds ≡ even_bounds n 1 → 0 < blocks_of bounds
-whole_has bounds n whole = subst (λ (bs : List ℕ). 0 < blocks_of bs) (sym whole) (omega arith)
 
 by_tests : (bounds : List ℕ) (blocks : List Block) → lacks_some bounds blocks ≡ false → twice blocks ≡ false →
     list_any (λ (b : Block). not (stands_in bounds b)) blocks ≡ false → gather_fault bounds blocks ≡ None
@@ -48,15 +35,17 @@ alone first past ran =
     by_tests (first ∷ past ∷ []) (b ∷ []) (lacks_none (starts_late (least_of (b ∷ [])) first)) refl
     (both_stand (first == first) (past == past) (same_number first) (same_number past))
 
-alone_in : (bounds : List ℕ) (n number first past : ℕ) (ran : List Iterated) → bounds ≡ even_bounds n 1 → number ≡ 0 → first ≡ start_of bounds 0 → past ≡ end_of bounds 0 →
+alone_in : (bounds : List ℕ) (number first past : ℕ) (ran : List Iterated) → blocks_of bounds ≡ 1 → number ≡ 0 → first ≡ start_of bounds 0 → past ≡ end_of bounds 0 →
     gather_fault bounds (record { number = number; first = first; past = past; ran = ran } ∷ []) ≡ None
-alone_in bounds n number first past ran whole number_is first_is past_is =
-    let block_of = λ (k : ℕ) (from : ℕ) (to : ℕ). (let b : Block = record { number = k; first = from; past = to; ran = ran } in b) in
-    ap (λ (k : ℕ). gather_fault bounds (block_of k first past ∷ [])) number_is
-    ∙ ap (λ (from : ℕ). gather_fault bounds (block_of 0 from past ∷ [])) first_is
-    ∙ ap (λ (to : ℕ). gather_fault bounds (block_of 0 (start_of bounds 0) to ∷ [])) past_is
-    ∙ ap (λ (bs : List ℕ). gather_fault bs (block_of 0 (start_of bs 0) (end_of bs 0) ∷ [])) whole
-    ∙ alone (start_of (even_bounds n 1) 0) (end_of (even_bounds n 1) 0) ran
+alone_in [] number first past ran one number_is first_is past_is = absurd (omega (arith, one))
+alone_in (from ∷ []) number first past ran one number_is first_is past_is = absurd (omega (arith, one))
+alone_in (from ∷ to ∷ []) number first past ran one number_is first_is past_is =
+    let block_of = λ (k : ℕ) (f : ℕ) (t : ℕ). (let b : Block = record { number = k; first = f; past = t; ran = ran } in b) in
+    ap (λ (k : ℕ). gather_fault (from ∷ to ∷ []) (block_of k first past ∷ [])) number_is
+    ∙ ap (λ (f : ℕ). gather_fault (from ∷ to ∷ []) (block_of 0 f past ∷ [])) first_is
+    ∙ ap (λ (t : ℕ). gather_fault (from ∷ to ∷ []) (block_of 0 from t ∷ [])) past_is
+    ∙ alone from to ran
+alone_in (from ∷ to ∷ next ∷ bounds) number first past ran one number_is first_is past_is = absurd (omega (arith, one))
 
 -- what holds of it holds of all blocks
 pub all_of_one : (P : Held → Type 0) (blocks before : List Held) (b : Held) → before ≡ [] → blocks ≡ before ++ b ∷ [] → P b → All P blocks
@@ -64,9 +53,9 @@ all_of_one P blocks before b none is holds =
     subst (All P) (sym (is ∙ ap (λ (bs : List Held). bs ++ b ∷ []) none)) (All-cons P b [] holds (All-nil P))
 
 -- and together they have no fault
-pub whole_faultless : (program : Program) (call : LoopCall) (words bounds : List ℕ) (n : ℕ) (blocks before : List Held) (b : Held) → before ≡ [] → blocks ≡ before ++ b ∷ [] →
-    bounds ≡ even_bounds n 1 → (shown b).number ≡ 0 → (shown b).first ≡ start_of bounds 0 → (shown b).past ≡ end_of bounds 0 →
+pub alone_faultless : (program : Program) (call : LoopCall) (words bounds : List ℕ) (blocks before : List Held) (b : Held) → before ≡ [] → blocks ≡ before ++ b ∷ [] →
+    blocks_of bounds ≡ 1 → (shown b).number ≡ 0 → (shown b).first ≡ start_of bounds 0 → (shown b).past ≡ end_of bounds 0 →
     gather_fault bounds (all_gathered program call words (map shown blocks)) ≡ None
-whole_faultless program call words bounds n blocks before b none is whole number first past =
+alone_faultless program call words bounds blocks before b none is one number first past =
     ap (λ (bs : List Held). gather_fault bounds (all_gathered program call words (map shown bs))) (is ∙ ap (λ (bs : List Held). bs ++ b ∷ []) none)
-    ∙ alone_in bounds n b.number b.first b.past (as_gathered program call words (shown b)).ran whole number first past
+    ∙ alone_in bounds b.number b.first b.past (as_gathered program call words (shown b)).ran one number first past

@@ -3,7 +3,7 @@ use Rattle.std.specs.Prelude.{slice_index}
 use Rattle.std.specs.List.{AllZip}
 use Rattle.rayon.proofs.ListFacts.{IfOk-then}
 use Rattle.spec_run_loop.proofs.CommitLaws.{collected}
-use Rattle.spec_run_loop.proofs.committing.left_words.Goals as goal
+use Rattle.spec_run_loop.proofs.committing.left_in_threads.Goals as goal
 
 pub returns : goal.returns
 returns g c =

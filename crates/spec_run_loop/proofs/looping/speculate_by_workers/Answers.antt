@@ -4,7 +4,7 @@ use Rattle.loop_core_block.specs.Ran.{RecordsRun}
 use Rattle.loop_core_block.specs.Shown.{shown}
 use Rattle.spec_run_work.proofs.StillWorks.{all_images}
 use Rattle.spec_run_loop.proofs.WorkerLaws.{boards, ran, complete}
-use Rattle.spec_run_loop.proofs.looping.speculate.Goals as goal
+use Rattle.spec_run_loop.proofs.looping.speculate_by_workers.Goals as goal
 
 pub gather-requires : goal.gather-requires
 gather-requires g c =

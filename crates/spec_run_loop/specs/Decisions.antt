@@ -1,0 +1,21 @@
+-- What becomes of a loop by its gathered blocks.
+use Rattle.std.specs.Prelude.{◌≡◌, ℕ, List, length}
+use Rattle.bpf_insn_types.specs.Program.{Program}
+use Rattle.bpf_step_model.specs.State.{LoopCall}
+use Rattle.bpf_step_model.specs.Run.{Ended}
+use Rattle.loop_core_model.specs.declared.loop_test.Test.{Test}
+use Rattle.loop_core_model.specs.declared.verdict.Verdict.TheVariants.{Parallel}
+use Rattle.loop_core_model.specs.Report.{verdict}
+use Rattle.loop_core_schedule.specs.Outcome.{outcome}
+use Rattle.spec_run_loop.specs.declared.decision.Decision.{Decision}
+use Rattle.spec_run_loop.specs.declared.decision.Decision.TheVariants.{Commit, Discard}
+
+-- a loop call passes from these words, answers this, and leaves as many words
+pub record Passes (test : Test) (program : Program) (call : LoopCall) (words : List ℕ) (answer : ℕ) (left : List ℕ) : Type 0 where
+  pub outcome_is : outcome test program 4096 call words ≡ Ended (record { verdict = Parallel; answer = answer; words = left })
+  pub count : length left ≡ length words
+
+-- it is committed where it passes; else its verdict is told
+abbrev pub IsDecision : Test → Program → LoopCall → List ℕ → Decision → Type 0
+IsDecision test program call words (Commit answer left) = Passes test program call words answer left.items
+IsDecision test program call words (Discard told) = verdict test program 4096 call words ≡ Ended told
