@@ -1,10 +1,10 @@
-//! Array maps, and the trait through which a program sees them, whatever stands behind it.
+//! Array maps, and the trait through which a program sees them, whatever it is made of.
 //! `specs/Accesses.antt` says what an access is, and what a list of accesses leaves of each element.
 //!
 //! ```text
 //! let mut maps = Maps::new(alloc, &[2, 1])?;      // all zero
 //! maps.set(1, 0, 8);
-//! let seen = maps.load(2);                        // 8: element 0 of map 1, behind the two of map 0
+//! let seen = maps.load(2);                        // 8: element 0 of map 1, after the two of map 0
 //! maps.store(0, 5);                               // maps.get(0, 0) is 5
 //! ```
 #![tactic(auto)]

@@ -106,7 +106,7 @@ fn zeros(alloc: Global) -> Result<Maps, AllocError> {
     }
 }
 
-/// Runs so many iterations on a new copy, and tells a sum over the plane of plain accesses.
+/// Runs n iterations on a new copy, and tells a sum over the plane of plain accesses.
 pub fn round(alloc: Global, test: Test, pages: Pages, iterations: u32) -> Result<u64, AllocError> {
     let maps = zeros(alloc)?;
     let elements = maps.words().len() as u32;

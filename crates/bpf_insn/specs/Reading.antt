@@ -192,7 +192,7 @@ load_imm_at (Some kind) dst imm (Some t) =
     else if is_second t then Ok (insn.LoadImm kind dst imm t.imm)
     else Err faults.SecondSlot
 
--- the instruction of a form with these fields; next is the slot behind it
+-- the instruction of a form with these fields; next is the slot after it
 abbrev pub insn_of_form : Form → ℕ → ℕ → ℤ → ℤ → Option Slot → Result Insn CodecFault
 insn_of_form (form.AluImm w c) dst src offset imm next = alu_insn w dst (Imm imm) (alu_op_at c offset)
 insn_of_form (form.AluReg w c) dst src offset imm next = alu_reg_insn w c dst src offset
@@ -219,7 +219,7 @@ checked_slot (Some f) s next =
     else if unused_are_zero f s then insn_of_form f s.dst s.src s.offset s.imm next
     else Err faults.FieldNotZero
 
--- the instruction that begins at a slot, or its least fault; next is the slot behind it
+-- the instruction that begins at a slot, or its least fault; next is the slot after it
 unfoldable pub insn_of_slot : Slot → Option Slot → Result Insn CodecFault
 insn_of_slot s next = checked_slot (form_at s.opcode) s next
 
@@ -246,7 +246,7 @@ abbrev pub first : List Slot → Option Slot
 first [] = None
 first (s ∷ ss) = Some s
 
--- how many slots behind its own an instruction takes
+-- how many slots after its own an instruction takes
 abbrev pub more_of : Result Insn CodecFault → ℕ
 more_of (Ok i) = slots_of i - 1
 more_of (Err fault) = 0
@@ -262,7 +262,7 @@ abbrev pub end_of_bytes : ℕ → ℕ → Result (List Insn) CodecError
 end_of_bytes zero n = Ok []
 end_of_bytes (suc left) n = Err (Refused faults.Incomplete n)
 
--- the instructions in slots from slot n on, of which the first may be taken by the instruction before, with some bytes left behind
+-- the instructions in slots from slot n on, of which the first may be taken by the instruction before, with some bytes left after
 unfoldable pub insns_in : ℕ → List Slot → ℕ → ℕ → Result (List Insn) CodecError
 insns_in left [] taken n = end_of_bytes left n
 insns_in left (s ∷ ss) (suc taken) n = insns_in left ss taken (n + 1)

@@ -213,7 +213,7 @@ fn is_second_slot(slot: Slot) -> bool
     slot.opcode == 0 && slot.dst == 0 && slot.src == 0 && slot.offset == 0
 }
 
-/// A two-slot load; next is the slot behind it.
+/// A two-slot load; next is the slot after it.
 fn load_imm(src: u8, dst: Reg, imm: i32, next: Option<Slot>) -> Result<Insn, CodecFault>
     ensures { result ≡ load_imm_at (imm_kind_at src) dst imm next }
 {
@@ -237,7 +237,7 @@ fn load_imm(src: u8, dst: Reg, imm: i32, next: Option<Slot>) -> Result<Insn, Cod
     })
 }
 
-/// The instruction of a form whose registers and unused fields stand; next is the slot behind it.
+/// The instruction of a form whose registers and unused fields stand; next is the slot after it.
 fn insn_of_form(
     form: Form,
     dst: Reg,
@@ -304,7 +304,7 @@ fn insn_of_form(
     }
 }
 
-/// The instruction that begins at a slot, or its least fault; next is the slot behind it.
+/// The instruction that begins at a slot, or its least fault; next is the slot after it.
 #[tactic(auto, unfolding(crate::specs::Reading::insn_of_slot))]
 fn insn_of_slot(slot: Slot, next: Option<Slot>) -> Result<Insn, CodecFault>
     ensures { result ≡ insn_of_slot slot next }

@@ -288,7 +288,7 @@ fn spell(insn: &Insn) -> Result<Spelled, CodecFault>
     }
 }
 
-/// Writes an instruction behind the bytes of others.
+/// Writes an instruction after the bytes of others.
 fn put(bytes: &mut Vec<u8>, insn: &Insn) -> Result<(), CodecError>
     ensures { Appends bytes.old.items bytes.new.items insn.now result }
 {
@@ -304,7 +304,7 @@ fn put(bytes: &mut Vec<u8>, insn: &Insn) -> Result<(), CodecError>
     Ok(())
 }
 
-/// The bytes of a program, 8 a slot, one instruction behind the other. It refuses the first
+/// The bytes of a program, 8 a slot, one instruction after the other. It refuses the first
 /// instruction that has no bytes, at its slot: a sign-extending load of 8 bytes (`UnknownOpcode`), a second
 /// number where the kind of a two-slot load has none (`FieldNotZero`), a sign-extending move of 32 bits at
 /// width 32 (`Offset`). Memory may run out in place of either answer.

@@ -20,7 +20,7 @@ pub fn movsx_word(width: Width, bits: MovsxBits, b: u64) -> u64
     }
 }
 
-/// The greatest number of so many low bits.
+/// The greatest number of n low bits.
 fn greatest_low(bits: MovsxBits) -> u64
     ensures { result + 1 ≡ low_modulus bits }
 {

@@ -64,7 +64,7 @@ insn_at-within (x ∷ xs) ys (suc k) h = within_by x xs ys k h (nat_lt (suc k) (
         ap (λ (b : Bool). if b then None else insn_at (xs ++ ys) (suc k - slots_of x)) e ∙ go (omega (arith, slots_some x))
         ∙ sym (ap (λ (b : Bool). if b then None else insn_at xs (suc k - slots_of x)) e)
 
--- the instruction behind a front
+-- the instruction after a front
 pub insn_at-front : (xs : List Insn) (x : Insn) (ys : List Insn) → insn_at (xs ++ (x ∷ ys)) (slot_count xs) ≡ Some x
 insn_at-front xs x ys =
     let e : slot_count xs - slot_count xs ≡ 0 = omega arith in
@@ -106,7 +106,7 @@ named_from-push slot (y ∷ xs) x =
     onto None xs ys = refl
     onto (Some t) xs ys = refl
 
--- a list before, at and behind an index
+-- a list before, at and after an index
 split_at-suc : (xs : List Insn) (i : ℕ) (x : Insn) → i < length xs → x ≡ get_or xs i x → xs ≡ take i xs ++ (x ∷ drop (suc i) xs)
 split_at-suc [] i x h e = absurd (omega arith)
 split_at-suc (y ∷ xs) zero x h e = ap (λ (z : Insn). z ∷ xs) (sym e)
@@ -134,7 +134,7 @@ slot_count-front xs i x h e =
     ap slot_count (split_at-index xs i x h e) ∙ slot_count-append (take i xs) (x ∷ drop (i + 1) xs) in
     omega arith
 
--- what stands at the slot behind a front
+-- what stands at the slot after a front
 pub insn_at-index : (xs : List Insn) (i : ℕ) (x : Insn) → i < length xs → x ≡ get_or xs i x → insn_at xs (slot_count (take i xs)) ≡ Some x
 insn_at-index xs i x h e =
     ap (λ (zs : List Insn). insn_at zs (slot_count (take i xs))) (split_at-index xs i x h e) ∙ insn_at-front (take i xs) x (drop (i + 1) xs)

@@ -139,7 +139,7 @@ pub enum ImmKind {
     MapValue,
 }
 
-/// An instruction. A jump's distance counts from the slot behind its own.
+/// An instruction. A jump's distance counts from the slot after its own.
 #[derive(Clone, Copy)]
 pub enum Insn {
     /// dst becomes dst op operand.

@@ -6,19 +6,19 @@ ghost use Rattle.bpf_insn_types.specs.Program.{slot_count};
 
 use crate::insn::{Insn, slots};
 
-/// At most so many maps.
+/// The most maps.
 pub const MAX_MAPS: usize = 16;
 
-/// At most so many elements over all maps.
+/// The most elements over all maps.
 pub const MAX_ELEMENTS: u32 = 65_536;
 
-/// At most so many slots of a program.
+/// The most slots of a program.
 pub const MAX_SLOTS: u32 = 4_096;
 
-/// So many bytes of a frame.
+/// The bytes of a frame.
 pub const FRAME_BYTES: usize = 512;
 
-/// At most so many iterations of a loop (bpf-helpers(7), bpf_loop).
+/// The most iterations of a loop (bpf-helpers(7), bpf_loop).
 pub const MAX_ITERATIONS: u32 = 8_388_608;
 
 /// The offset of an area address is at most this: the bytes of all maps together.

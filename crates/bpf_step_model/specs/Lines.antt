@@ -36,7 +36,7 @@ store_imm offset n = StoreImm Dw 10 offset (pos n)
 abbrev pub read_top : List Insn
 read_top = Load Dw 0 10 (negsuc 7) ∷ Exit ∷ []
 
--- a map is looked up by the key that begins so many bytes below r10
+-- a map is looked up by the key that begins n bytes below r10
 abbrev pub look_up : (map below : ℕ) → List Insn
 look_up map below = LoadImm Map 1 (pos map) (pos 0) ∷ alu_reg Mov 2 10 ∷ alu_imm Sub 2 below ∷ Call Helper (pos 1) ∷ []
 

@@ -30,7 +30,7 @@ add_index = map_value 2 0 0 ∷ Atomic W64 (Simple AddOp) 2 1 (pos 0) ∷ end
 abbrev pub shift_right : List Insn
 shift_right = element_address ++ Load Dw 4 3 (pos 0) ∷ Store Dw 3 4 (pos 8) ∷ end
 
--- each element gets the one behind it
+-- each element gets the one after it
 abbrev pub shift_left : List Insn
 shift_left = element_address ++ Load Dw 4 3 (pos 8) ∷ Store Dw 3 4 (pos 0) ∷ end
 

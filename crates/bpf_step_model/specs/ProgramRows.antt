@@ -17,11 +17,11 @@ use Rattle.bpf_step_model.specs.Run.{Ended, Stuck}
 use Rattle.bpf_step_model.specs.ProgramInOrder.{program_in_order}
 use Rattle.bpf_step_model.specs.Lines.{mov, alu_imm, alu_reg, over_two, Returns}
 
--- the least signed number in r0, and a line behind it
+-- the least signed number in r0, and a line after it
 abbrev pub least_and : Insn → List Insn
 least_and line = LoadImm Number 0 (pos 0) (negsuc 2147483647) ∷ line ∷ Exit ∷ []
 
--- -7 in r0, and a line behind it
+-- -7 in r0, and a line after it
 abbrev pub minus_seven_and : Insn → List Insn
 minus_seven_and line = Alu W64 Mov 0 (Imm (negsuc 6)) ∷ line ∷ Exit ∷ []
 

@@ -30,7 +30,7 @@ EndsBy slot NoStep turn = ⊥
 EndsBy slot (Next next) turn = ⊥
 EndsBy slot (Asks element request next) turn = ⊥
 
--- so many steps lead from a state to another, with these accesses in order
+-- n steps lead from a state to another, with these accesses in order
 abbrev pub Steps : Program → ℕ → Machine → List ℕ → List Access → Machine → List ℕ → Type 0
 Steps program zero m words accesses last after = (accesses ≡ []) × (last ≡ m) × (after ≡ words)
 Steps program (suc count) m words accesses last after =

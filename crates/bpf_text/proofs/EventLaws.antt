@@ -26,7 +26,7 @@ pub events_behind-end : (before : List Event) → events_behind before [] ≡ Ok
 unfolding events_behind
 events_behind-end before = refl
 
--- ---- the first line and those behind it
+-- ---- the first line and those after it
 
 pub no_bounds : (contents : List (ℕ × List ℕ)) → contents ≡ [] → schedule_of contents ≡ Err (errors.Refused faults.Form 0)
 unfolding schedule_of

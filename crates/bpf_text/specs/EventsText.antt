@@ -53,7 +53,7 @@ abbrev pub bounds_of : List (List ℕ) → Result (List ℕ) TextFault
 bounds_of [] = Err faults.Form
 bounds_of (word ∷ words) = if bytes_eq word (codes "bounds") then fields_of (2 ^ 32 - 1) words else Err faults.Form
 
--- the events of earlier lines, and those of these lines behind them
+-- the events of earlier lines, and those of these lines after them
 unfoldable pub events_behind : List Event → List (ℕ × List ℕ) → Result (List Event) TextError
 events_behind before [] = Ok before
 events_behind before (line ∷ lines) = do

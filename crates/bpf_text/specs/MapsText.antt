@@ -36,7 +36,7 @@ abbrev pub is_turn : ℕ → Result ℕ NumberError → Bool
 is_turn number (Ok n) = n == number
 is_turn number (Err error) = false
 
--- whether values may be those of this map, behind `held` values of the maps before it
+-- whether values may be those of this map, after `held` values of the maps before it
 abbrev pub fits_as_map : (number held : ℕ) → List ℕ → List ℕ → Bool
 fits_as_map number held label values =
     is_turn number (number_in (2 ^ 64 - 1) (label_number label))
@@ -59,7 +59,7 @@ abbrev pub values_held : List (List ℕ) → ℕ
 values_held [] = 0
 values_held (values ∷ maps) = length values + values_held maps
 
--- the maps of earlier lines, and those of these lines behind them
+-- the maps of earlier lines, and those of these lines after them
 unfoldable pub maps_behind : List (List ℕ) → List (ℕ × List ℕ) → Result (List (List ℕ)) TextError
 maps_behind before [] = Ok before
 maps_behind before (line ∷ lines) = do
@@ -76,7 +76,7 @@ some_maps (Ok (values ∷ maps)) = Ok (values ∷ maps)
 abbrev pub maps_text : List ℕ → Result (List (List ℕ)) TextError
 maps_text text = if nat_lt 1048576 (length text) then Err (errors.Refused faults.TooLong 0) else some_maps (maps_behind [] (contents_of text))
 
--- a value behind a space
+-- a value after a space
 abbrev pub element_spelling : ℕ → List ℕ
 element_spelling value = codes " " ++ decimal value
 

@@ -46,7 +46,7 @@ fn is_turn(label: &[u8], number: usize) -> bool
     }
 }
 
-/// Whether values may be those of this map, behind this many values of the maps before it.
+/// Whether values may be those of this map, after this many values of the maps before it.
 fn fits_as_map(label: &[u8], number: usize, held: usize, values: &[u64]) -> bool
     requires label { 0 < length label.now }
     requires held { held ≤ 65536 }
@@ -59,7 +59,7 @@ fn fits_as_map(label: &[u8], number: usize, held: usize, values: &[u64]) -> bool
     number < MAX_MAPS && !values.is_empty() && values.len() <= MAX_ELEMENTS as usize - held
 }
 
-/// The values of the map of this number, behind this many values of the maps before it, or the
+/// The values of the map of this number, after this many values of the maps before it, or the
 /// fault of its line.
 fn read_values(
     alloc: Global,

@@ -7,7 +7,7 @@ ghost use Rattle.bpf_text.specs.MapsText.{lists, element_spelling, map_spelling,
 
 use std::alloc::{AllocError, Global};
 
-/// Adds values to a text, each behind a space.
+/// Adds values to a text, each after a space.
 fn print_values(out: &mut String, values: &[u64]) -> Result<(), AllocError>
     ensures { OnOk result (string_bytes out.new ≡ string_bytes out.old ++ flat_map element_spelling values.now) }
 {

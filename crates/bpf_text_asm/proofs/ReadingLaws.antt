@@ -57,7 +57,7 @@ pub insns_behind-end : (labels : List ℕ → Option Label) (before : List Insn)
 unfolding insns_behind
 insns_behind-end labels before = refl
 
--- ---- the first line and those behind it
+-- ---- the first line and those after it
 
 pub no_head : (contents : List (ℕ × List ℕ)) → contents ≡ [] → unit_of contents ≡ Err (errors.Refused faults.Form 0)
 unfolding unit_of

@@ -58,7 +58,7 @@ line_at labels slot number line =
     if is_label line then label_at number (labels (name_of line))
     else in_limit slot (insn_of_line (λ name. slot_in (labels name)) slot line)
 
--- the instructions of earlier lines, and those of these lines behind them
+-- the instructions of earlier lines, and those of these lines after them
 unfoldable pub insns_behind : (List ℕ → Option Label) → List Insn → List (ℕ × List ℕ) → Result (List Insn) TextError
 insns_behind labels before [] = Ok before
 insns_behind labels before (line ∷ lines) = do
@@ -77,7 +77,7 @@ unit_of (head ∷ lines) = do
 abbrev pub assembler_text : List ℕ → Result Program TextError
 assembler_text text = if nat_lt 1048576 (length text) then Err (errors.Refused faults.TooLong 0) else unit_of (contents_of text)
 
--- what adding a line's instructions behind others leaves, where the line has this meaning and stands at a slot: them, and the slot behind them, or the refusal
+-- what adding a line's instructions after others leaves, where the line has this meaning and stands at a slot: them, and the slot after them, or the refusal
 abbrev pub Adds : (old new : List Insn) → ℕ → Result ℕ TextError → Result (List Insn) TextError → Type 0
 Adds old new slot (Ok next) meaning = (more : List Insn) × (meaning ≡ Ok more) × (new ≡ old ++ more) × (next ≡ slot + slot_count more)
 Adds old new slot (Err e) meaning = RefusalMatches (text_refusal e) meaning

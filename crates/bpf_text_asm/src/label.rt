@@ -24,7 +24,7 @@ pub fn label_name(line: &[u8]) -> Option<&[u8]>
     Some(name)
 }
 
-/// Adds the label of a line to the labels before it, if the line is one, and gives the slot behind
+/// Adds the label of a line to the labels before it, if the line is one, and gives the slot after
 /// the line.
 fn define_line<'a>(
     labels: &mut Labels<'a>,

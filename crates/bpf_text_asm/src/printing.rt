@@ -23,8 +23,8 @@ fn print_insns(out: &mut String, insns: &[Insn]) -> Result<(), AllocError>
     Ok(())
 }
 
-/// The canonical assembler text of a unit: no comments and no labels, one space behind the mnemonic
-/// and behind each comma, each distance with its sign. It is refused as `encode` is: with the first
+/// The canonical assembler text of a unit: no comments and no labels, one space after the mnemonic
+/// and after each comma, each distance with its sign. It is refused as `encode` is: with the first
 /// instruction that has no bytes, at its slot. `Memory` may come in place of either answer.
 pub fn print_unit(alloc: Global, unit: &Unit) -> Result<String, CodecError>
     ensures { MatchesUnlessMemory codec_refusal string_bytes result (assembler_form unit.now) }

@@ -25,7 +25,7 @@ fn repeats(labels: &Labels<'_>, name: &[u8], number: u32) -> bool
     }
 }
 
-/// Adds the instruction of a line to others, and gives the slot behind it.
+/// Adds the instruction of a line to others, and gives the slot after it.
 fn add_insn(
     insns: &mut Vec<Insn>,
     content: &[u8],
@@ -49,7 +49,7 @@ fn add_insn(
     Ok(next)
 }
 
-/// Adds what a line gives to the instructions before it, and gives the slot behind it.
+/// Adds what a line gives to the instructions before it, and gives the slot after it.
 fn add_line(
     insns: &mut Vec<Insn>,
     content: &[u8],

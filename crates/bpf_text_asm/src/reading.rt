@@ -35,7 +35,7 @@ fn read_unit(alloc: Global, text: &[u8]) -> Result<Unit, TextError>
 /// line 0, `Form` at line 0 where there is no first line, `Form`, `Field` for a number or a distance
 /// outside its field, `Register`, `UnknownLabel`, `RepeatedLabel`, `TooLong` at the instruction that
 /// passes 4,096 slots, `Limits` for sizes that break the limits. Labels are those of the whole text,
-/// also behind a faulty line. `Memory` may come in place of any answer.
+/// also after a faulty line. `Memory` may come in place of any answer.
 pub fn parse_unit(alloc: Global, text: &str) -> Result<Unit, TextError>
     ensures { MatchesUnlessMemory text_refusal (λ u. u) result (assembler_text text.now) }
 {

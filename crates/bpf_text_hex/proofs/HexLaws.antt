@@ -29,7 +29,7 @@ pub bytes_behind-end : (before : List ℕ) → bytes_behind before [] ≡ Ok bef
 unfolding bytes_behind
 bytes_behind-end before = refl
 
--- ---- the first line and those behind it
+-- ---- the first line and those after it
 
 pub no_head : (contents : List (ℕ × List ℕ)) → contents ≡ [] → hex_parts_of contents ≡ Err (errors.Refused faults.Form 0)
 unfolding hex_parts_of

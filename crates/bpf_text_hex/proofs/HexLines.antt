@@ -4,7 +4,7 @@ use Rattle.std.proofs.lemmas.List.{append-nil}
 use Rattle.hex.specs.Hex.{encode_lower}
 use Rattle.bpf_text_hex.specs.HexForm.{slot_lines}
 
--- the first slot, and those behind it
+-- the first slot, and those after it
 pub slot_lines-slot : (bytes : List ℕ) → 8 ≤ length bytes → slot_lines bytes ≡ encode_lower (take 8 bytes) ++ codes "\n" ++ slot_lines (drop 8 bytes)
 unfolding slot_lines
 slot_lines-slot (a ∷ b ∷ c ∷ d ∷ e ∷ f ∷ g ∷ h ∷ rest) le = refl
@@ -30,7 +30,7 @@ slot_lines-end (a ∷ b ∷ c ∷ d ∷ e ∷ []) lt = refl
 slot_lines-end (a ∷ b ∷ c ∷ d ∷ e ∷ f ∷ []) lt = refl
 slot_lines-end (a ∷ b ∷ c ∷ d ∷ e ∷ f ∷ g ∷ []) lt = refl
 
--- the parts of a slot's line, one behind the other
+-- the parts of a slot's line, one after the other
 joined : (out digits end rest : List ℕ) → ((out ++ digits) ++ end) ++ rest ≡ out ++ ((digits ++ end) ++ rest)
 joined out digits end rest = simp append_assoc
 

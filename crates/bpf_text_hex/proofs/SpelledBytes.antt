@@ -119,7 +119,7 @@ bytes-append : (xs ys : List ℕ) → Bytes xs → Bytes ys → Bytes (xs ++ ys)
 bytes-append [] ys a b = b
 bytes-append (x ∷ xs) ys a b = (a.0, bytes-append xs ys a.1 b)
 
--- of bytes, those before and those behind a place
+-- of bytes, those before and those after a place
 pub bytes-parts : (xs ys : List ℕ) → Bytes (xs ++ ys) → Bytes xs × Bytes ys
 bytes-parts [] ys h = (tt, h)
 bytes-parts (x ∷ xs) ys h = (let parts = bytes-parts xs ys h.1 in ((h.0, parts.0), parts.1))

@@ -12,7 +12,7 @@ use Rattle.bpf_text_lex.specs.declared.text_error.TextError.TheVariants as error
 use Rattle.bpf_text_lex.specs.Refusals.{at_line, ◌>>=◌}
 use Rattle.bpf_text_lex.specs.Head.{head_of}
 
--- decoded bytes behind `before` others, of which a unit has at most 32,768
+-- decoded bytes after `before` others, of which a unit has at most 32,768
 abbrev pub as_bytes : ℕ → Result (List ℕ) FromHexError → Result (List ℕ) TextFault
 as_bytes before (Err error) = Err faults.Form
 as_bytes before (Ok bytes) = if nat_le (before + length bytes) 32768 then Ok bytes else Err faults.TooLong
@@ -23,7 +23,7 @@ bytes_of_lines before [] = Err faults.Form
 bytes_of_lines before (word ∷ []) = as_bytes before (decode_of word)
 bytes_of_lines before (word ∷ other ∷ words) = Err faults.Form
 
--- the bytes of earlier lines, and those of these lines behind them
+-- the bytes of earlier lines, and those of these lines after them
 unfoldable pub bytes_behind : List ℕ → List (ℕ × List ℕ) → Result (List ℕ) TextError
 bytes_behind before [] = Ok before
 bytes_behind before (line ∷ lines) = do

@@ -48,7 +48,7 @@ fn read_digits(alloc: Global, word: &[u8], line: u32, before: usize) -> Result<V
     }
 }
 
-/// The bytes that a line gives behind this many bytes of the lines before it, or its fault.
+/// The bytes that a line gives after this many bytes of the lines before it, or its fault.
 fn read_bytes(alloc: Global, content: &[u8], line: u32, before: usize) -> Result<Vec<u8>, TextError>
     requires { before ≤ 32768 }
     ensures meaning { MatchesUnlessMemory text_refusal (λ v. v.items) result (at_line line (bytes_of_lines before (words_of content.now))) }

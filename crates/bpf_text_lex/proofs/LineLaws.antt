@@ -30,7 +30,7 @@ position_missing p xs e = ltb-false _ _ (chosen_none (nat_lt (position_or_len p 
 pub next_of : (k : ℕ) → 1 + k ≡ suc k
 next_of k = omega arith
 
--- all that is left behind n elements
+-- all that is left after n elements
 take-drop_rest : (xs : List ℕ) (n : ℕ) → take (length xs - n) (drop n xs) ≡ drop n xs
 take-drop_rest xs n = rw (← (length-drop n xs)) (take-length (drop n xs))
 
@@ -52,7 +52,7 @@ last_line_step : (t : Bool) (b : ℕ) (bs : List ℕ) (k : ℕ) → suc (length 
 last_line_step true b bs k le whole = absurd (omega arith)
 last_line_step false b bs k le whole = whole (omega arith)
 
--- a text with no newline in it, behind one more byte
+-- a text with no newline in it, after one more byte
 last_line : (b : ℕ) (bs : List ℕ) → length bs ≤ position_or_len (λ c. c == 10) bs → with_front b (lines_of bs) ≡ (b ∷ bs) ∷ []
 last_line b [] le = refl
 last_line b (c ∷ cs) le = ap (with_front b) (last_line_step (c == 10) c cs (position_or_len (λ d. d == 10) cs) le (last_line c cs))

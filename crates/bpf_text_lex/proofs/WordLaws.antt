@@ -1,4 +1,4 @@
--- The first word of a line, and what stands behind it.
+-- The first word of a line, and what comes after it.
 use Rattle.std.proofs.Common.{◌≡◌, ℕ, suc, ◌+◌, ◌<◌, Bool, true, false, cond, not, List, [], ◌∷◌, length, take, drop, Some, None, refl, sym, ap, ◌∙◌, arith}
 use Rattle.std.specs.Prelude.{position}
 use Rattle.std.specs.List.{position_or_len}
@@ -19,7 +19,7 @@ pub words_of-trim_start : (line : List ℕ) → words_of (trim_start line) ≡ w
 words_of-trim_start [] = refl
 words_of-trim_start (b ∷ bs) = blank_step (is_blank b) b bs (words_of-trim_start bs) (λ e. rw e refl)
 
--- the words behind a word's first byte, where the word goes on or ends there
+-- the words after a word's first byte, where the word goes on or ends there
 word_step : (t : Bool) (b : ℕ) (c : ℕ) (cs : List ℕ) (k : ℕ) → (t ≡ is_blank c) →
     (is_blank c ≡ false → words_of (c ∷ cs) ≡ take (suc k) (c ∷ cs) ∷ words_of (drop (suc k) (c ∷ cs))) →
     cond t ((b ∷ []) ∷ words_of (c ∷ cs)) (with_front b (words_of (c ∷ cs)))
@@ -32,7 +32,7 @@ first_word : (b : ℕ) (bs : List ℕ) → is_blank b ≡ false → words_of (b 
 first_word b [] h = rw h refl
 first_word b (c ∷ cs) h = rw h (word_step (is_blank c) b c cs (position_or_len is_blank cs) refl (λ e. first_word c cs e))
 
--- what begins a line behind its blanks is no blank
+-- what begins a line after its blanks is no blank
 begins_word : (t : Bool) (b : ℕ) (bs : List ℕ) (c : ℕ) (cs : List ℕ) → is_blank b ≡ t → (trim_start bs ≡ c ∷ cs → is_blank c ≡ false) → cond t (trim_start bs) (b ∷ bs) ≡ c ∷ cs → is_blank c ≡ false
 begins_word true b bs c cs same shorter e = shorter e
 begins_word false b bs c cs same shorter e = (let heads : b ≡ c = cc in ap is_blank (sym heads) ∙ same)

@@ -26,7 +26,7 @@ abbrev pub trim_start : List ℕ → List ℕ
 trim_start [] = []
 trim_start (b ∷ bs) = if is_blank b then trim_start bs else b ∷ bs
 
--- a byte before what is kept behind it: a blank before nothing is dropped too
+-- a byte before what is kept after it: a blank before nothing is dropped too
 abbrev pub before_kept : ℕ → List ℕ → List ℕ
 before_kept b [] = if is_blank b then [] else b ∷ []
 before_kept b (c ∷ cs) = b ∷ c ∷ cs

@@ -1,7 +1,7 @@
 //! How much a text may hold.
 
-/// At most so many bytes of a text.
+/// The most bytes of a text.
 pub const MAX_TEXT: usize = 1_048_576;
 
-/// At most so many bytes of a unit's instructions: 4,096 slots of 8.
+/// The most bytes of a unit's instructions: 4,096 slots of 8.
 pub const MAX_BYTES: usize = 32_768;

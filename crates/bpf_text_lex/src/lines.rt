@@ -22,7 +22,7 @@ pub fn newline_at(text: &[u8]) -> Option<usize>
     text.iter().position(|b| *b == b'\n')
 }
 
-/// The first line of a text that isn't empty, without its newline, and the text behind that newline.
+/// The first line of a text that isn't empty, without its newline, and the text after that newline.
 pub fn split_line(text: &[u8]) -> (&[u8], &[u8])
     requires { 0 < length text.now }
     ensures lines { lines_of text.now ≡ result.0.now ∷ lines_of result.1.now }
@@ -97,7 +97,7 @@ pub fn content(line: &[u8]) -> &[u8]
     trim(before_comment(line))
 }
 
-/// The first line that isn't empty, of a text whose first line has this number, and the text behind
+/// The first line that isn't empty, of a text whose first line has this number, and the text after
 /// it, or None where all lines are empty.
 fn next_line<'a>(text: &'a [u8], number: u32) -> Option<(Line<'a>, &'a [u8])>
     requires { number + length text.now < 2 ^ 32 }
@@ -159,7 +159,7 @@ impl<'a> Lines<'a> {
         }
     }
 
-    /// The first line, and what is left is behind it.
+    /// The first line, and what is left comes after it.
     pub fn next(&mut self) -> Option<Line<'a>>
         ensures some { IfSome result (λ l. self.old ≡ (l.number, l.content.now) ∷ self.new) }
         ensures none { IfNone result (self.old ≡ []) }

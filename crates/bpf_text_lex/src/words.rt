@@ -14,7 +14,7 @@ pub fn is_blank(byte: u8) -> bool
     byte == b' ' || byte == b'\t'
 }
 
-/// The first word of a line and what stands behind that word, or None where the line is blank.
+/// The first word of a line and what comes after that word, or None where the line is blank.
 pub fn next_word(line: &[u8]) -> Option<(&[u8], &[u8])>
     ensures none { IfNone result (words_of line.now ≡ []) }
     ensures some { IfSome result (λ x. words_of line.now ≡ x.0.now ∷ words_of x.1.now) }
@@ -60,7 +60,7 @@ impl<'a> Words<'a> {
         Words { line }
     }
 
-    /// The first word, and what is left is behind it.
+    /// The first word, and what is left comes after it.
     pub fn next(&mut self) -> Option<&'a [u8]>
         ensures some { IfSome result (λ word. self.old ≡ word.now ∷ self.new) }
         ensures none { IfNone result (self.old ≡ []) }

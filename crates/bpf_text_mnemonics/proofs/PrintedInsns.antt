@@ -95,19 +95,19 @@ OperandsFit (operands.One a) = ValueFits a
 OperandsFit (operands.Two a b) = ValueFits a × ValueFits b
 OperandsFit (operands.Three a b c) = ValueFits a × ValueFits b × ValueFits c
 
--- what stands behind a mnemonic, as it is printed
+-- what comes after a mnemonic, as it is printed
 record Tail (text : List ℕ) : Type 0 where
   inner : list_all in_line text ≡ true
   ends : Ends text
   short : length text ≤ 160
 
--- a text and a word behind it
+-- a text and a word after it
 tail_behind : (front w : List ℕ) → list_all in_line front ≡ true → Word w → length front + length w ≤ 160 → Tail (front ++ w)
 tail_behind front w e word le =
     let long : length (front ++ w) ≡ length front + length w = length-append front w in
     record { inner = all_append in_line front w e (solids_in_line w word.solid); ends = ends_behind front w (ends_word w word.filled word.solid); short = omega (arith, long, le) }
 
--- a word and a comma behind a text
+-- a word and a comma after a text
 comma_behind : (front w : List ℕ) → list_all in_line front ≡ true → Word w → list_all in_line ((front ++ w) ++ 44 ∷ 32 ∷ []) ≡ true
 comma_behind front w e word = all_append in_line (front ++ w) (44 ∷ 32 ∷ []) (all_append in_line front w e (solids_in_line w word.solid)) refl
 

@@ -39,7 +39,7 @@ insn_spelling i = mnemonic_word (mnemonic_of i) ++ operands_spelling (operands_o
 abbrev pub insn_line : Insn → List ℕ
 insn_line i = insn_spelling i ++ codes "\n"
 
--- a size behind a space
+-- a size after a space
 abbrev pub size_spelling : ℕ → List ℕ
 size_spelling size = codes " " ++ decimal size
 

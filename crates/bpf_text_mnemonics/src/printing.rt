@@ -108,7 +108,7 @@ pub fn print_insn(out: &mut String, insn: &Insn) -> Result<(), AllocError>
     out.push_str("\n")
 }
 
-/// Adds sizes to a text, each behind a space.
+/// Adds sizes to a text, each after a space.
 fn print_sizes(out: &mut String, sizes: &[u32]) -> Result<(), AllocError>
     ensures { OnOk result (string_bytes out.new ≡ string_bytes out.old ++ flat_map size_spelling sizes.now) }
 {

@@ -60,7 +60,7 @@ comma_at (b ∷ bs) rest p =
 found_at : (text : List ℕ) (n k : ℕ) → k ≡ n → n < length text → cond (nat_lt k (length text)) (Some k) None ≡ Some n
 found_at text n k same lt = rw (same, lt-ltb n (length text) lt) refl
 
--- a text is cut at the comma behind its first operand
+-- a text is cut at the comma after its first operand
 pub cut_back : (v rest : List ℕ) → NoComma v → cut_comma (v ++ 44 ∷ rest) ≡ Some (v, rest)
 cut_back v rest p =
     let text = v ++ 44 ∷ rest in

@@ -142,7 +142,7 @@ abbrev pub both_at : (List ℕ → Option ℕ) → ℕ → Kind → Kind → Opt
 both_at find slot a b None = Err faults.Form
 both_at find slot a b (Some parts) = pair (value_at find slot a (trim parts.0)) (value_at find slot b (trim parts.1))
 
--- an operand, and two behind the first comma
+-- an operand, and two after the first comma
 abbrev pub three_at : (List ℕ → Option ℕ) → ℕ → Kind → Kind → Kind → Option (List ℕ × List ℕ) → Result (Value × (Value × Value)) TextFault
 three_at find slot a b c None = Err faults.Form
 three_at find slot a b c (Some parts) = pair (value_at find slot a (trim parts.0)) (both_at find slot b c (cut_comma parts.1))

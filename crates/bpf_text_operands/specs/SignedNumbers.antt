@@ -50,7 +50,7 @@ offset_at bound word =
     else if is_ahead word then ahead (number_in (bound - 1) (drop 1 word))
     else Err faults.Form
 
--- the distance from the slot behind one slot to another, in a field of -bound to bound - 1
+-- the distance from the slot after one slot to another, in a field of -bound to bound - 1
 abbrev pub distance_to : (bound slot target : ℕ) → Result ℤ TextFault
 distance_to bound slot target =
     if nat_lt slot target then (if nat_lt (target - slot - 1) bound then Ok (pos (target - slot - 1)) else Err faults.Field)

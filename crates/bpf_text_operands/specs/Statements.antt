@@ -49,7 +49,7 @@ insn_of_mnemonic (mnemonic.Atomic w o) (Two (value.Address base offset) (value.R
 insn_of_mnemonic (mnemonic.LoadImm k) values = two_slots_of k values
 insn_of_mnemonic m values = None
 
--- a text up to its first blank, and what stands behind that blank and those that follow it
+-- a text up to its first blank, and what comes after that blank and those that follow it
 abbrev pub first_word : List ℕ → List ℕ
 first_word text = take (position_or_len is_blank text) text
 

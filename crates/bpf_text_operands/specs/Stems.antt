@@ -67,7 +67,7 @@ whole (Some (stem.Call c)) = Some (mnemonic.Call c)
 whole (Some (stem.LoadImm k)) = Some (mnemonic.LoadImm k)
 whole _ = None
 
--- the mnemonic that a stem and bits behind it are
+-- the mnemonic that a stem and bits after it are
 abbrev pub sized : Option Stem → Size → Option Mnemonic
 sized (Some (stem.Alu o)) size.W = Some (mnemonic.Alu width.W32 o)
 sized (Some (stem.Alu o)) size.Dw = Some (mnemonic.Alu width.W64 o)

@@ -11,7 +11,7 @@ use std::collections::BTreeMap;
 pub struct Label {
     /// The line that defines it.
     pub line: u32,
-    /// The slot of the instruction behind it.
+    /// The slot of the instruction after it.
     pub slot: u32,
 }
 

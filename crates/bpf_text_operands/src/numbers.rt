@@ -62,7 +62,7 @@ fn minus(number: u64) -> i32
     (-(number as i64)) as i32
 }
 
-/// The digits behind a minus sign as a number down to a limit.
+/// The digits after a minus sign as a number down to a limit.
 fn back(digits: &[u8], limit: u64) -> Result<i32, TextFault>
     requires { limit ≤ 2 ^ 31 }
     ensures value { result ≡ back (number_in limit digits.now) }
@@ -117,7 +117,7 @@ pub fn offset_at(word: &[u8], bound: u64) -> Result<i32, TextFault>
     Err(TextFault::Form)
 }
 
-/// The distance from the slot behind one slot to another, in a field of -bound to bound - 1.
+/// The distance from the slot after one slot to another, in a field of -bound to bound - 1.
 pub fn distance_to(target: u32, bound: u64, slot: u32) -> Result<i32, TextFault>
     requires high { bound ≤ 2 ^ 31 }
     ensures value { result ≡ distance_to bound slot target }

@@ -13,7 +13,7 @@ use bpf_insn_types::Insn;
 use bpf_text_lex::{TextFault, blank_at, trim_start};
 use bpf_text_mnemonics::{Mnemonic, Operands};
 
-/// A text up to its first blank, and what stands behind its blanks there.
+/// A text up to its first blank, and what comes after its blanks there.
 fn split_word(text: &[u8]) -> (&[u8], &[u8])
     ensures word { result.0.now ≡ first_word text.now }
     ensures rest { result.1.now ≡ behind_word text.now }

@@ -104,7 +104,7 @@ fn whole(stem: Option<Stem>) -> Option<Mnemonic>
     }
 }
 
-/// The mnemonic that a stem and bits behind it are.
+/// The mnemonic that a stem and bits after it are.
 fn sized(stem: Option<Stem>, size: Size) -> Option<Mnemonic>
     ensures { result ≡ sized stem size }
 {

@@ -32,13 +32,13 @@ abbrev pub out_of : List ℕ → ℕ → Insn → Option State → Outflow
 out_of sizes slot insn None = no_edges
 out_of sizes slot insn (Some state) = flow sizes slot state insn
 
--- the first so many slots break no rule; what flowed from them is in the table, and their targets are listed
+-- the first n slots break no rule; what flowed from them is in the table, and their targets are listed
 pub record Passed (program : Program) (count : ℕ) (targets : List ℕ) (table : List (Option State)) : Type 0 where
   pub fine : fault_within program count ≡ None
   pub listed : targets ≡ targets_in program.insns count
   pub known : (slot : ℕ) → slot < length table → slice_index_or table slot None ≡ incoming program count slot
 
--- the first so many slots have their operations, and the others none
+-- the first n slots have their operations, and the others none
 pub record Translated (program : Program) (count : ℕ) (ops : List PlainOp) : Type 0 where
   pub done : (slot : ℕ) → slot < count → slice_index_or ops slot Stop ≡ op_at program slot
   pub rest : (slot : ℕ) → count ≤ slot → slice_index_or ops slot Stop ≡ Stop

@@ -25,7 +25,7 @@ fn behind(longest: &[u32], slot: Option<u32>) -> u32
     }
 }
 
-/// The most instructions from an instruction on, by those behind later slots.
+/// The most instructions from an instruction on, by those after later slots.
 fn through(longest: &[u32], slot: u32, insn: Insn) -> u32
     requires low { slot < 4096 }
     requires small { (k : ℕ) → slice_index_or longest.now k 0 ≤ 4096 }

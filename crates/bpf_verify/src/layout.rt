@@ -124,7 +124,7 @@ fn numbered(
     Ok(Layout { places, starts })
 }
 
-/// The layout of instructions that take so many slots.
+/// The layout of instructions that take n slots.
 pub fn layout_of(alloc: Global, insns: &[Insn], count: u32) -> Result<Layout, VerifyError>
     requires slots { slot_count insns.now ≡ count }
     requires few { count ≤ 4096 }

@@ -115,7 +115,7 @@ fn names_none(code: &Code, slot: u32, insn: &Insn) -> bool
     is_code_load(*insn) && !starts(code, named_by(slot, *insn))
 }
 
-/// The least of V3 to V6; so many targets are named up to this slot.
+/// The least of V3 to V6; n targets are named up to this slot.
 #[tactic(auto, unfolding(bpf_verify_model::specs::Rules::slot_fault))]
 fn slot_fault(code: &Code, slot: u32, insn: &Insn, targets: usize) -> Option<Rule>
     requires stands { InsnStartsAt code.now.insns.now code.now.layout.now slot }
@@ -156,7 +156,7 @@ fn reached_exit_fault(function: u32, before: &Option<State>, insn: &Insn) -> Opt
     }
 }
 
-/// The least rule that an instruction breaks at a slot; so many targets are named up to this slot.
+/// The least rule that an instruction breaks at a slot; n targets are named up to this slot.
 #[tactic(auto, unfolding(bpf_verify_model::specs::Rules::fault_of))]
 fn fault_of(
     code: &Code,

@@ -28,7 +28,7 @@ unless_earlier (Some fault) slot rule = Some fault
 unless_earlier None slot None = None
 unless_earlier None slot (Some rule) = Some (record { rule = rule; slot = slot })
 
--- the first fault of so many slots
+-- the first fault of n slots
 unfoldable pub fault_within : Program → ℕ → Option BrokenRule
 fault_within program zero = None
 fault_within program (suc slot) = unless_earlier (fault_within program slot) slot (fault_at program slot)
@@ -37,7 +37,7 @@ fault_within program (suc slot) = unless_earlier (fault_within program slot) slo
 abbrev pub is_too_large : Program → Bool
 is_too_large program = nat_lt 4096 (slot_count program.insns) || not (sizes_fit program.sizes)
 
--- a program takes so many slots, within the limits, and its sizes are too
+-- a program takes n slots, within the limits, and its sizes are too
 pub record WithinLimits (program : Program) (count : ℕ) : Type 0 where
   pub counted : slot_count program.insns ≡ count
   pub some : 0 < count

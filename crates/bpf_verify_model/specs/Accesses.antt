@@ -29,7 +29,7 @@ is_memory (Ctx position) = true
 is_memory (Area map offset) = true
 is_memory _ = false
 
--- V17: an access of so many bytes is of a map's values, and neither of a value nor of a half
+-- V17: an access of n bytes is of a map's values, and neither of a value nor of a half
 abbrev pub is_part_of_half : ℕ → AbstractValue → Bool
 is_part_of_half size (Area map offset) = not (size == 8 || size == 4)
 is_part_of_half size _ = false
@@ -42,22 +42,22 @@ is_misaligned size place = not (int_eq (int_rem place (pos size)) (pos 0))
 abbrev pub is_spread : ℕ → Span → Bool
 is_spread size offset = nat_lt offset.lo offset.hi && nat_lt (2 ^ offset.zeros) size
 
--- V18: an access of so many bytes at an offset from this base isn't aligned
+-- V18: an access of n bytes at an offset from this base isn't aligned
 abbrev pub misses_alignment : ℕ → ℤ → AbstractValue → Bool
 misses_alignment size offset (Frame position) = is_misaligned size (pos position +ℤ offset)
 misses_alignment size offset (Ctx position) = is_misaligned size (pos position +ℤ offset)
 misses_alignment size offset (Area map range) = is_misaligned size (pos range.lo +ℤ offset) || is_spread size range
 misses_alignment size offset _ = false
 
--- whether so many bytes, from a least place to a greatest, aren't all among the first so many
+-- whether n bytes, from a least place to a greatest, aren't all among the first of them
 abbrev pub is_outside_bytes : (bytes size : ℕ) → (least greatest : ℤ) → Bool
 is_outside_bytes bytes size least greatest = int_lt least (pos 0) || int_lt (pos bytes) (greatest +ℤ pos size)
 
--- whether so many bytes from a place on aren't all of a frame's 512
+-- whether n bytes from a place on aren't all of a frame's 512
 abbrev pub is_outside_frame : ℕ → ℤ → Bool
 is_outside_frame size place = is_outside_bytes 512 size place place
 
--- whether so many bytes at an offset from places of a range aren't all of a map's values, if there is such a map
+-- whether n bytes at an offset from places of a range aren't all of a map's values, if there is such a map
 abbrev pub is_outside_map : Option ℕ → ℕ → ℤ → Span → Bool
 is_outside_map None size offset range = true
 is_outside_map (Some count) size offset range = is_outside_bytes (8 * count) size (pos range.lo +ℤ offset) (pos range.hi +ℤ offset)
@@ -79,7 +79,7 @@ abbrev pub caller_lacks : Option (List Bool) → ℕ → ℤ → Bool
 caller_lacks None size place = true
 caller_lacks (Some written) size place = lacks_bytes written size place
 
--- whether so many bytes at an offset from this base lie within a frame, and one of them isn't written
+-- whether n bytes at an offset from this base lie within a frame, and one of them isn't written
 abbrev pub has_unwritten_byte : State → ℕ → ℤ → AbstractValue → Bool
 has_unwritten_byte state size offset (Frame position) = lacks_bytes state.own size (pos position +ℤ offset)
 has_unwritten_byte state size offset (Ctx position) = caller_lacks state.caller size (pos position +ℤ offset)

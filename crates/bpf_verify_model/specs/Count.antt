@@ -6,7 +6,7 @@ use Rattle.bpf_insn_types.specs.Slots.{slots_of}
 use Rattle.bpf_insn_types.specs.Program.{insn_at, moved, slot_count, callback_starts}
 use Rattle.bpf_verify_model.specs.Rules.{jump_distance, jump_target}
 
--- the most instructions behind a jump, by those behind each slot
+-- the most instructions after a jump, by those after each slot
 abbrev pub behind_jump : (ℕ → ℕ) → Option ℕ → ℕ
 behind_jump behind None = 0
 behind_jump behind (Some target) = behind target
@@ -21,7 +21,7 @@ through later slot (Some (Jump width compare dst operand offset)) =
 through later slot (Some Exit) = 1
 through later slot (Some insn) = 1 + later (slot + slots_of insn)
 
--- the most instructions on any path from a slot on, up to so many
+-- the most instructions on any path from a slot on, up to this many
 abbrev pub longest : List Insn → (left slot : ℕ) → ℕ
 longest insns zero slot = 0
 longest insns (suc left) slot = through (longest insns left) slot (insn_at insns slot)

@@ -42,7 +42,7 @@ abbrev pub with_known_result : State → ℕ → Option AbstractValue → State
 with_known_result state r None = state
 with_known_result state r (Some value) = with_known state r value
 
--- a number of so many bytes
+-- a number of n bytes
 abbrev pub number_of_size : Size → AbstractValue
 number_of_size size = Number (norm 0 (256 ^ bytes_of size - 1) 0)
 
@@ -50,7 +50,7 @@ number_of_size size = Number (norm 0 (256 ^ bytes_of size - 1) 0)
 abbrev pub with_own : State → List Bool → State
 with_own state own = record { registers = state.registers; own = own; caller = state.caller }
 
--- a state with so many bytes of the frame written from a position on, where they are within it
+-- a state with n bytes of the frame written from a position on, where they are within it
 abbrev pub with_written : State → ℕ → ℤ → State
 with_written state size (pos position) =
     if nat_le (position + size) 512 then with_own state (written_from state.own position size) else state
@@ -108,7 +108,7 @@ known_answer sizes state (Some Lookup) = known_lookup sizes (known_register stat
 known_answer sizes state (Some Loop) = Number (top W64)
 known_answer sizes state None = Unwritten
 
--- the abstract state behind an instruction that doesn't jump
+-- the abstract state after an instruction that doesn't jump
 unfoldable pub known_behind : List ℕ → ℕ → State → Insn → State
 known_behind sizes slot state (Alu width op dst operand) =
     with_known_result state dst (known_result width op (known_register state dst) (known_operand state operand))

@@ -49,7 +49,7 @@ abbrev pub entry : ℕ → Option State
 entry zero = Some known_main_entry
 entry (suc _) = None
 
--- the abstract state before a slot by what flows from the first so many slots: the join of all of it
+-- the abstract state before a slot by what flows from the first n slots: the join of all of it
 unfoldable pub incoming : Program → (count slot : ℕ) → Option State
 incoming program zero slot = entry slot
 incoming program (suc count) slot =

@@ -23,12 +23,12 @@ IsPath insns starts [] = Unit {0}
 IsPath insns starts (slot ∷ path) =
     (list_any (nat_eq slot) starts ≡ true) × (is_some (insn_at insns slot) ≡ true) × IsPath insns (successors slot (insn_at insns slot)) path
 
--- the slots behind a path from one of some slots: the edges out of its last slot, of which an exit has none
+-- the slots after a path from one of some slots: the edges out of its last slot, of which an exit has none
 abbrev pub successors_of_path : List Insn → (starts path : List ℕ) → List ℕ
 successors_of_path insns starts [] = starts
 successors_of_path insns starts (slot ∷ path) = successors_of_path insns (successors slot (insn_at insns slot)) path
 
--- a path from a slot that has so many slots, and ends at an exit or where none goes on: no instruction starts behind it
+-- a path from a slot that has n slots, and ends at an exit or where none goes on: no instruction starts after it
 pub record PathOf (insns : List Insn) (slot count : ℕ) : Type 0 where
   pub path : List ℕ
   pub is_path : IsPath insns (slot ∷ []) path

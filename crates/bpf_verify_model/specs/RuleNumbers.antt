@@ -1,4 +1,4 @@
--- The numbers of the rules, as they are printed behind a V.
+-- The numbers of the rules, as they are printed, without the V.
 use Rattle.std.specs.Prelude.{ℕ}
 use Rattle.bpf_verify_model.specs.declared.rule.Rule.{Rule}
 use Rattle.bpf_verify_model.specs.declared.rule.Rule.TheVariants.{NoSlot, OverLimits, JumpTarget, FallThrough, CodeTarget, TooManyCallbacks, UnknownHelper, CallKind, LoadKind, MissingMap, FramePointerWrite, UnwrittenRegister, ArithmeticOperand, ComparisonOperand, StoredOperand, AccessBase, AreaAccessSize, AccessAlignment, AccessBounds, UnwrittenByte, CtxWrite, HelperArgument, NestedCallback, CallbackResult, MainResult}

@@ -36,7 +36,7 @@ pub record JoinRows : Type 0 where
   pub second_alone : joined_r0 known_main_entry (knowing (numbers 1 1)) ≡ Unwritten
   pub null_on_one : joined_r0 (knowing (Area 0 (exact 8))) (knowing (AreaOrNull 0 (exact 8))) ≡ AreaOrNull 0 (exact 8)
 
--- main behind a store of four bytes at r10 - 8
+-- main after a store of four bytes at r10 - 8
 abbrev pub stored : State
 stored = known_behind [] 0 known_main_entry (StoreImm W 10 (negsuc 7) (pos 0))
 

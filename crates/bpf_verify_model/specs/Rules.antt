@@ -49,7 +49,7 @@ abbrev pub jumps_astray : List Insn → ℕ → Insn → Bool
 jumps_astray insns slot insn =
     is_some (jump_distance insn) && not (leads_later insns slot (jump_target slot (jump_distance insn)))
 
--- whether a function goes on behind an instruction: it does but for an exit and the unconditional jumps
+-- whether a function goes on after an instruction: it does but for an exit and the unconditional jumps
 abbrev pub goes_on : Insn → Bool
 goes_on (Ja offset) = false
 goes_on (Ja32 imm) = false
@@ -88,7 +88,7 @@ abbrev pub with_target : List ℕ → Option ℕ → List ℕ
 with_target targets None = targets
 with_target targets (Some target) = if list_any (nat_eq target) targets then targets else targets ++ target ∷ []
 
--- the targets of the code addresses in the first so many slots, each once
+-- the targets of the code addresses in the first n slots, each once
 abbrev pub targets_in : List Insn → ℕ → List ℕ
 targets_in insns zero = []
 targets_in insns (suc slot) = with_target (targets_in insns slot) (named_at slot (insn_at insns slot))

@@ -10,7 +10,7 @@ pub fn law_of_counts()
     ensures { CountIsLongestPath }
 {}
 
-/// The definitions give the joins, the states behind a store and those on both edges of a comparison
+/// The definitions give the joins, the states after a store and those on both edges of a comparison
 /// and of a null check, and what they refuse: a callback's result that may be 2, and accesses past the
 /// end.
 pub fn worked_rules()

@@ -11,7 +11,7 @@ pub enum AccessKind {
     Changes,
 }
 
-/// An access of so many bytes at a base register and an offset.
+/// An access of n bytes at a base register and an offset.
 #[derive(Clone, Copy)]
 pub struct MemoryAccess {
     pub kind: AccessKind,

@@ -60,7 +60,7 @@ pub enum Rule {
 }
 
 impl Rule {
-    /// The number that is printed behind a V: 1 to 25.
+    /// The number that is printed with a V in front: 1 to 25.
     pub fn number(self) -> u32
         ensures { result ≡ rule_number self }
     {

@@ -20,7 +20,7 @@ pub fn jump_distance(insn: Insn) -> Option<i32>
     }
 }
 
-/// Whether a function goes on behind an instruction: it does but for an exit and the unconditional
+/// Whether a function goes on after an instruction: it does but for an exit and the unconditional
 /// jumps.
 pub fn goes_on(insn: Insn) -> bool
     ensures { result ≡ goes_on insn }

@@ -18,7 +18,7 @@ pub fn is_memory(base: AbstractValue) -> bool
     }
 }
 
-/// V17: an access of so many bytes is of a map's values, and neither of a value nor of a half.
+/// V17: an access of n bytes is of a map's values, and neither of a value nor of a half.
 pub fn is_part_of_half(size: u32, base: AbstractValue) -> bool
     ensures { result ≡ is_part_of_half size base }
 {
@@ -82,7 +82,7 @@ fn multiple_of(range: Range) -> u128
     1u128 << range.zeros()
 }
 
-/// V18: an access of so many bytes at an offset from this base isn't aligned.
+/// V18: an access of n bytes at an offset from this base isn't aligned.
 pub fn misses_alignment(size: u32, offset: i16, base: AbstractValue) -> bool
     requires { 1 ≤ size }
     ensures { result ≡ misses_alignment size offset base }
@@ -97,7 +97,7 @@ pub fn misses_alignment(size: u32, offset: i16, base: AbstractValue) -> bool
     }
 }
 
-/// Whether so many bytes from a place on aren't all of a frame's 512.
+/// Whether n bytes from a place on aren't all of a frame's 512.
 fn is_outside_frame(size: u32, position: u32, offset: i16) -> bool
     ensures { result ≡ is_outside_frame size (pos position +ℤ offset) }
 {
@@ -105,7 +105,7 @@ fn is_outside_frame(size: u32, position: u32, offset: i16) -> bool
     place < 0 || (FRAME_BYTES as i64) < place + size as i64
 }
 
-/// V19: an access of so many bytes at an offset from this base isn't within its frame, or within its map's values.
+/// V19: an access of n bytes at an offset from this base isn't within its frame, or within its map's values.
 pub fn is_outside(sizes: &[u32], size: u32, offset: i16, base: AbstractValue) -> bool
     ensures { result ≡ is_outside sizes.now size offset base }
 {
@@ -126,7 +126,7 @@ fn size_of_map(sizes: &[u32], map: u32) -> Option<u32>
     sizes.get(map as usize).copied()
 }
 
-/// Whether so many bytes at an offset from places of a range aren't all of a map's values, if there is
+/// Whether n bytes at an offset from places of a range aren't all of a map's values, if there is
 /// such a map.
 fn is_outside_map(count: Option<u32>, size: u32, offset: i16, range: Range) -> bool
     ensures { result ≡ is_outside_map count size offset range }
@@ -160,7 +160,7 @@ fn caller_lacks(written: &Option<WrittenBytes>, size: u32, position: u32, offset
     }
 }
 
-/// Whether so many bytes at an offset from this base lie within a frame, and one of them isn't
+/// Whether n bytes at an offset from this base lie within a frame, and one of them isn't
 /// written.
 pub fn has_unwritten_byte(state: &State, size: u32, offset: i16, base: AbstractValue) -> bool
     ensures { result ≡ has_unwritten_byte state.now size offset base }

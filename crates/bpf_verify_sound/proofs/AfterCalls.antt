@@ -27,7 +27,7 @@ registers-after (x0 ∷ (x1 ∷ (x2 ∷ (x3 ∷ (x4 ∷ (x5 ∷ xs)))))) (v0 ∷
 registers-after (x0 ∷ (x1 ∷ (x2 ∷ (x3 ∷ (x4 ∷ (x5 ∷ xs)))))) (v0 ∷ (v1 ∷ (v2 ∷ (v3 ∷ (v4 ∷ (v5 ∷ vs)))))) x v c d =
     (d, (tt, (tt, (tt, (tt, (tt, c.1.1.1.1.1.1))))))
 
--- main or a callback behind a call
+-- main or a callback after a call
 pub call-goes : (program : Program) (m : Machine) (state : State) (aside : Option Edge) (x : AbstractValue) (v : Value) → leads_to program.insns m.slot (m.slot + 1) ≡ true → Contained state m →
     ContainsValue x v → GoesBy program m.slot (record { ahead = edge_to (Some (m.slot + 1)) (Some (known_after_call state x)); aside = aside }) (after_call v (advanced 1 m))
 call-goes program m state aside x v leads c d =

@@ -11,7 +11,7 @@ use Rattle.bpf_step_model.specs.State.{Bytes}
 use Rattle.bpf_step_model.specs.Memory.{with_low_byte, number_of, number_at, written_at}
 use Rattle.bpf_verify_sound.specs.Containment.{IsWritten, AreWritten}
 
--- a number of so many bytes
+-- a number of n bytes
 abbrev pub IsNumberOf : ℕ → Option ℕ → Type 0
 IsNumberOf size None = ⊥
 IsNumberOf size (Some n) = n < 256 ^ size
@@ -55,7 +55,7 @@ length-range xs p size h =
     let some : p + size - p ≤ length (drop p xs) = omega (arith, length-drop p xs) in
     length-take-le (p + size - p) (drop p xs) some ∙ omega arith
 
--- so are so many from a position on
+-- so are n from a position on
 pub number-known : (marks : List Bool) (bytes : Bytes) (p size : ℕ) → AreWritten marks bytes → p + size ≤ length marks → p + size ≤ length bytes →
     all_written marks p size ≡ true → IsNumberOf size (number_at bytes p size)
 number-known marks bytes p size c h k all =

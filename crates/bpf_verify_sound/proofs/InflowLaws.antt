@@ -50,7 +50,7 @@ received_all-brings before out m (inl ahead) =
     received-keeps m.slot (received m.slot before out.ahead) out.aside m (received-brings before out.ahead m ahead)
 received_all-brings before out m (inr aside) = received-brings (received m.slot before out.ahead) out.aside m aside
 
--- what flows from one of the first so many slots is known by what flows from all of them
+-- what flows from one of the first n slots is known by what flows from all of them
 incoming-brings : (program : Program) (count from : ℕ) (m : Machine) → from < count →
     FlowsTo (flow_from program from (insn_at program.insns from) (state_before program from)) m → ContainedIf (incoming program count m.slot) m
 unfolding incoming

@@ -1,4 +1,4 @@
--- A machine that goes on: behind an instruction, with a register set, or at a jump's target.
+-- A machine that goes on: after an instruction, with a register set, or at a jump's target.
 use Rattle.std.proofs.Common.{◌≡◌, ℕ, ◌+◌, ◌<◌, inl, inr, Bool, true, false, not, ◌&&◌, Option, Some, None, is_none, refl, sym, subst, arith}
 use Rattle.std.specs.Prelude.{nat_lt, ◌==◌, if◌then◌else◌, List}
 use Rattle.std.proofs.lemmas.Bool.Decides.{nat_tests}
@@ -29,7 +29,7 @@ follows-on insns slot insn goes e = by_test (goes_on insn) (leads_to insns slot 
     by_test true b goes e = not-not-true b e
     by_test false b goes e = absurd cc
 
--- behind an instruction
+-- after an instruction
 pub ahead-goes : (program : Program) (slot count : ℕ) (aside : Option Edge) (state : State) (m : Machine) →
     leads_to program.insns slot (slot + count) ≡ true → 0 < count → m.slot ≡ slot + count → Contained state m →
     GoesBy program slot (record { ahead = edge_to (Some (slot + count)) (Some state); aside = aside }) m

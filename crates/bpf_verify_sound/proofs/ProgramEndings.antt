@@ -86,7 +86,7 @@ mapped-ends program made Unfinished k i = i
 mapped-ends program made (Ended f) k i = (i.0, (k, i.1), i.2)
 
 module _ (program : Program) where
-  -- what is claimed of main with so many turns
+  -- what is claimed of main with n turns
   abbrev pub MainEnds : ℕ → ℕ → Type 0
   MainEnds bound turns = (m : Machine) → OverApproximates program m → (words : List ℕ) → AreMapWords program words → most_from program m.slot ≤ turns → ProgramEnds program (main_from program bound turns m words)
 

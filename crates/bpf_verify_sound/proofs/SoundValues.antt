@@ -104,7 +104,7 @@ pub all-append : {A : Type 0} (P : A → Type 0) (xs ys : List A) → AllByRecur
 all-append P [] ys all rest = rest
 all-append P (x ∷ xs) ys all rest = (all.0, all-append P xs ys all.1 rest)
 
--- a number of so many bytes, if there is one
+-- a number of n bytes, if there is one
 abbrev pub BelowIf : ℕ → Option ℕ → Type 0
 BelowIf size None = Unit {0}
 BelowIf size (Some n) = n < 256 ^ size

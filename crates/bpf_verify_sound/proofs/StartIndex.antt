@@ -9,7 +9,7 @@ use Rattle.bpf_insn_types.specs.Program.{Program, slot_count, named_from, is_cal
 use Rattle.bpf_verify_model.specs.Count.{function_start}
 use Rattle.bpf_step_model.specs.SoundMachine.{IsStart}
 
--- whether a slot is among some, and how many of them aren't behind it
+-- whether a slot is among some, and how many of them aren't after it
 is_among : ℕ → List ℕ → Bool
 is_among slot starts = list_any (λ start. start == slot) starts
 
@@ -51,7 +51,7 @@ module _ (p : ℕ → Bool) where
       by_test true e false f there go = omega (arith, go (sym (ap (λ (b : Bool). b || is_among slot (kept (from + 1) count)) f) ∙ there))
       by_test false e here f there go = omega (arith, go there)
 
-  -- a slot among them is at the place of how many aren't behind it
+  -- a slot among them is at the place of how many aren't after it
   record IsPlaced (slot : ℕ) (starts : List ℕ) : Type 0 where
     some : 0 < up_to slot starts
     at : get_or starts (up_to slot starts - 1) 0 ≡ slot

@@ -112,7 +112,7 @@ later-start (x ∷ starts) slot start there none_before =
         ap (λ (b : Bool). cond b 1 0 + count_by (λ callback. nat_le callback slot) starts) (sym f) ∙ sym (sum_by-cons (λ (callback : ℕ). cond (nat_le callback slot) 1 0) x starts) ∙ none_before in
         go (sym (ap (λ (b : Bool). b || list_any (λ callback. callback == start) starts) e) ∙ there) (omega arith)
 
--- a callback starts behind all of main
+-- a callback starts after all of main
 pub start-later : (insns : List Insn) (slot start : ℕ) → list_any (λ callback. callback == start) (callback_starts insns) ≡ true → function_of insns slot ≡ 0 → slot < start
 start-later insns slot start there main = later-start (callback_starts insns) slot start there main
 

@@ -119,7 +119,7 @@ most_after program (Exit ret) = 0
 most_after program (Loop call next) = most_from program next.slot
 most_after program (Refused slot answer next) = most_from program next.slot
 
--- a run ends, and what it took with what may still come is at most so many instructions
+-- a run ends, and what it took with what may still come is at most n instructions
 abbrev pub EndsWithin : Program → ℕ → BoundedResult RunSegment → Type 0
 EndsWithin program count Stuck = ⊥
 EndsWithin program count Unfinished = ⊥
@@ -157,7 +157,7 @@ EachCountIsSmall = (program : Program) (function : ℕ) → count_of program.ins
 abbrev pub callback_count : Program → LoopCall → ℕ
 callback_count program call = count_of program.insns (function_of program.insns call.callback)
 
--- an iteration ends within so many instructions with 0 or 1, and leaves words of the maps again
+-- an iteration ends within n instructions with 0 or 1, and leaves words of the maps again
 abbrev pub IterationEnds : Program → ℕ → BoundedResult Iterated → Type 0
 IterationEnds program count Stuck = ⊥
 IterationEnds program count Unfinished = ⊥

@@ -1,4 +1,4 @@
-//! The abstract state behind an instruction.
+//! The abstract state after an instruction.
 
 ghost use Rattle.std.specs.Prelude.{◌≡◌, ◌+◌, ◌*◌, ◌^◌, ◌+ℤ◌, ◌≤◌, pos, slice_get};
 ghost use Rattle.std.specs.Int.{cast_unsigned, w32};
@@ -23,7 +23,7 @@ fn with_known_result(state: &mut State, reg: Reg, value: Option<AbstractValue>)
     }
 }
 
-/// A number of so many bytes.
+/// A number of n bytes.
 fn number_of_size(size: Size) -> AbstractValue
     ensures { result ≡ number_of_size size }
 {
@@ -176,7 +176,7 @@ fn behind_call(sizes: &[u32], state: &mut State, helper: Option<Helper>)
     known_after_call(state, answer);
 }
 
-/// Leaves the abstract state behind an instruction that doesn't jump.
+/// Leaves the abstract state after an instruction that doesn't jump.
 #[tactic(auto, unfolding(bpf_verify_model::specs::Flow::known_behind))]
 pub fn behind(sizes: &[u32], slot: u32, state: &mut State, insn: Insn)
     requires { slot ≤ 4096 }

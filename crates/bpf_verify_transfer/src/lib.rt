@@ -1,4 +1,4 @@
-//! What flows from an instruction to later slots: the abstract state behind it, and on each edge out of it.
+//! What flows from an instruction to later slots: the abstract state after it, and on each edge out of it.
 #![tactic(auto)]
 
 mod behind_insn;

@@ -6,7 +6,7 @@ ghost use Rattle.bpf_insn_types.specs.Program.{moved, code_target, named_by};
 
 use bpf_insn_types::{ImmKind, Insn};
 
-/// The slot at a distance from the one behind a slot, unless it would lie before slot 0.
+/// The slot at a distance from the one after a slot, unless it would lie before slot 0.
 pub fn slot_beyond(slot: u32, distance: i32) -> Option<u32>
     requires { slot ≤ 4096 }
     ensures { result ≡ moved (slot + 1) distance }

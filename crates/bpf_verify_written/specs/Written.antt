@@ -6,11 +6,11 @@ use Rattle.std.specs.List.{list_all}
 unfoldable pub none_written : List Bool
 none_written = replicate 512 false
 
--- whether so many bytes from a position on are written
+-- whether n bytes from a position on are written
 abbrev pub all_written : List Bool → ℕ → ℕ → Bool
 all_written written position size = list_all (λ byte. byte) (slice_range written position (position + size))
 
--- what is written after a write of so many bytes from a position on
+-- what is written after a write of n bytes from a position on
 abbrev pub written_from : List Bool → ℕ → ℕ → List Bool
 written_from written position size = take position written ++ replicate size true ++ drop (position + size) written
 

@@ -36,7 +36,7 @@ impl WrittenBytes {
         WrittenBytes { words: [0; 8] }
     }
 
-    /// Whether so many bytes from a position on are written.
+    /// Whether n bytes from a position on are written.
     pub fn all_written(&self, position: usize, size: usize) -> bool
         requires { position + size ≤ 512 }
         ensures { result ≡ all_written self.now position size }
@@ -49,7 +49,7 @@ impl WrittenBytes {
         true
     }
 
-    /// Marks so many bytes from a position on as written.
+    /// Marks n bytes from a position on as written.
     pub fn write(&mut self, position: usize, size: usize)
         requires { position + size ≤ 512 }
         ensures { self.new ≡ written_from self.old position size }

@@ -12,7 +12,7 @@ front_suc [] i x within read = absurd (omega arith)
 front_suc (first ∷ xs) zero x within read = ap (λ y. y ∷ xs) (sym read)
 front_suc (first ∷ xs) (suc i) x within read = front_suc xs i x (omega arith) read
 
--- an element, and those behind it
+-- an element, and those after it
 pub front : {X : Type 0} (xs : List X) (i : ℕ) (x : X) → i < length xs → x ≡ get_or xs i x → drop i xs ≡ x ∷ drop (i + 1) xs
 front xs i x within read = rw add-one (front_suc xs i x within read)
 

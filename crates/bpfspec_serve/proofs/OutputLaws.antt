@@ -52,7 +52,7 @@ other_sizes values sizes none are = go (pointwise nat_eq (lengths values) sizes)
     go false same = refl
     go true same = absurd cc (sym (subst AreSizes (sym (same_text (lengths values) sizes (sym same))) are) ∙ none)
 
--- what is longer than the limit is still longer where it is cut behind it
+-- what is longer than the limit is still longer where it is cut after it
 cut_long : (limit n : ℕ) (input : List ℕ) → limit < n → limit < length input → limit < length (take n input)
 cut_long limit n input behind long = rw (length-take n input) (grind (arith, behind, long))
 

@@ -75,7 +75,7 @@ unmarked line lines other = (ap (λ (b : Bool). if b then [] else line ++ before
 marked : (line : List ℕ) (lines : List (List ℕ)) → is_mark line ≡ true → (before_mark (line ∷ lines) ≡ []) × (behind_mark (line ∷ lines) ≡ lines)
 marked line lines mark = (ap (λ (b : Bool). if b then [] else line ++ before_mark lines) mark, ap (λ (b : Bool). if b then lines else behind_mark lines) mark)
 
--- what is left behind a place in a text
+-- what is left after a place in a text
 pub left_behind : (text : List ℕ) (at : ℕ) → take (length text - at) (drop at text) ≡ drop at text
 left_behind text at = rw (← (length-drop at text)) (take-length (drop at text))
 
@@ -93,7 +93,7 @@ section_goes_on text rest at n is_rest line other so_far =
     ∙ ap (λ (l : List ℕ). l ++ before_mark (whole_lines (drop n (drop at text)))) (sym (take-add at n text))
     ∙ ap (λ (r : List ℕ). take (at + n) text ++ before_mark (whole_lines r)) (drop-drop n at text)
 
--- and so does what stands behind it
+-- and so does what comes after it
 pub rest_goes_on : (text rest : List ℕ) (at n : ℕ) → rest ≡ drop at text → whole_lines rest ≡ take n rest ∷ whole_lines (drop n rest) → is_mark (take n rest) ≡ false
     → behind_mark (whole_lines text) ≡ behind_mark (whole_lines (drop at text))
     → behind_mark (whole_lines text) ≡ behind_mark (whole_lines (drop (at + n) text))
@@ -115,7 +115,7 @@ section_ends text rest at n is_rest line mark so_far =
     ∙ ap (λ (l : List ℕ). take at text ++ l) (marked (take n rest) (whole_lines (drop n rest)) mark).0
     ∙ append-nil (take at text)
 
--- and what stands behind it is the rest
+-- and what comes after it is the rest
 pub rest_begins : (text rest : List ℕ) (at n : ℕ) → rest ≡ drop at text → whole_lines rest ≡ take n rest ∷ whole_lines (drop n rest) → is_mark (take n rest) ≡ true
     → behind_mark (whole_lines text) ≡ behind_mark (whole_lines (drop at text)) → behind_mark (whole_lines text) ≡ whole_lines (drop (at + n) text)
 rest_begins text rest at n is_rest line mark so_far =

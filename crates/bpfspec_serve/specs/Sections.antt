@@ -18,12 +18,12 @@ abbrev pub before_mark : List (List ℕ) → List ℕ
 before_mark [] = []
 before_mark (line ∷ lines) = if is_mark line then [] else line ++ before_mark lines
 
--- the lines behind it: none where there is no mark
+-- the lines after it: none where there is no mark
 abbrev pub behind_mark : List (List ℕ) → List (List ℕ)
 behind_mark [] = []
 behind_mark (line ∷ lines) = if is_mark line then lines else behind_mark lines
 
--- the first section, the second, and all that stands behind it; each is empty where there is none
+-- the first section, the second, and all that comes after it; each is empty where there is none
 abbrev pub unit_section : List ℕ → List ℕ
 unit_section input = before_mark (whole_lines input)
 

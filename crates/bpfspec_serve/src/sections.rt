@@ -7,7 +7,7 @@ ghost use Rattle.bpfspec_serve.specs.Sections.{whole_lines, is_mark, before_mark
 
 use bpf_text_lex::newline_at;
 
-/// A text up to the first line that is exactly `%%`, and the text behind that line.
+/// A text up to the first line that is exactly `%%`, and the text after that line.
 #[derive(Clone, Copy)]
 pub struct Parted<'a> {
     /// All of the text, where there is no such line.
@@ -37,7 +37,7 @@ fn line_length(text: &[u8]) -> usize
     }
 }
 
-/// The section at the front of a text, and what stands behind its mark.
+/// The section at the front of a text, and what comes after its mark.
 pub fn part(text: &str) -> Parted<'_>
     ensures section { result.section.now ≡ before_mark (whole_lines text.now) }
     ensures rest { whole_lines result.rest.now ≡ behind_mark (whole_lines text.now) }

@@ -51,7 +51,7 @@ impl From<AllocError> for Failure {
     }
 }
 
-/// A report, and the values of all maps behind the run as text.
+/// A report, and the values of all maps after the run as text.
 #[derive(Drop)]
 struct Ran {
     report: Report,

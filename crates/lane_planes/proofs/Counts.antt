@@ -67,7 +67,7 @@ fits_all (x ∷ xs) fit (suc j) = fits_all xs fit.1 j
 pub vector_fits : (n i : ℕ) (words vector : List ℕ) → ((k : ℕ) → Fits w64 (get_or words k 0)) → IsVector n i words vector → (j : ℕ) → get_or vector j 0 < 2 ^ 64
 vector_fits n i words vector fit here j = subst (λ xs. get_or xs j 0 < 2 ^ 64) (sym here.is) (fits_all (chunk (i * n) n words) (chunk-fits w64 (i * n) n words fit) j)
 
--- the bits of a vector, and of the words behind it
+-- the bits of a vector, and of the words after it
 pub vector_counted : (n i : ℕ) (words vector : List ℕ) → IsVector n i words vector → set_bits (drop (i * n) words) ≡ set_bits vector + set_bits (drop ((i + 1) * n) words)
 vector_counted n i words vector here =
     ap set_bits (chunk-drop (i * n) n words) ∙ set_bits-append (chunk (i * n) n words) (drop (i * n + n) words)

@@ -22,7 +22,7 @@ abbrev pub FailingWords : Tested → (many : ℕ) → List ℕ → Type 0
 FailingWords (Lrpd planes) many words = LrpdWords many planes words
 FailingWords (Flow planes) many words = FlowWords many planes.first.items planes.last.items words
 
--- planes fit so many words
+-- planes fit n words
 pub record LrpdFit (planes : LrpdPlanes) (many : ℕ) : Type 0 where
   pub read_only : many ≡ length planes.read_only.items
   pub written : many ≡ length planes.written.items

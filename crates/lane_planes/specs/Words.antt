@@ -16,7 +16,7 @@ in_two (word ∷ rest) = bit_or (in_two rest) (bit_and (in_some rest) word)
 abbrev pub without_reductions : (word plain : ℕ) → (by : List ℕ) → ℕ
 without_reductions word plain by = bit_and word (bit_or (bit_or plain (in_two by)) (bit_not w64 (in_some by)))
 
--- a word of so many bits, each of which a test tells by its number
+-- a word of n bits, each of which a test tells by its number
 pub record HasBits (many : ℕ) (test : ℕ → Bool) (word : ℕ) : Type 0 where
   pub below : word < 2 ^ many
   pub each : (k : ℕ) → k < many → (bit_at word k == 1) ≡ test k

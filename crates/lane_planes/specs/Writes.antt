@@ -1,7 +1,7 @@
 -- What a vector has, and what a kernel leaves in a list.
 use Rattle.std.specs.Prelude.{◌≡◌, ℕ, ◌<◌, ◌≤◌, List, length, slice_index}
 
--- a vector of so many lanes, each of which a rule tells by its number
+-- a vector of n lanes, each of which a rule tells by its number
 pub record HasLanes (many : ℕ) (rule : ℕ → ℕ) (lanes : List ℕ) : Type 0 where
   pub count : length lanes ≡ many
   pub each : (k : ℕ) → k < many → slice_index lanes k ≡ rule k

@@ -8,7 +8,7 @@ use lib.ListN.{get_elem?}
 use Rattle.loop_board.specs.Sums.{total, times, once_below}
 
 module _ {A : Type 0} where
-  -- the sum over two lists, one behind the other
+  -- the sum over two lists, one after the other
   pub total-append : (f : A → ℕ) (xs ys : List A) → total f (xs ++ ys) ≡ total f xs + total f ys
   total-append f [] ys = omega arith
   total-append f (x ∷ xs) ys = let r = total-append f xs ys in omega arith
@@ -34,7 +34,7 @@ module _ {A : Type 0} where
   total_le f g [] below = omega arith
   total_le f g (x ∷ xs) below = let here = below 0 x refl in let r = total_le f g xs (λ i y e. below (suc i) y e) in omega arith
 
--- how often x stands in two lists, one behind the other
+-- how often x stands in two lists, one after the other
 pub times-append : (x : ℕ) (xs ys : List ℕ) → times x (xs ++ ys) ≡ times x xs + times x ys
 times-append x [] ys = omega arith
 times-append x (z ∷ zs) ys = let r = times-append x zs ys in omega arith

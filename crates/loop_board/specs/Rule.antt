@@ -11,11 +11,11 @@ use Rattle.loop_board.specs.Sums.{total, times, once_below}
 use Rattle.loop_board.specs.History.{no_post, most_index, IsIndexOrNone, IsLeast}
 use Rattle.loop_board.specs.Seats.{BoardId, SeatRecord, IsWithinLimits}
 
--- the view of a seat that has so many parts of the right to know the whole, and has done nothing yet
+-- the view of a seat that has n parts of the right to know the whole, and has done nothing yet
 abbrev pub opening_view : Extent → ℕ → SeatView
 opening_view e parts = record { extent = e; parts = parts; nones = 0; draws = []; posts = []; looks = [] }
 
--- what a seat leaves behind that another took in: it holds nothing
+-- what a seat leaves after that another took in: it holds nothing
 abbrev pub spent_view : SeatView
 spent_view = record { extent = record { blocks = 0; workers = 0 }; parts = 0; nones = 0; draws = []; posts = []; looks = [] }
 

@@ -1,4 +1,4 @@
--- Sites that commute are applied one behind another.
+-- Sites that commute are applied one after another.
 use Rattle.std.proofs.Common.{◌≡◌, ℕ, zero, suc, ◌+◌, ◌<◌, Bool, true, false, List, [], ◌∷◌, refl, sym, ◌∙◌, ap, subst, arith}
 use Rattle.std.specs.List.{AllByRecursion, AllPairs}
 use Rattle.std.proofs.lemmas.List.Elements.{recursion_from_All}
@@ -19,7 +19,7 @@ use Rattle.loop_core_batch.proofs.BatchLaws.{loop_by_batch}
 use Rattle.loop_core_batch.proofs.SiteLaws.{sites_tell}
 use Rattle.loop_core_batch.proofs.Swapping.{Swap, apart_swap, first_keeps, second_keeps, reduces_swap}
 
--- an access that may change places with each of a list goes behind them
+-- an access that may change places with each of a list goes after them
 past_all : (a : Access) (others : List Access) → AllByRecursion (Swap a) others → (words : List ℕ) → words_after_all others (words_after a words) ≡ words_after a (words_after_all others words)
 past_all a [] all words = refl
 past_all a (other ∷ others) all words = ap (words_after_all others) (sym (all.0 words)) ∙ past_all a others all.1 (words_after other words)
@@ -36,7 +36,7 @@ past_lanes a log (suc lanes) each words =
     ap (words_after_all (of_lane log lanes)) (past_lanes a log lanes (λ lane within. each lane (omega arith)) words)
     ∙ past_all a (of_lane log lanes) (swap_each a log lanes (each lanes (omega arith))) (words_after_lanes (of_lane log) lanes words)
 
--- each later lane's access at a site may change places with earlier lanes' at the sites behind it
+-- each later lane's access at a site may change places with earlier lanes' at the sites after it
 abbrev pub GoesFirst : (ℕ → Access) → Log → ℕ → Type 0
 GoesFirst at log lanes = (later earlier : ℕ) → earlier < later → later < lanes → AllByRecursion (λ (other : ℕ → Access). Swap (at later) (other earlier)) log
 
@@ -54,7 +54,7 @@ nothing_left : (lanes : ℕ) (words : List ℕ) → words ≡ words_after_lanes 
 nothing_left zero words = refl
 nothing_left (suc lanes) words = nothing_left lanes words
 
--- each site goes first among those behind it
+-- each site goes first among those after it
 abbrev pub EachGoesFirst : Log → ℕ → Type 0
 EachGoesFirst [] lanes = Unit {0}
 EachGoesFirst (at ∷ log) lanes = GoesFirst at log lanes × EachGoesFirst log lanes
@@ -101,7 +101,7 @@ module _ (laws : OperatorsAssociate) (lanes : ℕ) where
             by_second = subst (λ (e : ℕ). MayAccess first.elements later e) same at_first.element;
           }))
 
-  -- so a site that commutes with those behind it goes first
+  -- so a site that commutes with those after it goes first
   goes_first : (site : Site) (at : ℕ → Access) → ((lane : ℕ) → lane < lanes → IsAtSite site lane (at lane)) → (sites : List Site) (log : Log) → IsLogOf lanes sites log →
       AllByRecursion (Commute lanes site) sites → GoesFirst at log lanes
   goes_first site at told [] [] tells all later earlier order within = tt

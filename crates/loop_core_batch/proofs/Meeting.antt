@@ -6,7 +6,7 @@ use Rattle.loop_core_batch.specs.declared.elements.Elements.{Elements}
 use Rattle.loop_core_batch.specs.declared.elements.Elements.TheVariants.{One, Run, Between}
 use Rattle.loop_core_batch.specs.Sites.{MayAccess, MayMeet, least_of, greatest_of}
 
--- two runs: the first begins behind the second, by less than all lanes
+-- two runs: the first begins after the second, by less than all lanes
 pub runs_meet : (base other lanes : ℕ) → other < base → base - other < lanes → MayMeet (Run base) (Run other) lanes
 runs_meet base other lanes behind near = record {
   earlier = 0;

@@ -10,12 +10,12 @@ use Rattle.loop_core_batch.specs.declared.site.Site.{Site}
 use Rattle.loop_core_batch.specs.Lanes.{words_after_lanes}
 use Rattle.loop_core_batch.specs.Sites.{Log, of_lane, MayMeet, kind_leaves, IsLogOf}
 
--- the words after one site's accesses of so many lanes
+-- the words after one site's accesses of n lanes
 abbrev pub words_after_site : (site : ℕ → Access) (lanes : ℕ) → List ℕ → List ℕ
 words_after_site site zero words = words
 words_after_site site (suc lanes) words = words_after (site lanes) (words_after_site site lanes words)
 
--- the words after all sites, one behind another
+-- the words after all sites, one after another
 abbrev pub words_after_sites : Log → (lanes : ℕ) → List ℕ → List ℕ
 words_after_sites [] lanes words = words
 words_after_sites (site ∷ sites) lanes words = words_after_sites sites lanes (words_after_site site lanes words)
@@ -25,7 +25,7 @@ abbrev pub by_one_operator : Kind → Kind → Bool
 by_one_operator (Reduce op) (Reduce other) = is_same op other
 by_one_operator _ _ = false
 
--- of two sites, one behind the other, the first may be applied for all lanes before the second is for any: one of them
+-- of two sites, one after the other, the first may be applied for all lanes before the second is for any: one of them
 -- writes nothing, or both reduce by one operator, or no lane may write at the second an element that a later one may write
 -- at the first
 abbrev pub Commute : (lanes : ℕ) (first second : Site) → Type 0

@@ -20,14 +20,14 @@ pub record GoesOn (program : Program) (bound : ℕ) (call : LoopCall) (index : �
 
 -- For every program, bound on an iteration's instructions, loop call and words: where the iterations from an index on, one
 -- a lane and each on these words, go on, and no lane sees an element that an earlier one writes, the loop from that index
--- is the loop behind them, on the words after the accesses of all lanes, whatever number of iterations is left.
+-- is the loop after them, on the words after the accesses of all lanes, whatever number of iterations is left.
 abbrev pub LoopByBatch : Type 0
 LoopByBatch = (program : Program) (bound : ℕ) (call : LoopCall) (first lanes left : ℕ) (words : List ℕ) (accesses : ℕ → List Access) →
     ((lane : ℕ) → lane < lanes → GoesOn program bound call (first + lane) words (accesses lane)) → NoneSees accesses lanes →
     loop_from program bound call (lanes + left) first words
     ≡ loop_from program bound call left (first + lanes) (words_after_lanes accesses lanes words)
 
--- The same by sites: where they tell of each access, no site's writes may be seen, and all sites commute, the loop behind
+-- The same by sites: where they tell of each access, no site's writes may be seen, and all sites commute, the loop after
 -- the lanes is on the words after all sites.
 abbrev pub LoopBySites : Type 0
 LoopBySites = (program : Program) (bound : ℕ) (call : LoopCall) (first lanes left : ℕ) (words : List ℕ) (sites : List Site) (log : Log) →

@@ -18,7 +18,7 @@ Log = List (ℕ → Access)
 abbrev pub of_lane : Log → ℕ → List Access
 of_lane log lane = map (λ (site : ℕ → Access). site lane) log
 
--- a lane may access the element: all lanes the same, each the one that is its number behind the base, or each any from the
+-- a lane may access the element: all lanes the same, each the one that is its number after the base, or each any from the
 -- low one to the high one
 abbrev pub MayAccess : Elements → (lane element : ℕ) → Type 0
 MayAccess (One only) lane element = element ≡ only
@@ -33,7 +33,7 @@ pub record IsAround (row : List ℕ) (elements : Elements) : Type 0 where
   pub least : All (λ element. low ≤ element) row × Contains row low
   pub greatest : All (λ element. element ≤ high) row × Contains row high
 
--- of so many lanes an earlier one may access an element by the first, and a later one the same by the second
+-- of n lanes an earlier one may access an element by the first, and a later one the same by the second
 pub record MayMeet (first second : Elements) (lanes : ℕ) : Type 0 where
   pub earlier : ℕ
   pub later : ℕ
@@ -43,7 +43,7 @@ pub record MayMeet (first second : Elements) (lanes : ℕ) : Type 0 where
   pub by_first : MayAccess first earlier element
   pub by_second : MayAccess second later element
 
--- the least element that a lane, or one behind it, may access
+-- the least element that a lane, or one after it, may access
 abbrev pub least_of : Elements → (lane : ℕ) → ℕ
 least_of (One only) lane = only
 least_of (Run base) lane = base + lane
@@ -82,7 +82,7 @@ pub record IsAtSite (site : Site) (lane : ℕ) (access : Access) : Type 0 where
   pub kind : kind_of access.action ≡ site.kind
   pub element : MayAccess site.elements lane access.element
 
--- the sites tell of each access of so many lanes
+-- the sites tell of each access of n lanes
 abbrev pub IsLogOf : (lanes : ℕ) → List Site → Log → Type 0
 IsLogOf lanes sites log = AllZip (λ site (at : ℕ → Access). (lane : ℕ) → lane < lanes → IsAtSite site lane (at lane)) sites log
 

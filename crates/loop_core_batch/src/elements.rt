@@ -8,7 +8,7 @@ ghost use Rattle.loop_core_batch.specs.Sites.{IsAround, MayAccess, MayMeet, leas
 pub enum Elements {
     /// All lanes access this element.
     One(u32),
-    /// Each lane accesses the element that is its number behind this one.
+    /// Each lane accesses the element that is its number after this one.
     Run(u32),
     /// Each lane accesses some element from `low` to `high`, both among them.
     Between { low: u32, high: u32 },
@@ -27,7 +27,7 @@ impl Elements {
         Some(Elements::Between { low, high })
     }
 
-    /// Tells whether, of so many lanes, a later one may access an element by `later` that an earlier one
+    /// Tells whether, of n lanes, a later one may access an element by `later` that an earlier one
     /// may access by these.
     pub fn may_meet(self, later: Elements, lanes: u32) -> bool
         ensures { IsTrue result ↔ MayMeet self later lanes }
@@ -45,7 +45,7 @@ impl Elements {
         }
     }
 
-    /// The least element that a lane, or one behind it, may access.
+    /// The least element that a lane, or one after it, may access.
     fn least(self, lane: u32) -> u64
         ensures { result ≡ least_of self lane }
     {

@@ -23,7 +23,7 @@ pub use loop_core_marks::Access;
 pub use site::{Site, all_commute, none_sees};
 
 /// The law of batches: where iterations go on that ran on the words from before them, and none sees an
-/// element that an earlier one writes, the loop in order is the loop behind them, on the words after
+/// element that an earlier one writes, the loop in order is the loop after them, on the words after
 /// their accesses. The same is told by sites.
 pub fn law_of_batches()
     ensures lanes { LoopByBatch }

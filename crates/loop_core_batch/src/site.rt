@@ -39,7 +39,7 @@ impl Site {
         true
     }
 
-    /// Whether this site may be applied for all lanes before another, which lies behind it, is for any.
+    /// Whether this site may be applied for all lanes before another, which lies after it, is for any.
     fn commutes(self, behind: Site, lanes: u32) -> bool
         ensures { IsTrue result ↔ Commute lanes self behind }
     {
@@ -62,7 +62,7 @@ impl Site {
     }
 }
 
-/// Tells whether, by these sites of all their accesses, no lane of so many may see an element that an
+/// Tells whether, by these sites of all their accesses, no lane of n may see an element that an
 /// earlier one may write.
 pub fn none_sees(sites: &[Site], lanes: u32) -> bool
     ensures { IsTrue result ↔ AllUnseen lanes sites.now }
@@ -75,7 +75,7 @@ pub fn none_sees(sites: &[Site], lanes: u32) -> bool
     true
 }
 
-/// Tells whether each site may be applied for all of so many lanes before those behind it are for any.
+/// Tells whether each site may be applied for all of n lanes before those after it are for any.
 pub fn all_commute(sites: &[Site], lanes: u32) -> bool
     ensures { IsTrue result ↔ AllCommute lanes sites.now }
 {

@@ -36,7 +36,7 @@ impl<'a> Block<'a> {
         self.first
     }
 
-    /// The index behind its last one: its first one where it is empty.
+    /// The index after its last one: its first one where it is empty.
     pub fn past(&self) -> u32
         ensures { result ≡ (shown self.now).past }
     {

@@ -147,7 +147,7 @@ not_late test n first (Some i) real none = le-ltb i first (go (cases_lt i first)
     go (inl less) = let off : test i ≡ false = none i (omega arith) less in let on = real.0 in absurd (cc)
     go (inr more) = more
 
--- behind the least break every block starts late
+-- after the least break every block starts late
 pub none_counts : (least : ℕ) (blocks : List Block) (k first : ℕ) (bounds : List ℕ) → least < first → falls first bounds ≡ false → counting (Some least) blocks k first bounds ≡ []
 none_counts least blocks k first [] late h = refl
 none_counts least blocks k first (past ∷ bounds) late h =
@@ -186,7 +186,7 @@ module _ (iterate : ℕ → BoundedResult Iterated) (whole : List ℕ) (n : ℕ)
       let inside : i < past = (let h = here.within in omega arith) in
       (inside, record { from = low; within = omega arith; passes = on; below = subst (λ (m : ℕ). NoneIn (breaking iterate) first m) same here.below })
 
-  -- a block that counts, and those behind it
+  -- a block that counts, and those after it
   with_block : (k first past : ℕ) (bounds : List ℕ) (b : Block) → block_numbered k blocks ≡ Some b → starts_late least first ≡ false → b.first ≡ first → b.past ≡ past →
       first ≤ past → past ≤ n → falls past bounds ≡ false → scan iterate (past - first) first ≡ Ended b.ran → AtMost least (break_from first b.ran) →
       IsReal (breaking iterate) n least → NoneIn (breaking iterate) 0 first →

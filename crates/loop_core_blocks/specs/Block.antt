@@ -21,7 +21,7 @@ abbrev pub break_from : ℕ → List Iterated → Option ℕ
 break_from index [] = None
 break_from index (it ∷ rest) = if it.ret == 1 then Some index else break_from (index + 1) rest
 
--- what was run, and unless it broke what is run behind it
+-- what was run, and unless it broke what is run after it
 abbrev pub unless_break : BoundedResult (List Iterated) → List Iterated → BoundedResult (List Iterated)
 unless_break behind iterations = if has_break iterations then Ended iterations else mapped (λ others. iterations ++ others) behind
 

@@ -32,7 +32,7 @@ pub written_by : (touched : Bool) (value : ℕ) (o : Option ℕ) → (touched �
 written_by true value o none = refl
 written_by false value o none = ap (λ (p : Option ℕ). unwrap_or p value) (sym (none refl))
 
--- the block at a place, and those behind it
+-- the block at a place, and those after it
 pub chosen_next : (blocks : List Held) (places : List ℕ) (i : ℕ) (b : Held) → i < length places → get_or places i 0 < length blocks →
     b ≡ get_or blocks (get_or places i 0) b → chosen (drop i places) (map shown blocks) ≡ shown b ∷ chosen (drop (i + 1) places) (map shown blocks)
 chosen_next blocks places i b inside within is =

@@ -54,7 +54,7 @@ late_none : (o : Option ℕ) (blocks : List Block) (k first : ℕ) (bounds : Lis
 late_none None blocks k first bounds late h = absurd (cc)
 late_none (Some least) blocks k first bounds late h = none_counts least blocks k first bounds (ltb-true least first late) h
 
--- behind a block that broke, none counts
+-- after a block that broke, none counts
 none_behind : (o : Option ℕ) (j : ℕ) (blocks : List Block) (k past : ℕ) (bounds : List ℕ) → AtMost o (Some j) → j < past → falls past bounds ≡ false →
     counting o blocks k past bounds ≡ []
 none_behind None j blocks k past bounds most below h = absurd most
@@ -62,7 +62,7 @@ none_behind (Some i) j blocks k past bounds most below h = none_counts i blocks 
 
 module _ (iterate : ℕ → BoundedResult Iterated) (whole : List ℕ) (least : Option ℕ) (blocks : List Block)
     (stand : (k : ℕ) (b : Block) → block_numbered k blocks ≡ Some b → Stands iterate whole least k b) where
-  -- those behind a block
+  -- those after a block
   behind : (k first past : ℕ) (bounds : List ℕ) (b : Block) → first ≤ past → falls past bounds ≡ false → b.first ≡ first → b.past ≡ past →
       scan iterate (b.past - b.first) b.first ≡ Ended b.ran → AtMost least (break_from b.first b.ran) → Follow past (counting least blocks (k + 1) past bounds) →
       (o : Option ℕ) → break_from b.first b.ran ≡ o → FirstIs (breaking iterate) b.first (b.first + (b.past - b.first)) o →

@@ -112,7 +112,7 @@ module _ (test : Test) (program : Program) (call : LoopCall) (words : List ℕ) 
   least_is : least ≡ least_break program 4096 call words
   least_is = counts.least_is ∙ gathers.break
 
-  -- so many iterations count
+  -- n iterations count
   answer_is : count_to call.n least ≡ counted program 4096 call words
   answer_is = ap (count_to call.n) least_is
 

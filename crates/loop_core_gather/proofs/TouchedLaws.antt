@@ -34,7 +34,7 @@ module _ (words : List ℕ) (page mask bit : ℕ) (within : page < length words)
         | inr apart ↦ ap (λ w. eqb (bit_at w k) 1) (get_or-set_other words page other (bit_or (get_or words page 0) mask) 0 apart) ∙ was
       ]
 
--- the first so many pages of a list are marked by a bit
+-- the first n pages of a list are marked by a bit
 pub record MarkedSoFar (old new pages : List ℕ) (bit k : ℕ) : Type 0 where
   pub count : length new ≡ length old
   pub each : (j page : ℕ) → j < k → slice_get pages j ≡ Some page → page < length old → is_page_marked new page bit ≡ true

@@ -23,13 +23,13 @@ told_of b = record { number = b.number; first = b.first; past = b.past; broke = 
 abbrev pub chosen : List ℕ → List BlockOf → List BlockOf
 chosen places blocks = filter_map (λ place. slice_get blocks place) places
 
--- the planes of a block stand for some iterations, for so many elements and this test
+-- the planes of a block stand for some iterations, for n elements and this test
 pub record HavePlanes (elements : ℕ) (test : Test) (b : BlockOf) : Type 0 where
   pub stand : StandForSome b.planes
   pub count : b.planes.elements ≡ elements
   pub test_is : test_of b.planes.tested ≡ test
 
--- at an element the visits of each block, one block behind the other
+-- at an element the visits of each block, one block after the other
 abbrev pub visits_at : (BlockOf → ℕ → List Visit) → List BlockOf → ℕ → List Visit
 visits_at each blocks e = joined (map (λ b. each b e) blocks)
 

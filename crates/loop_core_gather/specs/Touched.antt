@@ -20,7 +20,7 @@ pub record MarksPages (old new : List ℕ) (pages : List ℕ) (bit : ℕ) : Type
   pub each : (page : ℕ) → has_page pages page ≡ true → page < length old → is_page_marked new page bit ≡ true
   pub stay : (other k : ℕ) → is_page_marked old other k ≡ true → is_page_marked new other k ≡ true
 
--- of the blocks at the first so many of these places, the pages are marked, each block's by the bit of its number among
+-- of the blocks at the first n of these places, the pages are marked, each block's by the bit of its number among
 -- them
 abbrev pub AreMarked : List BlockOf → List ℕ → (number : ℕ) → List ℕ → Type 0
 AreMarked blocks places number touched = (i : ℕ) (b : BlockOf) (page : ℕ) → i < number → slice_get blocks (slice_index places i) ≡ Some b →

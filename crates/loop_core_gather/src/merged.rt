@@ -23,7 +23,7 @@ use std::alloc::{AllocError, Global};
 /// The lanes of a vector.
 const LANES: usize = 8;
 
-/// The planes of the blocks at these places, merged. All are for so many elements and one test.
+/// The planes of the blocks at these places, merged. All are for n elements and one test.
 pub(crate) fn merged_planes(
     alloc: Global,
     elements: u32,

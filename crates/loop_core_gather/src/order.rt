@@ -11,7 +11,7 @@ use loop_core_blocks::GatherFault;
 use loop_core_event::MAX_BLOCKS;
 use loop_core_split::{Split, is_late, lesser};
 
-/// So many places of blocks at most.
+/// This many places of blocks at most.
 pub(crate) const PLACES: usize = MAX_BLOCKS as usize;
 
 /// The blocks that count.

@@ -14,7 +14,7 @@ pub struct Summary {
     pub number: u32,
     /// Its first index.
     pub first: u32,
-    /// The index behind its last one.
+    /// The index after its last one.
     pub past: u32,
     /// The index at which it broke.
     pub broke: Option<u32>,

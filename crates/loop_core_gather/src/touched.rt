@@ -51,7 +51,7 @@ fn mark_all(touched: &mut [u64], blocks: &[Block], places: &[usize])
     }
 }
 
-/// A word for each page of so many elements: a bit for each of the blocks at these places, in order, that touched it.
+/// A word for each page of n elements: a bit for each of the blocks at these places, in order, that touched it.
 pub(crate) fn touched_pages(
     alloc: Global,
     elements: u32,

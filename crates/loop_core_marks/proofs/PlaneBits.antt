@@ -60,7 +60,7 @@ elements-cons width wide word words =
     behind_first : (e : ℕ) → bit_of (word ∷ words) (width + e) ≡ bit_of words e
     behind_first e = at_place ((width + e) / 64) (suc (e / 64)) ((width + e) % 64) (e % 64) (omega (arith, wide)) (omega (arith, wide))
 
--- so many bits are set
+-- n bits are set
 bits_in-count : (width word : ℕ) → word < 2 ^ width → length (bits_in width word) ≡ count_ones word
 unfolding bits_in
 bits_in-count zero word h =

@@ -39,7 +39,7 @@ least_bit k (word ∷ words) = if word == 0 then least_bit (k + 1) words else So
 abbrev pub plane_verdict : List ℕ → Verdict
 plane_verdict words = judged_by (set_bits words) (least_bit 0 words)
 
--- a plane whose bits say what a test says of so many elements, and are zero past the end, has just the elements that pass
+-- a plane whose bits say what a test says of n elements, and are zero past the end, has just the elements that pass
 abbrev pub PlaneHasElements : Type 0
 PlaneHasElements = (words : List ℕ) (test : ℕ → Bool) (elements : ℕ) → elements ≤ 64 * length words →
     ((e : ℕ) → e < elements → bit_of words e ≡ test e) → ((e : ℕ) → elements ≤ e → e < 64 * length words → bit_of words e ≡ false) →

@@ -39,7 +39,7 @@ any_from p [] k inside h = absurd (omega arith)
 any_from p (x ∷ xs) zero inside h = or_left (p x) (list_any p xs) h
 any_from p (x ∷ xs) (suc k) inside h = or_right (p x) (list_any p xs) (any_from p xs k (omega arith) h)
 
--- the first iteration writes, and one behind it reads
+-- the first iteration writes, and one after it reads
 reader_behind : (test : Test) → ((reader : ℕ) → Opposed test 0 (suc reader)) → (it : List Action) (its : List (List Action)) →
     (writes it && list_any exposed its) ≡ true → FailingPair test (it ∷ its)
 reader_behind test opposed it its h =
@@ -54,7 +54,7 @@ reader_behind test opposed it its h =
       reading = at.passes;
     }
 
--- the first iteration reads, and one behind it writes
+-- the first iteration reads, and one after it writes
 writer_behind : (it : List Action) (its : List (List Action)) → (exposed it && list_any writes its) ≡ true → FailingPair Lrpd (it ∷ its)
 writer_behind it its h =
     let at = any_at writes its (and_true_right (exposed it) _ h) in
@@ -72,7 +72,7 @@ later_opposed : (test : Test) (writer reader : ℕ) → Opposed test writer read
 later_opposed Lrpd writer reader h = omega arith
 later_opposed Flow writer reader h = omega arith
 
--- both stand behind the first
+-- both stand after the first
 both_behind : (test : Test) (it : List Action) (its : List (List Action)) → FailingPair test its → FailingPair test (it ∷ its)
 both_behind test it its c =
     record {
@@ -126,7 +126,7 @@ clash_from (it ∷ its) (suc writer) (suc reader) inside inside' apart w r =
     or_right (writes it && list_any exposed its) _
     (or_right (exposed it && list_any writes its) (fails_lrpd its) (clash_from its writer reader (omega arith) (omega arith) (omega arith) w r))
 
--- a writer fails the flow test with a reader behind it
+-- a writer fails the flow test with a reader after it
 harm_from : (its : List (List Action)) (writer reader : ℕ) → writer < reader → reader < length its →
     writes (slice_index_or its writer []) ≡ true → exposed (slice_index_or its reader []) ≡ true → fails_flow its ≡ true
 harm_from [] writer reader before inside w r = absurd (omega arith)

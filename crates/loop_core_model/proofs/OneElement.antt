@@ -121,7 +121,7 @@ calm_next start word first rest true w unharmed calm = inr unharmed
 calm_next start word first rest false w unharmed (inl same) = inl (unwritten_left first word w ∙ same)
 calm_next start word first rest false w unharmed (inr none) = inr (or_false_right (exposed first) _ none)
 
--- and then the same is known of the iterations behind it
+-- and then the same is known of the iterations after it
 pub holds_next : (start word : ℕ) (first : List Action) (rest : List (List Action)) → Holds start word (first ∷ rest) → Holds start (left_by_all first word) rest
 holds_next start word first rest (inl reduced) = inl (reduced.0, all_right (reduces_by reduced.0) first (joined rest) reduced.1)
 holds_next start word first rest (inr calm) =

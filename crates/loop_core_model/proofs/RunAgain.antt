@@ -23,7 +23,7 @@ saws_head access accesses words inside saws =
     here (saws access.element inside) in
     both.0
 
--- the others saw what was there behind it
+-- the others saw what was there after it
 saws_tail : (access : Access) (accesses : List Access) (words : List ℕ) → Saws (access ∷ accesses) words → Saws accesses (words_after access words)
 saws_tail access accesses words saws e inside =
     let within : e < length words = subst (λ (n : ℕ). e < n) (length-words_after access words) inside in

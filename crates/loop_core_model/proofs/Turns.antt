@@ -1,4 +1,4 @@
--- Any chains of accesses, one behind the other. Nothing is known of what made them: each access says what it saw and
+-- Any chains of accesses, one after the other. Nothing is known of what made them: each access says what it saw and
 -- left, and a chain fits words where each saw what was there.
 use Rattle.std.proofs.Common.{◌≡◌, ℕ, ◌<◌, Bool, true, false, List, [], ◌∷◌, ◌++◌, length, refl, sym, ◌∙◌, ap, subst}
 use Rattle.std.specs.Prelude.{slice_index, if◌then◌else◌, ◌==◌}
@@ -54,7 +54,7 @@ in_turn (accesses ∷ runs) start now same saws holds =
           (holds_next (slice_index start e) (slice_index now e) (actions_at e accesses) (at_element e runs) (holds e h))),
     )
 
--- no element of so many is harmed
+-- no element of n is harmed
 abbrev pub UnharmedEach : List (List Access) → ℕ → Type 0
 UnharmedEach runs elements = (e : ℕ) → e < elements → Unharmed (at_element e runs)
 

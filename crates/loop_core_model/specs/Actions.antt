@@ -45,7 +45,7 @@ reduces_by op (Write left) = false
 reduces_by op (ReadWrite saw left) = false
 reduces_by op (Reduce other operand) = is_same op other
 
--- the actions of several iterations, one iteration behind the other
+-- the actions of several iterations, one iteration after the other
 abbrev pub joined {ℓ} : {A : Type ℓ} → List (List A) → List A
 joined [] = []
 joined (xs ∷ rest) = xs ++ joined rest

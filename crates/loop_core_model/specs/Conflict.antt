@@ -29,7 +29,7 @@ conflicts test iterations = is_none (only_operator (joined iterations)) && fails
 abbrev pub at_element : ℕ → List (List Access) → List (List Action)
 at_element element runs = map (actions_at element) runs
 
--- the conflicting elements of so many, rising
+-- the conflicting elements of n, rising
 abbrev pub conflicting : Test → List (List Access) → ℕ → List ℕ
 conflicting test runs elements = filter (λ e. conflicts test (at_element e runs)) (range_with_len 0 elements)
 

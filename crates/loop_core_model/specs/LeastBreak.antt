@@ -29,7 +29,7 @@ is_break (Ended it) = it.ret == 1
 abbrev pub least_break : Program → ℕ → LoopCall → List ℕ → Option ℕ
 least_break program bound call words = least_below (λ index. is_break (iteration program bound call index words)) call.n
 
--- so many count: up to the least break, or all
+-- this many count: up to the least break, or all
 abbrev pub count_to : ℕ → Option ℕ → ℕ
 count_to n None = n
 count_to n (Some index) = index + 1

@@ -6,11 +6,11 @@ use Rattle.bpf_step_model.specs.Run.{BoundedResult, Ended, followed}
 use Rattle.bpf_step_model.specs.Iteration.{Iterated, iteration}
 use Rattle.loop_core_model.specs.LeastBreak.{in_front_of, all_ended, counted_iterations}
 
--- an iteration, and unless it breaks the ones behind it
+-- an iteration, and unless it breaks the ones after it
 abbrev pub up_to_break : BoundedResult (List Iterated) → Iterated → BoundedResult (List Iterated)
 up_to_break behind it = if it.ret == 1 then Ended (it ∷ []) else in_front_of behind it
 
--- at most so many iterations from an index on, up to the first that breaks
+-- at most n iterations from an index on, up to the first that breaks
 abbrev pub scan : (ℕ → BoundedResult Iterated) → (left index : ℕ) → BoundedResult (List Iterated)
 scan iterate zero index = Ended []
 scan iterate (suc left) index = followed (up_to_break (scan iterate left (index + 1))) (iterate index)

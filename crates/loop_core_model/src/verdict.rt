@@ -5,7 +5,7 @@
 pub enum Verdict {
     /// Its iterations ran in parallel and were committed.
     Parallel,
-    /// Elements conflicted, so many of them, and this is the least; the loop ran in order.
+    /// This many elements conflicted, and this is the least; the loop ran in order.
     Conflict { count: u32, least: u32 },
     /// The call was refused with -22 or -7.
     Refused,

@@ -29,7 +29,7 @@ abbrev pub times : ℕ → List ℕ → ℕ
 times k [] = 0
 times k (block ∷ runs) = bit (block == k) + times k runs
 
--- of so many indices from this one on, the first that breaks
+-- of n indices from this one on, the first that breaks
 abbrev pub first_break : (ℕ → Bool) → (left index : ℕ) → Option ℕ
 first_break breaks zero index = None
 first_break breaks (suc left) index = if breaks index then Some index else first_break breaks left (index + 1)
@@ -86,7 +86,7 @@ pub record RunsFrom (breaks : ℕ → Bool) (bounds : List ℕ) (block index : �
   pub before_end : index < end_of bounds block
   pub no_break : break_of breaks bounds block ≡ first_break breaks (end_of bounds block - index) index
 
--- what is known of a worker where so many blocks were taken
+-- what is known of a worker where n blocks were taken
 abbrev pub Fits : (ℕ → Bool) → List ℕ → ℕ → Worker → Type 0
 Fits breaks bounds next Idle = Unit {0}
 Fits breaks bounds next (Holding block) = block < blocks_of bounds

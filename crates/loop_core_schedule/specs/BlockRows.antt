@@ -14,7 +14,7 @@ use Rattle.loop_core_marks.specs.Marks.{Marks, marks_of, numbered}
 use Rattle.loop_core_blocks.specs.Block.{block_run}
 use Rattle.loop_core_blocks.specs.Kept.{Kept, kept}
 
--- the loop of n iterations of a callback over so many elements, and its block of an interval
+-- the loop of n iterations of a callback over n elements, and its block of an interval
 abbrev pub block_of : (elements n : ℕ) → List Insn → (before : List ℕ) (first past : ℕ) → BoundedResult (List Iterated)
 block_of elements n callback before first past = block_run (looping (elements ∷ []) n callback) 20 (worked_call n) before first past
 
@@ -42,7 +42,7 @@ pub record RightRows : Type 0 where
   pub first : of_each 5 0 (λ m. m.first) right ≡ Ended (None ∷ Some 0 ∷ Some 1 ∷ Some 2 ∷ Some 3 ∷ [])
   pub last : of_each 5 0 (λ m. m.last) right ≡ Ended (1 ∷ 2 ∷ 3 ∷ 4 ∷ 0 ∷ [])
 
--- each element gets the one behind it: each is read before it is written
+-- each element gets the one after it: each is read before it is written
 abbrev pub left : BoundedResult (List Iterated)
 left = block_of 5 4 shift_left (1 ∷ 2 ∷ 3 ∷ 4 ∷ 5 ∷ []) 0 4
 

@@ -52,7 +52,7 @@ looks bounds block shared =
     else if start_of bounds block == end_of bounds block then having_run block Idle shared
     else becomes (Running block (start_of bounds block)) shared
 
--- does an iteration: where it returns 1 the block broke, and the index is to be posted; behind the last one the block
+-- does an iteration: where it returns 1 the block broke, and the index is to be posted; after the last one the block
 -- has been run
 abbrev pub iterates : (ℕ → Bool) → List ℕ → (block index : ℕ) → Shared → Moved
 iterates breaks bounds block index shared =

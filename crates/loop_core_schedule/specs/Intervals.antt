@@ -9,6 +9,6 @@ blocks_of bounds = length bounds - 1
 abbrev pub start_of : List ℕ → ℕ → ℕ
 start_of bounds block = slice_index bounds block
 
--- the index behind its last one; it is the first where the block is empty
+-- the index after its last one; it is the first where the block is empty
 abbrev pub end_of : List ℕ → ℕ → ℕ
 end_of bounds block = slice_index bounds (block + 1)

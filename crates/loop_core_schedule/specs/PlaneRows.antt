@@ -17,7 +17,7 @@ abbrev pub word_of_bits : List Bool → ℕ
 word_of_bits [] = 0
 word_of_bits (bit ∷ bits) = (if bit then 1 else 0) + 2 * word_of_bits bits
 
--- so many words of some bits, 64 in each
+-- n words of some bits, 64 in each
 abbrev pub plane_of : ℕ → List Bool → List ℕ
 plane_of zero bits = []
 plane_of (suc words) bits = word_of_bits (take 64 bits) ∷ plane_of words (drop 64 bits)
@@ -37,7 +37,7 @@ pub record WorkedPlanes : Type 0 where
   pub lrpd : List ℕ
   pub flow : List ℕ
 
--- the planes, of so many words, of the marks of each element
+-- the planes, of n words, of the marks of each element
 abbrev pub planes_of : ℕ → List Marks → WorkedPlanes
 planes_of words marks = record {
   w = plane_of words (map (λ (m : Marks). m.written) marks);
@@ -54,11 +54,11 @@ planes_of words marks = record {
   flow = plane_of words (map (marked_conflict Flow) marks);
 }
 
--- a block from index 0 on over so many elements has these planes, of so many words
+-- a block from index 0 on over n elements has these planes, of n words
 abbrev pub HasPlanes : (elements words : ℕ) → BoundedResult (List Iterated) → WorkedPlanes → Type 0
 HasPlanes elements words ran planes = mapped (planes_of words) (of_each elements 0 (λ marks. marks) ran) ≡ Ended planes
 
--- no element has any mark: so many words 0
+-- no element has any mark: n words 0
 abbrev pub unmarked : ℕ → WorkedPlanes
 unmarked words =
     let none : List ℕ = replicate words 0 in
@@ -77,8 +77,8 @@ abbrev pub element_zero : List ℕ
 element_zero = 1 ∷ []
 
 -- each element gets the one before it: 1 to 4 are written, 0 to 3 read, 1 to 3 both, by different iterations; or the one
--- behind it, where by the flow test none conflicts; 65 elements that are read and then written; adds and ors to one
--- element; and plain stores to one, which each iteration reads behind its own
+-- after it, where by the flow test none conflicts; 65 elements that are read and then written; adds and ors to one
+-- element; and plain stores to one, which each iteration reads after its own
 pub record MarkRows : Type 0 where
   pub right : HasPlanes 5 1 right (record (unmarked 1) { w = 30 ∷ []; r = 15 ∷ []; nx = 31 ∷ []; lrpd = 14 ∷ []; flow = 14 ∷ [] })
   pub left : HasPlanes 5 1 left (record (unmarked 1) { w = 15 ∷ []; r = 30 ∷ []; nx = 31 ∷ []; lrpd = 14 ∷ [] })
@@ -86,7 +86,7 @@ pub record MarkRows : Type 0 where
   pub mixed : HasPlanes 1 1 mixed (record (unmarked 1) { w = element_zero; m = element_zero; np = element_zero; add = element_zero; or = element_zero; lrpd = element_zero; flow = element_zero })
   pub writers : HasPlanes 1 1 writers (record (unmarked 1) { w = element_zero; m = element_zero; nx = element_zero })
 
--- a plane has so many bits that are set, of which this is the least, and tells this verdict
+-- a plane has n bits that are set, of which this is the least, and tells this verdict
 pub record PlaneTells (plane : List ℕ) (many : ℕ) (first : Option ℕ) (verdict : Verdict) : Type 0 where
   pub count : set_bits plane ≡ many
   pub least : least_bit 0 plane ≡ first

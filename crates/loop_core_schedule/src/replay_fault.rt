@@ -12,7 +12,7 @@ pub enum ReplayFault {
     /// The event at this index isn't enabled.
     #[error("E2 at event {event}")]
     NotEnabled { event: usize },
-    /// The list hasn't ended: it has so many events.
+    /// The list hasn't ended: it has this many events.
     #[error("E3 at event {events}")]
     NotEnded { events: usize },
 }

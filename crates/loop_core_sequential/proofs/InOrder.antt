@@ -29,7 +29,7 @@ begins program call callback maps a b long sizes = record {
   kept = refl;
 }
 
--- the loop behind an iteration that ended
+-- the loop after an iteration that ended
 behind_it : (program : Program) (call : LoopCall) (index left : ℕ) (words : List ℕ) (it : Iterated) → iteration program 4096 call index words ≡ Ended it
     → loop_from program 4096 call (suc left) index words ≡ behind (loop_from program 4096 call left (index + 1)) index it
 behind_it program call index left words it told = ap (followed (behind (loop_from program 4096 call left (index + 1)) index)) told

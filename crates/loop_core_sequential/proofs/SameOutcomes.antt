@@ -39,7 +39,7 @@ map_same {A} f g from (suc count) same =
     ap (λ (x : A). x ∷ map f (range_with_len (from + 1) count)) (same from (omega arith))
     ∙ ap (λ (xs : List A). g from ∷ xs) (map_same f g (from + 1) count (λ i h. same i (omega arith)))
 
--- the counted of so many iterations
+-- the counted of n iterations
 abbrev counted_of : (n : ℕ) → (ℕ → BoundedResult Iterated) → List (BoundedResult Iterated)
 counted_of n iterate = map iterate (range_with_len 0 (count_to n (least_below (λ (i : ℕ). is_break (iterate i)) n)))
 

@@ -123,7 +123,7 @@ impl Split {
         self.bounds[block as usize]
     }
 
-    /// The index behind the last one of a block: the first one where the block is empty. The block is one
+    /// The index after the last one of a block: the first one where the block is empty. The block is one
     /// of its blocks.
     pub fn end(&self, block: u32) -> u32
         requires { block < blocks_of self.now }

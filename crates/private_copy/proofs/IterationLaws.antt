@@ -26,7 +26,7 @@ or_true false = refl
 writes_more : (actions : List Action) (action : Action) → writes (actions ++ action ∷ []) ≡ (writes actions || is_write action)
 writes_more actions action = list_any-append is_write actions (action ∷ []) ∙ ap (λ b. writes actions || b) (or-false (is_write action))
 
--- the last value behind earlier iterations
+-- the last value after earlier iterations
 abbrev value_of : Bool → List Action → Option (List Action) → ℕ → Option ℕ
 value_of wrote actions earlier word = option_map (λ acts. left_by_all acts word) (option_or (if wrote then Some actions else None) earlier)
 

@@ -48,7 +48,7 @@ where_stands keys n p at found absent =
       is = here;
     }
 
--- the pages of a swap: the page at a place behind the first comes behind them
+-- the pages of a swap: the page at a place after the first comes after them
 pub take_swap : (keys : List ℕ) (n p at : ℕ) → Stands keys n p at → take (n + 1) (swap keys at n) ≡ take n keys ++ p ∷ []
 take_swap [] n p at h = absurd (let w = h.within in omega arith)
 take_swap (d ∷ ys) n p at h =

@@ -18,7 +18,7 @@ mixed_stays (Write left ∷ actions) = mixed_stays actions
 mixed_stays (ReadWrite saw left ∷ actions) = mixed_stays actions
 mixed_stays (Reduce op operand ∷ actions) = mixed_stays actions
 
--- behind a first operand
+-- after a first operand
 from_first : (op : Op) (first : ℕ) (actions : List Action) →
     partial_by (if list_all (reduces_by op) actions then Some op else None) (first ∷ operands actions) ≡ combination (reduction_from (By op first) actions)
 from_first op first [] = refl

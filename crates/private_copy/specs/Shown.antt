@@ -29,7 +29,7 @@ copy_of p = record {
   begun = p.begun;
 }
 
--- an iteration of so many accesses was begun: it sees the start words, and nothing is marked or remembered of it
+-- an iteration of n accesses was begun: it sees the start words, and nothing is marked or remembered of it
 pub record IsBegun (old : PrivateCopy) (need : ℕ) (new : PrivateCopy) : Type 0 where
   pub start : new.start ≡ old.start
   pub words : new.words ≡ old.start

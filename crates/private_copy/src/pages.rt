@@ -72,7 +72,7 @@ impl Pages {
         Ok(())
     }
 
-    /// Makes spare pages until there are so many.
+    /// Makes spare pages until there are this many.
     #[cold]
     #[inline(never)]
     fn make_spare(&mut self, alloc: Global, wanted: usize) -> Result<(), AllocError>

@@ -79,7 +79,7 @@ impl<'a> Private<'a> {
         })
     }
 
-    /// Begins an iteration of at most so many accesses, which is at most 4,096. None is under way, and
+    /// Begins an iteration of at most n accesses, which is at most 4,096. None is under way, and
     /// fewer than 4,294,967,295 were begun. Spare pages are made here, so that the iteration itself takes
     /// no memory; where one was refused nothing has changed, and it may be called again.
     pub fn begin(&mut self, alloc: Global, need: u32) -> Result<(), AllocError>

@@ -18,7 +18,7 @@ or_true : (b : Bool) → (b || true) ≡ true
 or_true true = refl
 or_true false = refl
 
--- operators stand behind the other flags
+-- operators stand after the other flags
 behind : (n : ℕ) (op : Op) → n < 3 → eqb n (place_by op) ≡ false
 behind n Add h = ne_eqb n 3 (λ same. absurd (omega arith))
 behind n Or h = ne_eqb n 4 (λ same. absurd (omega arith))

@@ -18,7 +18,7 @@ use Rattle.shadow_marks.specs.declared.planes.Planes.{Planes}
 abbrev pub words_for : ℕ → ℕ
 words_for elements = (elements + 63) / 64
 
--- a plane of bits for so many elements, zero past the end
+-- a plane of bits for n elements, zero past the end
 pub record IsBitPlane (elements : ℕ) (words : List ℕ) : Type 0 where
   pub count : length words ≡ words_for elements
   pub past : (e : ℕ) → elements ≤ e → bit_of words e ≡ false

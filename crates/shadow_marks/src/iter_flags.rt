@@ -26,7 +26,7 @@ impl IterFlags {
     ghost use Rattle.loop_core_marks.specs.Flags.{flagged};
     ghost use Rattle.shadow_marks.specs.Iteration.{element_count, touched_count, flags_at, IsEmptied, TakesFlags, TakesNone};
 
-    /// Flags for so many elements, none of them touched. All room that an iteration needs is made here.
+    /// Flags for n elements, none of them touched. All room that an iteration needs is made here.
     pub fn try_new(alloc: Global, elements: u32) -> Result<IterFlags, AllocError>
         ensures elements { IfOk result (λ flags. element_count flags ≡ elements) }
         ensures emptied { IfOk result IsEmptied }

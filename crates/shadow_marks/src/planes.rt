@@ -48,7 +48,7 @@ pub struct OperatorPlanes {
     pub addh: Vec<u64>,
 }
 
-/// What is remembered of the iterations that ended, at each of so many elements. The planes of bits
+/// What is remembered of the iterations that ended, at each of n elements. The planes of bits
 /// have 64 elements in a word, the least first, and are zero past the end.
 #[derive(Drop)]
 pub struct Planes {
@@ -66,7 +66,7 @@ pub struct Planes {
 pub const NO_WRITER: u32 = 4_294_967_295;
 
 impl Planes {
-    /// Planes for so many elements and a test, on which no iteration was ended.
+    /// Planes for n elements and a test, on which no iteration was ended.
     pub fn try_new(alloc: Global, elements: u32, test: Test) -> Result<Planes, AllocError>
         ensures elements { IfOk result (λ planes. planes.elements ≡ elements) }
         ensures test { IfOk result (λ planes. test_of planes.tested ≡ test) }

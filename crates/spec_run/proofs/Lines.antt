@@ -6,15 +6,15 @@ use Rattle.loop_core_model.specs.declared.verdict.LoopReport.{LoopReport}
 use Rattle.loop_core_model.specs.LeastBreak.{in_front_of, all_ended}
 use Rattle.loop_core_model.specs.Report.{Reported, with_lines, reported_with}
 
--- the report of a program behind lines that were told before
+-- the report of a program after lines that were told before
 abbrev pub behind_lines : List LoopReport → Reported → Reported
 behind_lines lines r = record { ret = r.ret; loops = lines ++ r.loops; words = r.words }
 
--- and the report of what main does, line by line, behind them
+-- and the report of what main does, line by line, after them
 abbrev pub told_behind : (LoopMade → BoundedResult LoopReport) → List LoopReport → BoundedResult Finished → BoundedResult Reported
 told_behind line_of lines e = mapped (behind_lines lines) (reported_with line_of e)
 
--- a report is one behind no lines
+-- a report is one after no lines
 pub no_lines : (e : BoundedResult Reported) → e ≡ mapped (behind_lines []) e
 no_lines (Ended r) = refl
 no_lines Stuck = refl

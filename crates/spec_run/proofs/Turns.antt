@@ -41,7 +41,7 @@ program_ends {program} laws argument small maps sizes count fit =
     laws.loops.programs program laws.sound 4096 (few_slots program laws.sound.accepted) argument small maps.words
     (map_words program maps.words (count ∙ ap (λ (sizes : List ℕ). sum sizes) sizes) fit)
 
--- before a turn the report is what main still does, behind the lines so far
+-- before a turn the report is what main still does, after the lines so far
 pub record StillRuns (line_of : LoopMade → BoundedResult LoopReport) (whole : BoundedResult Reported) (program : Program) (main : MainOf) (first now : MapList) (lines : List LoopReport) : Type 0 where
   pub laws : Laws program
   pub same : main.program ≡ program
@@ -73,7 +73,7 @@ starts line_of program argument main maps laws same at sizes count fit none_told
   kept = refl;
 }
 
--- behind a turn
+-- after a turn
 pub record Came (line_of : LoopMade → BoundedResult LoopReport) (whole : BoundedResult Reported) (program : Program) (slot : ℕ) (turn : StopReason) (words : List ℕ) (lines : List LoopReport) : Type 0 where
   pub turns : ℕ
   pub few : most_after program turn ≤ turns
@@ -146,7 +146,7 @@ NextTurn main now turn after new = (m : Machine) → IsAt main m → RanMain wor
 
 module _ {line_of : LoopMade → BoundedResult LoopReport} {whole : BoundedResult Reported} {program : Program} {main : MainOf} {first now : MapList} {lines : List LoopReport}
     (still : StillRuns line_of whole program main first now lines) where
-  -- main takes at most so many instructions more
+  -- main takes at most n instructions more
   pub few_left : most_from main.program main.slot ≤ 4096
   few_left = subst (λ (p : Program). most_from p main.slot ≤ 4096) (sym still.same) (few_steps program main.slot still.laws.sound.accepted)
 

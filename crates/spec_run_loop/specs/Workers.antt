@@ -19,7 +19,7 @@ pub record IsWorkerAt (test : Test) (program : Program) (call : LoopCall) (words
   pub worker : IsWorkerOf test program call words bounds w
   pub at_board : w.seat.board ≡ board
 
--- seats and blocks are those of so many whole workers at this board
+-- seats and blocks are those of n whole workers at this board
 pub record AreOfWorkers (test : Test) (program : Program) (call : LoopCall) (words : List ℕ) (bounds : List ℕ) (board : BoardId) (number : ℕ) (seats : List SeatRecord) (blocks : List BlockOf) : Type 0 where
   pub workers : List WorkerOf
   pub are : AllByRecursion (IsWorkerAt test program call words bounds board) workers

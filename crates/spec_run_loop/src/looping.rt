@@ -29,7 +29,7 @@ use spec_run_work::law_of_workers;
 use std::alloc::{AllocError, Global};
 use std::thread::Threads;
 
-/// Whether there are 1 to 16 workers, and the split is of so many iterations.
+/// Whether there are 1 to 16 workers, and the split is of n iterations.
 fn is_loop_plan(workers: u32, split: &Split, n: u32) -> bool
     ensures { IsTrue result ↔ IsLoopPlan workers split.now n }
 {
@@ -183,7 +183,7 @@ fn run_split<R: Threads + Sync, G: Gate>(
     }
 }
 
-/// How many even blocks a loop is run over, of at most so many. Where the gate holds nobody, only those that are worth what
+/// How many even blocks a loop is run over, of at most this many. Where the gate holds nobody, only those that are worth what
 /// each of them costs, which keeps marks of all elements: one of a short loop; of a longer one as many as there are
 /// workers, or one for as many iterations as there are elements.
 fn worthwhile_blocks<G: Gate>(
@@ -209,7 +209,7 @@ fn worthwhile_blocks<G: Gate>(
     (call.n() / elements.max(1)).max(workers).min(most)
 }
 
-/// Runs a loop call that main of this program made, as `run_loop` does, by 1 to 16 workers over at most so many even
+/// Runs a loop call that main of this program made, as `run_loop` does, by 1 to 16 workers over at most n even
 /// blocks, 1 to 64: on these maps themselves, which are of the program's sizes, and change only where it gives an answer.
 #[tactic(auto, using(crate::proofs::EvenLaws::even_is, crate::proofs::EvenLaws::even_plan))]
 pub fn run_loop_evenly<R: Threads + Sync, G: Gate>(
@@ -263,7 +263,7 @@ fn run_planned<R: Threads + Sync, G: Gate>(
     run_loop_evenly(rt, alloc, program, call, maps, blocks, workers, gate, test)
 }
 
-/// Runs a loop call that main of this program made, from these maps, by so many workers, each in a thread of its
+/// Runs a loop call that main of this program made, from these maps, by n workers, each in a thread of its
 /// own, over the blocks of a split. A loop that passes the test is committed on a copy of the maps, by several threads
 /// too; any other is run in order on one. It waits for its threads, and where one can't be started, the others do its
 /// share. Where the gate holds nobody, only what pays is done: a short loop is run by the calling thread alone, as one

@@ -27,7 +27,7 @@ one_refused number made refused (Ended f) = rw refused refl
 one_refused number made refused Stuck = refl
 one_refused number made refused Unfinished = refl
 
--- a valid call is the first, where what comes behind it ends
+-- a valid call is the first, where what comes after it ends
 valid_made : (number : ℕ) (slot : ℕ) (answer : ℤ) (words : List ℕ) (call : LoopCall) (e : BoundedResult Finished) (valid : Option ValidLoop)
     → mapped (first_of number) (mapped (with_loop (record { slot = slot; answer = answer; words = words; call = Some call })) e) ≡ Ended valid
     → valid ≡ Some (record { number = number; call = call; words = words })
@@ -83,7 +83,7 @@ starts program argument main maps sound same at fit sizes = record {
   sizes = sizes;
 }
 
--- behind a turn
+-- after a turn
 record Came (program : Program) (argument : ℕ) (slot : ℕ) (first : MapList) (turn : StopReason) (words : List ℕ) (number : ℕ) : Type 0 where
   turns : ℕ
   few : most_after program turn ≤ turns

@@ -54,7 +54,7 @@ pub on_err : {A E : Type 0} (P : Type 0) (r : Result A E) → P → OnErr r P
 on_err P (Ok a) h = tt
 on_err P (Err e) h = h
 
--- what holds of each element of two lists holds of both, one behind the other
+-- what holds of each element of two lists holds of both, one after the other
 pub all_append : {A : Type 0} (P : A → Type 0) (xs ys : List A) → AllByRecursion P xs → AllByRecursion P ys → AllByRecursion P (xs ++ ys)
 all_append P [] ys all more = more
 all_append P (x ∷ xs) ys all more = (all.0, all_append P xs ys all.1 more)
@@ -65,7 +65,7 @@ all_images P f [] all k d below = absurd (omega arith)
 all_images P f (x ∷ xs) all zero d below = all.0
 all_images P f (x ∷ xs) all (suc k) d below = all_images P f xs all.1 k d (omega arith)
 
--- the runs of draws behind others
+-- the runs of draws after others
 pub runs-append : (bounds draws looks more_draws more_looks : List ℕ) → length looks ≡ length draws →
     runs_of bounds (draws ++ more_draws) (looks ++ more_looks) ≡ runs_of bounds draws looks ++ runs_of bounds more_draws more_looks
 runs-append bounds [] [] more_draws more_looks same = refl

@@ -10,7 +10,7 @@ use Rattle.loop_board.specs.Seats.{SeatRecord}
 use Rattle.loop_core_block.specs.Blocks.{BlockOf}
 use Rattle.loop_core_block.specs.Ran.{RecordsRun}
 
--- of the blocks drawn, in order, and of what the look behind each answered: the numbers of those that are run, which are
+-- of the blocks drawn, in order, and of what the look after each answered: the numbers of those that are run, which are
 -- all that don't start past that answer
 abbrev pub runs_of : List ℕ → (draws looks : List ℕ) → List ℕ
 runs_of bounds [] looks = []
@@ -40,7 +40,7 @@ pub record DidMore (old new : SeatRecord) (draws looks posts : List ℕ) : Type 
   pub saw : new.history.looks ≡ old.history.looks ++ looks
   pub posted : new.history.posts ≡ old.history.posts ++ posts
 
--- a whole worker: it looked once behind each block that it drew, ran those that don't start past the answer, in order,
+-- a whole worker: it looked once after each block that it drew, ran those that don't start past the answer, in order,
 -- posted their breaks, and found no more block
 pub record Worked (bounds : List ℕ) (old new : SeatRecord) (blocks : List BlockOf) : Type 0 where
   pub draws : List ℕ
@@ -51,7 +51,7 @@ pub record Worked (bounds : List ℕ) (old new : SeatRecord) (blocks : List Bloc
   pub intervals : AllByRecursion (StandsIn bounds) blocks
   pub drained : new.history.found_none ≡ true
 
--- a worker that met a want of memory at the last block that it drew: it looked once behind each block; of those before the
+-- a worker that met a want of memory at the last block that it drew: it looked once after each block; of those before the
 -- last it ran those that don't start past the answer, in order; the last doesn't start past its answer, and either it
 -- wasn't run, or it was run and couldn't be kept; what was posted is the breaks of those that were run
 pub record WorkerStopped (test : Test) (program : Program) (call : LoopCall) (words : List ℕ) (bounds : List ℕ) (old new : SeatRecord) : Type 0 where

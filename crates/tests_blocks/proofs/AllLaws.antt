@@ -7,7 +7,7 @@ use Rattle.std.proofs.lemmas.List.Elements.{All-append, All-push, All-pop, All-s
 pub pushed : {X : Type 0} (P : X → Type 0) (xs ys : List X) (x : X) → ys ≡ xs ++ x ∷ [] → All P xs → P x → All P ys
 pushed P xs ys x same all here = All-same P ys (xs ++ x ∷ []) same (All-push P xs x all here)
 
--- of one list behind another
+-- of one list after another
 pub appended : {X : Type 0} (P : X → Type 0) (xs ys zs : List X) → zs ≡ xs ++ ys → All P xs → All P ys → All P zs
 appended P xs ys zs same first second = All-same P zs (xs ++ ys) same (All-append P xs ys first second)
 

@@ -11,7 +11,7 @@ use std::alloc::Global;
 use std::process::Abort;
 use std::test::Fail;
 
-/// A row with a loop in so many blocks, the words of its maps, and what the loop comes to.
+/// A row with a loop in n blocks, the words of its maps, and what the loop comes to.
 #[derive(Clone, Copy)]
 struct Case {
     row: &'static str,

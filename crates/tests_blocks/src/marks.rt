@@ -30,7 +30,7 @@ fn block_of<'a>(alloc: Global, stage: &'a Stage, number: u32, test: Test) -> Res
 /// Lanes of the kernels.
 const LANES: usize = 8;
 
-/// A plane's words behind its name, where one isn't 0.
+/// A plane's words after its name, where one isn't 0.
 fn tell(text: &mut String, name: &str, words: &[u64]) -> Result<(), AllocError> {
     if words.iter().all(|word| *word == 0) {
         return Ok(());
@@ -128,7 +128,7 @@ fn a_block_has_its_planes(rt: HostRuntime) -> Result<(), Fail> {
 const ADDS: &str =
     "maps 1 | mov64 r1, 8 | LOOP | ldmapval r2, 0, 0 | atomic64 add [r2+0], r1 | END | %% | map 0: 18446744073709551615";
 
-/// Of a loop in so many blocks, what one of them combined at the first element.
+/// Of a loop in n blocks, what one of them combined at the first element.
 fn partial_of(
     alloc: Global,
     row: &str,

@@ -24,7 +24,7 @@ pub struct Stage {
     pub split: Split,
 }
 
-/// The first loop of a row, in so many even blocks; `None` where there is none, or for want of memory.
+/// The first loop of a row, in n even blocks; `None` where there is none, or for want of memory.
 pub fn stage_of(alloc: Global, row: &str, blocks: u32) -> Option<Stage>
     ensures stage { IfSome result IsStage }
 {
@@ -41,7 +41,7 @@ pub fn stage_of(alloc: Global, row: &str, blocks: u32) -> Option<Stage>
     }
 }
 
-/// A block of the loop, which has so many.
+/// A block of the loop, which has this many.
 pub fn run_on<'a>(
     alloc: Global,
     stage: &'a Stage,

@@ -11,7 +11,7 @@ pub const ORDER: Mode = Mode::Order {
     arg: 5,
 };
 
-/// What stands in a program for often used lines: a loop call without ctx behind its number of iterations, the address
+/// What stands in a program for often used lines: a loop call without ctx after its number of iterations, the address
 /// of the element of R1 in R3, and an end with 0.
 const SHORT: &str = "
     LOOP: ldcode r2, cb | mov64 r3, 0 | mov64 r4, 0 | call 181 | exit | cb:
@@ -76,7 +76,7 @@ pub fn is_answered(
     Ok(())
 }
 
-/// Asserts what comes of a program with each row of a table: behind `=>` is what stands for two dots in the output.
+/// Asserts what comes of a program with each row of a table: after `=>` is what stands for two dots in the output.
 pub fn are_answered(
     rt: &impl Abort,
     alloc: Global,

@@ -85,7 +85,7 @@ fn change_of(name: &str, value: u64, compare: u64) -> Option<Change> {
 }
 
 /// An access, as `load 3 = 9`, `store 3 9`, `add 3 9`, `low 3 9`, `add-high 3 9 = 1`, `xchg-whole 3 9 = 1` or
-/// `cmpxchg-low 3 9 1 = 1`: behind the name stand the element, its operand and what is compared with it, and behind `=`
+/// `cmpxchg-low 3 9 1 = 1`: after the name stand the element, its operand and what is compared with it, and after `=`
 /// what is told.
 pub fn step_of(text: &str) -> Option<Step> {
     let (access, told) = text.split_once('=').unwrap_or((text, "0"));

@@ -102,7 +102,7 @@ fn are_told<const N: usize>(
     );
 }
 
-/// Merges planes of so many elements, and tells their conflicts: over all pages, and over those that were touched.
+/// Merges planes of n elements, and tells their conflicts: over all pages, and over those that were touched.
 fn kernels_agree<const N: usize>(
     rt: &impl Abort,
     alloc: Global,

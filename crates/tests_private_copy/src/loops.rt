@@ -15,7 +15,7 @@ use std::fmt::Write;
 use std::process::Abort;
 use std::test::Fail;
 
-/// The start words and the iterations; and behind `=>` the planes by LRPD, those by Flow, and last values with partials. By
+/// The start words and the iterations; and after `=>` the planes by LRPD, those by Flow, and last values with partials. By
 /// Flow there is for each element its first writer, 4294967295 for none, and one more than its last reader.
 const LOOPS: &str = "
     9 0 0 0 0 : load 0 = 9, store 1 9; load 1 = 0, store 2 0; load 2 = 0, store 3 0; load 3 = 0, store 4 0 \
@@ -103,7 +103,7 @@ fn values_of(alloc: Global, words: &str) -> Option<Vec<u64>> {
     Some(values)
 }
 
-/// One map of these words, or of so many zeros.
+/// One map of these words, or of n zeros.
 fn maps_of(alloc: Global, words: &str) -> Option<Maps> {
     match words.trim().strip_suffix(" zeros") {
         Some(elements) => Maps::new(alloc, &[elements.parse::<u32>().ok()?]).ok(),

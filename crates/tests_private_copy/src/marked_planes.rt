@@ -12,7 +12,7 @@ use loop_core_model::Test;
 use shadow_marks::{IterFlags, Planes};
 use std::alloc::{AllocError, Global};
 
-/// The draw behind another.
+/// The draw after another.
 fn next_draw(draw: u64) -> u64 {
     draw.wrapping_mul(6_364_136_223_846_793_005)
         .wrapping_add(1_442_695_040_888_963_407)
@@ -32,7 +32,7 @@ fn kind_of(draw: u64) -> Access {
     }
 }
 
-/// Marks about a quarter of the elements, and no more than so many, of at most 4,096.
+/// Marks about a quarter of the elements, and no more than this many, of at most 4,096.
 fn mark_some(flags: &mut IterFlags, elements: u32, most: u32, seed: u32)
     requires elements { element_count flags.old ≡ elements }
     requires some { 0 < elements }
@@ -49,8 +49,8 @@ fn mark_some(flags: &mut IterFlags, elements: u32, most: u32, seed: u32)
     }
 }
 
-/// Planes of so many elements on which four iterations were ended, of each second index from 0 or 1 on. Each marked
-/// about a quarter of the elements, and no more than so many, of at most 4,096.
+/// Planes of n elements on which four iterations were ended, of each second index from 0 or 1 on. Each marked
+/// about a quarter of the elements, and no more than this many, of at most 4,096.
 pub fn planes_of(
     alloc: Global,
     elements: u32,

@@ -13,7 +13,7 @@ use std::fmt::Write;
 /// Lanes of the kernels.
 const LANES: usize = 8;
 
-/// A plane's words behind its name, where one isn't 0.
+/// A plane's words after its name, where one isn't 0.
 fn tell(text: &mut String, name: &str, words: &[u64]) -> Result<(), AllocError> {
     if words.iter().all(|word| *word == 0) {
         return Ok(());
@@ -94,7 +94,7 @@ fn tell_values(text: &mut String, copy: &Private, elements: u32) -> Result<(), A
     Ok(())
 }
 
-/// The planes, and the conflicts that they tell; behind `=>` the values.
+/// The planes, and the conflicts that they tell; after `=>` the values.
 pub fn told(alloc: Global, planes: &Planes, copy: &Private) -> Result<String, AllocError>
     requires whole { ArePlanes planes.now }
     requires elements { planes.now.elements ≡ length (copy_of copy.now).start }

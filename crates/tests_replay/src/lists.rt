@@ -40,7 +40,7 @@ fn list_of(number: u32) -> [Event; 5]
     ]
 }
 
-/// How many lists of so many events there are, up to five.
+/// How many lists of n events there are, up to five.
 fn lists_of(length: usize) -> u32 {
     match length {
         0 => 1,

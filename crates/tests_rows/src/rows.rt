@@ -1,4 +1,4 @@
-//! How rows are read. A row has the lines of a program, of which ` | ` ends each, and behind `%%` those of its maps where
+//! How rows are read. A row has the lines of a program, of which ` | ` ends each, and after `%%` those of its maps where
 //! they aren't all zero.
 
 ghost use Rattle.std.specs.Prelude.{◌≡◌, IfSome};
@@ -24,7 +24,7 @@ pub struct FirstLoop {
     pub maps: Maps,
 }
 
-/// A loop call without ctx, behind its number of iterations.
+/// A loop call without ctx, after its number of iterations.
 const LOOP: &str = "ldcode r2, cb | mov64 r3, 0 | mov64 r4, 0 | call 181 | exit | cb:";
 
 /// The address of the element of R1 in R3.

@@ -1,4 +1,4 @@
-//! What the commands answer to inputs. In a row ` | ` ends a line, and the answer behind `=>` is the
+//! What the commands answer to inputs. In a row ` | ` ends a line, and the answer after `=>` is the
 //! exit status and the output.
 
 use crate::program::{are_answered, is_answered, run_line, run_on, told, words_of};
@@ -65,7 +65,7 @@ const BOTH_WAYS: &str = "
     ldmapfd r1, 3                    => 1811000003000000 | 0000000000000000
 ";
 
-/// A text behind another.
+/// A text after another.
 fn behind(alloc: Global, head: &str, tail: &str) -> Result<String, AllocError> {
     let mut text = String::from_str(alloc, head)?;
     text.push_str(tail.trim())?;

@@ -71,7 +71,7 @@ pub fn run_on<R: Threads + Sync>(
     }
 }
 
-/// The words of a command line, parted by spaces, behind the program's name.
+/// The words of a command line, parted by spaces, after the program's name.
 pub fn words_of(alloc: Global, line: &str) -> Result<Vec<&[u8]>, AllocError> {
     let mut words = Vec::new(alloc);
     words.push(b"bpfspec".as_slice())?;
@@ -91,7 +91,7 @@ pub fn run_line<R: Threads + Sync>(
     Ok(run_on(rt, alloc, &words_of(alloc, line)?, input, None, None))
 }
 
-/// The exit status and the output, and behind `!` what was told on standard error.
+/// The exit status and the output, and after `!` what was told on standard error.
 pub fn told(alloc: Global, ran: &Ran) -> Result<String, Fail> {
     let output = str::from_utf8(&ran.output)?;
     let messages = str::from_utf8(&ran.messages)?;
@@ -121,7 +121,7 @@ pub fn is_answered<R: Abort + Threads + Sync>(
     Ok(())
 }
 
-/// Asserts what the program answers, row by row. A row has the lines of an input and, behind `=>`, the
+/// Asserts what the program answers, row by row. A row has the lines of an input and, after `=>`, the
 /// status and the lines of the output.
 pub fn are_answered<R: Abort + Threads + Sync>(
     rt: &R,

@@ -1,4 +1,4 @@
-//! What `replay` answers. A row has what stands behind the unit's section: the values of the maps, a line `%%`, and
+//! What `replay` answers. A row has what comes after the unit's section: the values of the maps, a line `%%`, and
 //! events; or that line and events alone. Behind `=>` are the exit status and the output.
 
 use crate::program::is_answered;
@@ -7,7 +7,7 @@ use std::process::Abort;
 use std::test::Fail;
 use std::thread::Threads;
 
-/// Asserts what is answered to a unit with each row behind it.
+/// Asserts what is answered to a unit with each row after it.
 fn are_replayed<R: Abort + Threads + Sync>(
     rt: &R,
     alloc: Global,
@@ -29,7 +29,7 @@ const BREAKS: &str =
     mov64 r2, r1 | lsh64 r2, 3 | ldmapval r3, 0, 0 | add64 r3, r2 | st64 [r3+0], 1 | mov64 r0, 0 | \
     jeq64 r1, 3, hit | jne64 r1, 12, done | hit: | mov64 r0, 1 | done: | exit";
 
-/// The later break is posted first; blocks behind the break are skipped.
+/// The later break is posted first; blocks after the break are skipped.
 const ENDED: &str = "
     %% | bounds 0 4 8 12 16 | c0 c1 l1 t1 t1 t1 t1 c1 l1 t1 t1 t1 t1 c1 l1 t1 p1 c1 s1 l0 t0 t0 t0 t0 p0 c0 s0 \
         => 0 loop 0 at 5: answer 4, parallel | map 0: 1 1 1 1 0 0 0 0 0 0 0 0 0 0 0 0

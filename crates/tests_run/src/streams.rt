@@ -33,7 +33,7 @@ pub struct Stumbling<'a> {
 }
 
 impl Stumbling<'_> {
-    /// A source of these bytes, of which the read before which so many come fails.
+    /// A source of these bytes, of which the read fails that comes after this many others.
     pub fn new(bytes: &[u8], until_failure: Option<u64>) -> Stumbling<'_>
         ensures { result.failures ≡ 0 }
     {
@@ -79,7 +79,7 @@ pub struct Narrow {
 }
 
 impl Narrow {
-    /// An empty sink, of which the write before which so many come fails.
+    /// An empty sink, of which the write fails that comes after this many others.
     pub fn new(alloc: Global, until_failure: Option<u64>) -> Narrow
         ensures { result.failures ≡ 0 }
     {

@@ -14,11 +14,11 @@ use std::test::Fail;
 enum Turn {
     /// It fails.
     Fails,
-    /// It moves as many bytes as it can, at most so many.
+    /// It moves as many bytes as it can, at most this many.
     Moves(usize),
 }
 
-/// The next call's turn. Calls behind the end of the script move all that they can.
+/// The next call's turn. Calls after the end of the script move all that they can.
 fn next_turn(script: &mut &[Turn]) -> Turn {
     match script.split_first() {
         Some((turn, rest)) => {
@@ -29,7 +29,7 @@ fn next_turn(script: &mut &[Turn]) -> Turn {
     }
 }
 
-/// Whether a signal interrupts this call, as it does so many.
+/// Whether a signal interrupts this call, as it does this many.
 fn interrupted(times: &mut u32) -> bool {
     if *times == 0 {
         return false;

@@ -97,7 +97,7 @@ fn other_lines_are_bytes(rt: HostRuntime) -> Result<(), Fail> {
     Ok(())
 }
 
-/// A unit of an exit behind a two-slot load, and this instruction.
+/// A unit of an exit after a two-slot load, and this instruction.
 fn unit_with(alloc: Global, first: Insn, insn: Insn) -> Result<Unit, Fail> {
     Ok(Unit {
         sizes: [1].to_vec(alloc)?,

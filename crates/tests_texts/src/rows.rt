@@ -38,7 +38,7 @@ pub fn are_told<F: Fn(Global, &str) -> Option<TextError>>(
     Ok(())
 }
 
-/// A front and so many lines, each this one.
+/// A front and this one line n times.
 pub fn repeated(alloc: Global, front: &str, line: &str, count: u32) -> Result<String, AllocError> {
     let mut text = String::from_str(alloc, front)?;
     for _ in 0..count {

@@ -1,4 +1,4 @@
-//! What is told of rows, with any number of workers and blocks. A row has a program with its maps, and behind `=>` what is
+//! What is told of rows, with any number of workers and blocks. A row has a program with its maps, and after `=>` what is
 //! told of it.
 
 ghost use Rattle.bpf_verify_sound.specs.Soundness.{OverApproximatesCall};
@@ -176,7 +176,7 @@ fn other_calls_are_run_in_each_way(rt: HostRuntime) -> Result<(), Fail> {
     programs_are_told(&rt, rt.alloc(), Test::Lrpd, OTHER_CALLS)
 }
 
-/// Each iteration but the last reads what the one behind it writes.
+/// Each iteration but the last reads what the one after it writes.
 const BY_FLOW: &str = "
     maps 5 | mov64 r1, 4 | LOOP | AT | ldx64 r4, [r3+8] | stx64 [r3+0], r4 | END | %% | map 0: 1 2 3 4 5 \
         => return 4 | loop 0 at 5: answer 4, parallel | map 0: 2 3 4 5 5

@@ -67,7 +67,7 @@ fn guards_bound_offsets(rt: HostRuntime) -> Result<(), Fail> {
 /// can't be taken.
 const OVER_A_READ: &str = "maps 1 | .., +1 | mov64 r0, r9 | mov64 r0, 0 | exit";
 
-/// A comparison that jumps over a write of R3, which is read behind it. It is accepted where the jump
+/// A comparison that jumps over a write of R3, which is read after it. It is accepted where the jump
 /// can't be taken.
 const OVER_A_WRITE: &str = "maps 1 | .., +1 | mov64 r3, 0 | mov64 r0, r3 | exit";
 

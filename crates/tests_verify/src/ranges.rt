@@ -1,6 +1,6 @@
 //! What instructions leave of ranges, and what conditional jumps tell of them.
 //!
-//! A range is `least..greatest/zeros` in the rows, the words between that have so many trailing zero bits, `any` word,
+//! A range is `least..greatest/zeros` in the rows, the words between that have n trailing zero bits, `any` word,
 //! or one word alone.
 
 ghost use Rattle.std.specs.Prelude.{◌<◌};

@@ -31,7 +31,7 @@ pub fn read_pair<'a>(text: &'a str) -> Result<(&'a str, &'a str), Fail> {
     Ok((first, second))
 }
 
-/// A word: a number, one in hexadecimal digits behind 0x, or a negative one as its two's complement.
+/// A word: a number, one in hexadecimal digits after 0x, or a negative one as its two's complement.
 pub fn read_word(text: &str) -> Result<u64, Fail> {
     let word = if text.starts_with("-") {
         text.parse::<i64>()

@@ -15,7 +15,7 @@ fn a_unit_has_slots(rt: HostRuntime) -> Result<(), Fail> {
     are_answered(&rt, rt.alloc(), "maps 1 | ..", SLOTS)
 }
 
-/// A unit of so many moves and a line.
+/// A unit of n moves and a line.
 fn moves(alloc: Global, count: u32) -> Result<String, Fail> {
     let mut unit = String::from_str(alloc, "maps 1")?;
     for _ in 0..count {
@@ -154,7 +154,7 @@ fn code_addresses_name_functions(rt: HostRuntime) -> Result<(), Fail> {
     are_answered(&rt, rt.alloc(), "maps 1 | ..", CODE_ADDRESSES)
 }
 
-/// A unit that names so many callbacks.
+/// A unit that names n callbacks.
 fn naming(alloc: Global, count: u32) -> Result<String, Fail> {
     let mut unit = String::from_str(alloc, "maps 1")?;
     for callback in 0..count {

@@ -64,7 +64,7 @@ pub fn is_answered(rt: &impl Abort, alloc: Global, unit: &str, wanted: &str) -> 
 }
 
 /// Asserts what is said of units that differ where `unit` has two dots. A row of the table has
-/// the lines that stand there and, behind `=>`, the answer.
+/// the lines that stand there and, after `=>`, the answer.
 pub fn are_answered(rt: &impl Abort, alloc: Global, unit: &str, table: &str) -> Result<(), Fail> {
     for row in table.trim().lines() {
         let (lines, answer) = row.split_once("=>").ok_or("a row has an answer")?;

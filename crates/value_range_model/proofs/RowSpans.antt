@@ -22,7 +22,7 @@ use Rattle.value_range_model.specs.declared.operation.Operation.TheVariants.{Alu
 use Rattle.value_range_model.specs.AluRows.{meant, low32, range_at_width, operand, filled, added, subtracted, multiplied, divided_by, divided, left_over_by, left_over, with_bits, common_bits, other_bits, shifted_left_by, shifted_left, shifted_right_by, shifted_right, shifted_signed, negative, extended_range, top_bits, little, ordered, alu_row, row, reads_exact, of_operands, span_of}
 use Rattle.value_range_model.proofs.RowBounds.{zero_some, added_some, subtracted_some, multiplied_some, divided_some, with_bits_some, shifted_left_some, shifted_right_some, or-word, filled-least}
 
--- those with so many trailing zeros
+-- those with n trailing zeros
 spread-span : (width : Width) (z : ℕ) → z ≤ 64 → IsSpan (norm 0 (modulus width - 1) z)
 spread-span width z few = norm-span 0 (modulus width - 1) z few (omega (arith, modulus-most width)) (zero_some z (modulus width - 1))
 

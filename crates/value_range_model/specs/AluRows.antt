@@ -119,7 +119,7 @@ negative width a = norm 0 (modulus width - 1) a.zeros
 unfoldable pub extended_range : Width → MovsxBits → Span → Span
 extended_range width bits b = if nat_lt b.hi (low_modulus bits / 2) then b else top width
 
--- every number of so many bits
+-- every number of n bits
 abbrev pub top_bits : EndianBits → Span
 top_bits bits = record { lo = 0; hi = endian_modulus bits - 1; zeros = 0 }
 

@@ -73,7 +73,7 @@ fn little(bits: EndianBits, a: Range) -> Range
     if a.hi() <= all.hi() { a } else { all }
 }
 
-/// Every number of so many bits.
+/// Every number of n bits.
 #[tactic(auto, using(value_range_model::proofs::RowBounds::zero_some))]
 fn every(bits: EndianBits) -> Range
     ensures { result ≡ top_bits bits }

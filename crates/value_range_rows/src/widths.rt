@@ -19,7 +19,7 @@ pub fn within(width: Width, number: u128) -> Option<u64>
     }
 }
 
-/// Every number of the width that has so many trailing zeros.
+/// Every number of the width that has n trailing zeros.
 #[tactic(auto, using(value_range_model::proofs::RowBounds::zero_some))]
 pub fn spread(width: Width, zeros: u32) -> Range
     requires { zeros ≤ 64 }

@@ -1,4 +1,4 @@
--- Main starts within the abstract states, each step goes on so, and the abstract state before a slot is of so many registers
+-- Main starts within the abstract states, each step goes on so, and the abstract state before a slot is of n registers
 -- and bytes.
 use Rattle.bpf_verify_sound.proofs.EntryLaws.{main-contained}
 use Rattle.bpf_verify_sound.proofs.SoundLaws.{entry-sound, call-sound, step-sound}
