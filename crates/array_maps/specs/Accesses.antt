@@ -3,7 +3,7 @@
 use Rattle.std.specs.Prelude.{◌≡◌, ℕ, ◌<◌, ◌==◌, if◌then◌else◌, List, [], ◌∷◌, length, slice_index, slice_set}
 use Rattle.bpf_insn_types.specs.declared.insn.Width.TheVariants.{W64}
 use Rattle.bpf_insn_types.specs.declared.insn.AluOp.{AluOp}
-use Rattle.bpf_insn_alu.specs.Words.{alu}
+use Rattle.bpf_insn_types.specs.Words.{alu}
 use Rattle.array_maps.specs.declared.access.Op.{Op}
 use Rattle.array_maps.specs.declared.access.Op.TheVariants.{Add, Or, And, Xor, AddH}
 use Rattle.array_maps.specs.declared.access.Rmw.{Rmw}

@@ -1,2 +1,4 @@
 pub mod ProgramLaws
 pub mod Cases
+pub mod SignedLaws
+pub mod WordLaws

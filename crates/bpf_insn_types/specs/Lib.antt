@@ -4,3 +4,6 @@ pub mod Sizes
 pub mod Values
 pub mod Program
 pub mod Limits
+pub mod WordBounds
+pub mod WordRows
+pub mod Words

@@ -9,8 +9,8 @@ use Rattle.bpf_insn_types.specs.declared.insn.AtomicOp.{AtomicOp}
 use Rattle.bpf_insn_types.specs.declared.insn.AtomicOp.TheVariants.{Simple, Fetch, Xchg, Cmpxchg}
 use Rattle.bpf_insn_types.specs.declared.insn.SimpleOp.{SimpleOp}
 use Rattle.bpf_insn_types.specs.declared.insn.SimpleOp.TheVariants as simple
-use Rattle.bpf_insn_alu.specs.Words.{alu, computed, operator}
-use Rattle.bpf_insn_alu.proofs.WordLaws.{alu-words}
+use Rattle.bpf_insn_types.specs.Words.{alu, computed, operator}
+use Rattle.bpf_insn_types.proofs.WordLaws.{alu-words}
 use Rattle.array_maps.specs.declared.access.Half.{Half}
 use Rattle.array_maps.specs.declared.access.Half.TheVariants.{Low, High}
 use Rattle.array_maps.specs.declared.access.Part.{Part}

@@ -16,7 +16,7 @@ use Rattle.bpf_insn_types.specs.declared.insn.ImmKind.TheVariants.{Number as Num
 use Rattle.bpf_insn_types.specs.declared.insn.Insn.{Insn}
 use Rattle.bpf_insn_types.specs.declared.insn.Insn.TheVariants.{Alu, Neg, Movsx, Endian, Ja, Ja32, Jump, Call, Exit, Load, LoadSx, StoreImm, Store, Atomic, LoadImm}
 use Rattle.bpf_insn_types.specs.Slots.{slots_of}
-use Rattle.bpf_insn_alu.specs.Words.{word_of}
+use Rattle.bpf_insn_types.specs.Words.{word_of}
 use Rattle.bpf_insn_types.specs.Program.{moved, code_target}
 use Rattle.bpf_insn_types.specs.Sizes.{bytes_of}
 use Rattle.value_range_model.specs.Spans.{Span, exact, top, norm}

@@ -9,7 +9,7 @@ use Rattle.bpf_insn_types.specs.declared.insn.Compare.{Compare}
 use Rattle.bpf_insn_types.specs.declared.insn.Compare.TheVariants.{Eq, Ne}
 use Rattle.bpf_insn_types.specs.declared.insn.Operand.{Operand}
 use Rattle.bpf_insn_types.specs.declared.insn.Operand.TheVariants.{Imm, Reg}
-use Rattle.bpf_insn_alu.specs.Words.{word_of, alu}
+use Rattle.bpf_insn_types.specs.Words.{word_of, alu}
 use Rattle.value_range_model.specs.Spans.{Span, exact}
 use Rattle.value_range_model.specs.declared.operation.Operation.{Operation}
 use Rattle.value_range_model.specs.declared.operation.Operation.TheVariants.{Alu as AluOperation}

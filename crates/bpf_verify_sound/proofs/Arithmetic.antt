@@ -9,8 +9,8 @@ use Rattle.bpf_insn_types.specs.declared.insn.EndianBits.{EndianBits}
 use Rattle.bpf_insn_types.specs.declared.insn.Operand.{Operand}
 use Rattle.bpf_insn_types.specs.declared.insn.Insn.TheVariants.{Alu, Neg, Movsx, Endian}
 use Rattle.bpf_insn_types.specs.Program.{Program}
-use Rattle.bpf_insn_alu.specs.Words.{negated, moved_signed, in_order}
-use Rattle.bpf_insn_alu.specs.WordBounds.{ResultsFit}
+use Rattle.bpf_insn_types.specs.Words.{negated, moved_signed, in_order}
+use Rattle.bpf_insn_types.specs.WordBounds.{ResultsFit}
 use Rattle.value_range_model.specs.declared.operation.Operation.{Operation}
 use Rattle.value_range_model.specs.declared.operation.Operation.TheVariants.{Neg as NegOperation, Movsx as MovsxOperation, Endian as EndianOperation}
 use Rattle.bpf_verify_model.specs.declared.abstract_value.AbstractValue.{AbstractValue}

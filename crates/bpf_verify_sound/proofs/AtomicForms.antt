@@ -8,7 +8,7 @@ use Rattle.bpf_insn_types.specs.declared.insn.AtomicOp.{AtomicOp}
 use Rattle.bpf_insn_types.specs.declared.insn.AtomicOp.TheVariants.{Simple, Fetch as FetchOp, Xchg as XchgOp, Cmpxchg}
 use Rattle.bpf_insn_types.specs.declared.insn.Insn.TheVariants.{Atomic}
 use Rattle.bpf_insn_types.specs.Program.{Program, leads_to}
-use Rattle.bpf_insn_alu.specs.Words.{modulus}
+use Rattle.bpf_insn_types.specs.Words.{modulus}
 use Rattle.array_maps.specs.declared.access.Part.{Part}
 use Rattle.array_maps.specs.declared.access.Part.TheVariants.{Whole, Half as Of}
 use Rattle.array_maps.specs.Halves.{part_of}

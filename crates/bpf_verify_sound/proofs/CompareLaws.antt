@@ -10,7 +10,7 @@ use Rattle.bpf_insn_types.specs.declared.insn.Compare.TheVariants.{Eq, Ne}
 use Rattle.bpf_insn_types.specs.declared.insn.Operand.{Operand}
 use Rattle.bpf_insn_types.specs.declared.insn.Operand.TheVariants.{Imm, Reg}
 use Rattle.bpf_insn_types.specs.Values.{OperandFits}
-use Rattle.bpf_insn_alu.specs.Words.{word_of, holds, modulus, compared}
+use Rattle.bpf_insn_types.specs.Words.{word_of, holds, modulus, compared}
 use Rattle.value_range_model.specs.Spans.{Span, IsSpan, Contains, exact}
 use Rattle.value_range_model.specs.declared.condition.Condition.TheVariants.{Holds}
 use Rattle.value_range_model.specs.RefineRows.{Refined, refined, opposite}

@@ -16,7 +16,7 @@ use Rattle.bpf_insn_types.specs.declared.insn.Insn.TheVariants.{Alu, Neg, Movsx,
 use Rattle.bpf_insn_types.specs.declared.extension.Extension.{Extension}
 use Rattle.bpf_insn_types.specs.declared.extension.Extension.TheVariants.{Zeros, Signs}
 use Rattle.bpf_insn_types.specs.Program.{Program, moved}
-use Rattle.bpf_insn_alu.specs.Words.{word_of, negated, moved_signed, in_order}
+use Rattle.bpf_insn_types.specs.Words.{word_of, negated, moved_signed, in_order}
 use Rattle.bpf_verify_model.specs.Rules.{jump_distance, jump_target, goes_on}
 use Rattle.bpf_verify_model.specs.Count.{behind_jump, through}
 use Rattle.bpf_step_model.specs.State.{Value, Word, Frame, Map, Code, Bytes, Machine, register, advanced, with_register, with_frame}

@@ -7,7 +7,7 @@ use Rattle.std.proofs.lemmas.Option.{slice_get-get_or}
 use Rattle.array_maps.specs.Accesses.{Access, left_by, words_after}
 use Rattle.bpf_insn_types.specs.declared.insn.Insn.{Insn}
 use Rattle.bpf_insn_types.specs.Program.{Program, insn_at, slot_count, leads_to}
-use Rattle.bpf_insn_alu.specs.WordBounds.{ResultsFit}
+use Rattle.bpf_insn_types.specs.WordBounds.{ResultsFit}
 use Rattle.bpf_verify_model.specs.Count.{JumpsForward, through}
 use Rattle.bpf_verify_model.proofs.JumpLaws.{jumps_forward}
 use Rattle.bpf_verify_model.proofs.LongestLaws.{longest-step}

@@ -7,7 +7,7 @@ use Rattle.bpf_insn_types.specs.declared.insn.Insn.{Insn}
 use Rattle.bpf_insn_types.specs.declared.insn.Insn.TheVariants.{Alu, Neg, Movsx, Endian, Ja, Ja32, Jump, Call, Exit, Load as LoadInsn, LoadSx, StoreImm, Store as StoreInsn, Atomic, LoadImm}
 use Rattle.bpf_insn_types.specs.Limits.{sizes_fit}
 use Rattle.bpf_insn_types.specs.Program.{Program, function_of, leads_to}
-use Rattle.bpf_insn_alu.specs.WordBounds.{ResultsFit}
+use Rattle.bpf_insn_types.specs.WordBounds.{ResultsFit}
 use Rattle.bpf_verify_model.specs.declared.helper.Helper.{Helper}
 use Rattle.bpf_verify_model.specs.declared.helper.Helper.TheVariants.{Lookup, Loop}
 use Rattle.bpf_verify_model.specs.declared.rule.Rule.TheVariants.{NestedCallback}

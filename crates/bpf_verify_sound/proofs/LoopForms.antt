@@ -5,8 +5,8 @@ use Rattle.std.proofs.lemmas.Bool.Decides.{nat_tests}
 use Rattle.bpf_insn_types.specs.declared.insn.Width.TheVariants.{W32, W64}
 use Rattle.bpf_insn_types.specs.declared.insn.AluOp.TheVariants.{Mov}
 use Rattle.bpf_insn_types.specs.Program.{Program, insn_at, leads_to, function_of}
-use Rattle.bpf_insn_alu.specs.Words.{word_of, alu}
-use Rattle.bpf_insn_alu.specs.WordBounds.{ResultsFit}
+use Rattle.bpf_insn_types.specs.Words.{word_of, alu}
+use Rattle.bpf_insn_types.specs.WordBounds.{ResultsFit}
 use Rattle.value_range_model.specs.Spans.{Contains, top}
 use Rattle.value_range_model.specs.declared.operation.Operation.TheVariants.{Alu as AluOperation}
 use Rattle.value_range_model.specs.AluRows.{meant, span_of}

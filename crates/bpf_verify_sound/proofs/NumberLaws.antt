@@ -7,8 +7,8 @@ use Rattle.bpf_insn_types.specs.declared.insn.Width.{Width}
 use Rattle.bpf_insn_types.specs.declared.insn.Width.TheVariants.{W32, W64}
 use Rattle.bpf_insn_types.specs.declared.insn.AluOp.{AluOp}
 use Rattle.bpf_insn_types.specs.declared.insn.AluOp.TheVariants.{Add, Sub, Mov}
-use Rattle.bpf_insn_alu.specs.Words.{alu}
-use Rattle.bpf_insn_alu.specs.WordBounds.{ResultsFit}
+use Rattle.bpf_insn_types.specs.Words.{alu}
+use Rattle.bpf_insn_types.specs.WordBounds.{ResultsFit}
 use Rattle.value_range_model.specs.Spans.{Span, IsSpan, Contains}
 use Rattle.value_range_model.specs.declared.operation.Operation.{Operation}
 use Rattle.value_range_model.specs.declared.operation.Operation.TheVariants.{Alu as AluOperation}

@@ -2,7 +2,7 @@
 use Rattle.std.proofs.Common.{◌≡◌, ℕ, zero, suc, ◌+◌, ◌<◌, ◌≤◌, ◌^◌, Bool, true, false, inl, inr, List, refl, sym, ap, subst, arith}
 use Rattle.std.specs.Prelude.{◌==◌, if◌then◌else◌}
 use Rattle.bpf_insn_types.specs.Program.{Program, slot_count, function_of}
-use Rattle.bpf_insn_alu.specs.WordBounds.{ResultsFit}
+use Rattle.bpf_insn_types.specs.WordBounds.{ResultsFit}
 use Rattle.bpf_verify_model.specs.Count.{function_start, count_of}
 use Rattle.bpf_verify_model.proofs.LongestLaws.{longest-small}
 use Rattle.bpf_step_model.specs.State.{Machine, LoopCall, main_entry, callback_entry}

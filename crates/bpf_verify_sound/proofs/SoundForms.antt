@@ -24,9 +24,9 @@ use Rattle.bpf_insn_types.specs.declared.insn.Insn.TheVariants.{Alu, Neg, Movsx,
 use Rattle.bpf_insn_types.specs.declared.extension.Extension.{Extension}
 use Rattle.bpf_insn_types.specs.declared.extension.Extension.TheVariants.{Zeros, Signs}
 use Rattle.bpf_insn_types.specs.Program.{Program, moved, code_target, callback_starts}
-use Rattle.bpf_insn_alu.specs.Words.{word_of, negated, moved_signed, in_order}
-use Rattle.bpf_insn_alu.specs.WordBounds.{ResultsFit}
-use Rattle.bpf_insn_alu.proofs.WordLaws.{modulus-most}
+use Rattle.bpf_insn_types.specs.Words.{word_of, negated, moved_signed, in_order}
+use Rattle.bpf_insn_types.specs.WordBounds.{ResultsFit}
+use Rattle.bpf_insn_types.proofs.WordLaws.{modulus-most}
 use Rattle.array_maps.specs.declared.access.Rmw.TheVariants.{Op as Applies, Xchg, CmpXchg}
 use Rattle.array_maps.specs.declared.access.Half.TheVariants.{Low}
 use Rattle.array_maps.specs.declared.access.Part.{Part}

@@ -11,9 +11,9 @@ use Rattle.bpf_insn_types.specs.declared.insn.Width.TheVariants.{W32, W64}
 use Rattle.bpf_insn_types.specs.declared.insn.AluOp.{AluOp}
 use Rattle.bpf_insn_types.specs.declared.insn.AluOp.TheVariants.{Add, Sub, Mov}
 use Rattle.bpf_insn_types.specs.Program.{Program}
-use Rattle.bpf_insn_alu.specs.Words.{alu}
-use Rattle.bpf_insn_alu.specs.WordBounds.{ResultsFit}
-use Rattle.bpf_insn_alu.proofs.WordLaws.{modulus-most}
+use Rattle.bpf_insn_types.specs.Words.{alu}
+use Rattle.bpf_insn_types.specs.WordBounds.{ResultsFit}
+use Rattle.bpf_insn_types.proofs.WordLaws.{modulus-most}
 use Rattle.array_maps.specs.declared.access.Op.{Op}
 use Rattle.array_maps.specs.declared.access.Op.TheVariants as op
 use Rattle.array_maps.specs.declared.access.Rmw.{Rmw}

@@ -4,7 +4,7 @@ use Rattle.std.specs.Prelude.{◌==◌}
 use Rattle.bpf_insn_types.specs.Values.{AreInsns}
 use Rattle.bpf_insn_types.specs.declared.insn.Insn.{Insn}
 use Rattle.bpf_insn_types.specs.Program.{Program, insn_at, function_of}
-use Rattle.bpf_insn_alu.specs.WordBounds.{ResultsFit}
+use Rattle.bpf_insn_types.specs.WordBounds.{ResultsFit}
 use Rattle.bpf_verify_model.specs.declared.state.State.{State}
 use Rattle.bpf_verify_model.specs.declared.outflow.Outflow.{Outflow}
 use Rattle.bpf_verify_model.specs.declared.rule.Rule.{Rule}

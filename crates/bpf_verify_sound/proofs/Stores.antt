@@ -6,7 +6,7 @@ use Rattle.bpf_insn_types.specs.Sizes.{bytes_of}
 use Rattle.bpf_insn_types.specs.declared.insn.Size.{Size}
 use Rattle.bpf_insn_types.specs.declared.insn.Insn.TheVariants.{StoreImm, Store as StoreInsn}
 use Rattle.bpf_insn_types.specs.Program.{Program, leads_to}
-use Rattle.bpf_insn_alu.specs.Words.{word_of}
+use Rattle.bpf_insn_types.specs.Words.{word_of}
 use Rattle.array_maps.specs.declared.access.Part.{Part}
 use Rattle.array_maps.specs.declared.access.Part.TheVariants.{Whole, Half as Of}
 use Rattle.bpf_verify_written.specs.Written.{written_from}

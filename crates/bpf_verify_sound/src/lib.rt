@@ -3,7 +3,7 @@
 
 ghost use Rattle.bpf_verify_sound.specs.Soundness.{EntryIsOverApproximated, ProgressAndPreservation, MachinesStaySound, EachStateIsWellFormed, NoRunIsStuck, EachRunEnds, CallbacksExit, EachCallbackStartsItsFunction, EachCountIsSmall, EachProgramEnds};
 
-use bpf_insn_alu::results_fit;
+use bpf_insn_types::results_fit;
 
 /// The law of one step: the abstract state before a slot of an accepted program contains the machine there.
 /// Main starts so, at any argument. Where it is so there is a step, and it is so of each machine that the

@@ -4,10 +4,10 @@ use Rattle.std.specs.Fmt.{decimal}
 use Rattle.bpf_insn.specs.FaultNumbers.{codec_fault_number as codec_fault_number}
 use Rattle.bpf_text_lex.specs.FaultNumbers.{text_fault_number as text_fault_number}
 use Rattle.bpf_verify_model.specs.RuleNumbers.{rule_number}
-use Rattle.loop_core_blocks.specs.declared.faults.SplitFault.{SplitFault}
-use Rattle.loop_core_blocks.specs.declared.faults.SplitFault.TheVariants as splits
-use Rattle.loop_core_schedule.specs.declared.replay_fault.ReplayFault.{ReplayFault}
-use Rattle.loop_core_schedule.specs.declared.replay_fault.ReplayFault.TheVariants as schedules
+use Rattle.loop_core_model.specs.declared.faults.SplitFault.{SplitFault}
+use Rattle.loop_core_model.specs.declared.faults.SplitFault.TheVariants as splits
+use Rattle.loop_core_model.specs.declared.replay_fault.ReplayFault.{ReplayFault}
+use Rattle.loop_core_model.specs.declared.replay_fault.ReplayFault.TheVariants as schedules
 use Rattle.bpfspec_output.specs.declared.refusal.Section.{Section}
 use Rattle.bpfspec_output.specs.declared.refusal.Section.TheVariants as sections
 use Rattle.bpfspec_output.specs.declared.refusal.Refusal.{Refusal}

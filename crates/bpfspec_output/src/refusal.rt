@@ -8,8 +8,7 @@ ghost use Rattle.bpfspec_output.specs.Refusals.{section_name, split_fault_number
 use bpf_insn::CodecFault;
 use bpf_text_lex::TextFault;
 use bpf_verify_model::Rule;
-use loop_core_blocks::SplitFault;
-use loop_core_schedule::ReplayFault;
+use loop_core_model::{ReplayFault, SplitFault};
 use std::alloc::{AllocError, Global};
 
 /// The line that tells that memory ran out.

@@ -7,10 +7,10 @@ use Rattle.std.proofs.lemmas.Bool.{cases_lt}
 use Rattle.std.proofs.lemmas.List.{get_or_past}
 use Rattle.std.proofs.lemmas.Nat.Bits.{bit_at-zero, bit_at_above}
 use Rattle.array_maps.specs.declared.access.Op.TheVariants.{Add, Or, And, Xor, AddH}
-use Rattle.loop_core_marks.specs.Marks.{Visit, Marks, marks_of, first_number, marked_reduction, marked_fails, marked_conflict}
-use Rattle.loop_core_marks.specs.Planes.{bit_of, elements_in_plane}
-use Rattle.loop_core_marks.proofs.MarkLaws.{first_is_number}
-use Rattle.loop_core_marks.proofs.PlaneLaws.{plane_has_elements}
+use Rattle.loop_core_model.specs.Marks.{Visit, Marks, marks_of, first_number, marked_reduction, marked_fails, marked_conflict}
+use Rattle.loop_core_model.specs.Planes.{bit_of, elements_in_plane}
+use Rattle.loop_core_model.proofs.MarkLaws.{first_is_number}
+use Rattle.loop_core_model.proofs.PlaneLaws.{plane_has_elements}
 use Rattle.shadow_marks.specs.declared.planes.Tested.{Tested}
 use Rattle.shadow_marks.specs.declared.planes.Tested.TheVariants.{Lrpd, Flow}
 use Rattle.shadow_marks.specs.declared.planes.Planes.{Planes}

@@ -8,7 +8,7 @@ use Rattle.std.proofs.Math.Seq.{drop-cons}
 use Rattle.std.proofs.lemmas.Nat.{ones-le, le_or_l, le_or_r}
 use Rattle.std.proofs.lemmas.List.{drop-drop, drop_more}
 use Rattle.std.proofs.lemmas.Simd.{chunk-drop, chunk-fits, get_or-chunk, Each1-from_get_or}
-use Rattle.loop_core_marks.specs.Planes.{set_bits, least_bit}
+use Rattle.loop_core_model.specs.Planes.{set_bits, least_bit}
 
 -- the bits of words in lanes, summed
 pub summed : (xs : List ℕ) (a : ℕ) → Each1 (Fits w64) xs → a + 64 * length xs < 2 ^ 64 → fold_l (λ s x. (s + x) % 2 ^ 64) a (map (λ ones. ones) (map count_ones xs)) ≡ a + set_bits xs

@@ -13,9 +13,9 @@ use Rattle.array_maps.specs.declared.access.Op.TheVariants.{Add, Or, And, Xor, A
 use Rattle.array_maps.specs.Accesses.{Action, Read, Write, ReadWrite, Reduce}
 use Rattle.loop_core_model.specs.Actions.{writes, exposed, is_same, reduces_by}
 use Rattle.loop_core_model.specs.LeastBreak.{lesser}
-use Rattle.loop_core_marks.specs.Flags.{is_plain}
-use Rattle.loop_core_marks.specs.Marks.{Visit, actions_of, Marks, two_write, first_writer, last_reader, marks_of, first_number}
-use Rattle.loop_core_marks.specs.Planes.{bit_of}
+use Rattle.loop_core_model.specs.Flags.{is_plain}
+use Rattle.loop_core_model.specs.Marks.{Visit, actions_of, Marks, two_write, first_writer, last_reader, marks_of, first_number}
+use Rattle.loop_core_model.specs.Planes.{bit_of}
 use Rattle.shadow_marks.specs.declared.planes.FlowPlanes.{FlowPlanes}
 use Rattle.shadow_marks.specs.declared.planes.Tested.{Tested}
 use Rattle.shadow_marks.specs.declared.planes.Tested.TheVariants.{Lrpd, Flow}

@@ -3,9 +3,9 @@ use Rattle.std.proofs.Common.{◌≡◌, ℕ, ◌*◌, ◌/◌, ◌%◌, ◌<◌
 use Rattle.std.specs.Prelude.{◌&&◌, ◌||◌, slice_index, bit_and, bit_or}
 use Rattle.array_maps.specs.declared.access.Op.{Op}
 use Rattle.array_maps.specs.declared.access.Op.TheVariants.{Add, Or, And, Xor, AddH}
-use Rattle.loop_core_marks.specs.Marks.{Visit, Marks, marks_of, merged, first_number}
-use Rattle.loop_core_marks.specs.Planes.{bit_of}
-use Rattle.loop_core_marks.proofs.MarkLaws.{first_is_number, marks_merge}
+use Rattle.loop_core_model.specs.Marks.{Visit, Marks, marks_of, merged, first_number}
+use Rattle.loop_core_model.specs.Planes.{bit_of}
+use Rattle.loop_core_model.proofs.MarkLaws.{first_is_number, marks_merge}
 use Rattle.shadow_marks.specs.declared.planes.Tested.{Tested}
 use Rattle.shadow_marks.specs.declared.planes.Tested.TheVariants.{Lrpd, Flow}
 use Rattle.shadow_marks.specs.declared.planes.Planes.{Planes}

@@ -7,7 +7,7 @@ use Rattle.std.proofs.lemmas.Nat.Bits.{bit_at-zero}
 use Rattle.array_maps.specs.declared.access.Op.{Op}
 use Rattle.array_maps.specs.declared.access.Op.TheVariants.{Add, Or, And, Xor, AddH}
 use Rattle.array_maps.specs.Accesses.{operators}
-use Rattle.loop_core_marks.specs.Marks.{Marks, marked_reduction}
+use Rattle.loop_core_model.specs.Marks.{Marks, marked_reduction}
 use Rattle.lane_planes.specs.Words.{in_some, in_two, without_reductions}
 use Rattle.lane_planes.proofs.BitMeaning.{bit, bit-and, bit-or, bit-not}
 

@@ -2,7 +2,7 @@
 -- bits, and up to 64 of the numbers.
 use Rattle.std.specs.Prelude.{◌≡◌, ℕ, ◌*◌, ◌^◌, ◌<◌, ◌≤◌, min, max, List, ◌++◌, length, slice_index, bit_and, bit_or}
 use Rattle.array_maps.specs.declared.access.Op.{Op}
-use Rattle.loop_core_marks.specs.Marks.{Visit}
+use Rattle.loop_core_model.specs.Marks.{Visit}
 use Rattle.shadow_marks.specs.declared.planes.LrpdPlanes.{LrpdPlanes}
 use Rattle.shadow_marks.specs.declared.planes.FlowPlanes.{FlowPlanes}
 use Rattle.shadow_marks.specs.declared.planes.Tested.{Tested}

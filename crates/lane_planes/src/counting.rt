@@ -1,7 +1,7 @@
 //! How many bits of a plane are set, and which is the least.
 
 ghost use Rattle.std.specs.Prelude.{◌≡◌, ℕ, ◌^◌, ◌<◌, ◌≤◌, true, length, slice_index};
-ghost use Rattle.loop_core_marks.specs.Planes.{set_bits, least_bit};
+ghost use Rattle.loop_core_model.specs.Planes.{set_bits, least_bit};
 
 use std::simd::prelude::*;
 

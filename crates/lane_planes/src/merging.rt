@@ -1,7 +1,7 @@
 //! Planes of two disjoint sets of iterations, merged.
 
 ghost use Rattle.std.specs.Prelude.{◌≡◌, ◌*◌, ◌<◌, ◌≤◌, ℕ, List, length};
-ghost use Rattle.loop_core_marks.specs.Marks.{Visit, Marks, merged};
+ghost use Rattle.loop_core_model.specs.Marks.{Visit, Marks, merged};
 ghost use Rattle.shadow_marks.specs.Standing.{ArePlanes, test_of, StandAt, StandFor, words_for};
 ghost use Rattle.shadow_marks.specs.Ending.{KeepsShape};
 ghost use Rattle.lane_planes.specs.Merged.{joined_visits, MergedOperators, MergedLrpd, MergedFlow, MergedTested, MergedPages, MergedPlanes, SameOperators, SameTested, SameLrpd, SameFlow, OperatorsReach, TestedReach, LrpdReach, FlowReach, FirstsFit};

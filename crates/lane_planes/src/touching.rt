@@ -2,8 +2,8 @@
 
 ghost use Rattle.std.specs.Prelude.{◌≡◌, ◌+◌, ◌-◌, ◌*◌, ◌<◌, ◌≤◌, ℕ, false, min, List, length, slice_index};
 ghost use Rattle.std.specs.List.{filter, range_with_len};
-ghost use Rattle.loop_core_marks.specs.Marks.{Visit, Marks, marks_of, marked_conflict, merged};
-ghost use Rattle.loop_core_marks.specs.Planes.{bit_of, elements_in_plane};
+ghost use Rattle.loop_core_model.specs.Marks.{Visit, Marks, marks_of, marked_conflict, merged};
+ghost use Rattle.loop_core_model.specs.Planes.{bit_of, elements_in_plane};
 ghost use Rattle.shadow_marks.specs.declared.planes.Tested.TheVariants.{Flow};
 ghost use Rattle.shadow_marks.specs.Standing.{ArePlanes, IsBitPlane, test_of, StandAt, StandFor, words_for};
 ghost use Rattle.shadow_marks.specs.Ending.{KeepsShape};

@@ -7,9 +7,9 @@ use Rattle.array_maps.specs.Accesses.{Action, Read, Write, ReadWrite, Reduce, Ac
 use Rattle.bpf_step_model.specs.LoopInOrder.{loop_from}
 use Rattle.loop_core_model.specs.Actions.{is_write}
 use Rattle.loop_core_model.proofs.OneElement.{same_op}
-use Rattle.loop_core_marks.specs.declared.access.Access.{Access as Kind}
-use Rattle.loop_core_marks.specs.Flags.{kind_of}
-use Rattle.loop_core_blocks.specs.Kept.{OperatorsAssociate}
+use Rattle.loop_core_model.specs.declared.access.Access.{Access as Kind}
+use Rattle.loop_core_model.specs.Flags.{kind_of}
+use Rattle.loop_core_model.specs.Kept.{OperatorsAssociate}
 use Rattle.loop_core_batch.specs.declared.site.Site.{Site}
 use Rattle.loop_core_batch.specs.Lanes.{words_after_lanes}
 use Rattle.loop_core_batch.specs.Sites.{Log, of_lane, MayAccess, kind_leaves, IsAtSite, IsLogOf}

@@ -6,8 +6,8 @@ use Rattle.std.proofs.lemmas.Bool.{eqb-true}
 use Rattle.std.proofs.lemmas.List.Elements.{All-head, All-tail}
 use Rattle.array_maps.specs.Accesses.{Action, Read, Write, ReadWrite, Reduce, actions_at}
 use Rattle.loop_core_model.specs.Actions.{is_write}
-use Rattle.loop_core_marks.specs.declared.access.Access.{Access as Kind}
-use Rattle.loop_core_marks.specs.Flags.{kind_of}
+use Rattle.loop_core_model.specs.declared.access.Access.{Access as Kind}
+use Rattle.loop_core_model.specs.Flags.{kind_of}
 use Rattle.loop_core_batch.specs.declared.site.Site.{Site}
 use Rattle.loop_core_batch.specs.Lanes.{sees}
 use Rattle.loop_core_batch.specs.Sites.{Log, of_lane, MayAccess, kind_sees, kind_leaves, Unseen, IsLogOf, SitesTell}

@@ -5,14 +5,14 @@ use Rattle.std.proofs.Math.Nat.{add_comm}
 use Rattle.std.proofs.lemmas.Bool.{eqb-true, eqb-false}
 use Rattle.std.proofs.lemmas.Nat.{or_comm, and_comm, xor_comm}
 use Rattle.std.proofs.lemmas.List.{get_or-set_other, set_comm, set-get_or}
-use Rattle.bpf_insn_alu.specs.Words.{alu}
+use Rattle.bpf_insn_types.specs.Words.{alu}
 use Rattle.array_maps.specs.declared.access.Op.{Op}
 use Rattle.array_maps.specs.declared.access.Op.TheVariants.{Add, Or, And, Xor, AddH}
 use Rattle.array_maps.specs.Accesses.{Action, Read, Write, ReadWrite, Reduce, Access, combined, left_by, words_after}
 use Rattle.array_maps.specs.Halves.{of_halves, half_of, halves_added}
 use Rattle.array_maps.specs.declared.access.Half.TheVariants.{Low, High}
 use Rattle.loop_core_model.specs.Actions.{is_write}
-use Rattle.loop_core_blocks.specs.Kept.{OperatorsAssociate}
+use Rattle.loop_core_model.specs.Kept.{OperatorsAssociate}
 use Rattle.loop_core_batch.specs.BySite.{combined_to, SumsAtOnce}
 
 -- they leave the same in either order

@@ -3,8 +3,8 @@ use Rattle.std.specs.Prelude.{◌≡◌, ℕ, zero, suc, Bool, true, false, List
 use Rattle.std.specs.List.{AllPairs}
 use Rattle.array_maps.specs.declared.access.Op.{Op}
 use Rattle.array_maps.specs.Accesses.{Access, Reduce as Reduces, combined, words_after}
-use Rattle.loop_core_marks.specs.declared.access.Access.{Access as Kind}
-use Rattle.loop_core_marks.specs.declared.access.Access.TheVariants.{Reduce}
+use Rattle.loop_core_model.specs.declared.access.Access.{Access as Kind}
+use Rattle.loop_core_model.specs.declared.access.Access.TheVariants.{Reduce}
 use Rattle.loop_core_model.specs.Actions.{is_same}
 use Rattle.loop_core_batch.specs.declared.site.Site.{Site}
 use Rattle.loop_core_batch.specs.Lanes.{words_after_lanes}

@@ -2,9 +2,9 @@
 use Rattle.std.specs.Prelude.{◌≡◌, ℕ, ◌+◌, ◌<◌, ◌≤◌, Bool, true, false, List, map}
 use Rattle.std.specs.List.{All, AllZip, Contains}
 use Rattle.array_maps.specs.Accesses.{Access}
-use Rattle.loop_core_marks.specs.declared.access.Access.{Access as Kind}
-use Rattle.loop_core_marks.specs.declared.access.Access.TheVariants.{Read, Write, Both, Reduce}
-use Rattle.loop_core_marks.specs.Flags.{kind_of}
+use Rattle.loop_core_model.specs.declared.access.Access.{Access as Kind}
+use Rattle.loop_core_model.specs.declared.access.Access.TheVariants.{Read, Write, Both, Reduce}
+use Rattle.loop_core_model.specs.Flags.{kind_of}
 use Rattle.loop_core_batch.specs.declared.elements.Elements.{Elements}
 use Rattle.loop_core_batch.specs.declared.elements.Elements.TheVariants.{One, Run, Between}
 use Rattle.loop_core_batch.specs.declared.site.Site.{Site}

@@ -5,7 +5,7 @@ ghost use Rattle.loop_core_batch.specs.BySite.{Commute, AllCommute, by_one_opera
 ghost use Rattle.loop_core_batch.specs.Sites.{Unseen, AllUnseen, kind_sees, kind_leaves};
 
 use crate::elements::Elements;
-use loop_core_marks::Access;
+use loop_core_model::Access;
 
 /// What lanes do at one place: each makes one access.
 #[derive(Clone, Copy)]

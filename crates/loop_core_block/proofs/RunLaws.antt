@@ -9,7 +9,7 @@ use Rattle.bpf_verify_sound.specs.Soundness.{OverApproximatesCall, most_from}
 use Rattle.bpf_step.specs.Iterations.{CallbackOf}
 use Rattle.loop_core_model.specs.LeastBreak.{in_front_of}
 use Rattle.loop_core_model.specs.Scan.{up_to_break, scan}
-use Rattle.loop_core_blocks.specs.Block.{block_run, break_from}
+use Rattle.loop_core_model.specs.Block.{block_run, break_from}
 use Rattle.loop_core_block.specs.declared.runner.Runner.{Runner}
 use Rattle.loop_core_block.specs.Runs.{start_words, IsReady, IsSame, RunnerHasRun, RanOneMore, RanUpTo}
 

@@ -6,8 +6,8 @@ use Rattle.bpf_step_model.specs.Run.{BoundedResult, Ended, Stuck, Unfinished}
 use Rattle.bpf_step_model.specs.Iteration.{Iterated}
 use Rattle.loop_core_model.specs.declared.loop_test.Test.{Test}
 use Rattle.loop_core_model.specs.LeastBreak.{accesses_of_each}
-use Rattle.loop_core_blocks.specs.Block.{block_run, break_from}
-use Rattle.loop_core_blocks.specs.Gather.{Block}
+use Rattle.loop_core_model.specs.Block.{block_run, break_from}
+use Rattle.loop_core_model.specs.Gather.{Block}
 use Rattle.shadow_marks.specs.Standing.{test_of, StandFor}
 use Rattle.private_copy.specs.Copies.{CopyRecords}
 use Rattle.private_copy.specs.Visits.{visits_of}

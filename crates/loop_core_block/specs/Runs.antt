@@ -5,7 +5,7 @@ use Rattle.bpf_step_model.specs.Run.{Ended}
 use Rattle.bpf_step_model.specs.Iteration.{Iterated, iteration}
 use Rattle.bpf_verify_sound.specs.Soundness.{OverApproximatesCall, most_from}
 use Rattle.loop_core_model.specs.LeastBreak.{accesses_of_each}
-use Rattle.loop_core_blocks.specs.Block.{block_run, break_from}
+use Rattle.loop_core_model.specs.Block.{block_run, break_from}
 use Rattle.shadow_marks.specs.Standing.{test_of, StandFor}
 use Rattle.private_copy.specs.Copies.{CopyRecords}
 use Rattle.private_copy.specs.Shown.{copy_of}

@@ -1,7 +1,7 @@
 -- The blocks that count, of blocks that were run.
 use Rattle.std.specs.Prelude.{◌≡◌, ℕ, List, [], ◌∷◌, map, slice_get, Option, Some, None}
-use Rattle.loop_core_blocks.specs.Block.{break_from}
-use Rattle.loop_core_blocks.specs.Gather.{Block, least_of, counting, gather_fault}
+use Rattle.loop_core_model.specs.Block.{break_from}
+use Rattle.loop_core_model.specs.Gather.{Block, least_of, counting, gather_fault}
 use Rattle.loop_core_gather.specs.declared.summary.Summary.{Summary}
 
 -- what is told of a block

@@ -10,9 +10,9 @@ use Rattle.std.proofs.lemmas.Nat.Bits.{bit_at-zero}
 use Rattle.std.proofs.lemmas.Option.{slice_get_within, slice_get_read, slice_get-map, get_or_from_slice_get}
 use Rattle.std.proofs.lemmas.List.Elements.{All-nil, All-cons}
 use Rattle.array_maps.specs.declared.access.Op.{Op}
-use Rattle.loop_core_marks.specs.Marks.{Visit}
-use Rattle.loop_core_blocks.specs.Gather.{Block}
-use Rattle.loop_core_blocks.specs.Kept.{Kept, applied, last_of, committed_of_kept}
+use Rattle.loop_core_model.specs.Marks.{Visit}
+use Rattle.loop_core_model.specs.Gather.{Block}
+use Rattle.loop_core_model.specs.Kept.{Kept, applied, last_of, committed_of_kept}
 use Rattle.private_copy.specs.Reductions.{combination}
 use Rattle.loop_core_block.specs.declared.block.Block.{Block as Held}
 use Rattle.loop_core_block.specs.Blocks.{BlockOf}

@@ -2,9 +2,9 @@
 use Rattle.std.proofs.Common.{◌≡◌, ℕ, Bool, true, false, List, [], ◌∷◌, map, Some, None, Option, refl, sym, ◌∙◌, ap, subst}
 use Rattle.std.specs.Prelude.{not, is_none, if◌then◌else◌, slice_get}
 use Rattle.std.specs.List.{list_any}
-use Rattle.loop_core_blocks.specs.declared.faults.GatherFault.TheVariants.{Missing, Twice, Foreign}
-use Rattle.loop_core_blocks.specs.declared.faults.GatherFault.{GatherFault}
-use Rattle.loop_core_blocks.specs.Gather.{Block, least_of, lacks_block, lacks_some, twice, stands_in, gather_fault}
+use Rattle.loop_core_model.specs.declared.faults.GatherFault.TheVariants.{Missing, Twice, Foreign}
+use Rattle.loop_core_model.specs.declared.faults.GatherFault.{GatherFault}
+use Rattle.loop_core_model.specs.Gather.{Block, least_of, lacks_block, lacks_some, twice, stands_in, gather_fault}
 use Rattle.loop_core_gather.specs.declared.summary.Summary.{Summary}
 use Rattle.loop_core_gather.specs.Told.{least_told, twice_told, stands_told, order_told}
 use Rattle.loop_core_gather.specs.Counting.{places_told, told_fault, Counts}

@@ -11,11 +11,11 @@ use Rattle.bpf_step_model.proofs.Endings.{mapped_from}
 use Rattle.loop_core_model.specs.LeastBreak.{in_front_of}
 use Rattle.loop_core_model.specs.Scan.{up_to_break, scan}
 use Rattle.loop_core_model.proofs.OneElement.{or_false_left, or_false_right}
-use Rattle.loop_core_blocks.specs.Block.{break_from}
-use Rattle.loop_core_blocks.specs.Split.{falls, ends_amiss, split_fault}
-use Rattle.loop_core_blocks.specs.Gather.{Block, IsRunOf, least_of, starts_late, block_numbered, lacks_block, lacks_some, in_front, counting, twice, stands_in, gather_fault}
-use Rattle.loop_core_blocks.proofs.FirstBreak.{FirstIs, breaking, scan_first}
-use Rattle.loop_core_blocks.proofs.GatherLaws.{AtMost, Stands, rising, if_none, not_false, found, none_counts, some_there}
+use Rattle.loop_core_model.specs.Block.{break_from}
+use Rattle.loop_core_model.specs.Split.{falls, ends_amiss, split_fault}
+use Rattle.loop_core_model.specs.Gather.{Block, IsRunOf, least_of, starts_late, block_numbered, lacks_block, lacks_some, in_front, counting, twice, stands_in, gather_fault}
+use Rattle.loop_core_model.proofs.FirstBreak.{FirstIs, breaking, scan_first}
+use Rattle.loop_core_model.proofs.GatherLaws.{AtMost, Stands, rising, if_none, not_false, found, none_counts, some_there}
 use Rattle.loop_core_gather.proofs.BlocksCount.{counting_of}
 
 -- from an index on, each block begins where the iterations of those before it end

@@ -11,12 +11,12 @@ use Rattle.bpf_step_model.specs.State.{LoopCall}
 use Rattle.loop_core_model.specs.declared.loop_test.Test.{Test}
 use Rattle.loop_core_model.specs.declared.verdict.Verdict.{Verdict}
 use Rattle.loop_core_model.specs.LeastBreak.{count_to}
-use Rattle.loop_core_marks.specs.Marks.{Visit, marks_of, marked_conflict}
-use Rattle.loop_core_marks.specs.Planes.{elements_in_plane, plane_verdict}
-use Rattle.loop_core_blocks.specs.declared.faults.GatherFault.{GatherFault}
-use Rattle.loop_core_blocks.specs.Split.{split_fault}
-use Rattle.loop_core_blocks.specs.Gather.{gather_fault}
-use Rattle.loop_core_schedule.specs.Outcome.{Outcome}
+use Rattle.loop_core_model.specs.Marks.{Visit, marks_of, marked_conflict}
+use Rattle.loop_core_model.specs.Planes.{elements_in_plane, plane_verdict}
+use Rattle.loop_core_model.specs.declared.faults.GatherFault.{GatherFault}
+use Rattle.loop_core_model.specs.Split.{split_fault}
+use Rattle.loop_core_model.specs.Gather.{gather_fault}
+use Rattle.loop_core_model.specs.Outcome.{Outcome}
 use Rattle.shadow_marks.specs.declared.planes.Planes.{Planes}
 use Rattle.shadow_marks.specs.Standing.{ArePlanes, StandFor, words_for, test_of}
 use Rattle.private_copy.specs.Touched.{has_page}

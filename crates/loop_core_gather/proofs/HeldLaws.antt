@@ -3,8 +3,8 @@ use Rattle.std.proofs.Common.{◌≡◌, ℕ, ◌/◌, ◌<◌, Bool, List, leng
 use Rattle.std.specs.Prelude.{slice_index}
 use Rattle.std.specs.List.{All}
 use Rattle.std.proofs.lemmas.List.{length-map, get_or-map}
-use Rattle.loop_core_blocks.specs.Kept.{committed_of_kept}
-use Rattle.loop_core_schedule.specs.Outcome.{Outcome}
+use Rattle.loop_core_model.specs.Kept.{committed_of_kept}
+use Rattle.loop_core_model.specs.Outcome.{Outcome}
 use Rattle.shadow_marks.specs.declared.planes.Planes.{Planes}
 use Rattle.private_copy.proofs.AccessLaws.{shown_at, shown_length}
 use Rattle.loop_core_block.specs.declared.block.Block.{Block as Held}

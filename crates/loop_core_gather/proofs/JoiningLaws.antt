@@ -13,12 +13,12 @@ use Rattle.loop_core_model.specs.declared.loop_test.Test.{Test}
 use Rattle.loop_core_model.specs.Actions.{joined}
 use Rattle.loop_core_model.specs.Conflict.{at_element}
 use Rattle.loop_core_model.specs.LeastBreak.{accesses_of_each}
-use Rattle.loop_core_marks.specs.Marks.{Visit, numbered, Marks, marks_of, marked_reduction, merged}
-use Rattle.loop_core_marks.specs.Planes.{bit_of}
-use Rattle.loop_core_marks.proofs.MarkLaws.{marks_merge}
-use Rattle.loop_core_blocks.specs.Gather.{Block, IsRunOf as RanAs}
-use Rattle.loop_core_blocks.specs.Kept.{Kept, kept}
-use Rattle.loop_core_schedule.specs.KeptLaw.{marks_of_blocks}
+use Rattle.loop_core_model.specs.Marks.{Visit, numbered, Marks, marks_of, marked_reduction, merged}
+use Rattle.loop_core_model.specs.Planes.{bit_of}
+use Rattle.loop_core_model.proofs.MarkLaws.{marks_merge}
+use Rattle.loop_core_model.specs.Gather.{Block, IsRunOf as RanAs}
+use Rattle.loop_core_model.specs.Kept.{Kept, kept}
+use Rattle.loop_core_model.specs.KeptLaw.{marks_of_blocks}
 use Rattle.shadow_marks.specs.declared.planes.Planes.{Planes}
 use Rattle.shadow_marks.specs.Standing.{plane_by, StandAt, StandFor}
 use Rattle.private_copy.specs.Copies.{CopyRecords}
@@ -27,7 +27,7 @@ use Rattle.private_copy.specs.Visits.{visits_of}
 use Rattle.private_copy.proofs.ReductionLaws.{partial_is_combination}
 use Rattle.loop_core_block.specs.Blocks.{BlockOf}
 use Rattle.loop_core_block.specs.Ran.{iterations_of, as_gathered, RecordsRun}
-use Rattle.loop_core_blocks.specs.Block.{block_run}
+use Rattle.loop_core_model.specs.Block.{block_run}
 use Rattle.loop_core_gather.specs.Held.{visits_at, is_reduction, kept_of}
 use Rattle.loop_core_gather.proofs.FollowLaws.{Follow}
 

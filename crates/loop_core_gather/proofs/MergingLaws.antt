@@ -4,7 +4,7 @@ use Rattle.std.specs.List.{All}
 use Rattle.std.proofs.Math.ListN.{drop_of_length-le}
 use Rattle.std.proofs.lemmas.List.{append-nil}
 use Rattle.loop_core_model.specs.declared.loop_test.Test.{Test}
-use Rattle.loop_core_marks.specs.Marks.{Visit}
+use Rattle.loop_core_model.specs.Marks.{Visit}
 use Rattle.shadow_marks.specs.declared.planes.Planes.{Planes}
 use Rattle.shadow_marks.specs.Standing.{ArePlanes, StandFor, test_of}
 use Rattle.shadow_marks.specs.Ending.{KeepsShape}

@@ -19,18 +19,18 @@ use Rattle.loop_core_model.specs.Committed.{committed, committed_words}
 use Rattle.loop_core_model.specs.LeastBreak.{is_break, least_break, count_to, counted, accesses_of_each, counted_runs}
 use Rattle.loop_core_model.specs.Report.{judged}
 use Rattle.loop_core_model.proofs.Least.{counts_to}
-use Rattle.loop_core_marks.specs.Marks.{marks_of, marked_reduction, marked_conflict}
-use Rattle.loop_core_marks.specs.Planes.{elements_in_plane, plane_verdict}
-use Rattle.loop_core_marks.proofs.PlaneLaws.{filter-same}
-use Rattle.loop_core_marks.proofs.PlaneBits.{plane_judges}
-use Rattle.loop_core_blocks.specs.Split.{split_fault}
-use Rattle.loop_core_blocks.specs.Gather.{Block, gathered, Gathers}
-use Rattle.loop_core_blocks.specs.Kept.{committed_of_kept}
-use Rattle.loop_core_blocks.proofs.GatherLaws.{blocks_gather}
-use Rattle.loop_core_schedule.specs.KeptLaw.{marks_of_blocks}
-use Rattle.loop_core_schedule.specs.Outcome.{Outcome, outcome}
-use Rattle.loop_core_schedule.proofs.KeptBlockLaws.{kept_blocks_tell}
-use Rattle.loop_core_schedule.proofs.OutcomeLaws.{outcome_by_test}
+use Rattle.loop_core_model.specs.Marks.{marks_of, marked_reduction, marked_conflict}
+use Rattle.loop_core_model.specs.Planes.{elements_in_plane, plane_verdict}
+use Rattle.loop_core_model.proofs.PlaneLaws.{filter-same}
+use Rattle.loop_core_model.proofs.PlaneBits.{plane_judges}
+use Rattle.loop_core_model.specs.Split.{split_fault}
+use Rattle.loop_core_model.specs.Gather.{Block, gathered, Gathers}
+use Rattle.loop_core_model.specs.Kept.{committed_of_kept}
+use Rattle.loop_core_model.proofs.GatherLaws.{blocks_gather}
+use Rattle.loop_core_model.specs.KeptLaw.{marks_of_blocks}
+use Rattle.loop_core_model.specs.Outcome.{Outcome, outcome}
+use Rattle.loop_core_model.proofs.KeptBlockLaws.{kept_blocks_tell}
+use Rattle.loop_core_model.proofs.OutcomeLaws.{outcome_by_test}
 use Rattle.shadow_marks.specs.declared.planes.Planes.{Planes}
 use Rattle.shadow_marks.specs.Standing.{StandFor}
 use Rattle.private_copy.proofs.AccessLaws.{shown_at, shown_length}

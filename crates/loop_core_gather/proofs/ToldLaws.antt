@@ -6,8 +6,8 @@ use Rattle.std.proofs.Math.Seq.{drop-cons}
 use Rattle.std.proofs.Math.ListN.{drop_of_length-le}
 use Rattle.std.proofs.lemmas.List.{append-nil}
 use Rattle.loop_core_model.specs.LeastBreak.{lesser}
-use Rattle.loop_core_blocks.specs.Block.{break_from}
-use Rattle.loop_core_blocks.specs.Gather.{Block, least_of, starts_late, block_numbered, lacks_block, counting, twice, stands_in}
+use Rattle.loop_core_model.specs.Block.{break_from}
+use Rattle.loop_core_model.specs.Gather.{Block, least_of, starts_late, block_numbered, lacks_block, counting, twice, stands_in}
 use Rattle.loop_core_gather.specs.declared.summary.Summary.{Summary}
 use Rattle.loop_core_gather.specs.Told.{least_told, twice_told, stands_told, with_place, order_from, order_told}
 use Rattle.loop_core_gather.proofs.BlocksCount.{summary_of}

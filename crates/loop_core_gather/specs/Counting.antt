@@ -1,8 +1,8 @@
 -- What is wrong with blocks, and which of them count, by what is told of them.
 use Rattle.std.specs.Prelude.{◌≡◌, ℕ, not, is_none, if◌then◌else◌, List, Option, Some, None}
 use Rattle.std.specs.List.{list_any}
-use Rattle.loop_core_blocks.specs.declared.faults.GatherFault.{GatherFault}
-use Rattle.loop_core_blocks.specs.declared.faults.GatherFault.TheVariants.{Missing, Twice, Foreign}
+use Rattle.loop_core_model.specs.declared.faults.GatherFault.{GatherFault}
+use Rattle.loop_core_model.specs.declared.faults.GatherFault.TheVariants.{Missing, Twice, Foreign}
 use Rattle.loop_core_gather.specs.declared.summary.Summary.{Summary}
 use Rattle.loop_core_gather.specs.Told.{least_told, twice_told, stands_told, order_told}
 

@@ -8,8 +8,8 @@ use Rattle.loop_core_model.specs.declared.loop_test.Test.{Test}
 use Rattle.loop_core_model.specs.declared.verdict.Verdict.{Verdict}
 use Rattle.loop_core_model.specs.declared.verdict.Verdict.TheVariants.{Parallel}
 use Rattle.loop_core_model.specs.Report.{verdict}
-use Rattle.loop_core_blocks.specs.Gather.{Block}
-use Rattle.loop_core_schedule.specs.Outcome.{Outcome, outcome}
+use Rattle.loop_core_model.specs.Gather.{Block}
+use Rattle.loop_core_model.specs.Outcome.{Outcome, outcome}
 use Rattle.loop_core_block.specs.Blocks.{BlockOf}
 use Rattle.loop_core_block.specs.Ran.{as_gathered}
 

@@ -5,9 +5,9 @@ use Rattle.std.specs.List.{All, count_by, filter_map, range_with_len}
 use Rattle.array_maps.specs.Accesses.{operators}
 use Rattle.loop_core_model.specs.declared.loop_test.Test.{Test}
 use Rattle.loop_core_model.specs.Actions.{joined}
-use Rattle.loop_core_marks.specs.Marks.{Visit}
-use Rattle.loop_core_marks.specs.Planes.{bit_of}
-use Rattle.loop_core_blocks.specs.Kept.{Kept, committed_of_kept}
+use Rattle.loop_core_model.specs.Marks.{Visit}
+use Rattle.loop_core_model.specs.Planes.{bit_of}
+use Rattle.loop_core_model.specs.Kept.{Kept, committed_of_kept}
 use Rattle.shadow_marks.specs.declared.planes.Planes.{Planes}
 use Rattle.shadow_marks.specs.Standing.{ArePlanes, words_for, plane_by, test_of}
 use Rattle.private_copy.specs.Reductions.{combination}

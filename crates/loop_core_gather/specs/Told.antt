@@ -2,7 +2,7 @@
 use Rattle.std.specs.Prelude.{ℕ, ◌+◌, Bool, false, ◌&&◌, ◌||◌, ◌==◌, if◌then◌else◌, List, [], ◌∷◌, slice_get, Option, Some, None}
 use Rattle.std.specs.List.{list_any, position_from}
 use Rattle.loop_core_model.specs.LeastBreak.{lesser}
-use Rattle.loop_core_blocks.specs.Gather.{starts_late, is_bound}
+use Rattle.loop_core_model.specs.Gather.{starts_late, is_bound}
 use Rattle.loop_core_gather.specs.declared.summary.Summary.{Summary}
 
 -- the least break

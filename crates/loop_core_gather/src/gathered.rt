@@ -32,7 +32,7 @@ pub struct Gathered<'a> {
 impl<'a> Model for Gathered<'a> {
     ghost use Rattle.std.specs.Prelude.{map, length};
     ghost use Rattle.loop_core_block.specs.Shown.{shown};
-    ghost use Rattle.loop_core_schedule.specs.Outcome.{Outcome};
+    ghost use Rattle.loop_core_model.specs.Outcome.{Outcome};
     ghost use Rattle.loop_core_gather.specs.Held.{chosen, left_words, AreHeld};
 
     ghost Value = { Outcome };

@@ -5,7 +5,7 @@ ghost use Rattle.std.specs.Int.{bit_at};
 ghost use Rattle.std.specs.List.{All};
 ghost use Rattle.std.specs.Option.{unwrap_or};
 ghost use Rattle.private_copy.specs.Reductions.{combination};
-ghost use Rattle.loop_core_blocks.specs.Kept.{applied as applied_to, committed_of_kept};
+ghost use Rattle.loop_core_model.specs.Kept.{applied as applied_to, committed_of_kept};
 ghost use Rattle.loop_core_block.specs.Shown.{shown};
 ghost use Rattle.loop_core_gather.specs.Held.{chosen, kept_of, TellsUntouched};
 

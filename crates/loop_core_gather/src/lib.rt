@@ -13,7 +13,7 @@ mod touched;
 
 pub use gathered::Gathered;
 pub use gathering::{GatherError, gather};
-pub use loop_core_blocks::GatherFault;
+pub use loop_core_model::GatherFault;
 pub use order::{Counting, counting_blocks};
 pub use settling::{LoopOutcome, settle};
 pub use summary::Summary;

@@ -1,17 +1,43 @@
-//! Speculative loops: what counts, what conflicts, what is committed, and the law that a loop which
-//! passes is the loop in order. Nothing runs here: each function's contract is a law.
+//! Speculative loops, as definitions and laws. What counts, what conflicts, what is committed, and the law that a loop
+//! which passes is the loop in order. What has to be kept of iterations at an element, so that its conflict is known by
+//! either test: flags while an iteration runs, and marks of those that ended. A loop in blocks, and what is kept of
+//! each. What workers may do and when, and the outcome of a loop, which depends on none of it. Nothing runs here: each
+//! function's contract is a law.
 #![tactic(auto)]
 
+pub mod access;
+pub mod faults;
 pub mod loop_test;
+pub mod replay_fault;
 pub mod verdict;
 
+ghost use Rattle.loop_core_model.specs.Block.{ScansFollow};
+ghost use Rattle.loop_core_model.specs.Gather.{BlocksGather};
+ghost use Rattle.loop_core_model.specs.Kept.{OperatorsAssociate, CommitsOfKept};
+ghost use Rattle.loop_core_model.specs.Split.{EvenIsSplit};
+ghost use Rattle.loop_core_model.specs.Flags.{FlagsFollowKinds};
+ghost use Rattle.loop_core_model.specs.MarkLaw.{MarksTell, FirstIsNumber, MarksMerge};
+ghost use Rattle.loop_core_model.specs.Planes.{PlaneHasElements, PlaneJudges};
 ghost use Rattle.loop_core_model.specs.Conflict.{FailsByPair, FlowPassesMore};
 ghost use Rattle.loop_core_model.specs.Law.{LoopLaw};
 ghost use Rattle.loop_core_model.specs.Scan.{CountedAreScanned};
 ghost use Rattle.loop_core_model.specs.VerdictBounds.{VerdictsAgree};
 ghost use Rattle.loop_core_model.specs.VerdictRows.{VerdictRows};
+ghost use Rattle.loop_core_model.specs.BlockRows.{BlockRows};
+ghost use Rattle.loop_core_model.specs.GatherRows.{GatherRows};
+ghost use Rattle.loop_core_model.specs.KeptLaw.{KeptBlocksTell};
+ghost use Rattle.loop_core_model.specs.OutcomeLaw.{OutcomeByTest};
+ghost use Rattle.loop_core_model.specs.PlaneRows.{PlaneRows};
+ghost use Rattle.loop_core_model.specs.ReplayRows.{ReplayRows};
+ghost use Rattle.loop_core_model.specs.ScheduleLaw.{EndedSchedulesComplete};
+ghost use Rattle.loop_core_model.specs.SplitLaw.{SplitsPartition};
+ghost use Rattle.loop_core_model.specs.SplitRows.{SplitRows};
 
+pub use access::Access;
+pub use faults::{GatherFault, SplitFault};
+pub use loop_core_event::{Event, EventKind};
 pub use loop_test::Test;
+pub use replay_fault::ReplayFault;
 pub use verdict::{LoopReport, Verdict};
 
 /// The law of speculation: by either test, a loop whose counted iterations end on the start words, and
@@ -44,4 +70,110 @@ pub fn law_of_verdict_bounds()
 /// many elements conflict and which is the least.
 pub fn worked_verdicts()
     ensures { VerdictRows }
+{}
+
+/// The law of flags: an iteration's flags at an element begin empty, and each action changes them by
+/// its kind alone.
+pub fn law_of_flags()
+    ensures { FlagsFollowKinds }
+{}
+
+/// The law of marks: they tell exactly which elements are reduction-only, and which conflict by either
+/// test; those of one iteration follow from its flags, those of two disjoint sets are merged, and the
+/// order of merging doesn't matter.
+pub fn law_of_marks()
+    ensures tell { MarksTell }
+    ensures number { FirstIsNumber }
+    ensures merge { MarksMerge }
+{}
+
+/// The law of planes: a plane of bits, a word for each 64 elements, whose bits say what a test says of
+/// each element and are zero past the end, has just the elements that pass. They are as many as bits
+/// are set in its words, and the least of them is 64 times the index of the first word that isn't 0,
+/// and its trailing zeros.
+pub fn law_of_planes()
+    ensures elements { PlaneHasElements }
+    ensures verdict { PlaneJudges }
+{}
+
+/// The law of operators: each of the five is associative, so that operands may be combined block by
+/// block, each from its first on.
+pub fn law_of_operators()
+    ensures { OperatorsAssociate }
+{}
+
+/// The law of kept values: what a pass leaves at an element follows from the last values and partials
+/// of the blocks in order, and from whether the element is reduction-only.
+pub fn law_of_kept_values()
+    ensures { CommitsOfKept }
+{}
+
+/// The law of blocks: the scan of two adjacent intervals is the scan of the first and then, unless it
+/// broke, of the second.
+pub fn law_of_blocks()
+    ensures { ScansFollow }
+{}
+
+/// The law of even splits: 1 to 64 blocks of any number of iterations are a split; none, or more, have
+/// the wrong number of bounds.
+pub fn law_of_even_splits()
+    ensures { EvenIsSplit }
+{}
+
+/// The law of gathering: blocks of a split, of which none is missing that starts at or before their
+/// least break, have the loop's least break, and their iterations are the counted ones, whichever other
+/// blocks were run.
+pub fn law_of_gathering()
+    ensures { BlocksGather }
+{}
+
+/// The law of splits: each index of the loop lies in exactly one block, and the blocks reach no
+/// further.
+pub fn law_of_splits()
+    ensures { SplitsPartition }
+{}
+
+/// The law of schedules: whatever the workers do, in whatever order, a list of events that has ended
+/// took every block, and left blocks of which none is missing, doubled or foreign; and the least break
+/// that was posted is the loop's.
+pub fn law_of_schedules()
+    ensures { EndedSchedulesComplete }
+{}
+
+/// The law of outcomes: a loop that passes a test answers how many iterations count and leaves what is
+/// committed of them; one that conflicts answers and leaves what it does in order.
+pub fn law_of_outcomes()
+    ensures { OutcomeByTest }
+{}
+
+/// The law of kept blocks: the merged marks of blocks are those of all their iterations, so they tell
+/// whether an element conflicts and whether it is reduction-only; and what a pass leaves there follows
+/// from that and from the blocks' kept values.
+pub fn law_of_kept_blocks()
+    ensures { KeptBlocksTell }
+{}
+
+/// The definitions give the first writers, last readers and kept values of worked blocks.
+pub fn worked_blocks()
+    ensures { BlockRows }
+{}
+
+/// The definitions give the planes of marks of worked blocks, and what planes of conflicts tell.
+pub fn worked_planes()
+    ensures { PlaneRows }
+{}
+
+/// The definitions give the fault of worked lists of blocks.
+pub fn worked_lists_of_blocks()
+    ensures { GatherRows }
+{}
+
+/// The definitions give the bounds of worked even splits, and the fault of other bounds.
+pub fn worked_splits()
+    ensures { SplitRows }
+{}
+
+/// The definitions give what worked lists of events come to: the loop's outcome, or their first fault.
+pub fn worked_replays()
+    ensures { ReplayRows }
 {}

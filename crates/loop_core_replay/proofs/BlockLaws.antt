@@ -4,8 +4,8 @@ use Rattle.std.specs.Prelude.{replicate, slice_index_or, slice_set, is_some}
 use Rattle.std.specs.List.{AllByRecursion, insert}
 use Rattle.std.proofs.lemmas.Bool.{cases_eq}
 use Rattle.std.proofs.lemmas.List.{length-set, get_or-set_same, get_or-set_other, length-replicate, replicate_more}
-use Rattle.loop_core_blocks.specs.Block.{block_run, break_from}
-use Rattle.loop_core_schedule.specs.Intervals.{blocks_of, end_of}
+use Rattle.loop_core_model.specs.Block.{block_run, break_from}
+use Rattle.loop_core_model.specs.Intervals.{blocks_of, end_of}
 use Rattle.loop_core_block.specs.declared.block.Block.{Block}
 use Rattle.loop_core_block.specs.Blocks.{BlockOf}
 use Rattle.loop_core_block.specs.Shown.{shown}

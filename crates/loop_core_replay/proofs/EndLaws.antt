@@ -5,11 +5,11 @@ use Rattle.std.specs.List.{All, AllByRecursion}
 use Rattle.std.proofs.lemmas.Bool.{eq-eqb}
 use Rattle.std.proofs.lemmas.List.Elements.{All-nil, All-cons}
 use Rattle.bpf_step_model.specs.Run.{Ended}
-use Rattle.loop_core_blocks.specs.declared.faults.GatherFault.{GatherFault}
-use Rattle.loop_core_blocks.specs.Gather as gather
-use Rattle.loop_core_blocks.specs.Gather.{is_bound, stands_in, gather_fault}
-use Rattle.loop_core_schedule.specs.Outcome.{Outcome, outcome, unless_fault, replayed}
-use Rattle.loop_core_schedule.specs.ScheduleLaw.{EndedSchedulesComplete}
+use Rattle.loop_core_model.specs.declared.faults.GatherFault.{GatherFault}
+use Rattle.loop_core_model.specs.Gather as gather
+use Rattle.loop_core_model.specs.Gather.{is_bound, stands_in, gather_fault}
+use Rattle.loop_core_model.specs.Outcome.{Outcome, outcome, unless_fault, replayed}
+use Rattle.loop_core_model.specs.ScheduleLaw.{EndedSchedulesComplete}
 use Rattle.loop_core_event.specs.declared.event.Event.{Event}
 use Rattle.loop_core_block.specs.declared.block.Block.{Block}
 use Rattle.loop_core_block.specs.Blocks.{BlockOf}

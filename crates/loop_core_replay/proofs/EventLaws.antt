@@ -4,17 +4,17 @@ use Rattle.std.specs.Prelude.{slice_get, if◌then◌else◌, OnOk, Result, Ok, 
 use Rattle.std.specs.Option.{option_to_list}
 use Rattle.std.proofs.lemmas.Bool.{eq-eqb, ne_eqb}
 use Rattle.bpf_step_model.specs.Iteration.{iteration}
-use Rattle.loop_core_blocks.specs.Gather.{is_bound}
+use Rattle.loop_core_model.specs.Gather.{is_bound}
 use Rattle.loop_core_event.specs.declared.event.Event.{Event}
 use Rattle.loop_core_event.specs.declared.event.EventKind.TheVariants as kinds
-use Rattle.loop_core_schedule.specs.Intervals.{start_of, end_of}
-use Rattle.loop_core_schedule.specs.Events.{Running as InBlock}
-use Rattle.loop_core_schedule.specs.declared.replay_fault.ReplayFault.{ReplayFault}
-use Rattle.loop_core_schedule.specs.Schedule.{ScheduleState, at_first, worker_of, replay}
-use Rattle.loop_core_schedule.proofs.SplitLaws.{faultless}
-use Rattle.loop_core_schedule.proofs.Steps.{first_break, RunsFrom, Fits as WorkerIsSound}
-use Rattle.loop_core_schedule.proofs.RunBlocks.{scan_break}
-use Rattle.loop_core_schedule.proofs.ScheduleLaws.{Sound, AllOk, events_ok, sound_at_first}
+use Rattle.loop_core_model.specs.Intervals.{start_of, end_of}
+use Rattle.loop_core_model.specs.Events.{Running as InBlock}
+use Rattle.loop_core_model.specs.declared.replay_fault.ReplayFault.{ReplayFault}
+use Rattle.loop_core_model.specs.Schedule.{ScheduleState, at_first, worker_of, replay}
+use Rattle.loop_core_model.proofs.SplitLaws.{faultless}
+use Rattle.loop_core_model.proofs.Steps.{first_break, RunsFrom, Fits as WorkerIsSound}
+use Rattle.loop_core_model.proofs.RunBlocks.{scan_break}
+use Rattle.loop_core_model.proofs.ScheduleLaws.{Sound, AllOk, events_ok, sound_at_first}
 use Rattle.loop_core_workers.specs.declared.worker.Worker.TheVariants.{Running}
 use Rattle.loop_core_workers.specs.declared.worker.PendingIteration.{PendingIteration}
 use Rattle.loop_core_workers.specs.Standing.{Standing, WorkersFit, schedule_worker, state}

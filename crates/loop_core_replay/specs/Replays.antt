@@ -3,10 +3,10 @@ use Rattle.std.specs.Prelude.{◌≡◌, ℕ, ◌<◌, true, List, ◌∷◌, ma
 use Rattle.std.specs.List.{AllByRecursion}
 use Rattle.bpf_step_model.specs.Run.{Ended}
 use Rattle.bpf_step_model.specs.Iteration.{Iterated}
-use Rattle.loop_core_blocks.specs.Block.{block_run, break_from}
+use Rattle.loop_core_model.specs.Block.{block_run, break_from}
 use Rattle.loop_core_event.specs.declared.event.Event.{Event}
-use Rattle.loop_core_schedule.specs.Intervals.{blocks_of, start_of, end_of}
-use Rattle.loop_core_schedule.specs.Schedule.{ScheduleState, replay}
+use Rattle.loop_core_model.specs.Intervals.{blocks_of, start_of, end_of}
+use Rattle.loop_core_model.specs.Schedule.{ScheduleState, replay}
 use Rattle.loop_core_workers.specs.Standing.{Standing, WorkersFit, state}
 use Rattle.loop_core_workers.specs.InTurn.{LeadTo}
 use Rattle.loop_core_block.specs.declared.block.Block.{Block}

@@ -1,7 +1,7 @@
 //! The blocks that a replay runs.
 
 ghost use Rattle.std.specs.Prelude.{◌≡◌, ◌<◌, [], ◌∷◌, replicate, None, IfOk, OnOk};
-ghost use Rattle.loop_core_schedule.specs.Intervals.{blocks_of};
+ghost use Rattle.loop_core_model.specs.Intervals.{blocks_of};
 ghost use Rattle.loop_core_block.specs.Shown.{shown};
 ghost use Rattle.loop_core_replay.specs.Settings.{SettingOf};
 ghost use Rattle.loop_core_replay.specs.Replays.{IsBlockOf, AreBlocks, IsUnderWay, BreaksAt, BlockHasRun};

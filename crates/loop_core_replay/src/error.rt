@@ -1,6 +1,6 @@
 //! Why a list of events isn't replayed.
 
-use loop_core_schedule::ReplayFault;
+use loop_core_model::ReplayFault;
 use std::alloc::AllocError;
 use thiserror::Error;
 

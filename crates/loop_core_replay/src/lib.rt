@@ -16,5 +16,5 @@ mod setting;
 
 pub use error::ReplayError;
 pub use loop_core_gather::LoopOutcome;
-pub use loop_core_schedule::ReplayFault;
+pub use loop_core_model::ReplayFault;
 pub use replaying::replay_loop;

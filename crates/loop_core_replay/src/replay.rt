@@ -1,9 +1,9 @@
 //! A replay, event by event.
 
 ghost use Rattle.std.specs.Prelude.{◌≡◌, ◌+◌, ◌<◌, List, length, slice_get, Some, Err, IfOk, IfErr, OnOk};
-ghost use Rattle.loop_core_blocks.specs.Gather.{is_bound};
+ghost use Rattle.loop_core_model.specs.Gather.{is_bound};
 ghost use Rattle.loop_core_event.specs.declared.event.EventKind.TheVariants as kinds;
-ghost use Rattle.loop_core_schedule.specs.Schedule.{replay};
+ghost use Rattle.loop_core_model.specs.Schedule.{replay};
 ghost use Rattle.loop_core_workers.specs.Steps.{IsBefore};
 ghost use Rattle.loop_core_replay.specs.Settings.{setting_breaks};
 ghost use Rattle.loop_core_replay.specs.Replays.{HasCome, IsLeft};
@@ -13,7 +13,7 @@ use crate::error::ReplayError;
 use crate::setting::Setting;
 use loop_core_block::Block;
 use loop_core_event::Event;
-use loop_core_schedule::ReplayFault;
+use loop_core_model::ReplayFault;
 use loop_core_workers::{PendingIteration, Step, Workers, law_of_events_in_turn};
 use std::alloc::AllocError;
 use std::marker::Model;

@@ -3,8 +3,8 @@
 ghost use Rattle.std.specs.Prelude.{◌≡◌, None, Ok, Err, IfOk};
 ghost use Rattle.bpf_step_model.specs.Run.{Ended};
 ghost use Rattle.bpf_verify_sound.specs.Soundness.{OverApproximatesCall};
-ghost use Rattle.loop_core_blocks.specs.Split.{split_fault};
-ghost use Rattle.loop_core_schedule.specs.Outcome.{replayed};
+ghost use Rattle.loop_core_model.specs.Split.{split_fault};
+ghost use Rattle.loop_core_model.specs.Outcome.{replayed};
 
 use crate::error::ReplayError;
 use crate::replay::run_events;
@@ -14,8 +14,7 @@ use bpf_step::LoopCall;
 use bpf_verify::Verified;
 use loop_core_event::Event;
 use loop_core_gather::{GatherError, LoopOutcome, gather, settle};
-use loop_core_model::Test;
-use loop_core_schedule::{ReplayFault, law_of_schedules};
+use loop_core_model::{ReplayFault, Test, law_of_schedules};
 use loop_core_split::Split;
 use std::alloc::Global;
 

@@ -1,11 +1,11 @@
 -- What the bounds of a split keep.
 use Rattle.std.proofs.Common.{◌≡◌, ℕ, zero, suc, ◌+◌, ◌-◌, ◌<◌, ◌≤◌, List, [], ◌∷◌, length, None, Some, refl, sym, ◌∙◌, ap, subst, arith}
 use Rattle.std.specs.Prelude.{slice_index, slice_index_or}
-use Rattle.loop_core_blocks.specs.declared.faults.SplitFault.TheVariants.{Number}
-use Rattle.loop_core_blocks.specs.Split.{last_bound, split_fault, even_bounds}
-use Rattle.loop_core_blocks.proofs.SplitLaws.{even_is_split}
-use Rattle.loop_core_schedule.specs.Intervals.{blocks_of}
-use Rattle.loop_core_schedule.proofs.SplitLaws.{faultless, rising}
+use Rattle.loop_core_model.specs.declared.faults.SplitFault.TheVariants.{Number}
+use Rattle.loop_core_model.specs.Split.{last_bound, split_fault, even_bounds}
+use Rattle.loop_core_model.proofs.EvenSplitLaws.{even_is_split}
+use Rattle.loop_core_model.specs.Intervals.{blocks_of}
+use Rattle.loop_core_model.proofs.SplitLaws.{faultless, rising}
 use Rattle.loop_core_split.specs.Splits.{IsSplit}
 
 pub last_is : (bounds : List ℕ) → IsSplit bounds → slice_index_or bounds (length bounds - 1) 0 ≡ last_bound 0 bounds

@@ -2,7 +2,7 @@
 
 ghost use Rattle.std.specs.Prelude.{◌≡◌, Some};
 ghost use Rattle.loop_core_model.specs.LeastBreak.{lesser as lesser_break};
-ghost use Rattle.loop_core_blocks.specs.Gather.{starts_late};
+ghost use Rattle.loop_core_model.specs.Gather.{starts_late};
 
 /// The lesser of two breaks, of which each may be there or not.
 pub fn lesser(index: Option<u32>, other: Option<u32>) -> Option<u32>

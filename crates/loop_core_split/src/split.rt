@@ -1,11 +1,11 @@
 //! Splits of a loop's iterations into blocks.
 
 ghost use Rattle.std.specs.Prelude.{◌≡◌, ◌<◌, ◌≤◌, ℕ, Bool, false, Some, None, IfOk, IfErr, OnOk};
-ghost use Rattle.loop_core_blocks.specs.Split.{falls as falls_below, last_bound, ends_amiss, split_fault, even_bounds};
-ghost use Rattle.loop_core_schedule.specs.Intervals.{blocks_of, start_of, end_of};
+ghost use Rattle.loop_core_model.specs.Split.{falls as falls_below, last_bound, ends_amiss, split_fault, even_bounds};
+ghost use Rattle.loop_core_model.specs.Intervals.{blocks_of, start_of, end_of};
 
 use arrayvec::ArrayVec;
-pub use loop_core_blocks::SplitFault as SplitError;
+pub use loop_core_model::SplitFault as SplitError;
 use loop_core_event::MAX_BLOCKS;
 use std::marker::Model;
 

@@ -3,9 +3,9 @@ use Rattle.std.proofs.Common.{◌≡◌, ℕ, zero, suc, ◌+◌, Bool, true, fa
 use Rattle.std.specs.Prelude.{slice_get, if◌then◌else◌}
 use Rattle.std.proofs.Math.Seq.{take-length}
 use Rattle.loop_core_event.specs.declared.event.Event.{Event}
-use Rattle.loop_core_schedule.specs.declared.replay_fault.ReplayFault.{ReplayFault}
-use Rattle.loop_core_schedule.specs.declared.replay_fault.ReplayFault.TheVariants.{NotEnded}
-use Rattle.loop_core_schedule.specs.Schedule.{ScheduleState, at_first, after_event, after_events, and_then, has_ended, if_ended, replay}
+use Rattle.loop_core_model.specs.declared.replay_fault.ReplayFault.{ReplayFault}
+use Rattle.loop_core_model.specs.declared.replay_fault.ReplayFault.TheVariants.{NotEnded}
+use Rattle.loop_core_model.specs.Schedule.{ScheduleState, at_first, after_event, after_events, and_then, has_ended, if_ended, replay}
 use Rattle.loop_core_workers.specs.InTurn.{EventsInTurn}
 
 module _ (breaks : ℕ → Bool) (bounds : List ℕ) where

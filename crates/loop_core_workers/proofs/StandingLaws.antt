@@ -5,8 +5,8 @@ use Rattle.std.proofs.lemmas.Bool.{le-ltb, cases_eq}
 use Rattle.std.proofs.lemmas.List.{get_or-set_same, get_or-set_other}
 use Rattle.std.specs.Option.{option_to_list}
 use Rattle.loop_core_event.specs.declared.event.Event.{Event}
-use Rattle.loop_core_schedule.specs.Events as events
-use Rattle.loop_core_schedule.specs.Schedule.{if_enabled, after_event}
+use Rattle.loop_core_model.specs.Events as events
+use Rattle.loop_core_model.specs.Schedule.{if_enabled, after_event}
 use Rattle.loop_core_workers.specs.declared.worker.Worker.{Worker}
 use Rattle.loop_core_workers.specs.declared.worker.Worker.TheVariants.{Idle}
 use Rattle.loop_core_workers.specs.declared.worker.Shared.{Shared}

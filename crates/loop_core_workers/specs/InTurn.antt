@@ -1,9 +1,9 @@
 -- A list of events, one after another.
 use Rattle.std.specs.Prelude.{◌≡◌, ℕ, ◌+◌, Bool, true, false, List, length, take, slice_get, Some, Ok, Err}
 use Rattle.loop_core_event.specs.declared.event.Event.{Event}
-use Rattle.loop_core_schedule.specs.declared.replay_fault.ReplayFault.{ReplayFault}
-use Rattle.loop_core_schedule.specs.declared.replay_fault.ReplayFault.TheVariants.{NotEnded}
-use Rattle.loop_core_schedule.specs.Schedule.{ScheduleState, at_first, after_event, after_events, has_ended, replay}
+use Rattle.loop_core_model.specs.declared.replay_fault.ReplayFault.{ReplayFault}
+use Rattle.loop_core_model.specs.declared.replay_fault.ReplayFault.TheVariants.{NotEnded}
+use Rattle.loop_core_model.specs.Schedule.{ScheduleState, at_first, after_event, after_events, has_ended, replay}
 
 -- the events before this place lead to this state
 abbrev pub LeadTo : (ℕ → Bool) → List ℕ → List Event → (place : ℕ) → ScheduleState → Type 0

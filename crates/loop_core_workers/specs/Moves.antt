@@ -3,8 +3,8 @@ use Rattle.std.specs.Prelude.{◌≡◌, ℕ, ◌<◌, ◌≤◌, Bool, List, �
 use Rattle.std.specs.Option.{option_to_list}
 use Rattle.loop_core_event.specs.declared.event.EventKind.{EventKind}
 use Rattle.loop_core_event.specs.declared.event.EventKind.TheVariants as kinds
-use Rattle.loop_core_schedule.specs.Intervals.{blocks_of}
-use Rattle.loop_core_schedule.specs.Events.{Moved, becomes, transition}
+use Rattle.loop_core_model.specs.Intervals.{blocks_of}
+use Rattle.loop_core_model.specs.Events.{Moved, becomes, transition}
 use Rattle.loop_core_workers.specs.declared.worker.Worker.{Worker}
 use Rattle.loop_core_workers.specs.declared.worker.Worker.TheVariants.{Running}
 use Rattle.loop_core_workers.specs.declared.worker.Shared.{Shared}

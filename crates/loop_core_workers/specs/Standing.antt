@@ -1,8 +1,8 @@
 -- Workers and what they share, as they stand while a list of events goes by.
 use Rattle.std.specs.Prelude.{ℕ, ◌<◌, ◌≤◌, List, map, slice_index_or}
-use Rattle.loop_core_schedule.specs.Intervals.{blocks_of, end_of}
-use Rattle.loop_core_schedule.specs.Events as events
-use Rattle.loop_core_schedule.specs.Schedule.{ScheduleState}
+use Rattle.loop_core_model.specs.Intervals.{blocks_of, end_of}
+use Rattle.loop_core_model.specs.Events as events
+use Rattle.loop_core_model.specs.Schedule.{ScheduleState}
 use Rattle.loop_core_workers.specs.declared.worker.Worker.{Worker}
 use Rattle.loop_core_workers.specs.declared.worker.Worker.TheVariants.{Idle, Holding, Running, Posting, Drained, Stopped}
 use Rattle.loop_core_workers.specs.declared.worker.Shared.{Shared}

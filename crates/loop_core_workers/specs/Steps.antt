@@ -3,9 +3,9 @@ use Rattle.std.specs.Prelude.{◌≡◌, ℕ, ◌<◌, Bool, List, [], ◌∷◌
 use Rattle.std.specs.Option.{option_to_list}
 use Rattle.loop_core_event.specs.declared.event.Event.{Event}
 use Rattle.loop_core_event.specs.declared.event.EventKind.TheVariants as kinds
-use Rattle.loop_core_schedule.specs.declared.replay_fault.ReplayFault.{ReplayFault}
-use Rattle.loop_core_schedule.specs.Intervals.{blocks_of}
-use Rattle.loop_core_schedule.specs.Schedule.{after_event}
+use Rattle.loop_core_model.specs.declared.replay_fault.ReplayFault.{ReplayFault}
+use Rattle.loop_core_model.specs.Intervals.{blocks_of}
+use Rattle.loop_core_model.specs.Schedule.{after_event}
 use Rattle.loop_core_workers.specs.declared.worker.Worker.TheVariants.{Running}
 use Rattle.loop_core_workers.specs.declared.worker.PendingIteration.{PendingIteration}
 use Rattle.loop_core_workers.specs.declared.worker.Step.{Step}

@@ -1,8 +1,8 @@
 //! What each event does to a worker and to what it shares.
 
 ghost use Rattle.std.specs.Prelude.{◌≡◌, ◌<◌, ◌≤◌, ℕ, Bool, List, IfSome, IfNone, Some, None};
-ghost use Rattle.loop_core_schedule.specs.Intervals.{blocks_of, end_of};
-ghost use Rattle.loop_core_schedule.specs.Events.{claims, looks, iterates, posts};
+ghost use Rattle.loop_core_model.specs.Intervals.{blocks_of, end_of};
+ghost use Rattle.loop_core_model.specs.Events.{claims, looks, iterates, posts};
 ghost use Rattle.loop_core_workers.specs.Standing.{schedule_worker, shared_of, WorkerFits};
 ghost use Rattle.loop_core_workers.specs.Moves.{TransitionFits, transition_result, IsAskedFor, IsNeverEnabled};
 

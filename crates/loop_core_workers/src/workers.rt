@@ -2,8 +2,8 @@
 
 ghost use Rattle.std.specs.Prelude.{◌≡◌, ◌<◌, ◌≤◌, ℕ, Bool, true, false, List, [], length, IfSome, IfOk, IfErr, OnOk, OnErr};
 ghost use Rattle.std.specs.List.{list_all};
-ghost use Rattle.loop_core_schedule.specs.declared.replay_fault.ReplayFault.TheVariants.{NotEnded};
-ghost use Rattle.loop_core_schedule.specs.Schedule.{at_first, has_ended, is_stopped, worker_of};
+ghost use Rattle.loop_core_model.specs.declared.replay_fault.ReplayFault.TheVariants.{NotEnded};
+ghost use Rattle.loop_core_model.specs.Schedule.{at_first, has_ended, is_stopped, worker_of};
 ghost use Rattle.loop_core_workers.specs.Standing.{WorkersFit, state};
 ghost use Rattle.loop_core_workers.specs.Moves.{after_transition};
 ghost use Rattle.loop_core_workers.specs.Steps.{IsStepOf, StepFits, StepFollows, Faults, IsBefore, IterationFinished};
@@ -11,7 +11,7 @@ ghost use Rattle.loop_core_workers.specs.Steps.{IsStepOf, StepFits, StepFollows,
 use crate::moves::{Asked, WorkerTransition, asked_of, iterate};
 use crate::worker::{PendingIteration, Shared, Step, Worker};
 use loop_core_event::{Event, MAX_WORKERS};
-use loop_core_schedule::ReplayFault;
+use loop_core_model::ReplayFault;
 use loop_core_split::Split;
 use std::marker::Model;
 
@@ -46,7 +46,7 @@ fn step_of(ran: Option<u32>) -> Step
 
 impl Default for Workers {
     ghost use Rattle.std.specs.Prelude.{◌≡◌, []};
-    ghost use Rattle.loop_core_schedule.specs.Schedule.{at_first};
+    ghost use Rattle.loop_core_model.specs.Schedule.{at_first};
     ghost use Rattle.loop_core_workers.specs.Standing.{state};
 
     ghost is_default = { λ w. state w [] ≡ at_first };

@@ -7,9 +7,9 @@ use Rattle.std.proofs.lemmas.List.{ext_get_or}
 use Rattle.std.proofs.lemmas.List.FromFn.{get_or-map-range_with_len, length-map-range_with_len}
 use Rattle.array_maps.specs.Accesses.{Action, Read, left_by}
 use Rattle.loop_core_model.specs.Actions.{is_write}
-use Rattle.loop_core_marks.specs.Flags.{kind_of, flagged}
-use Rattle.loop_core_marks.specs.declared.access.Access.{Access as Kind}
-use Rattle.loop_core_marks.specs.declared.access.Access.TheVariants.{Read as Reads}
+use Rattle.loop_core_model.specs.Flags.{kind_of, flagged}
+use Rattle.loop_core_model.specs.declared.access.Access.{Access as Kind}
+use Rattle.loop_core_model.specs.declared.access.Access.TheVariants.{Read as Reads}
 use Rattle.shadow_marks.specs.Iteration.{element_count, flags_at}
 use Rattle.private_copy.specs.declared.page.Combining.{Combining}
 use Rattle.private_copy.specs.declared.page.Combining.TheVariants.{Mixed}

@@ -6,7 +6,7 @@ use Rattle.std.proofs.lemmas.List.{ext_get_or}
 use Rattle.array_maps.specs.Accesses.{Access}
 use Rattle.loop_core_model.specs.Committed.{last_value}
 use Rattle.loop_core_model.specs.Conflict.{at_element}
-use Rattle.loop_core_marks.proofs.FlagLaws.{flags_follow_kinds}
+use Rattle.loop_core_model.proofs.FlagLaws.{flags_follow_kinds}
 use Rattle.shadow_marks.specs.declared.iter_flags.IterFlags.{IterFlags}
 use Rattle.shadow_marks.specs.Iteration.{touched_count, IsEmptied}
 use Rattle.shadow_marks.proofs.TouchLaws.{nothing_flagged, none_touched}

@@ -9,8 +9,8 @@ use Rattle.array_maps.proofs.ElementLaws.{element_after_all}
 use Rattle.array_maps.proofs.StoreLaws.{words_after_all-more}
 use Rattle.loop_core_model.specs.Committed.{last_value}
 use Rattle.loop_core_model.specs.Conflict.{at_element}
-use Rattle.loop_core_marks.specs.Flags.{flags_of, flagged, kind_of}
-use Rattle.loop_core_marks.proofs.FlagLaws.{flags_follow_kinds}
+use Rattle.loop_core_model.specs.Flags.{flags_of, flagged, kind_of}
+use Rattle.loop_core_model.proofs.FlagLaws.{flags_follow_kinds}
 use Rattle.shadow_marks.specs.Iteration.{flags_at}
 use Rattle.private_copy.specs.declared.private.Private.{Private}
 use Rattle.private_copy.specs.Reductions.{reduction_of, reduction_after}

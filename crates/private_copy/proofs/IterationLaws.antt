@@ -11,7 +11,7 @@ use Rattle.loop_core_model.specs.Committed.{last_that, last_value}
 use Rattle.loop_core_model.specs.Conflict.{at_element}
 use Rattle.loop_core_model.proofs.OneElement.{left_by_all-append}
 use Rattle.loop_core_model.proofs.Turns.{actions_at-append}
-use Rattle.loop_core_blocks.proofs.KeptLaws.{joined-append, last_that-append}
+use Rattle.loop_core_model.proofs.KeptLaws.{joined-append, last_that-append}
 use Rattle.private_copy.specs.declared.reduction.Reduction.TheVariants.{Untouched}
 use Rattle.private_copy.specs.Reductions.{reduction_after, reduction_from, reduction_of}
 use Rattle.private_copy.specs.Copies.{last_after}

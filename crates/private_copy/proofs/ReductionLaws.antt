@@ -5,7 +5,7 @@ use Rattle.std.specs.List.{list_all}
 use Rattle.array_maps.specs.declared.access.Op.{Op}
 use Rattle.array_maps.specs.Accesses.{Action, Read, Write, ReadWrite, Reduce, combined}
 use Rattle.loop_core_model.specs.Actions.{is_same, reduces_by, joined, only_operator, operands}
-use Rattle.loop_core_blocks.specs.Kept.{partial_by}
+use Rattle.loop_core_model.specs.Kept.{partial_by}
 use Rattle.private_copy.specs.declared.reduction.Reduction.{Reduction}
 use Rattle.private_copy.specs.declared.reduction.Reduction.TheVariants.{Untouched, By, Mixed}
 use Rattle.private_copy.specs.Reductions.{reduction_after, reduction_from, combination, PartialIsCombination}

@@ -3,7 +3,7 @@ use Rattle.std.proofs.Common.{◌≡◌, ℕ, ◌+◌, List, [], ◌∷◌, ◌+
 use Rattle.std.proofs.lemmas.List.{length-map}
 use Rattle.array_maps.specs.Accesses.{Access, Action, actions_at}
 use Rattle.loop_core_model.specs.Conflict.{at_element}
-use Rattle.loop_core_marks.specs.Marks.{Visit, numbered}
+use Rattle.loop_core_model.specs.Marks.{Visit, numbered}
 use Rattle.shadow_marks.specs.Standing.{one_more}
 use Rattle.private_copy.specs.Visits.{visits_of}
 use Rattle.private_copy.proofs.IterationLaws.{at_last}

@@ -4,7 +4,7 @@ use Rattle.array_maps.specs.Accesses.{Access, Action, actions_at, left_by, words
 use Rattle.loop_core_model.specs.Actions.{is_write, joined}
 use Rattle.loop_core_model.specs.Committed.{last_value}
 use Rattle.loop_core_model.specs.Conflict.{at_element}
-use Rattle.loop_core_marks.specs.Flags.{flagged, kind_of}
+use Rattle.loop_core_model.specs.Flags.{flagged, kind_of}
 use Rattle.shadow_marks.specs.declared.iter_flags.IterFlags.{IterFlags}
 use Rattle.shadow_marks.specs.Iteration.{element_count, flags_at, AreFlagsOf}
 use Rattle.private_copy.specs.declared.reduction.Reduction.{Reduction}

@@ -3,7 +3,7 @@ use Rattle.std.specs.Prelude.{◌≡◌, ℕ, List, [], ◌∷◌, Option, Some,
 use Rattle.array_maps.specs.declared.access.Op.{Op}
 use Rattle.array_maps.specs.Accesses.{Action, Read, Write, ReadWrite, Reduce, combined}
 use Rattle.loop_core_model.specs.Actions.{is_same, joined}
-use Rattle.loop_core_blocks.specs.Kept.{partial}
+use Rattle.loop_core_model.specs.Kept.{partial}
 use Rattle.private_copy.specs.declared.reduction.Reduction.{Reduction}
 use Rattle.private_copy.specs.declared.reduction.Reduction.TheVariants.{Untouched, By, Mixed}
 

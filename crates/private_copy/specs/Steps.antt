@@ -1,7 +1,7 @@
 -- The two steps of an access: it is admitted, and then its cell is kept.
 use Rattle.std.specs.Prelude.{◌≡◌, ◌≢◌, ℕ, ◌+◌, ◌<◌, true}
-use Rattle.loop_core_marks.specs.Flags.{flagged}
-use Rattle.loop_core_marks.specs.declared.access.Access.{Access as Kind}
+use Rattle.loop_core_model.specs.Flags.{flagged}
+use Rattle.loop_core_model.specs.declared.access.Access.{Access as Kind}
 use Rattle.shadow_marks.specs.Iteration.{element_count, flags_at}
 use Rattle.private_copy.specs.declared.page.Cell.{Cell}
 use Rattle.private_copy.specs.declared.private.Private.{Private}

@@ -2,7 +2,7 @@
 use Rattle.std.specs.Prelude.{ℕ, List}
 use Rattle.array_maps.specs.Accesses.{Access}
 use Rattle.loop_core_model.specs.Conflict.{at_element}
-use Rattle.loop_core_marks.specs.Marks.{Visit, numbered}
+use Rattle.loop_core_model.specs.Marks.{Visit, numbered}
 
 -- at each element, what iterations did there, which stand by rising index from a first one on
 abbrev pub visits_of : (first : ℕ) → List (List Access) → ℕ → List Visit

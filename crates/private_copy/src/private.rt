@@ -50,7 +50,7 @@ fn words_of(maps: &Maps) -> &[u64]
 }
 
 impl<'a> Private<'a> {
-    ghost use Rattle.loop_core_marks.specs.Marks.{Visit, Marks, merged, marks_of_one};
+    ghost use Rattle.loop_core_model.specs.Marks.{Visit, Marks, merged, marks_of_one};
     ghost use Rattle.loop_core_model.specs.Conflict.{at_element};
     ghost use Rattle.array_maps.specs.Accesses.{Action, actions_at};
     ghost use Rattle.shadow_marks.specs.Iteration.{flags_at, AreFlagsOf};

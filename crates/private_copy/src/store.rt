@@ -5,7 +5,7 @@ ghost use Rattle.std.specs.Prelude.{◌≡◌, ◌/◌, ◌^◌, ◌<◌, ◌≤
 use crate::page::{Cell, Combining};
 use crate::private::Private;
 use array_maps::{Half, Op, Part, Rmw, Store, combine, exchange, part_of, with_half};
-use loop_core_marks::Access;
+use loop_core_model::Access;
 
 impl<'a> Store for Private<'a> {
     ghost use Rattle.std.proofs.Common.{arith};

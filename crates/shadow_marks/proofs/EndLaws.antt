@@ -4,9 +4,9 @@ use Rattle.std.proofs.Math.Bool.{or-false}
 use Rattle.std.proofs.lemmas.Bool.{cases_eq}
 use Rattle.array_maps.specs.Accesses.{Action}
 use Rattle.loop_core_model.specs.LeastBreak.{lesser}
-use Rattle.loop_core_marks.specs.Flags.{Flags, no_flags}
-use Rattle.loop_core_marks.specs.Marks.{Visit, Marks, marks_of, marks_of_one, merged}
-use Rattle.loop_core_marks.proofs.MarkLaws.{marks_merge}
+use Rattle.loop_core_model.specs.Flags.{Flags, no_flags}
+use Rattle.loop_core_model.specs.Marks.{Visit, Marks, marks_of, marks_of_one, merged}
+use Rattle.loop_core_model.proofs.MarkLaws.{marks_merge}
 use Rattle.shadow_marks.specs.declared.element_flags.ElementFlags.{ElementFlags}
 use Rattle.shadow_marks.specs.declared.iter_flags.IterFlags.{IterFlags}
 use Rattle.shadow_marks.specs.declared.planes.Planes.{Planes}

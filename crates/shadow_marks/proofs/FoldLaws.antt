@@ -9,9 +9,9 @@ use Rattle.std.specs.Int.{bit_at}
 use Rattle.array_maps.specs.declared.access.Op.{Op}
 use Rattle.array_maps.specs.declared.access.Op.TheVariants.{Add, Or, And, Xor, AddH}
 use Rattle.loop_core_model.specs.LeastBreak.{lesser}
-use Rattle.loop_core_marks.specs.Flags.{Flags}
-use Rattle.loop_core_marks.specs.Marks.{Marks, first_number, no_marks, marks_of_one, merged}
-use Rattle.loop_core_marks.specs.Planes.{bit_of}
+use Rattle.loop_core_model.specs.Flags.{Flags}
+use Rattle.loop_core_model.specs.Marks.{Marks, first_number, no_marks, marks_of_one, merged}
+use Rattle.loop_core_model.specs.Planes.{bit_of}
 use Rattle.shadow_marks.specs.declared.planes.LrpdPlanes.{LrpdPlanes}
 use Rattle.shadow_marks.specs.declared.planes.FlowPlanes.{FlowPlanes}
 use Rattle.shadow_marks.specs.declared.planes.Tested.{Tested}

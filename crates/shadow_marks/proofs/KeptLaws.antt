@@ -6,8 +6,8 @@ use Rattle.std.proofs.Math.Bool.{or-false}
 use Rattle.std.proofs.lemmas.Nat.Bits.{bit_at_and, bit_at-zero}
 use Rattle.array_maps.specs.declared.access.Op.{Op}
 use Rattle.array_maps.specs.declared.access.Op.TheVariants.{Add, Or, And, Xor, AddH}
-use Rattle.loop_core_marks.specs.Flags.{Flags}
-use Rattle.loop_core_marks.proofs.FlagLaws.{same_flags}
+use Rattle.loop_core_model.specs.Flags.{Flags}
+use Rattle.loop_core_model.proofs.FlagLaws.{same_flags}
 use Rattle.shadow_marks.specs.declared.element_flags.Flag.{Flag}
 use Rattle.shadow_marks.specs.declared.element_flags.Flag.TheVariants.{Wrote, Looked, Plain, By}
 use Rattle.shadow_marks.specs.declared.element_flags.ElementFlags.{ElementFlags}

@@ -5,8 +5,8 @@ use Rattle.std.proofs.lemmas.Bool.{cases_eq}
 use Rattle.std.proofs.lemmas.List.Folds.{list_any-append}
 use Rattle.std.proofs.lemmas.Nat.Bits.{bit_at-zero}
 use Rattle.std.specs.Int.{bit_at}
-use Rattle.loop_core_marks.specs.Flags.{no_flags}
-use Rattle.loop_core_marks.proofs.FlagLaws.{same_flags}
+use Rattle.loop_core_model.specs.Flags.{no_flags}
+use Rattle.loop_core_model.proofs.FlagLaws.{same_flags}
 use Rattle.shadow_marks.specs.declared.element_flags.ElementFlags.{ElementFlags}
 use Rattle.shadow_marks.specs.Kept.{place_by, flags_in, nothing_kept, has_element}
 

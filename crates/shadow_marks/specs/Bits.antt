@@ -1,6 +1,6 @@
 -- One element of a plane changed.
 use Rattle.std.specs.Prelude.{◌≡◌, ◌≢◌, ℕ, Bool, ◌&&◌, ◌||◌, ◌==◌, List, length, slice_index}
-use Rattle.loop_core_marks.specs.Planes.{bit_of}
+use Rattle.loop_core_model.specs.Planes.{bit_of}
 
 -- a plane after a bit is ored into an element's
 pub record OrsBit (old new : List ℕ) (e : ℕ) (bit : Bool) : Type 0 where

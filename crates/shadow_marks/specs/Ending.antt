@@ -1,9 +1,9 @@
 -- How an iteration's flags come into planes.
 use Rattle.std.specs.Prelude.{◌≡◌, ◌≢◌, ℕ, ◌+◌, ◌/◌, ◌<◌, not, ◌&&◌, if◌then◌else◌, length, slice_index, min, max}
 use Rattle.array_maps.specs.declared.access.Op.TheVariants.{Add, Or, And, Xor, AddH}
-use Rattle.loop_core_marks.specs.Flags.{Flags}
-use Rattle.loop_core_marks.specs.Marks.{Marks, marks_of_one, merged}
-use Rattle.loop_core_marks.specs.Planes.{bit_of}
+use Rattle.loop_core_model.specs.Flags.{Flags}
+use Rattle.loop_core_model.specs.Marks.{Marks, marks_of_one, merged}
+use Rattle.loop_core_model.specs.Planes.{bit_of}
 use Rattle.shadow_marks.specs.declared.planes.LrpdPlanes.{LrpdPlanes}
 use Rattle.shadow_marks.specs.declared.planes.FlowPlanes.{FlowPlanes}
 use Rattle.shadow_marks.specs.declared.planes.Tested.{Tested}

@@ -5,7 +5,7 @@ use Rattle.std.specs.List.{list_any}
 use Rattle.array_maps.specs.declared.access.Op.{Op}
 use Rattle.array_maps.specs.declared.access.Op.TheVariants.{Add, Or, And, Xor, AddH}
 use Rattle.loop_core_model.specs.Actions.{is_same}
-use Rattle.loop_core_marks.specs.Flags.{Flags}
+use Rattle.loop_core_model.specs.Flags.{Flags}
 use Rattle.shadow_marks.specs.declared.element_flags.Flag.{Flag}
 use Rattle.shadow_marks.specs.declared.element_flags.Flag.TheVariants.{Wrote, Looked, Plain, By}
 use Rattle.shadow_marks.specs.declared.element_flags.ElementFlags.{ElementFlags}

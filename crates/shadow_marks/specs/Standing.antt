@@ -5,8 +5,8 @@ use Rattle.array_maps.specs.declared.access.Op.TheVariants.{Add, Or, And, Xor, A
 use Rattle.array_maps.specs.Accesses.{Action}
 use Rattle.loop_core_model.specs.declared.loop_test.Test.{Test}
 use Rattle.loop_core_model.specs.declared.loop_test.Test.TheVariants.{Lrpd, Flow}
-use Rattle.loop_core_marks.specs.Marks.{Visit, Marks, marks_of, first_number}
-use Rattle.loop_core_marks.specs.Planes.{bit_of}
+use Rattle.loop_core_model.specs.Marks.{Visit, Marks, marks_of, first_number}
+use Rattle.loop_core_model.specs.Planes.{bit_of}
 use Rattle.shadow_marks.specs.declared.planes.LrpdPlanes.{LrpdPlanes}
 use Rattle.shadow_marks.specs.declared.planes.FlowPlanes.{FlowPlanes}
 use Rattle.shadow_marks.specs.declared.planes.Tested.{Tested}

@@ -1,7 +1,7 @@
 //! One bit of a plane.
 
 ghost use Rattle.std.specs.Prelude.{◌≡◌, ◌/◌, ◌%◌, ◌^◌, ◌<◌, ◌&&◌, length};
-ghost use Rattle.loop_core_marks.specs.Planes.{bit_of};
+ghost use Rattle.loop_core_model.specs.Planes.{bit_of};
 ghost use Rattle.shadow_marks.specs.Bits.{OrsBit};
 
 /// Whether an element's bit is set.

@@ -2,11 +2,11 @@
 
 ghost use Rattle.std.specs.Prelude.{◌≡◌, false, not, ◌&&◌, ◌==◌, ◌^◌};
 ghost use Rattle.array_maps.specs.declared.access.Op.{Op as Operator};
-ghost use Rattle.loop_core_marks.specs.Flags.{flagged};
+ghost use Rattle.loop_core_model.specs.Flags.{flagged};
 ghost use Rattle.shadow_marks.specs.Kept.{bit_place, has_flag, flags_in, nothing_kept, with_flag, with_read};
 
 use array_maps::Op;
-use loop_core_marks::Access;
+use loop_core_model::Access;
 
 /// What an iteration may have done at an element.
 #[derive(Clone, Copy)]

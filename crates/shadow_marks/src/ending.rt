@@ -2,7 +2,7 @@
 
 ghost use Rattle.std.specs.Prelude.{◌≡◌, ◌+◌, ◌<◌, ℕ, List, length, slice_index, min, max};
 ghost use Rattle.array_maps.specs.Accesses.{Action};
-ghost use Rattle.loop_core_marks.specs.Marks.{Visit, Marks, marks_of_one, merged};
+ghost use Rattle.loop_core_model.specs.Marks.{Visit, Marks, marks_of_one, merged};
 ghost use Rattle.shadow_marks.specs.Iteration.{element_count, flags_at, AreFlagsOf, IsEmptied};
 ghost use Rattle.shadow_marks.specs.Kept.{flags_in};
 ghost use Rattle.shadow_marks.specs.Standing.{ArePlanes, StandAt, StandFor, one_more};

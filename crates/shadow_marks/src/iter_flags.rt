@@ -4,7 +4,7 @@ ghost use Rattle.std.specs.Prelude.{◌≡◌, ◌≤◌, ◌<◌, ℕ, true, fa
 ghost use Rattle.shadow_marks.specs.Kept.{nothing_kept, has_element};
 
 use crate::element_flags::{ElementFlags, Flag};
-use loop_core_marks::Access;
+use loop_core_model::Access;
 use std::alloc::{AllocError, Global};
 
 /// The greatest number of marks of one iteration.
@@ -23,7 +23,7 @@ pub struct IterFlags {
 
 impl IterFlags {
     ghost use Rattle.std.specs.Prelude.{◌≢◌, ◌+◌, ◌||◌, IfOk, MatchOption};
-    ghost use Rattle.loop_core_marks.specs.Flags.{flagged};
+    ghost use Rattle.loop_core_model.specs.Flags.{flagged};
     ghost use Rattle.shadow_marks.specs.Iteration.{element_count, touched_count, flags_at, IsEmptied, TakesFlags, TakesNone};
 
     /// Flags for n elements, none of them touched. All room that an iteration needs is made here.

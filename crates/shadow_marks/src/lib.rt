@@ -16,6 +16,5 @@ pub mod iter_flags;
 pub mod planes;
 
 pub use iter_flags::{IterFlags, MAX_MARKS};
-pub use loop_core_marks::Access;
-pub use loop_core_model::Test;
+pub use loop_core_model::{Access, Test};
 pub use planes::{FlowPlanes, LrpdPlanes, NO_WRITER, OperatorPlanes, Planes, Tested};

@@ -2,7 +2,7 @@
 
 ghost use Rattle.std.specs.Prelude.{◌≡◌, ◌<◌, IfOk, replicate, ℕ};
 ghost use Rattle.array_maps.specs.declared.access.Op.{Op as Operator};
-ghost use Rattle.loop_core_marks.specs.Marks.{no_marks};
+ghost use Rattle.loop_core_model.specs.Marks.{no_marks};
 ghost use Rattle.shadow_marks.specs.Standing.{words_for, plane_by, AreTested, test_of, TestedStandAt, no_visits, StandFor};
 
 use loop_core_model::Test;

@@ -13,7 +13,7 @@ use Rattle.loop_core_model.specs.declared.verdict.LoopReport.{LoopReport}
 use Rattle.loop_core_model.specs.declared.verdict.Verdict.{Verdict}
 use Rattle.loop_core_model.specs.declared.verdict.Verdict.TheVariants.{InOrder}
 use Rattle.loop_core_model.specs.Report.{line, loop_report, loop_report_in_order, verdict}
-use Rattle.loop_core_schedule.specs.Outcome.{Outcome, judged_as}
+use Rattle.loop_core_model.specs.Outcome.{Outcome, judged_as}
 use Rattle.loop_core_sequential.specs.FilledCalls.{FilledCallsAreOneLoop}
 use Rattle.loop_core_sequential.specs.Loops.{RanLoopInOrder}
 use Rattle.loop_core_gather.specs.Gathered.{IsOutcome}

@@ -16,7 +16,6 @@ mod speculating;
 pub use loop_core_model::{LoopReport, Test, Verdict};
 pub use loop_core_split::{Gate, NoGate};
 pub use running::{Report, run_in_order};
-pub use spec_run_loop::{LoopOutcome, RunError, run_loop};
+pub use spec_run_loop::{LoopOutcome, RunError, run_loop, work};
 pub use spec_run_plan::Plan;
-pub use spec_run_work::work;
 pub use speculating::run;

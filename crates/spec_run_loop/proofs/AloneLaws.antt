@@ -7,8 +7,8 @@ use Rattle.std.proofs.lemmas.List.Elements.{All-nil, All-cons}
 use Rattle.bpf_insn_types.specs.Program.{Program}
 use Rattle.bpf_step_model.specs.State.{LoopCall}
 use Rattle.bpf_step_model.specs.Iteration.{Iterated}
-use Rattle.loop_core_blocks.specs.Gather.{Block, least_of, starts_late, lacks_some, twice, stands_in, gather_fault}
-use Rattle.loop_core_schedule.specs.Intervals.{blocks_of, start_of, end_of}
+use Rattle.loop_core_model.specs.Gather.{Block, least_of, starts_late, lacks_some, twice, stands_in, gather_fault}
+use Rattle.loop_core_model.specs.Intervals.{blocks_of, start_of, end_of}
 use Rattle.loop_core_block.specs.declared.block.Block.{Block as Held}
 use Rattle.loop_core_block.specs.Ran.{as_gathered}
 use Rattle.loop_core_block.specs.Shown.{shown}

@@ -1,7 +1,7 @@
 -- A loop that is split evenly.
 use Rattle.std.proofs.Common.{◌≡◌, ℕ, ◌<◌, ◌≤◌, List, None, sym, subst, arith}
-use Rattle.loop_core_blocks.specs.Split.{split_fault, even_bounds}
-use Rattle.loop_core_blocks.proofs.SplitLaws.{even_is_split}
+use Rattle.loop_core_model.specs.Split.{split_fault, even_bounds}
+use Rattle.loop_core_model.proofs.EvenSplitLaws.{even_is_split}
 use Rattle.spec_run_loop.specs.Plans.{IsLoopPlan}
 
 -- each loop can be split evenly into 1 to 64 blocks

@@ -2,3 +2,5 @@ pub mod AloneLaws
 pub mod CommitLaws
 pub mod EvenLaws
 pub mod WorkerLaws
+pub mod StillWorks
+pub mod CompleteLaws

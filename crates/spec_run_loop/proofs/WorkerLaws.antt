@@ -8,17 +8,17 @@ use Rattle.std.proofs.lemmas.List.{map-append}
 use Rattle.bpf_insn_types.specs.Program.{Program}
 use Rattle.bpf_step_model.specs.State.{LoopCall}
 use Rattle.loop_core_model.specs.declared.loop_test.Test.{Test}
-use Rattle.loop_core_blocks.specs.Split.{split_fault}
-use Rattle.loop_core_blocks.specs.Gather.{gather_fault}
-use Rattle.loop_core_schedule.specs.Intervals.{blocks_of}
+use Rattle.loop_core_model.specs.Split.{split_fault}
+use Rattle.loop_core_model.specs.Gather.{gather_fault}
+use Rattle.loop_core_model.specs.Intervals.{blocks_of}
 use Rattle.loop_board.specs.History.{Legal}
 use Rattle.loop_board.specs.Seats.{BoardId, SeatRecord, new_seat, histories}
 use Rattle.loop_core_block.specs.Blocks.{BlockOf}
 use Rattle.loop_core_block.specs.Ran.{as_gathered, RecordsRun}
-use Rattle.spec_run_work.specs.Worked.{Worked}
-use Rattle.spec_run_work.specs.CompleteLaw.{WorkerOf, seats_of, blocks_of_all, IsWorkerOf, WorkersComplete}
-use Rattle.spec_run_work.proofs.StillWorks.{all_append}
-use Rattle.spec_run_work.proofs.CompleteLaws.{each_runs}
+use Rattle.spec_run_loop.specs.Worked.{Worked}
+use Rattle.spec_run_loop.specs.CompleteLaw.{WorkerOf, seats_of, blocks_of_all, IsWorkerOf, WorkersComplete}
+use Rattle.spec_run_loop.proofs.StillWorks.{all_append}
+use Rattle.spec_run_loop.proofs.CompleteLaws.{each_runs}
 use Rattle.spec_run_loop.specs.Workers.{IsWorkerAt, AreOfWorkers}
 
 -- what holds of each image by index holds of all images

@@ -6,7 +6,7 @@ use Rattle.bpf_step_model.specs.Run.{Ended}
 use Rattle.loop_core_model.specs.declared.loop_test.Test.{Test}
 use Rattle.loop_core_model.specs.declared.verdict.Verdict.TheVariants.{Parallel}
 use Rattle.loop_core_model.specs.Report.{verdict}
-use Rattle.loop_core_schedule.specs.Outcome.{outcome}
+use Rattle.loop_core_model.specs.Outcome.{outcome}
 use Rattle.spec_run_loop.specs.declared.decision.Decision.{Decision}
 use Rattle.spec_run_loop.specs.declared.decision.Decision.TheVariants.{Commit, Discard}
 

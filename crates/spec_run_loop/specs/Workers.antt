@@ -7,7 +7,7 @@ use Rattle.loop_core_model.specs.declared.loop_test.Test.{Test}
 use Rattle.loop_board.specs.Seats.{BoardId, SeatRecord}
 use Rattle.loop_core_block.specs.Blocks.{BlockOf}
 use Rattle.loop_core_block.specs.Shown.{shown}
-use Rattle.spec_run_work.specs.CompleteLaw.{WorkerOf, seats_of, blocks_of_all, IsWorkerOf}
+use Rattle.spec_run_loop.specs.CompleteLaw.{WorkerOf, seats_of, blocks_of_all, IsWorkerOf}
 use Rattle.spec_run_loop.specs.declared.worker.Worker.{Worker}
 
 -- a worker as contracts see it

@@ -2,9 +2,9 @@
 
 ghost use Rattle.std.specs.Prelude.{◌≡◌, ◌≢◌, ◌<◌, ◌≤◌, ◌↔◌, None, Err, IsTrue, All, map, IfOk, OnErr};
 ghost use Rattle.bpf_verify_sound.specs.Soundness.{OverApproximatesCall};
-ghost use Rattle.loop_core_blocks.specs.Split.{split_fault};
-ghost use Rattle.loop_core_blocks.specs.Gather.{gather_fault};
-ghost use Rattle.loop_core_schedule.specs.Intervals.{blocks_of};
+ghost use Rattle.loop_core_model.specs.Split.{split_fault};
+ghost use Rattle.loop_core_model.specs.Gather.{gather_fault};
+ghost use Rattle.loop_core_model.specs.Intervals.{blocks_of};
 ghost use Rattle.loop_core_block.specs.Ran.{RecordsRun};
 ghost use Rattle.loop_core_block.specs.Shown.{shown};
 ghost use Rattle.loop_core_gather.specs.Gathered.{all_gathered, HasOutcome, IsOutcome};
@@ -25,7 +25,7 @@ use loop_core_gather::{GatherError, Gathered, LoopOutcome, gather};
 use loop_core_model::{Test, Verdict};
 use loop_core_sequential::in_order;
 use loop_core_split::{Gate, Split};
-use spec_run_work::law_of_workers;
+use crate::law_of_workers;
 use std::alloc::{AllocError, Global};
 use std::thread::Threads;
 

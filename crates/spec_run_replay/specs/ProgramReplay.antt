@@ -5,10 +5,10 @@ use Rattle.bpf_step_model.specs.Run.{BoundedResult, Ended, mapped}
 use Rattle.loop_core_event.specs.declared.event.Event.{Event}
 use Rattle.loop_core_model.specs.declared.loop_test.Test.{Test}
 use Rattle.loop_core_model.specs.declared.verdict.LoopReport.{LoopReport}
-use Rattle.loop_core_blocks.specs.declared.faults.SplitFault.{SplitFault}
-use Rattle.loop_core_blocks.specs.Split.{split_fault}
-use Rattle.loop_core_schedule.specs.declared.replay_fault.ReplayFault.{ReplayFault}
-use Rattle.loop_core_schedule.specs.Outcome.{Outcome, replayed}
+use Rattle.loop_core_model.specs.declared.faults.SplitFault.{SplitFault}
+use Rattle.loop_core_model.specs.Split.{split_fault}
+use Rattle.loop_core_model.specs.declared.replay_fault.ReplayFault.{ReplayFault}
+use Rattle.loop_core_model.specs.Outcome.{Outcome, replayed}
 use Rattle.spec_run_replay.specs.declared.replaying.ReplayRefusal.{ReplayRefusal}
 use Rattle.spec_run_replay.specs.declared.replaying.ReplayRefusal.TheVariants.{NoLoop, Split, Schedule}
 use Rattle.spec_run_replay.specs.declared.replaying.Replayed.{Replayed}

@@ -2,7 +2,7 @@
 use Rattle.std.specs.Prelude.{◌≡◌, None}
 use Rattle.bpf_verify_sound.specs.Soundness.{OverApproximatesCall}
 use Rattle.loop_core_model.specs.declared.loop_test.Test.{Test}
-use Rattle.loop_core_blocks.specs.Split.{split_fault}
+use Rattle.loop_core_model.specs.Split.{split_fault}
 use Rattle.loop_core_block.specs.declared.block.Block.{Block}
 use Rattle.loop_core_block.specs.Ran.{RecordsRun}
 use Rattle.loop_core_block.specs.Shown.{shown}

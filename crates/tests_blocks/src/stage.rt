@@ -1,7 +1,7 @@
 //! A loop at its call: the program that made it, the maps there, and its blocks.
 
 ghost use Rattle.std.specs.Prelude.{◌≡◌, ◌<◌, All, IfSome, IfOk};
-ghost use Rattle.loop_core_schedule.specs.Intervals.{blocks_of};
+ghost use Rattle.loop_core_model.specs.Intervals.{blocks_of};
 ghost use Rattle.loop_core_gather.specs.Gathered.{HasOutcome};
 ghost use Rattle.tests_blocks.specs.Stages.{IsStage, IsRunOn};
 

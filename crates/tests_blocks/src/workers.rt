@@ -2,7 +2,7 @@
 
 ghost use Rattle.std.specs.Prelude.{◌≡◌, All, IfOk};
 ghost use Rattle.loop_core_model.specs.declared.loop_test.Test.TheVariants.{Flow};
-ghost use Rattle.loop_core_schedule.specs.Intervals.{blocks_of};
+ghost use Rattle.loop_core_model.specs.Intervals.{blocks_of};
 ghost use Rattle.tests_blocks.specs.Stages.{IsStage, IsRunOn};
 
 use crate::stage::{Stage, gathered, stage_of};
@@ -10,7 +10,7 @@ use loop_board::{Board, BoardSeat};
 use loop_core_block::Block;
 use loop_core_model::{Test, Verdict};
 use loop_core_split::Gate;
-use spec_run_work::work;
+use spec_run_loop::work;
 use std::alloc::{AllocError, Global};
 use std::test::Fail;
 use std::thread;

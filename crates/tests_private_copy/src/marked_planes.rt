@@ -7,8 +7,7 @@ ghost use Rattle.lane_planes.specs.Merged.{StandForSome};
 ghost use Rattle.tests_private_copy.specs.Marking.{FlagsOfSome};
 
 use array_maps::Op;
-use loop_core_marks::Access;
-use loop_core_model::Test;
+use loop_core_model::{Access, Test};
 use shadow_marks::{IterFlags, Planes};
 use std::alloc::{AllocError, Global};
 

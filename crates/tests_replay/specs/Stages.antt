@@ -4,7 +4,7 @@ use Rattle.array_maps.specs.MapList.{MapList}
 use Rattle.bpf_insn_types.specs.Program.{Program}
 use Rattle.bpf_step_model.specs.State.{LoopCall}
 use Rattle.bpf_verify_sound.specs.Soundness.{OverApproximatesCall}
-use Rattle.loop_core_blocks.specs.Split.{split_fault}
+use Rattle.loop_core_model.specs.Split.{split_fault}
 
 -- a program, a loop call, the maps that it starts on, and a split's bounds
 pub record StageOf : Type 0 where

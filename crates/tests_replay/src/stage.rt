@@ -1,7 +1,7 @@
 //! A loop at its call: the program that made it, the maps there, and its blocks.
 
 ghost use Rattle.std.specs.Prelude.{◌≡◌, IfSome, None};
-ghost use Rattle.loop_core_blocks.specs.Split.{split_fault};
+ghost use Rattle.loop_core_model.specs.Split.{split_fault};
 ghost use Rattle.bpf_verify_sound.specs.Soundness.{OverApproximatesCall};
 
 use crate::loops::Row;

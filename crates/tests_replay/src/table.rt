@@ -1,7 +1,7 @@
 //! The table of events, read plainly: when an event of a worker is enabled, and what it does.
 
 use loop_core_event::{Event, EventKind};
-use loop_core_schedule::ReplayFault;
+use loop_core_model::ReplayFault;
 
 /// What a worker does.
 #[derive(Clone, Copy)]

@@ -1,10 +1,9 @@
 //! What instructions compute on words: the words of R1 and R2, and what R1 has afterwards, or 1 where it jumps and
-//! 0 where it doesn't. The definitions' own worked values stand in `specs/WordRows.antt` of `bpf_insn_alu`; these
+//! 0 where it doesn't. The definitions' own worked values stand in `specs/WordRows.antt` of `bpf_insn_types`; these
 //! show that the code which is built from them computes the same.
 
 use crate::rows::{read_insn, read_pair, read_word, row_parts};
-use bpf_insn_alu::{alu_word, compare_words, endian_word, movsx_word, neg_word};
-use bpf_insn_types::Insn;
+use bpf_insn_types::{Insn, alu_word, compare_words, endian_word, movsx_word, neg_word};
 use std::alloc::Global;
 use std::process::Abort;
 use std::test::Fail;

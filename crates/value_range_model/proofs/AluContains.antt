@@ -13,9 +13,9 @@ use Rattle.bpf_insn_types.specs.declared.insn.ByteOrder.TheVariants.{Le, Be, Swa
 use Rattle.bpf_insn_types.specs.declared.insn.EndianBits.{EndianBits}
 use Rattle.bpf_insn_types.specs.declared.insn.MovsxBits.{MovsxBits}
 use Rattle.bpf_insn_types.specs.declared.insn.MovsxBits.TheVariants.{B8, B16 as Low16, B32 as Low32}
-use Rattle.bpf_insn_alu.specs.Words.{modulus, computed, alu, negated, moved_signed, sign_extended, in_order, low_modulus, endian_modulus}
-use Rattle.bpf_insn_alu.specs.WordBounds.{ResultsFit}
-use Rattle.bpf_insn_alu.proofs.WordLaws.{modulus-positive}
+use Rattle.bpf_insn_types.specs.Words.{modulus, computed, alu, negated, moved_signed, sign_extended, in_order, low_modulus, endian_modulus}
+use Rattle.bpf_insn_types.specs.WordBounds.{ResultsFit}
+use Rattle.bpf_insn_types.proofs.WordLaws.{modulus-positive}
 use Rattle.value_range_model.specs.Spans.{Span, IsSpan, Contains, is_exact, exact, top, norm}
 use Rattle.value_range_model.proofs.Multiples.{multiple-zero, zero-multiple}
 use Rattle.value_range_model.proofs.SpanLaws.{contains_by_test, exact-contains, exact-number, top-contains, number-word}

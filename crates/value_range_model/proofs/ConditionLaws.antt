@@ -5,7 +5,7 @@ use Rattle.std.proofs.lemmas.Bool.Decides.{nat_tests}
 use Rattle.bpf_insn_types.specs.declared.insn.Width.{Width}
 use Rattle.bpf_insn_types.specs.declared.insn.Compare.{Compare}
 use Rattle.bpf_insn_types.specs.declared.insn.Compare.TheVariants.{Eq, Gt, Ge, Set, Ne, Sgt, Sge, Lt, Le, Slt, Sle}
-use Rattle.bpf_insn_alu.specs.Words.{modulus, signed, holds}
+use Rattle.bpf_insn_types.specs.Words.{modulus, signed, holds}
 use Rattle.value_range_model.specs.RefineRows.{says, opposite}
 
 not-not : (b : Bool) → b ≡ not (not b)

@@ -8,7 +8,7 @@ use Rattle.bpf_insn_types.specs.declared.insn.Width.{Width}
 use Rattle.bpf_insn_types.specs.declared.insn.Width.TheVariants.{W32, W64}
 use Rattle.bpf_insn_types.specs.declared.insn.Compare.{Compare}
 use Rattle.bpf_insn_types.specs.declared.insn.Compare.TheVariants.{Eq, Gt, Ge, Set, Ne, Sgt, Sge, Lt, Le, Slt, Sle}
-use Rattle.bpf_insn_alu.specs.Words.{modulus, compared, holds}
+use Rattle.bpf_insn_types.specs.Words.{modulus, compared, holds}
 use Rattle.value_range_model.specs.Spans.{Span, IsSpan, Contains, is_exact, rounded_up, rounded_down, norm}
 use Rattle.value_range_model.proofs.Multiples.{apart, up-most, down-least}
 use Rattle.value_range_model.proofs.SpanLaws.{contains_by_test, norm-contains, exact-number, number-word, max-one}

@@ -9,8 +9,8 @@ use Rattle.bpf_insn_types.specs.declared.insn.Width.{Width}
 use Rattle.bpf_insn_types.specs.declared.insn.Width.TheVariants.{W32, W64}
 use Rattle.bpf_insn_types.specs.declared.insn.AluOp.{AluOp}
 use Rattle.bpf_insn_types.specs.declared.insn.AluOp.TheVariants.{Add, Sub, Mul, Div, Sdiv, Or, And, Lsh, Rsh, Mod, Smod, Xor, Mov, Arsh}
-use Rattle.bpf_insn_alu.specs.Words.{modulus, shift, quotient, remainder, arithmetic_shift, computed}
-use Rattle.bpf_insn_alu.proofs.WordLaws.{modulus-positive}
+use Rattle.bpf_insn_types.specs.Words.{modulus, shift, quotient, remainder, arithmetic_shift, computed}
+use Rattle.bpf_insn_types.proofs.WordLaws.{modulus-positive}
 use Rattle.value_range_model.specs.Spans.{Span, IsSpan, Contains, is_exact, exact, top, norm}
 use Rattle.value_range_model.proofs.Multiples.{coarser, min-first, min-second, multiple-zero, multiple-add, multiple-sub, multiple-mul, multiple-wrap, pow-multiple}
 use Rattle.value_range_model.proofs.SpanLaws.{contains_by_test, norm-contains, exact-contains, exact-number, top-contains}

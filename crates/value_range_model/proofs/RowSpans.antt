@@ -12,9 +12,9 @@ use Rattle.bpf_insn_types.specs.declared.insn.ByteOrder.{ByteOrder}
 use Rattle.bpf_insn_types.specs.declared.insn.ByteOrder.TheVariants.{Le, Be, Swap}
 use Rattle.bpf_insn_types.specs.declared.insn.EndianBits.{EndianBits}
 use Rattle.bpf_insn_types.specs.declared.insn.EndianBits.TheVariants.{B16, B32, B64}
-use Rattle.bpf_insn_alu.specs.Words.{modulus, shift, low_modulus, endian_modulus}
-use Rattle.bpf_insn_alu.specs.WordBounds.{ResultsFit}
-use Rattle.bpf_insn_alu.proofs.WordLaws.{modulus-most}
+use Rattle.bpf_insn_types.specs.Words.{modulus, shift, low_modulus, endian_modulus}
+use Rattle.bpf_insn_types.specs.WordBounds.{ResultsFit}
+use Rattle.bpf_insn_types.proofs.WordLaws.{modulus-most}
 use Rattle.value_range_model.specs.Spans.{Span, IsSpan, is_exact, exact, top, norm}
 use Rattle.value_range_model.proofs.SpanLaws.{is_by_test, exact-span, norm-span, top-span}
 use Rattle.value_range_model.specs.declared.operation.Operation.{Operation}

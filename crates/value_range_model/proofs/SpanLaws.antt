@@ -5,7 +5,7 @@ use Rattle.std.proofs.lemmas.Bool.{eqb-true, eq-eqb, ne_eqb, cond-true, cond-fal
 use Rattle.std.proofs.Math.Nat.{min-le_left, min-le_right, le-max_left, le-max_right, min-eq_left, min-eq_right, max-eq_left, max-eq_right}
 use Rattle.bpf_insn_types.specs.declared.insn.Width.{Width}
 use Rattle.bpf_insn_types.specs.declared.insn.Width.TheVariants.{W32, W64}
-use Rattle.bpf_insn_alu.specs.Words.{modulus}
+use Rattle.bpf_insn_types.specs.Words.{modulus}
 use Rattle.value_range_model.specs.Spans.{Span, IsSpan, Contains, is_exact, exact, top, rounded_up, rounded_down, norm, join}
 use Rattle.value_range_model.proofs.Multiples.{min-first, min-second, multiple-zero, trailing-multiple, trailing-most, down-most, down-multiple, down-least, up-least, up-multiple, up-most}
 

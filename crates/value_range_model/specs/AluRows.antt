@@ -9,7 +9,7 @@ use Rattle.bpf_insn_types.specs.declared.insn.ByteOrder.{ByteOrder}
 use Rattle.bpf_insn_types.specs.declared.insn.ByteOrder.TheVariants.{Le, Be, Swap}
 use Rattle.bpf_insn_types.specs.declared.insn.EndianBits.{EndianBits}
 use Rattle.bpf_insn_types.specs.declared.insn.MovsxBits.{MovsxBits}
-use Rattle.bpf_insn_alu.specs.Words.{alu, negated, moved_signed, in_order, modulus, low_modulus, endian_modulus, shift}
+use Rattle.bpf_insn_types.specs.Words.{alu, negated, moved_signed, in_order, modulus, low_modulus, endian_modulus, shift}
 use Rattle.value_range_model.specs.Spans.{Span, is_exact, exact, top, norm}
 use Rattle.value_range_model.specs.declared.operation.Operation.{Operation}
 use Rattle.value_range_model.specs.declared.operation.Operation.TheVariants.{Alu, Neg, Movsx, Endian}

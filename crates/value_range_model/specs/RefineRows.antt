@@ -6,7 +6,7 @@ use Rattle.bpf_insn_types.specs.declared.insn.Width.{Width}
 use Rattle.bpf_insn_types.specs.declared.insn.Width.TheVariants.{W32, W64}
 use Rattle.bpf_insn_types.specs.declared.insn.Compare.{Compare}
 use Rattle.bpf_insn_types.specs.declared.insn.Compare.TheVariants.{Eq, Gt, Ge, Set, Ne, Sgt, Sge, Lt, Le, Slt, Sle}
-use Rattle.bpf_insn_alu.specs.Words.{holds}
+use Rattle.bpf_insn_types.specs.Words.{holds}
 use Rattle.value_range_model.specs.Spans.{Span, is_exact, rounded_up, rounded_down, norm}
 use Rattle.value_range_model.specs.declared.condition.Condition.{Condition}
 use Rattle.value_range_model.specs.declared.condition.Condition.TheVariants.{Holds, NotSet}

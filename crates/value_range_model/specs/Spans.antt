@@ -2,7 +2,7 @@
 use Rattle.std.specs.Prelude.{◌≡◌, ℕ, ◌-◌, ◌/◌, ◌*◌, ◌%◌, ◌^◌, ◌<◌, ◌≤◌, min, max, Bool, ◌==◌, if◌then◌else◌}
 use Rattle.std.specs.Int.{w64, trailing_zeros, next_multiple_of}
 use Rattle.bpf_insn_types.specs.declared.insn.Width.{Width}
-use Rattle.bpf_insn_alu.specs.Words.{modulus}
+use Rattle.bpf_insn_types.specs.Words.{modulus}
 
 -- the numbers from lo to hi that are multiples of 2 ^ zeros
 pub record Span : Type 0 where

@@ -2,12 +2,11 @@
 
 ghost use Rattle.std.specs.Prelude.{◌≡◌, ℕ, not};
 ghost use Rattle.bpf_insn_types.specs.declared.insn.Width.{Width};
-ghost use Rattle.bpf_insn_alu.specs.Words.{holds};
+ghost use Rattle.bpf_insn_types.specs.Words.{holds};
 ghost use Rattle.value_range_model.specs.declared.condition.Condition.TheVariants.{Holds};
 ghost use Rattle.value_range_model.specs.RefineRows.{says, opposite};
 
-use bpf_insn_alu::compare_words;
-use bpf_insn_types::{Compare, Width};
+use bpf_insn_types::{Compare, Width, compare_words};
 
 /// What is known on one way of a conditional jump.
 #[derive(Clone, Copy)]

@@ -4,7 +4,7 @@ ghost use Rattle.value_range_model.specs.SpanLaw.{SpanLaw};
 ghost use Rattle.value_range_model.specs.RefineLaw.{RefineLaw};
 ghost use Rattle.value_range_model.specs.AluLaw.{AluLaw};
 
-use bpf_insn_alu::results_fit;
+use bpf_insn_types::results_fit;
 
 /// What makes a range makes one, and it contains what it is made of.
 pub fn span_law()

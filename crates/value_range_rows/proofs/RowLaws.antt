@@ -7,8 +7,8 @@ use Rattle.std.proofs.lemmas.Nat.{mul-le, leading_le, shl_whole}
 use Rattle.std.proofs.lemmas.Nat.Bits.{ones_shr}
 use Rattle.std.proofs.lemmas.Bool.{cond-true, lt-ltb}
 use Rattle.bpf_insn_types.specs.declared.insn.Width.{Width}
-use Rattle.bpf_insn_alu.specs.Words.{modulus}
-use Rattle.bpf_insn_alu.proofs.WordLaws.{modulus-most}
+use Rattle.bpf_insn_types.specs.Words.{modulus}
+use Rattle.bpf_insn_types.proofs.WordLaws.{modulus-most}
 use Rattle.value_range_model.specs.Spans.{Span, IsSpan, norm}
 use Rattle.value_range_model.specs.AluRows.{filled, shifted_left_by}
 use Rattle.value_range_model.proofs.RowBounds.{below-filled, filled-least}

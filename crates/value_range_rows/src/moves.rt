@@ -1,7 +1,7 @@
 //! Operations of one operand.
 
 ghost use Rattle.std.specs.Prelude.{◌≡◌, ◌/◌};
-ghost use Rattle.bpf_insn_alu.specs.Words.{low_modulus, endian_modulus};
+ghost use Rattle.bpf_insn_types.specs.Words.{low_modulus, endian_modulus};
 ghost use Rattle.value_range_model.specs.AluRows.{low32, negative, extended_range, little, ordered, top_bits};
 
 use crate::widths::spread;

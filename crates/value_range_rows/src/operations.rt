@@ -9,8 +9,7 @@ use crate::moves::{extended, low32, negative, ordered};
 use crate::quotients::{divided, left_over};
 use crate::shifts::{shifted_left, shifted_right, shifted_signed};
 use crate::sums::{added, multiplied, subtracted};
-use bpf_insn_alu::{alu_word, endian_word, movsx_word, neg_word, results_fit};
-use bpf_insn_types::{AluOp, Width};
+use bpf_insn_types::{AluOp, Width, alu_word, endian_word, movsx_word, neg_word, results_fit};
 use value_range_model::{Operation, Range, exact, top};
 
 /// What an operation leaves: the meaning of exact operands, or the operation's row. It contains the

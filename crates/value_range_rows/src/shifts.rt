@@ -1,12 +1,11 @@
 //! Shifts.
 
 ghost use Rattle.std.specs.Prelude.{◌≡◌, ◌<◌};
-ghost use Rattle.bpf_insn_alu.specs.Words.{modulus};
+ghost use Rattle.bpf_insn_types.specs.Words.{modulus};
 ghost use Rattle.value_range_model.specs.AluRows.{shifted_left_by, shifted_left, shifted_right, shifted_signed};
 
 use crate::widths::{spread, within};
-use bpf_insn_alu::shift_amount;
-use bpf_insn_types::Width;
+use bpf_insn_types::{Width, shift_amount};
 use value_range_model::{Range, norm, top};
 
 /// To the left by a known amount: where nothing wraps, from the least to the greatest.

@@ -1,7 +1,7 @@
 //! Sums, differences and products.
 
 ghost use Rattle.std.specs.Prelude.{◌≡◌, ◌<◌};
-ghost use Rattle.bpf_insn_alu.specs.Words.{modulus};
+ghost use Rattle.bpf_insn_types.specs.Words.{modulus};
 ghost use Rattle.value_range_model.specs.AluRows.{added, subtracted, multiplied};
 
 use crate::widths::{spread, within};

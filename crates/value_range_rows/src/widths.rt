@@ -1,7 +1,7 @@
 //! What depends on the width of an operation alone.
 
 ghost use Rattle.std.specs.Prelude.{◌≡◌, ◌-◌, ◌<◌, ◌≤◌, IfSome, IfNone};
-ghost use Rattle.bpf_insn_alu.specs.Words.{modulus};
+ghost use Rattle.bpf_insn_types.specs.Words.{modulus};
 ghost use Rattle.value_range_model.specs.Spans.{norm};
 
 use bpf_insn_types::Width;

@@ -1,5 +1,5 @@
 -- Each row is computed.
-use Rattle.bpf_insn_alu.specs.Words.{alu}
+use Rattle.bpf_insn_types.specs.Words.{alu}
 use Rattle.array_maps.specs.Accesses.{combined}
 use Rattle.array_maps.specs.Halves.{half_of, with_half, halves_added}
 use Rattle.bpf_step_model.specs.Step.{step}

@@ -1,5 +1,5 @@
 -- Each row is computed.
-use Rattle.bpf_insn_alu.specs.Words.{alu, holds, negated, moved_signed, in_order}
+use Rattle.bpf_insn_types.specs.Words.{alu, holds, negated, moved_signed, in_order}
 use Rattle.bpf_step_model.specs.Step.{step}
 use Rattle.bpf_step_model.specs.ProgramInOrder.{program_in_order}
 use Rattle.bpf_step_model.proofs.worked_programs.Goals as goal

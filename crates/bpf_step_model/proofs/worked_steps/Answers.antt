@@ -1,5 +1,5 @@
 -- Each row is computed.
-use Rattle.bpf_insn_alu.specs.Words.{alu, holds}
+use Rattle.bpf_insn_types.specs.Words.{alu, holds}
 use Rattle.array_maps.specs.Accesses.{combined}
 use Rattle.bpf_step_model.specs.Step.{step}
 use Rattle.bpf_step_model.specs.Iteration.{iteration}

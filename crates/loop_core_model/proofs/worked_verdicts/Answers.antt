@@ -1,6 +1,6 @@
 -- Each row is computed.
 use Rattle.std.proofs.Common.{refl}
-use Rattle.bpf_insn_alu.specs.Words.{alu, holds}
+use Rattle.bpf_insn_types.specs.Words.{alu, holds}
 use Rattle.array_maps.specs.Accesses.{combined}
 use Rattle.array_maps.specs.Halves.{half_of, with_half, halves_added}
 use Rattle.bpf_step_model.specs.Step.{step}

@@ -1,5 +1,5 @@
 use Rattle.std.proofs.Common.{◌≡◌, ◌+◌, ◌*◌, drop}
-use Rattle.loop_core_marks.specs.Planes.{set_bits}
+use Rattle.loop_core_model.specs.Planes.{set_bits}
 use Rattle.lane_planes.proofs.counting.count_bits.Given as goal
 
 -- what is counted, and what is left

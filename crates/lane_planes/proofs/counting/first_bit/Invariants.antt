@@ -1,5 +1,5 @@
 use Rattle.std.proofs.Common.{◌≡◌, ◌-◌, ◌*◌, ◌≤◌, length, drop}
-use Rattle.loop_core_marks.specs.Planes.{least_bit}
+use Rattle.loop_core_model.specs.Planes.{least_bit}
 use Rattle.lane_planes.proofs.counting.first_bit.Given as goal
 
 abbrev pub invariant-loop-clear : goal.invariant-loop-clear

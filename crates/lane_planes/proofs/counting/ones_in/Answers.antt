@@ -1,6 +1,6 @@
 use Rattle.std.proofs.Common.{◌+◌, ◌*◌, ◌^◌, ◌<◌, length, Fits, w32, w64, zero-add, ◌∙◌, subst, sym, arith}
 use Rattle.std.proofs.lemmas.Simd.{Each1-from_get_or}
-use Rattle.loop_core_marks.specs.Planes.{set_bits}
+use Rattle.loop_core_model.specs.Planes.{set_bits}
 use Rattle.lane_planes.proofs.Counts.{summed, few_bits}
 use Rattle.lane_planes.proofs.counting.ones_in.Goals as goal
 

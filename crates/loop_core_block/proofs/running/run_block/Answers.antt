@@ -1,6 +1,6 @@
 use Rattle.std.proofs.Common.{◌≡◌, ap, arith}
 use Rattle.bpf_step_model.specs.State.{LoopCall}
-use Rattle.loop_core_blocks.specs.Split.{last_bound}
+use Rattle.loop_core_model.specs.Split.{last_bound}
 use Rattle.loop_core_block.proofs.SplitEnds.{ends_at}
 use Rattle.loop_core_block.proofs.running.run_block.Goals as goal
 

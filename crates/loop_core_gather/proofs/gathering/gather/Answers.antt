@@ -1,6 +1,6 @@
 use Rattle.std.proofs.Common.{◌≡◌, ◌≤◌, ℕ, List, map, length, Some, sym, ◌∙◌, ap, subst}
 use Rattle.loop_core_model.specs.LeastBreak.{count_to}
-use Rattle.loop_core_marks.specs.Planes.{plane_verdict}
+use Rattle.loop_core_model.specs.Planes.{plane_verdict}
 use Rattle.loop_core_block.specs.declared.block.Block.{Block as Held}
 use Rattle.loop_core_block.specs.Shown.{shown}
 use Rattle.loop_core_gather.specs.Held.{told_of}

@@ -1,5 +1,5 @@
 use Rattle.std.proofs.Common.{◌≡◌, true, map, drop}
-use Rattle.loop_core_blocks.specs.Kept.{committed_of_kept}
+use Rattle.loop_core_model.specs.Kept.{committed_of_kept}
 use Rattle.loop_core_block.specs.Shown.{shown}
 use Rattle.loop_core_gather.specs.Held.{chosen, kept_of}
 use Rattle.loop_core_gather.proofs.kept.combined.Given as goal

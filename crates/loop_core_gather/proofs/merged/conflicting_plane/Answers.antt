@@ -1,6 +1,6 @@
 use Rattle.std.proofs.Common.{◌≡◌, ℕ, ◌++◌, List, length, take, drop, sym, ◌∙◌, ap, arith}
 use Rattle.std.proofs.Math.Seq.{take-append_seam}
-use Rattle.loop_core_marks.specs.Planes.{elements_in_plane}
+use Rattle.loop_core_model.specs.Planes.{elements_in_plane}
 use Rattle.loop_core_gather.proofs.merged.conflicting_plane.Goals as goal
 
 taken : (xs rest : List ℕ) (many : ℕ) → length xs ≡ many → take many (xs ++ rest) ≡ xs

@@ -1,6 +1,6 @@
 use Rattle.std.proofs.Common.{◌≡◌, ◌<◌, ℕ, ◌-◌, length, List, [], ◌∷◌, slice_index_or, arith, refl, sym, ap, ◌∙◌}
 use Rattle.std.specs.Prelude.{not, ◌==◌, ◌||◌}
-use Rattle.loop_core_blocks.specs.Split.{last_bound, ends_amiss}
+use Rattle.loop_core_model.specs.Split.{last_bound, ends_amiss}
 use Rattle.loop_core_split.proofs.split.ends_elsewhere.Goals as goal
 
 last_is : (bound : ℕ) (bounds : List ℕ) → last_bound bound bounds ≡ slice_index_or (bound ∷ bounds) (length bounds) 0

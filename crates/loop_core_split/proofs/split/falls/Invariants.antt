@@ -1,5 +1,5 @@
 use Rattle.std.proofs.Common.{◌≡◌, drop}
-use Rattle.loop_core_blocks.specs.Split.{falls}
+use Rattle.loop_core_model.specs.Split.{falls}
 use Rattle.loop_core_split.proofs.split.falls.Given as goal
 
 -- what is left falls below the bound before if the whole does

@@ -1,5 +1,5 @@
 use Rattle.std.proofs.Common.{◌&&◌, ◌||◌, Bool, eqb, ◌∙◌, sym, ap, length-set}
-use Rattle.loop_core_marks.specs.Planes.{bit_of}
+use Rattle.loop_core_model.specs.Planes.{bit_of}
 use Rattle.shadow_marks.proofs.BitLaws.{bit_set}
 use Rattle.shadow_marks.proofs.bits.or_bit.Goals as goal
 

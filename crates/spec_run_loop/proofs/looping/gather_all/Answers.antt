@@ -1,5 +1,5 @@
 use Rattle.std.proofs.Common.{Err, map, ◌∙◌, ap}
-use Rattle.loop_core_blocks.specs.Gather.{gather_fault}
+use Rattle.loop_core_model.specs.Gather.{gather_fault}
 use Rattle.loop_core_block.specs.Shown.{shown}
 use Rattle.loop_core_gather.specs.Gathered.{all_gathered}
 use Rattle.spec_run_loop.proofs.WorkerLaws.{not_both}

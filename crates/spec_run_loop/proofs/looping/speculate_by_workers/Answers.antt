@@ -2,7 +2,7 @@ use Rattle.std.proofs.Common.{◌<◌, map, vec_len, ◌∙◌, rules, arith}
 use Rattle.std.proofs.lemmas.Grind.{common_steps}
 use Rattle.loop_core_block.specs.Ran.{RecordsRun}
 use Rattle.loop_core_block.specs.Shown.{shown}
-use Rattle.spec_run_work.proofs.StillWorks.{all_images}
+use Rattle.spec_run_loop.proofs.StillWorks.{all_images}
 use Rattle.spec_run_loop.proofs.WorkerLaws.{boards, ran, complete}
 use Rattle.spec_run_loop.proofs.looping.speculate_by_workers.Goals as goal
 

@@ -2,10 +2,10 @@ use Rattle.std.proofs.Common.{rules, ◌≡◌, ℕ, ℤ, pos, w64, ◌<◌, ◌
 use Rattle.std.proofs.lemmas.Int.{ints}
 use Rattle.std.specs.Int.{cast_signed, cast_unsigned}
 use Rattle.bpf_verify_sound.specs.Soundness.{IsSoundProgram}
-use Rattle.loop_core_blocks.specs.Split.{split_fault}
+use Rattle.loop_core_model.specs.Split.{split_fault}
 use Rattle.loop_core_model.specs.declared.verdict.LoopReport.{LoopReport}
-use Rattle.loop_core_schedule.specs.declared.replay_fault.ReplayFault.{ReplayFault}
-use Rattle.loop_core_schedule.specs.Outcome.{Outcome, replayed}
+use Rattle.loop_core_model.specs.declared.replay_fault.ReplayFault.{ReplayFault}
+use Rattle.loop_core_model.specs.Outcome.{Outcome, replayed}
 use Rattle.spec_run_replay.specs.FoundLoop.{CameToLoop}
 use Rattle.spec_run_replay.specs.ProgramReplay.{ComesTo}
 use Rattle.spec_run_replay.specs.declared.first_loop.NumberedCall.{NumberedCall}

@@ -1,5 +1,5 @@
 use Rattle.std.proofs.Common.{length, map, sym, ◌∙◌, ap}
-use Rattle.loop_core_schedule.specs.Outcome.{Outcome}
+use Rattle.loop_core_model.specs.Outcome.{Outcome}
 use Rattle.loop_core_block.specs.Shown.{shown}
 use Rattle.loop_core_gather.specs.Held.{chosen}
 use Rattle.loop_core_gather.proofs.HeldLaws.{held_length}

@@ -1,6 +1,6 @@
 use Rattle.std.proofs.Common.{◌≡◌, ◌/◌, ◌<◌, ℕ, List, length, map, sym, ◌∙◌, ap, subst, rules}
 use Rattle.std.specs.Prelude.{slice_index}
-use Rattle.loop_core_schedule.specs.Outcome.{Outcome}
+use Rattle.loop_core_model.specs.Outcome.{Outcome}
 use Rattle.loop_core_block.specs.Shown.{shown}
 use Rattle.loop_core_gather.specs.Held.{chosen}
 use Rattle.loop_core_gather.proofs.HeldLaws.{held_length, start_is_left}

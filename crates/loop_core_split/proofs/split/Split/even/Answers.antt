@@ -2,8 +2,8 @@ use Rattle.std.proofs.Common.{◌≡◌, ℕ, None, ◌+◌, ◌*◌, length, �
 use Rattle.std.specs.Prelude.{map}
 use Rattle.std.specs.List.{range_with_len}
 use Rattle.std.proofs.lemmas.List.FromFn.{length-map-range_with_len, map-range_with_len_more}
-use Rattle.loop_core_blocks.specs.Split.{split_fault}
-use Rattle.loop_core_blocks.proofs.SplitLaws.{even_is_split}
+use Rattle.loop_core_model.specs.Split.{split_fault}
+use Rattle.loop_core_model.proofs.EvenSplitLaws.{even_is_split}
 use Rattle.loop_core_split.proofs.SplitFacts.{no_even_split, split_is}
 use Rattle.loop_core_split.proofs.split.Split.even.Goals as goal
 use Rattle.loop_core_split.proofs.split.Split.even.Goals.{then-blocks-eq0-via-then-blocks-eq0, then-blocks-eq0-via-else-blocks-eq0+then-blocks-gt-MAX_BLOCKS, else-loop-k-test, then-loop-k-test+else-k-blocks}

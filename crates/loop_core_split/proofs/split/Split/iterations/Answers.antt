@@ -1,5 +1,5 @@
 use Rattle.std.proofs.Common.{◌≡◌, ℕ, None, ◌-◌, length, List, slice_index_or, sym}
-use Rattle.loop_core_blocks.specs.Split.{last_bound, split_fault}
+use Rattle.loop_core_model.specs.Split.{last_bound, split_fault}
 use Rattle.loop_core_split.specs.Splits.{IsSplit}
 use Rattle.loop_core_split.proofs.SplitFacts.{last_is}
 use Rattle.loop_core_split.proofs.split.Split.iterations.Goals as goal

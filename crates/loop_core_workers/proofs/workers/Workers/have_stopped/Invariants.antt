@@ -1,6 +1,6 @@
 use Rattle.std.proofs.Common.{◌≡◌, [], drop}
 use Rattle.std.specs.List.{list_all}
-use Rattle.loop_core_schedule.specs.Schedule.{is_stopped, worker_of}
+use Rattle.loop_core_model.specs.Schedule.{is_stopped, worker_of}
 use Rattle.loop_core_workers.specs.Standing.{state}
 use Rattle.loop_core_workers.proofs.workers.Workers.have_stopped.Given as goal
 

@@ -1,5 +1,5 @@
 use Rattle.std.proofs.Common.{ℕ, List, subst}
-use Rattle.loop_core_marks.specs.Marks.{Visit}
+use Rattle.loop_core_model.specs.Marks.{Visit}
 use Rattle.shadow_marks.specs.Standing.{StandFor}
 use Rattle.private_copy.specs.Visits.{visits_of}
 use Rattle.private_copy.proofs.VisitLaws.{visits_more}

@@ -1,5 +1,5 @@
 use Rattle.std.proofs.Common.{◌∙◌, ap, sym}
-use Rattle.loop_core_marks.specs.Flags.{flagged}
+use Rattle.loop_core_model.specs.Flags.{flagged}
 use Rattle.shadow_marks.specs.declared.element_flags.Flag.TheVariants.{Wrote, By}
 use Rattle.shadow_marks.specs.Kept.{flags_in, with_flag}
 use Rattle.shadow_marks.proofs.element_flags.ElementFlags.after.Goals as goal

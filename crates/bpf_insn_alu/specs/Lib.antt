@@ -1,3 +1,0 @@
-pub mod WordBounds
-pub mod WordRows
-pub mod Words

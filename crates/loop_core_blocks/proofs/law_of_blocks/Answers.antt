@@ -1,5 +1,0 @@
-use Rattle.loop_core_blocks.proofs.BlockLaws.{scans_follow}
-use Rattle.loop_core_blocks.proofs.law_of_blocks.Goals as goal
-
-pub returns : goal.returns
-returns c = scans_follow

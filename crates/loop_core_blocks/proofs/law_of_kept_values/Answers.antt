@@ -1,5 +1,0 @@
-use Rattle.loop_core_blocks.proofs.KeptLaws.{commits_of_kept}
-use Rattle.loop_core_blocks.proofs.law_of_kept_values.Goals as goal
-
-pub returns : goal.returns
-returns c = commits_of_kept

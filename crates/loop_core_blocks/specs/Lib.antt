@@ -1,4 +1,0 @@
-pub mod Kept
-pub mod Block
-pub mod Split
-pub mod Gather

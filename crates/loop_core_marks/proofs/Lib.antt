@@ -1,5 +1,0 @@
-pub mod FlagLaws
-pub mod ReductionLaws
-pub mod MarkLaws
-pub mod PlaneLaws
-pub mod PlaneBits

@@ -1,5 +1,0 @@
-use Rattle.loop_core_marks.proofs.FlagLaws.{flags_follow_kinds}
-use Rattle.loop_core_marks.proofs.law_of_flags.Goals as goal
-
-pub returns : goal.returns
-returns c = flags_follow_kinds

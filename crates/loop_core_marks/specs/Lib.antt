@@ -1,4 +1,0 @@
-pub mod Flags
-pub mod Marks
-pub mod MarkLaw
-pub mod Planes

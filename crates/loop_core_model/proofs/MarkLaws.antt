@@ -1,0 +1,326 @@
+-- What the marks of a set of iterations tell, and how they come about.
+use Rattle.std.proofs.Common.{◌≡◌, ℕ, ◌+◌, ◌-◌, ◌≤◌, Bool, true, false, not, ◌&&◌, ◌||◌, ◌⊎◌, inl, inr, List, [], ◌∷◌, ◌++◌, Option, Some, None, refl, sym, ◌∙◌, ap, arith}
+use Rattle.std.specs.Prelude.{if◌then◌else◌, ◌==◌, nat_lt, min, max, is_some}
+use Rattle.std.specs.List.{list_any, count_by}
+use Rattle.std.proofs.Math.Bool.{or_assoc, or_comm, or-false}
+use Rattle.std.proofs.lemmas.Bool.Decides.{nat_tests}
+use Rattle.std.proofs.lemmas.List.{map-append}
+use Rattle.std.proofs.lemmas.List.Folds.{list_any-append}
+use Rattle.array_maps.specs.declared.access.Op.{Op}
+use Rattle.array_maps.specs.Accesses.{Action, operators}
+use Rattle.loop_core_model.specs.declared.loop_test.Test.{Test}
+use Rattle.loop_core_model.specs.declared.loop_test.Test.TheVariants.{Lrpd, Flow}
+use Rattle.loop_core_model.specs.Actions.{writes, exposed, reduces_by, joined, only_operator}
+use Rattle.loop_core_model.specs.Conflict.{fails_lrpd, fails_flow, fails, conflicts}
+use Rattle.loop_core_model.specs.LeastBreak.{lesser}
+use Rattle.loop_core_model.specs.Flags.{is_plain, flags_of}
+use Rattle.loop_core_model.specs.Marks.{Visit, actions_of, numbered, Marks, two_write, first_writer, last_reader, marks_of, marked_reduction, stands_before, first_number, marked_fails, marked_conflict, marks_of_one, merged}
+use Rattle.loop_core_model.specs.MarkLaw.{MarksTell, FirstIsNumber, MarksMerge}
+use Rattle.loop_core_model.proofs.ReductionLaws.{only-kept, any-joined, has}
+
+-- marks that agree are the same
+pub record MarksAgree (a b : Marks) : Type 0 where
+  pub written : a.written ≡ b.written
+  pub written_by_two : a.written_by_two ≡ b.written_by_two
+  pub read_only : a.read_only ≡ b.read_only
+  pub read_and_written : a.read_and_written ≡ b.read_and_written
+  pub first : a.first ≡ b.first
+  pub last : a.last ≡ b.last
+  pub plain : a.plain ≡ b.plain
+  pub by : (op : Op) → a.by op ≡ b.by op
+
+same_marks : (a b : Marks) → MarksAgree a b → a ≡ b
+same_marks a b h = λ i. record {
+  written = h.written i;
+  written_by_two = h.written_by_two i;
+  read_only = h.read_only i;
+  read_and_written = h.read_and_written i;
+  first = h.first i;
+  last = h.last i;
+  plain = h.plain i;
+  by = λ op. h.by op i;
+}
+
+-- numbering keeps the actions
+numbered_actions : (index : ℕ) (its : List (List Action)) → actions_of (numbered index its) ≡ its
+numbered_actions index [] = refl
+numbered_actions index (it ∷ its) = ap (λ rest. it ∷ rest) (numbered_actions (index + 1) its)
+
+-- the marks of numbered iterations are those of their actions
+reduction_of : (its : List (List Action)) → is_some (only_operator (joined its))
+    ≡ (not (list_any (λ actions. list_any is_plain actions) its) && (count_by (λ op. list_any (λ actions. list_any (reduces_by op) actions) its) operators == 1))
+reduction_of its =
+    only-kept (joined its)
+    ∙ ap (λ b. not b && (count_by (has (joined its)) operators == 1)) (sym (any-joined is_plain its))
+    ∙ ap (λ (test : Op → Bool). not (list_any (λ actions. list_any is_plain actions) its) && (count_by test operators == 1)) (λ i op. sym (any-joined (reduces_by op) its) i)
+
+reduction : (index : ℕ) (its : List (List Action)) → is_some (only_operator (joined its)) ≡ marked_reduction (marks_of (numbered index its))
+reduction index its =
+    reduction_of its
+    ∙ ap (λ (all : List (List Action)). not (list_any (λ actions. list_any is_plain actions) all) && (count_by (λ op. list_any (λ actions. list_any (reduces_by op) actions) all) operators == 1))
+    (sym (numbered_actions index its))
+
+-- a mark that needs a writer is a mark of a written element
+abbrev pub written : List (List Action) → Bool
+written its = list_any writes its
+
+abbrev pub read_only : List (List Action) → Bool
+read_only its = list_any (λ actions. exposed actions && not (writes actions)) its
+
+abbrev pub read_and_written : List (List Action) → Bool
+read_and_written its = list_any (λ actions. exposed actions && writes actions) its
+
+read_and_written-written : (its : List (List Action)) → (read_and_written its && written its) ≡ read_and_written its
+read_and_written-written [] = refl
+read_and_written-written (it ∷ its) = go (exposed it) (writes it) (read_and_written its) (written its) (read_and_written-written its)
+  where
+    go : (E W np w : Bool) → (np && w) ≡ np → (((E && W) || np) && (W || w)) ≡ ((E && W) || np)
+    go E W np w h = grind (arith, nat_tests)
+
+two_write-written : (its : List (List Action)) → (two_write its && written its) ≡ two_write its
+two_write-written [] = refl
+two_write-written (it ∷ its) = go (writes it) (two_write its) (written its) (two_write-written its)
+  where
+    go : (W m w : Bool) → (m && w) ≡ m → (((W && w) || m) && (W || w)) ≡ ((W && w) || m)
+    go W m w h = grind (arith, nat_tests)
+
+-- an exposed read is by one that writes or by one that doesn't
+exposed_split : (its : List (List Action)) → list_any exposed its ≡ (read_only its || read_and_written its)
+exposed_split [] = refl
+exposed_split (it ∷ its) = ap (λ b. exposed it || b) (exposed_split its) ∙ go (exposed it) (writes it) (read_only its) (read_and_written its)
+  where
+    go : (E W r np : Bool) → (E || (r || np)) ≡ (((E && not W) || r) || ((E && W) || np))
+    go E W r np = grind (arith, nat_tests)
+
+clash_step : (W E r w np m : Bool) → (np && w) ≡ np → (m && w) ≡ m →
+    ((W && (r || np)) || ((E && w) || ((r && w) || (np && m)))) ≡ ((((E && not W) || r) && (W || w)) || (((E && W) || np) && ((W && w) || m)))
+clash_step W E r w np m h k = grind (arith, nat_tests)
+
+clash_marked : (its : List (List Action)) → fails_lrpd its ≡ ((read_only its && written its) || (read_and_written its && two_write its))
+clash_marked [] = refl
+clash_marked (it ∷ its) =
+    ap (λ b. (writes it && b) || ((exposed it && list_any writes its) || fails_lrpd its)) (exposed_split its)
+    ∙ ap (λ b. (writes it && (read_only its || read_and_written its)) || ((exposed it && list_any writes its) || b)) (clash_marked its)
+    ∙ clash_step (writes it) (exposed it) (read_only its) (written its) (read_and_written its) (two_write its) (read_and_written-written its) (two_write-written its)
+
+-- the first writer of iterations from an index on has no lesser index
+abbrev pub FromIndex : ℕ → Option ℕ → Type 0
+FromIndex index None = Unit {0}
+FromIndex index (Some first) = index ≤ first
+
+-- what is known of the marks of iterations from an index on
+pub record FlowFacts (index : ℕ) (first : Option ℕ) (last : ℕ) (reads harmed : Bool) : Type 0 where
+  pub late_first : FromIndex index first
+  pub late_last : (last ≡ 0) ⊎ (index + 1 ≤ last)
+  pub reads_is : reads ≡ not (last == 0)
+  pub harm_is : harmed ≡ stands_before first last
+
+-- so much the iteration itself adds to the last reader
+abbrev pub one_reader : ℕ → Bool → ℕ
+one_reader index looked = if looked then index + 1 else 0
+
+reader_small : (index : ℕ) (E : Bool) → one_reader index E ≤ index + 1
+reader_small index true = omega arith
+reader_small index false = omega arith
+
+last_step : (index : ℕ) (E : Bool) (last : ℕ) → (last ≡ 0) ⊎ (index + 1 + 1 ≤ last) →
+    (max (one_reader index E) last ≡ 0) ⊎ (index + 1 ≤ max (one_reader index E) last)
+last_step index true last h = inr (omega arith)
+last_step index false last (inl h) = inl (omega arith)
+last_step index false last (inr h) = inr (omega arith)
+
+reads_step : (index : ℕ) (E : Bool) (last : ℕ) (reads : Bool) → reads ≡ not (last == 0) → (E || reads) ≡ not (max (one_reader index E) last == 0)
+reads_step index true last reads h = grind (arith, nat_tests)
+reads_step index false last reads h = grind (arith, nat_tests)
+
+-- where the iteration writes, it stands before all readers that come
+harmed_by_this : (index own last : ℕ) → own ≤ index + 1 → (last ≡ 0) ⊎ (index + 1 + 1 ≤ last) →
+    not (last == 0) ≡ (not (max own last == 0) && nat_lt index (max own last - 1))
+harmed_by_this index own last small (inl h) = grind (arith, nat_tests)
+harmed_by_this index own last small (inr h) = grind (arith, nat_tests)
+
+-- and its own look changes nothing for the writers that come
+harmed_later : (index first own last : ℕ) → own ≤ index + 1 → index + 1 ≤ first → (last ≡ 0) ⊎ (index + 1 + 1 ≤ last) →
+    (not (last == 0) && nat_lt first (last - 1)) ≡ (not (max own last == 0) && nat_lt first (max own last - 1))
+harmed_later index first own last small later (inl h) = grind (arith, nat_tests)
+harmed_later index first own last small later (inr h) = grind (arith, nat_tests)
+
+covered : (reads harmed late : Bool) → harmed ≡ (reads && late) → (reads || harmed) ≡ reads
+covered true harmed late h = refl
+covered false harmed late h = h
+
+flow_step : (index : ℕ) (W E : Bool) (first : Option ℕ) (last : ℕ) (reads harmed : Bool) → FlowFacts (index + 1) first last reads harmed →
+    FlowFacts index (lesser (if W then Some index else None) first) (max (one_reader index E) last) (E || reads) ((W && reads) || harmed)
+flow_step index true E None last reads harmed facts = record {
+  late_first = omega arith;
+  late_last = last_step index E last facts.late_last;
+  reads_is = reads_step index E last reads facts.reads_is;
+  harm_is = rw (facts.harm_is, or-false) (facts.reads_is ∙ harmed_by_this index (one_reader index E) last (reader_small index E) facts.late_last);
+}
+flow_step index true E (Some first) last reads harmed facts = record {
+  late_first = (let h = facts.late_first in omega arith);
+  late_last = last_step index E last facts.late_last;
+  reads_is = reads_step index E last reads facts.reads_is;
+  harm_is =
+      let least : min index first ≡ index = (let h = facts.late_first in omega arith) in
+      rw least (covered reads harmed (nat_lt first (last - 1)) (facts.harm_is ∙ ap (λ b. b && nat_lt first (last - 1)) (sym facts.reads_is))
+      ∙ facts.reads_is ∙ harmed_by_this index (one_reader index E) last (reader_small index E) facts.late_last);
+}
+flow_step index false E None last reads harmed facts = record {
+  late_first = tt;
+  late_last = last_step index E last facts.late_last;
+  reads_is = reads_step index E last reads facts.reads_is;
+  harm_is = facts.harm_is;
+}
+flow_step index false E (Some first) last reads harmed facts = record {
+  late_first = (let h = facts.late_first in omega arith);
+  late_last = last_step index E last facts.late_last;
+  reads_is = reads_step index E last reads facts.reads_is;
+  harm_is = facts.harm_is ∙ harmed_later index first (one_reader index E) last (reader_small index E) facts.late_first facts.late_last;
+}
+
+flow_facts : (index : ℕ) (its : List (List Action)) →
+    FlowFacts index (first_writer (numbered index its)) (last_reader (numbered index its)) (list_any exposed its) (fails_flow its)
+flow_facts index [] = record { late_first = tt; late_last = inl refl; reads_is = refl; harm_is = refl }
+flow_facts index (it ∷ its) =
+    flow_step index (writes it) (exposed it) (first_writer (numbered (index + 1) its)) (last_reader (numbered (index + 1) its)) (list_any exposed its) (fails_flow its)
+    (flow_facts (index + 1) its)
+
+fails_marked : (test : Test) (index : ℕ) (its : List (List Action)) → fails test its ≡ marked_fails test (marks_of (numbered index its))
+fails_marked Lrpd index its =
+    clash_marked its
+    ∙ ap (λ (all : List (List Action)). (read_only all && written all) || (read_and_written all && two_write all)) (sym (numbered_actions index its))
+fails_marked Flow index its = (flow_facts index its).harm_is
+
+conflict : (test : Test) (index : ℕ) (its : List (List Action)) → conflicts test its ≡ marked_conflict test (marks_of (numbered index its))
+conflict test index its =
+    ap (λ b. not b && fails test its) (reduction index its)
+    ∙ ap (λ b. not (marked_reduction (marks_of (numbered index its))) && b) (fails_marked test index its)
+
+pub marks_tell : MarksTell
+marks_tell = record { reduction = reduction; conflict = conflict }
+
+-- numbers for first writers
+first_before : (first : Option ℕ) (last : ℕ) → last ≤ 4294967296 → stands_before first last ≡ (not (last == 0) && nat_lt (first_number first) (last - 1))
+first_before None last small = grind (arith, nat_tests)
+first_before (Some index) last small = refl
+
+first_lesser : (a b : Option ℕ) → first_number a ≤ 4294967295 → first_number b ≤ 4294967295 → first_number (lesser a b) ≡ min (first_number a) (first_number b)
+first_lesser None None h k = refl
+first_lesser None (Some b) h k = omega arith
+first_lesser (Some a) None h k = omega arith
+first_lesser (Some a) (Some b) h k = refl
+
+pub first_is_number : FirstIsNumber
+first_is_number = record { before = first_before; lesser_is = first_lesser }
+
+-- merging
+one_writes_once : (b : Bool) → ((b && false) || false) ≡ false
+one_writes_once true = refl
+one_writes_once false = refl
+
+lesser_none : (o : Option ℕ) → lesser o None ≡ o
+lesser_none None = refl
+lesser_none (Some n) = refl
+
+one : (visit : Visit) → marks_of (visit ∷ []) ≡ marks_of_one visit.index (flags_of visit.actions)
+one visit = same_marks _ _ (record {
+  written = or-false (writes visit.actions);
+  written_by_two = one_writes_once (writes visit.actions);
+  read_only = or-false _;
+  read_and_written = or-false _;
+  first = lesser_none (if writes visit.actions then Some visit.index else None);
+  last = (let e : max (one_reader visit.index (exposed visit.actions)) 0 ≡ one_reader visit.index (exposed visit.actions) = omega arith in e);
+  plain = or-false _;
+  by = λ op. or-false _;
+})
+
+two_write-append : (xs ys : List (List Action)) → two_write (xs ++ ys) ≡ ((two_write xs || two_write ys) || (list_any writes xs && list_any writes ys))
+two_write-append [] ys = go (two_write ys) (list_any writes ys)
+  where
+    go : (m w : Bool) → m ≡ ((false || m) || (false && w))
+    go m w = grind (arith, nat_tests)
+two_write-append (x ∷ xs) ys =
+    ap (λ b. (writes x && b) || two_write (xs ++ ys)) (list_any-append writes xs ys)
+    ∙ ap (λ b. (writes x && (list_any writes xs || list_any writes ys)) || b) (two_write-append xs ys)
+    ∙ go (writes x) (list_any writes xs) (list_any writes ys) (two_write xs) (two_write ys)
+  where
+    go : (W w1 w2 m1 m2 : Bool) → ((W && (w1 || w2)) || ((m1 || m2) || (w1 && w2))) ≡ ((((W && w1) || m1) || m2) || ((W || w1) && w2))
+    go W w1 w2 m1 m2 = grind (arith, nat_tests)
+
+actions_of-append : (xs ys : List Visit) → actions_of (xs ++ ys) ≡ actions_of xs ++ actions_of ys
+actions_of-append xs ys = map-append (λ (visit : Visit). visit.actions) xs ys
+
+any-actions : (p : List Action → Bool) (xs ys : List Visit) →
+    list_any p (actions_of (xs ++ ys)) ≡ (list_any p (actions_of xs) || list_any p (actions_of ys))
+any-actions p xs ys = ap (list_any p) (actions_of-append xs ys) ∙ list_any-append p (actions_of xs) (actions_of ys)
+
+lesser_assoc : (a b c : Option ℕ) → lesser (lesser a b) c ≡ lesser a (lesser b c)
+lesser_assoc None b c = refl
+lesser_assoc (Some a) None c = refl
+lesser_assoc (Some a) (Some b) None = refl
+lesser_assoc (Some a) (Some b) (Some c) = ap Some (let e : min (min a b) c ≡ min a (min b c) = omega arith in e)
+
+lesser_comm : (a b : Option ℕ) → lesser a b ≡ lesser b a
+lesser_comm None None = refl
+lesser_comm None (Some b) = refl
+lesser_comm (Some a) None = refl
+lesser_comm (Some a) (Some b) = ap Some (let e : min a b ≡ min b a = omega arith in e)
+
+first-append : (xs ys : List Visit) → first_writer (xs ++ ys) ≡ lesser (first_writer xs) (first_writer ys)
+first-append [] ys = refl
+first-append (x ∷ xs) ys =
+    ap (lesser (if writes x.actions then Some x.index else None)) (first-append xs ys)
+    ∙ sym (lesser_assoc (if writes x.actions then Some x.index else None) (first_writer xs) (first_writer ys))
+
+last-append : (xs ys : List Visit) → last_reader (xs ++ ys) ≡ max (last_reader xs) (last_reader ys)
+last-append [] ys = let e : last_reader ys ≡ max 0 (last_reader ys) = omega arith in e
+last-append (x ∷ xs) ys =
+    let own : ℕ = one_reader x.index (exposed x.actions) in
+    let regrouped : max own (max (last_reader xs) (last_reader ys)) ≡ max (max own (last_reader xs)) (last_reader ys) = omega arith in
+    ap (max own) (last-append xs ys) ∙ regrouped
+
+both : (xs ys : List Visit) → marks_of (xs ++ ys) ≡ merged (marks_of xs) (marks_of ys)
+both xs ys = same_marks _ _ (record {
+  written = any-actions writes xs ys;
+  written_by_two = ap two_write (actions_of-append xs ys) ∙ two_write-append (actions_of xs) (actions_of ys);
+  read_only = any-actions (λ actions. exposed actions && not (writes actions)) xs ys;
+  read_and_written = any-actions (λ actions. exposed actions && writes actions) xs ys;
+  first = first-append xs ys;
+  last = last-append xs ys;
+  plain = any-actions (λ actions. list_any is_plain actions) xs ys;
+  by = λ op. any-actions (λ actions. list_any (reduces_by op) actions) xs ys;
+})
+
+two_comm : (m n v w : Bool) → ((m || n) || (v && w)) ≡ ((n || m) || (w && v))
+two_comm m n v w = grind (arith, nat_tests)
+
+two_assoc : (m n k v w x : Bool) → ((((m || n) || (v && w)) || k) || ((v || w) && x)) ≡ ((m || ((n || k) || (w && x))) || (v && (w || x)))
+two_assoc m n k v w x = grind (arith, nat_tests)
+
+either_first : (a b : Marks) → merged a b ≡ merged b a
+either_first a b = same_marks _ _ (record {
+  written = or_comm a.written b.written;
+  written_by_two = two_comm a.written_by_two b.written_by_two a.written b.written;
+  read_only = or_comm a.read_only b.read_only;
+  read_and_written = or_comm a.read_and_written b.read_and_written;
+  first = lesser_comm a.first b.first;
+  last = omega arith;
+  plain = or_comm a.plain b.plain;
+  by = λ op. or_comm (a.by op) (b.by op);
+})
+
+any_grouping : (a b c : Marks) → merged (merged a b) c ≡ merged a (merged b c)
+any_grouping a b c = same_marks _ _ (record {
+  written = or_assoc a.written b.written c.written;
+  written_by_two = two_assoc a.written_by_two b.written_by_two c.written_by_two a.written b.written c.written;
+  read_only = or_assoc a.read_only b.read_only c.read_only;
+  read_and_written = or_assoc a.read_and_written b.read_and_written c.read_and_written;
+  first = lesser_assoc a.first b.first c.first;
+  last = omega arith;
+  plain = or_assoc a.plain b.plain c.plain;
+  by = λ op. or_assoc (a.by op) (b.by op) (c.by op);
+})
+
+pub marks_merge : MarksMerge
+marks_merge = record { none = refl; one = one; both = both; either_first = either_first; any_grouping = any_grouping }

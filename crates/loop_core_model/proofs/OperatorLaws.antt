@@ -1,0 +1,101 @@
+-- Each operator is associative.
+use Rattle.std.proofs.Common.{◌≡◌, ℕ, zero, suc, ◌+◌, ◌*◌, ◌<◌, ◌⊎◌, inl, inr, List, [], ◌∷◌, refl, sym, ◌∙◌, ap, arith}
+use Rattle.std.specs.Prelude.{◌/◌, ◌%◌, ◌^◌, bit_and, bit_or, bit_xor}
+use Rattle.std.specs.List.{fold}
+use Rattle.std.specs.Int.Bits.{xor_assoc, or_zero_l}
+use Rattle.std.proofs.Math.Arith.{bin_ind}
+use Rattle.std.proofs.Math.Nat.{mod-mod, mod-lt, add-mod-mod, mod-add-mod, add_assoc, div-add-mod}
+use Rattle.std.proofs.lemmas.Nat.{and_assoc, and_mod, or_mod, or_shr, xor_mod}
+use Rattle.bpf_insn_types.specs.Words.{alu}
+use Rattle.array_maps.specs.declared.access.Op.{Op}
+use Rattle.array_maps.specs.declared.access.Op.TheVariants.{Add, Or, And, Xor, AddH}
+use Rattle.array_maps.specs.Accesses.{combined}
+use Rattle.array_maps.specs.Halves.{of_halves, half_of, halves_added}
+use Rattle.loop_core_model.specs.Kept.{combined_from_first, applied, OperatorsAssociate}
+
+-- a number is its half and its last bit
+by_bits : (x y : ℕ) → x / 2 ≡ y / 2 → x % 2 ≡ y % 2 → x ≡ y
+by_bits x y half bit = sym (div-add-mod x 2) ∙ ap (λ h. 2 * h + x % 2) half ∙ ap (λ b. 2 * (y / 2) + b) bit ∙ div-add-mod y 2
+
+bit_cases : (x : ℕ) → x < 2 → (x ≡ 0) ⊎ (x ≡ 1)
+bit_cases zero h = inl refl
+bit_cases (suc zero) h = inr refl
+bit_cases (suc (suc x)) h = absurd (omega arith)
+
+bits_assoc : (x y z : ℕ) → (x ≡ 0) ⊎ (x ≡ 1) → (y ≡ 0) ⊎ (y ≡ 1) → (z ≡ 0) ⊎ (z ≡ 1) → bit_or (bit_or x y) z ≡ bit_or x (bit_or y z)
+bits_assoc x y z (inl a) (inl b) (inl c) = rw (a, b, c) refl
+bits_assoc x y z (inl a) (inl b) (inr c) = rw (a, b, c) refl
+bits_assoc x y z (inl a) (inr b) (inl c) = rw (a, b, c) refl
+bits_assoc x y z (inl a) (inr b) (inr c) = rw (a, b, c) refl
+bits_assoc x y z (inr a) (inl b) (inl c) = rw (a, b, c) refl
+bits_assoc x y z (inr a) (inl b) (inr c) = rw (a, b, c) refl
+bits_assoc x y z (inr a) (inr b) (inl c) = rw (a, b, c) refl
+bits_assoc x y z (inr a) (inr b) (inr c) = rw (a, b, c) refl
+
+bit_of : (n : ℕ) → (n % 2 ≡ 0) ⊎ (n % 2 ≡ 1)
+bit_of n = bit_cases (n % 2) (mod-lt n (omega arith))
+
+or_assoc : (a b c : ℕ) → bit_or (bit_or a b) c ≡ bit_or a (bit_or b c)
+or_assoc =
+    bin_ind (λ (n : ℕ). (b c : ℕ) → bit_or (bit_or n b) c ≡ bit_or n (bit_or b c))
+    (λ b c. ap (λ (x : ℕ). bit_or x c) (or_zero_l b) ∙ sym (or_zero_l (bit_or b c)))
+    (λ n ih b c. by_bits (bit_or (bit_or n b) c) (bit_or n (bit_or b c))
+    (or_shr (bit_or n b) c 1 ∙ ap (λ (x : ℕ). bit_or x (c / 2)) (or_shr n b 1) ∙ ih (b / 2) (c / 2)
+    ∙ sym (or_shr n (bit_or b c) 1 ∙ ap (bit_or (n / 2)) (or_shr b c 1)))
+    (or_mod (bit_or n b) c 1 ∙ ap (λ (x : ℕ). bit_or x (c % 2)) (or_mod n b 1)
+    ∙ bits_assoc (n % 2) (b % 2) (c % 2) (bit_of n) (bit_of b) (bit_of c)
+    ∙ sym (or_mod n (bit_or b c) 1 ∙ ap (bit_or (n % 2)) (or_mod b c 1))))
+
+-- sums that wrap
+wrapped_assoc : (a b c m : ℕ) → ((a + b) % m + c) % m ≡ (a + (b + c) % m) % m
+wrapped_assoc a b c m = mod-add-mod (a + b) m c ∙ ap (λ n. n % m) (add_assoc a b c) ∙ sym (add-mod-mod a (b + c) m)
+
+-- an operator on the low 64 bits, whose results keep to them
+low_assoc : (f : ℕ → ℕ → ℕ) → ((a b : ℕ) → f a b % 2 ^ 64 ≡ f (a % 2 ^ 64) (b % 2 ^ 64)) → ((a b c : ℕ) → f (f a b) c ≡ f a (f b c)) → (a b c : ℕ) →
+    f (f (a % 2 ^ 64) (b % 2 ^ 64) % 2 ^ 64) (c % 2 ^ 64) ≡ f (a % 2 ^ 64) (f (b % 2 ^ 64) (c % 2 ^ 64) % 2 ^ 64)
+low_assoc f fits assoc a b c =
+    ap (λ n. f n (c % 2 ^ 64)) (kept a b) ∙ assoc (a % 2 ^ 64) (b % 2 ^ 64) (c % 2 ^ 64) ∙ ap (f (a % 2 ^ 64)) (sym (kept b c))
+  where
+    kept : (x y : ℕ) → f (x % 2 ^ 64) (y % 2 ^ 64) % 2 ^ 64 ≡ f (x % 2 ^ 64) (y % 2 ^ 64)
+    kept x y = fits (x % 2 ^ 64) (y % 2 ^ 64) ∙ ap (λ n. f n (y % 2 ^ 64 % 2 ^ 64)) (mod-mod x (2 ^ 64)) ∙ ap (f (x % 2 ^ 64)) (mod-mod y (2 ^ 64))
+
+-- the halves of a word of two halves
+low_half : (low high : ℕ) → of_halves low high % 2 ^ 32 ≡ low % 2 ^ 32
+low_half low high = omega arith
+
+high_half : (low high : ℕ) → of_halves low high / 2 ^ 32 ≡ high % 2 ^ 32
+high_half low high = omega arith
+
+halves_assoc : (a b c : ℕ) → halves_added (halves_added a b) c ≡ halves_added a (halves_added b c)
+unfolding halves_added half_of
+halves_assoc a b c =
+    ap (λ n. of_halves (n + c % 2 ^ 32) (halves_added a b / 2 ^ 32 + c / 2 ^ 32)) (low_half (a % 2 ^ 32 + b % 2 ^ 32) (a / 2 ^ 32 + b / 2 ^ 32))
+    ∙ ap (λ n. of_halves ((a % 2 ^ 32 + b % 2 ^ 32) % 2 ^ 32 + c % 2 ^ 32) (n + c / 2 ^ 32)) (high_half (a % 2 ^ 32 + b % 2 ^ 32) (a / 2 ^ 32 + b / 2 ^ 32))
+    ∙ ap (λ n. n + 2 ^ 32 * (((a / 2 ^ 32 + b / 2 ^ 32) % 2 ^ 32 + c / 2 ^ 32) % 2 ^ 32)) (wrapped_assoc (a % 2 ^ 32) (b % 2 ^ 32) (c % 2 ^ 32) (2 ^ 32))
+    ∙ ap (λ n. (a % 2 ^ 32 + (b % 2 ^ 32 + c % 2 ^ 32) % 2 ^ 32) % 2 ^ 32 + 2 ^ 32 * n) (wrapped_assoc (a / 2 ^ 32) (b / 2 ^ 32) (c / 2 ^ 32) (2 ^ 32))
+    ∙ sym (ap (λ n. of_halves (a % 2 ^ 32 + n) (a / 2 ^ 32 + halves_added b c / 2 ^ 32)) (low_half (b % 2 ^ 32 + c % 2 ^ 32) (b / 2 ^ 32 + c / 2 ^ 32))
+    ∙ ap (λ n. of_halves (a % 2 ^ 32 + (b % 2 ^ 32 + c % 2 ^ 32) % 2 ^ 32) (a / 2 ^ 32 + n)) (high_half (b % 2 ^ 32 + c % 2 ^ 32) (b / 2 ^ 32 + c / 2 ^ 32)))
+
+each_associates : (op : Op) (a b c : ℕ) → combined op (combined op a b) c ≡ combined op a (combined op b c)
+unfolding combined alu halves_added
+each_associates Add a b c =
+    ap (λ n. (n + c % 2 ^ 64) % 2 ^ 64) (mod-mod (a % 2 ^ 64 + b % 2 ^ 64) (2 ^ 64))
+    ∙ wrapped_assoc (a % 2 ^ 64) (b % 2 ^ 64) (c % 2 ^ 64) (2 ^ 64)
+    ∙ ap (λ n. (a % 2 ^ 64 + n) % 2 ^ 64) (sym (mod-mod (b % 2 ^ 64 + c % 2 ^ 64) (2 ^ 64)))
+each_associates Or a b c = low_assoc bit_or (λ x y. or_mod x y 64) or_assoc a b c
+each_associates And a b c = low_assoc bit_and (λ x y. and_mod x y 64) (λ x y z. and_assoc z x y) a b c
+each_associates Xor a b c = low_assoc bit_xor (λ x y. xor_mod x y 64) xor_assoc a b c
+each_associates AddH a b c = halves_assoc a b c
+
+-- operands in turn are their combination at once
+pub fold_at_once : (op : Op) (word first : ℕ) (rest : List ℕ) → combined op word (fold (combined op) first rest) ≡ fold (combined op) (combined op word first) rest
+fold_at_once op word first [] = refl
+fold_at_once op word first (next ∷ rest) =
+    fold_at_once op word (combined op first next) rest ∙ ap (λ w. fold (combined op) w rest) (sym (each_associates op word first next))
+
+at_once : (op : Op) (word : ℕ) (operands : List ℕ) → fold (combined op) word operands ≡ applied word (combined_from_first op operands)
+at_once op word [] = refl
+at_once op word (first ∷ rest) = sym (fold_at_once op word first rest)
+
+pub operators_associate : OperatorsAssociate
+operators_associate = record { each = each_associates; at_once = at_once }

@@ -1,5 +1,0 @@
-use Rattle.loop_core_schedule.proofs.SplitLaws.{splits_partition}
-use Rattle.loop_core_schedule.proofs.law_of_splits.Goals as goal
-
-pub returns : goal.returns
-returns c = splits_partition

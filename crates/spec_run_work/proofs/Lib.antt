@@ -1,2 +1,0 @@
-pub mod StillWorks
-pub mod CompleteLaws
