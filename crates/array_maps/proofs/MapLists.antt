@@ -15,10 +15,12 @@ sum_more first numbers = sum_by-cons (λ (n : ℕ). n) first numbers
 -- all of them
 pub length_concat : (values : List (List ℕ)) → length (concat values) ≡ sum (lengths values)
 length_concat [] = refl
-length_concat (map ∷ values) = length-append map (concat values) ∙ ap (λ (n : ℕ). length map + n) (length_concat values) ∙ sym (sum_more (length map) (lengths values))
+length_concat (map ∷ values) = length-append map (concat values) ∙ ap (λ (n : ℕ). length map + n) (length_concat values)
+    ∙ sym (sum_more (length map) (lengths values))
 
 -- those of one map, and more
-pub fits_in_sum : (maps : List (Vec ℕ Global)) (k : ℕ) (map : Vec ℕ Global) → k < length maps → map ≡ get_or maps k map → length map.items ≤ sum (lengths (lists maps))
+pub fits_in_sum : (maps : List (Vec ℕ Global)) (k : ℕ) (map : Vec ℕ Global) → k < length maps → map ≡ get_or maps k map
+    → length map.items ≤ sum (lengths (lists maps))
 fits_in_sum [] k map within read = absurd (omega arith)
 fits_in_sum (first ∷ maps) zero map within read =
     let same : length map.items ≡ length first.items = ap (λ (m : Vec ℕ Global). length m.items) read in

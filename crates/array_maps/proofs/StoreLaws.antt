@@ -4,7 +4,8 @@ use Rattle.array_maps.specs.Accesses.{Access, words_after, words_after_all}
 use Rattle.array_maps.specs.Store.{Effects}
 
 -- one access more at the end
-pub effects-more : {S : Type 0} (effect : S → Access → S → Type 0) (old between new : S) (accesses : List Access) (access : Access) →
+pub effects-more : {S : Type 0} (effect : S → Access → S → Type 0) (old between new : S) (accesses : List Access)
+    (access : Access) →
     Effects effect old accesses between → effect between access new → Effects effect old (accesses ++ access ∷ []) new
 effects-more effect old between new [] access same last = (new, subst (λ s. effect s access new) same last, refl)
 effects-more effect old between new (first ∷ accesses) access before last =

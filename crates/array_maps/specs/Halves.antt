@@ -21,7 +21,8 @@ with_half High word number = of_halves word number
 
 -- two words with both halves added apart, each modulo 2 ^ 32
 unfoldable pub halves_added : ℕ → ℕ → ℕ
-halves_added word operand = of_halves (half_of Low word + half_of Low operand) (half_of High word + half_of High operand)
+halves_added word operand = of_halves (half_of Low word + half_of Low operand) (half_of High word + half_of High
+    operand)
 
 -- a part of a word
 abbrev pub part_of : Part → ℕ → ℕ

@@ -45,7 +45,8 @@ impl Model for Maps {
 
     ghost view = { λ m. record { sizes = m.sizes.items; words = m.words.items } };
 
-    ghost invariant = { λ m. AreSizes m.sizes.items × (length m.words.items ≡ sum m.sizes.items) × AreWords m.words.items };
+    ghost invariant = { λ m. AreSizes m.sizes.items × (length m.words.items ≡ sum m.sizes.items)
+        × AreWords m.words.items };
 }
 
 /// How many values each map has, where none has more than there may be.
@@ -145,7 +146,10 @@ impl Maps {
     pub fn set(&mut self, map: usize, index: u32, value: u64)
         requires map { map < length self.old.sizes }
         requires index { index < slice_index self.old.sizes map }
-        ensures { self.new ≡ record { sizes = self.old.sizes; words = slice_set self.old.words (base_of self.old.sizes map + index) value } }
+        ensures { self.new ≡ record {
+          sizes = self.old.sizes;
+          words = slice_set self.old.words (base_of self.old.sizes map + index) value;
+        } }
     {
         let at = self.base(map) + index as usize;
         self.words[at] = value;

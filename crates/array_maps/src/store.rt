@@ -59,10 +59,12 @@ pub trait Store {
         requires served { 0 < serves self.old }
         ensures answer { result ≡ part_of part (slice_index (words self.old) e) }
         ensures done { let word = slice_index (words self.old) e in
-            effect self.old (record { element = e; action = ReadWrite word (exchanged part rmw word value compare) }) self.new };
+            effect self.old (record { element = e; action = ReadWrite word (exchanged part rmw word value compare) })
+            self.new };
 
     /// The words that are seen after an access.
-    ghost shows: { (old new : Self) (access : Access) → effect old access new → words new ≡ words_after access (words old) };
+    ghost shows: { (old new : Self) (access : Access) → effect old access new
+        → words new ≡ words_after access (words old) };
 
     /// An access uses up at most one.
     ghost uses_one: { (old new : Self) (access : Access) → effect old access new → serves old ≤ serves new + 1 };

@@ -66,11 +66,14 @@ next_of bytes = first (slots_in (drop 8 bytes))
 
 first_insn-long : (bytes : List ℕ) → 8 ≤ length bytes → first_insn bytes ≡ insn_of_slot (slot_at bytes) (next_of bytes)
 unfolding first_insn
-first_insn-long bytes h = long_is bytes (Err faults.Incomplete) (insn_of_slot (slot_at bytes) (front_slot (drop 8 bytes))) h ∙ ap (insn_of_slot (slot_at bytes)) (first-slots_in (drop 8 bytes))
+first_insn-long bytes h =
+    long_is bytes (Err faults.Incomplete) (insn_of_slot (slot_at bytes) (front_slot (drop 8 bytes))) h
+    ∙ ap (insn_of_slot (slot_at bytes)) (first-slots_in (drop 8 bytes))
 
 first_insn-short : (bytes : List ℕ) → length bytes < 8 → first_insn bytes ≡ Err faults.Incomplete
 unfolding first_insn
-first_insn-short bytes h = short_is bytes (Err faults.Incomplete) (insn_of_slot (slot_at bytes) (front_slot (drop 8 bytes))) h
+first_insn-short bytes h =
+    short_is bytes (Err faults.Incomplete) (insn_of_slot (slot_at bytes) (front_slot (drop 8 bytes))) h
 
 err_ok : (f : CodecFault) (i : Insn) (r : Result Insn CodecFault) → r ≡ Err f → r ≡ Ok i → ⊥
 err_ok f i r a b = absurd cc
@@ -99,32 +102,47 @@ some_long bytes t e =
 
 -- an instruction at the front of bytes, and where the rest goes on
 abbrev Goes : ℕ → List ℕ → Insn → ℕ → Type 0
-Goes left bytes i n = (8 * slots_of i ≤ length bytes) × (insns_in left (slots_in bytes) 0 n ≡ insn_before n (Ok i) (insns_in left (slots_in (drop (8 * slots_of i) bytes)) 0 (n + slots_of i)))
+Goes left bytes i n = (8 * slots_of i ≤ length bytes)
+    × (insns_in left (slots_in bytes) 0 n ≡ insn_before n (Ok i) (insns_in left (slots_in (drop (8 * slots_of i) bytes))
+    0 (n + slots_of i)))
 
-at_slot : (left : ℕ) (bytes : List ℕ) (i : Insn) (n : ℕ) → 8 ≤ length bytes → insn_of_slot (slot_at bytes) (next_of bytes) ≡ Ok i
-    → insns_in left (slots_in bytes) 0 n ≡ insn_before n (Ok i) (insns_in left (slots_in (drop 8 bytes)) (slots_of i - 1) (n + 1))
+at_slot : (left : ℕ) (bytes : List ℕ) (i : Insn) (n : ℕ) → 8 ≤ length bytes
+    → insn_of_slot (slot_at bytes) (next_of bytes) ≡ Ok i
+    → insns_in left (slots_in bytes) 0 n ≡ insn_before n (Ok i) (insns_in left (slots_in (drop 8 bytes))
+    (slots_of i - 1) (n + 1))
 unfolding insns_in
 at_slot left bytes i n h e =
     let r = insn_of_slot (slot_at bytes) (first (slots_in (drop 8 bytes))) in
     ap (λ (x : List Slot). insns_in left x 0 n) (slots_in-front bytes h)
-    ∙ ap (λ (x : Result Insn CodecFault). insn_before n x (insns_in left (slots_in (drop 8 bytes)) (more_of x) (n + 1))) e
+    ∙ ap (λ (x : Result Insn CodecFault). insn_before n x (insns_in left (slots_in (drop 8 bytes)) (more_of x) (n + 1)))
+    e
 
-one_step : (left : ℕ) (bytes : List ℕ) (i : Insn) (n k : ℕ) → k ≡ 1 → insn_before n (Ok i) (insns_in left (slots_in (drop 8 bytes)) (k - 1) (n + 1)) ≡ insn_before n (Ok i) (insns_in left (slots_in (drop (8 * k) bytes)) 0 (n + k))
+one_step : (left : ℕ) (bytes : List ℕ) (i : Insn) (n k : ℕ) → k ≡ 1
+    → insn_before n (Ok i) (insns_in left (slots_in (drop 8 bytes)) (k - 1) (n + 1)) ≡ insn_before n (Ok i)
+    (insns_in left (slots_in (drop (8 * k) bytes)) 0 (n + k))
 one_step left bytes i n k h = rw h refl
 
-two_steps : (left : ℕ) (bytes : List ℕ) (i : Insn) (n k : ℕ) → k ≡ 2 → 8 ≤ length (drop 8 bytes) → insn_before n (Ok i) (insns_in left (slots_in (drop 8 bytes)) (k - 1) (n + 1)) ≡ insn_before n (Ok i) (insns_in left (slots_in (drop (8 * k) bytes)) 0 (n + k))
+two_steps : (left : ℕ) (bytes : List ℕ) (i : Insn) (n k : ℕ) → k ≡ 2 → 8 ≤ length (drop 8 bytes)
+    → insn_before n (Ok i) (insns_in left (slots_in (drop 8 bytes)) (k - 1) (n + 1)) ≡ insn_before n (Ok i)
+    (insns_in left (slots_in (drop (8 * k) bytes)) 0 (n + k))
 unfolding insns_in
 two_steps left bytes i n k h more =
     let next : n + 1 + 1 ≡ n + 2 = omega arith in
-    rw h (ap (λ (x : List Slot). insn_before n (Ok i) (insns_in left x 1 (n + 1))) (slots_in-front (drop 8 bytes) more) ∙ ap (λ (x : ℕ). insn_before n (Ok i) (insns_in left (slots_in (drop 8 (drop 8 bytes))) 0 x)) next ∙ ap (λ (x : List ℕ). insn_before n (Ok i) (insns_in left (slots_in x) 0 (n + 2))) (drop-drop 8 8 bytes))
+    rw h (ap (λ (x : List Slot). insn_before n (Ok i) (insns_in left x 1 (n + 1))) (slots_in-front (drop 8 bytes) more)
+    ∙ ap (λ (x : ℕ). insn_before n (Ok i) (insns_in left (slots_in (drop 8 (drop 8 bytes))) 0 x)) next
+    ∙ ap (λ (x : List ℕ). insn_before n (Ok i) (insns_in left (slots_in x) 0 (n + 2))) (drop-drop 8 8 bytes))
 
 goes : (left : ℕ) (bytes : List ℕ) (i : Insn) (n : ℕ) → IsBytes bytes → first_insn bytes ≡ Ok i → Goes left bytes i n
 unfolding insns_in
 goes left bytes i n fits e =
     let long = long_if_ok bytes i e in
     let read : insn_of_slot (slot_at bytes) (next_of bytes) ≡ Ok i = sym (first_insn-long bytes long) ∙ e in
-    let slots : AreSlots (slot_at bytes ∷ slots_in (drop 8 bytes)) = subst AreSlots (slots_in-front bytes long) (slots_in-are bytes fits) in
-    let reads : Reads (slot_at bytes) (next_of bytes) i = of_ok (Reads (slot_at bytes) (next_of bytes)) (insn_of_slot (slot_at bytes) (next_of bytes)) i read (slot_reads (slot_at bytes) (next_of bytes) slots.0.opcode slots.0.holds (next_holds (slots_in (drop 8 bytes)) slots.1)) in
+    let slots : AreSlots (slot_at bytes ∷ slots_in (drop 8 bytes)) =
+    subst AreSlots (slots_in-front bytes long) (slots_in-are bytes fits) in
+    let reads : Reads (slot_at bytes) (next_of bytes) i =
+    of_ok (Reads (slot_at bytes) (next_of bytes)) (insn_of_slot (slot_at bytes) (next_of bytes)) i read
+    (slot_reads (slot_at bytes) (next_of bytes) slots.0.opcode slots.0.holds (next_holds (slots_in (drop 8 bytes))
+    slots.1)) in
     let here = at_slot left bytes i n long read in
     elim reads.taken [
       | inl one ↦
@@ -140,19 +158,24 @@ goes left bytes i n fits e =
     ]
 
 -- an instruction that is read lies within its bytes
-pub first_insn-len : (bytes : List ℕ) (i : Insn) → IsBytes bytes → first_insn bytes ≡ Ok i → 8 * slots_of i ≤ length bytes
+pub first_insn-len : (bytes : List ℕ) (i : Insn) → IsBytes bytes → first_insn bytes ≡ Ok i
+    → 8 * slots_of i ≤ length bytes
 first_insn-len bytes i fits e = (goes 0 bytes i 0 fits e).0
 
-refuses : (bytes : List ℕ) (f : CodecFault) (n : ℕ) → 0 < length bytes → first_insn bytes ≡ Err f → insns_in (length bytes % 8) (slots_in bytes) 0 n ≡ Err (Refused f n)
+refuses : (bytes : List ℕ) (f : CodecFault) (n : ℕ) → 0 < length bytes → first_insn bytes ≡ Err f
+    → insns_in (length bytes % 8) (slots_in bytes) 0 n ≡ Err (Refused f n)
 unfolding insns_in
 refuses bytes f n some e =
     elim (cases_lt (length bytes) 8) [
       | inl h ↦
-          let same : faults.Incomplete ≡ f = is_err faults.Incomplete f (first_insn bytes) (first_insn-short bytes h) e in
-          ap (λ (x : List Slot). insns_in (length bytes % 8) x 0 n) (slots_in-short bytes h) ∙ cut_off (length bytes % 8) n (omega (arith, h, some)) ∙ ap (λ (x : CodecFault). refused x n) same
+          let same : faults.Incomplete ≡ f = is_err faults.Incomplete f (first_insn bytes) (first_insn-short bytes h) e
+          in
+          ap (λ (x : List Slot). insns_in (length bytes % 8) x 0 n) (slots_in-short bytes h)
+          ∙ cut_off (length bytes % 8) n (omega (arith, h, some)) ∙ ap (λ (x : CodecFault). refused x n) same
       | inr h ↦
           ap (λ (x : List Slot). insns_in (length bytes % 8) x 0 n) (slots_in-front bytes h)
-          ∙ ap (λ (x : Result Insn CodecFault). insn_before n x (insns_in (length bytes % 8) (slots_in (drop 8 bytes)) (more_of x) (n + 1))) (sym (first_insn-long bytes h) ∙ e)
+          ∙ ap (λ (x : Result Insn CodecFault). insn_before n x (insns_in (length bytes % 8) (slots_in (drop 8 bytes))
+          (more_of x) (n + 1))) (sym (first_insn-long bytes h) ∙ e)
     ]
   where
     refused : CodecFault → ℕ → Result (List Insn) CodecError
@@ -174,16 +197,19 @@ pub record IsPartRead (bytes rest : List ℕ) (is : List Insn) : Type 0 where
   pub fits : IsBytes rest
   pub within : length rest ≤ length bytes
   pub left : length rest % 8 ≡ length bytes % 8
-  pub goes_on : with_front is (insns_in (length rest % 8) (slots_in rest) 0 ((length bytes - length rest) / 8)) ≡ reading bytes
+  pub goes_on : with_front is (insns_in (length rest % 8) (slots_in rest) 0 ((length bytes - length rest) / 8))
+      ≡ reading bytes
 
-front_then : (is : List Insn) (n : ℕ) (i : Insn) (later : Result (List Insn) CodecError) → with_front is (insn_before n (Ok i) later) ≡ with_front (is ++ i ∷ []) later
+front_then : (is : List Insn) (n : ℕ) (i : Insn) (later : Result (List Insn) CodecError)
+    → with_front is (insn_before n (Ok i) later) ≡ with_front (is ++ i ∷ []) later
 front_then is n i (Ok l) = ap (λ (x : List Insn). Ok x) (sym (append_assoc is (i ∷ []) l))
 front_then is n i (Err e) = refl
 
 bytes_behind : (k : ℕ) (rest after : List ℕ) → IsBytes rest → after ≡ drop k rest → IsBytes after
 bytes_behind k rest after fits cut i = rw (cut, get_or-drop k rest i 0) (fits (k + i))
 
-pub goes_on : (bytes rest after : List ℕ) (is : List Insn) (i : Insn) → IsPartRead bytes rest is → first_insn rest ≡ Ok i
+pub goes_on : (bytes rest after : List ℕ) (is : List Insn) (i : Insn) → IsPartRead bytes rest is
+    → first_insn rest ≡ Ok i
     → after ≡ drop (8 * slots_of i) rest → IsPartRead bytes after (is ++ i ∷ [])
 goes_on bytes rest after is i h e cut =
     let fits = h.fits in
@@ -192,21 +218,29 @@ goes_on bytes rest after is i h e cut =
     let len : length after ≡ length rest - 8 * slots_of i = ap length cut ∙ length-drop (8 * slots_of i) rest in
     let slot : (length bytes - length after) / 8 ≡ n + slots_of i = omega (arith, len, step.0, h.within) in
     let left : length after % 8 ≡ length rest % 8 = omega (arith, len, step.0) in
-    let there : with_front (is ++ i ∷ []) (insns_in (length after % 8) (slots_in after) 0 ((length bytes - length after) / 8)) ≡ with_front (is ++ i ∷ []) (insns_in (length rest % 8) (slots_in (drop (8 * slots_of i) rest)) 0 (n + slots_of i)) = moved is i (length after % 8) (length rest % 8) after (drop (8 * slots_of i) rest) ((length bytes - length after) / 8) (n + slots_of i) left cut slot in
+    let there : with_front (is ++ i ∷ []) (insns_in (length after % 8) (slots_in after) 0 ((length bytes - length after)
+    / 8)) ≡ with_front (is ++ i ∷ []) (insns_in (length rest % 8) (slots_in (drop (8 * slots_of i) rest)) 0
+    (n + slots_of i)) = moved is i (length after % 8) (length rest % 8) after (drop (8 * slots_of i) rest)
+    ((length bytes - length after) / 8) (n + slots_of i) left cut slot in
     record {
       fits = bytes_behind (8 * slots_of i) rest after fits cut;
       within = omega (arith, len, h.within);
       left = left ∙ h.left;
-      goes_on = there ∙ sym (front_then is n i (insns_in (length rest % 8) (slots_in (drop (8 * slots_of i) rest)) 0 (n + slots_of i))) ∙ ap (with_front is) (sym step.1) ∙ h.goes_on;
+      goes_on = there ∙ sym (front_then is n i (insns_in (length rest % 8) (slots_in (drop (8 * slots_of i) rest)) 0
+          (n + slots_of i))) ∙ ap (with_front is) (sym step.1) ∙ h.goes_on;
     }
   where
-    moved : (is : List Insn) (i : Insn) (l m : ℕ) (a b : List ℕ) (j k : ℕ) → l ≡ m → a ≡ b → j ≡ k → with_front (is ++ i ∷ []) (insns_in l (slots_in a) 0 j) ≡ with_front (is ++ i ∷ []) (insns_in m (slots_in b) 0 k)
+    moved : (is : List Insn) (i : Insn) (l m : ℕ) (a b : List ℕ) (j k : ℕ) → l ≡ m → a ≡ b → j ≡ k
+        → with_front (is ++ i ∷ []) (insns_in l (slots_in a) 0 j) ≡ with_front (is ++ i ∷ [])
+        (insns_in m (slots_in b) 0 k)
     moved is i l m a b j k p q r = rw (p, q, r) refl
 
-pub ends : (bytes rest : List ℕ) (is : List Insn) (f : CodecFault) (slot : ℕ) → 0 < length rest → IsPartRead bytes rest is → first_insn rest ≡ Err f
+pub ends : (bytes rest : List ℕ) (is : List Insn) (f : CodecFault) (slot : ℕ) → 0 < length rest
+    → IsPartRead bytes rest is → first_insn rest ≡ Err f
     → slot ≡ (length bytes - length rest) / 8 → reading bytes ≡ Err (Refused f slot)
 ends bytes rest is f slot some h e at =
-    sym h.goes_on ∙ ap (with_front is) (refuses rest f ((length bytes - length rest) / 8) some e) ∙ ap (λ (x : ℕ). refused f x) (sym at)
+    sym h.goes_on ∙ ap (with_front is) (refuses rest f ((length bytes - length rest) / 8) some e)
+    ∙ ap (λ (x : ℕ). refused f x) (sym at)
   where
     refused : CodecFault → ℕ → Result (List Insn) CodecError
     refused f n = Err (Refused f n)
@@ -220,23 +254,33 @@ fails bytes rest is (Refused f n) some h e = ends bytes rest is f n some h e.0 e
 pub behind : (k n m : ℕ) (xs : List ℕ) → k ≡ m → length xs - k ≤ n → take n (drop k xs) ≡ drop m xs
 behind k n m xs e le = take_all n (drop k xs) (omega (arith, le, length-drop k xs)) ∙ ap (λ (x : ℕ). drop x xs) e
 
-pub is_done : (bytes rest : List ℕ) (is : List Insn) → length rest ≡ 0 → IsPartRead bytes rest is → reading bytes ≡ Ok is
+pub is_done : (bytes rest : List ℕ) (is : List Insn) → length rest ≡ 0 → IsPartRead bytes rest is
+    → reading bytes ≡ Ok is
 unfolding insns_in slots_in
 is_done bytes rest is none h =
     let nothing : rest ≡ [] = nil_from_length rest none in
-    sym h.goes_on ∙ ap (λ (x : List ℕ). with_front is (insns_in (length x % 8) (slots_in x) 0 ((length bytes - length x) / 8))) nothing ∙ ap (λ (x : List Insn). Ok x) (append-nil is)
+    sym h.goes_on ∙ ap (λ (x : List ℕ). with_front is (insns_in (length x % 8) (slots_in x) 0
+    ((length bytes - length x) / 8))) nothing ∙ ap (λ (x : List Insn). Ok x) (append-nil is)
 
 pub begins : (bytes : List ℕ) → IsBytes bytes → IsPartRead bytes bytes []
 unfolding reading
 begins bytes fits =
     let slot : (length bytes - length bytes) / 8 ≡ 0 = omega arith in
-    record { fits = fits; within = omega arith; left = refl; goes_on = ap (λ (x : ℕ). with_front [] (insns_in (length bytes % 8) (slots_in bytes) 0 x)) slot ∙ no_front (insns_in (length bytes % 8) (slots_in bytes) 0 0) }
+    record {
+      fits = fits;
+      within = omega arith;
+      left = refl;
+      goes_on = ap (λ (x : ℕ). with_front [] (insns_in (length bytes % 8) (slots_in bytes) 0 x)) slot
+          ∙ no_front (insns_in (length bytes % 8) (slots_in bytes) 0 0);
+    }
   where
     no_front : (r : Result (List Insn) CodecError) → with_front [] r ≡ r
     no_front (Ok is) = refl
     no_front (Err e) = refl
 
 -- what a program's reading gives is spelled so
-pub if_found : (bytes : List ℕ) (r : Result (Vec Insn) CodecError) → IsBytes bytes → MatchesUnlessMemory codec_refusal (λ v. v.items) r (reading bytes) → IfOk r (λ v. AreInsns v.items × (program_spelling v.items ≡ Ok bytes))
+pub if_found : (bytes : List ℕ) (r : Result (Vec Insn) CodecError) → IsBytes bytes
+    → MatchesUnlessMemory codec_refusal (λ v. v.items) r (reading bytes) → IfOk r (λ v. AreInsns v.items
+    × (program_spelling v.items ≡ Ok bytes))
 if_found bytes (Ok v) fits given = reading_found bytes v.items fits given
 if_found bytes (Err e) fits given = tt

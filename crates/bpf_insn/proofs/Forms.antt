@@ -54,26 +54,46 @@ opcode-form_at n lt = is_opcode (form_at n) n (below agrees 256 n all_agree lt)
 
 -- a property of the code of each arithmetic operation
 abbrev pub EachCode : (AluCode → Type 0) → Type 0
-EachCode P = P alu.Add × P alu.Sub × P alu.Mul × P alu.Div × P alu.Or × P alu.And × P alu.Lsh × P alu.Rsh × P alu.Mod × P alu.Xor × P alu.Mov × P alu.Arsh
+EachCode P = P alu.Add × P alu.Sub × P alu.Mul × P alu.Div × P alu.Or × P alu.And × P alu.Lsh × P alu.Rsh × P alu.Mod
+    × P alu.Xor × P alu.Mov × P alu.Arsh
 
 pub each_code : (P : AluCode → Type 0) → EachCode P → (c : AluCode) → P c
-each_code P h c = elim c as (λ c. P c) [ alu.Add ↦ h.0 | alu.Sub ↦ h.1 | alu.Mul ↦ h.2 | alu.Div ↦ h.3 | alu.Or ↦ h.4 | alu.And ↦ h.5 | alu.Lsh ↦ h.6 | alu.Rsh ↦ h.7 | alu.Mod ↦ h.8 | alu.Xor ↦ h.9 | alu.Mov ↦ h.10 | alu.Arsh ↦ h.11 ]
+each_code P h c = elim c as (λ c. P c) [
+  | alu.Add ↦ h.0
+  | alu.Sub ↦ h.1
+  | alu.Mul ↦ h.2
+  | alu.Div ↦ h.3
+  | alu.Or
+      ↦ h.4
+  | alu.And ↦ h.5
+  | alu.Lsh ↦ h.6
+  | alu.Rsh ↦ h.7
+  | alu.Mod ↦ h.8
+  | alu.Xor ↦ h.9
+  | alu.Mov ↦ h.10
+  | alu.Arsh
+      ↦ h.11
+]
 
 -- an opcode says its form
 abbrev SaysItsForm : Form → Type 0
 SaysItsForm f = form_at (opcode f) ≡ Some f
 
 pub form_at-alu_imm : (w : Width) (c : AluCode) → SaysItsForm (form.AluImm w c)
-form_at-alu_imm w = each_code (λ c. SaysItsForm (form.AluImm w c)) (each_width (λ w. EachCode (λ c. SaysItsForm (form.AluImm w c))) (assumption) w)
+form_at-alu_imm w = each_code (λ c. SaysItsForm (form.AluImm w c))
+    (each_width (λ w. EachCode (λ c. SaysItsForm (form.AluImm w c))) (assumption) w)
 
 pub form_at-alu_reg : (w : Width) (c : AluCode) → SaysItsForm (form.AluReg w c)
-form_at-alu_reg w = each_code (λ c. SaysItsForm (form.AluReg w c)) (each_width (λ w. EachCode (λ c. SaysItsForm (form.AluReg w c))) (assumption) w)
+form_at-alu_reg w = each_code (λ c. SaysItsForm (form.AluReg w c))
+    (each_width (λ w. EachCode (λ c. SaysItsForm (form.AluReg w c))) (assumption) w)
 
 pub form_at-jump_imm : (w : Width) (c : Compare) → SaysItsForm (form.JumpImm w c)
-form_at-jump_imm w = each_compare (λ c. SaysItsForm (form.JumpImm w c)) (each_width (λ w. EachCompare (λ c. SaysItsForm (form.JumpImm w c))) (assumption) w)
+form_at-jump_imm w = each_compare (λ c. SaysItsForm (form.JumpImm w c))
+    (each_width (λ w. EachCompare (λ c. SaysItsForm (form.JumpImm w c))) (assumption) w)
 
 pub form_at-jump_reg : (w : Width) (c : Compare) → SaysItsForm (form.JumpReg w c)
-form_at-jump_reg w = each_compare (λ c. SaysItsForm (form.JumpReg w c)) (each_width (λ w. EachCompare (λ c. SaysItsForm (form.JumpReg w c))) (assumption) w)
+form_at-jump_reg w = each_compare (λ c. SaysItsForm (form.JumpReg w c))
+    (each_width (λ w. EachCompare (λ c. SaysItsForm (form.JumpReg w c))) (assumption) w)
 
 pub form_at-neg : (w : Width) → SaysItsForm (form.Neg w)
 form_at-neg = each_width (λ w. SaysItsForm (form.Neg w)) assumption

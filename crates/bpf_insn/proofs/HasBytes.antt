@@ -37,7 +37,8 @@ no_offset = fits16 0 (omega arith)
 no_imm : FitsSigned w32 (pos 0)
 no_imm = fits32 0 (omega arith)
 
-slot_has : (f : Form) (dst src : ℕ) (offset imm : ℤ) → dst ≤ 10 → src ≤ 10 → FitsSigned w16 offset → FitsSigned w32 imm → HasBytes (slot f dst src offset imm)
+slot_has : (f : Form) (dst src : ℕ) (offset imm : ℤ) → dst ≤ 10 → src ≤ 10 → FitsSigned w16 offset → FitsSigned w32 imm
+    → HasBytes (slot f dst src offset imm)
 slot_has f dst src offset imm d s o i = record { dst = d; src = s; holds = record { offset = o; imm = i } }
 
 op_fits : (o : AluOp) → FitsSigned w16 (op_offset o)
@@ -76,10 +77,13 @@ atomic_fits Cmpxchg = fits32 241 (omega arith)
 second_has : (next : ℤ) → FitsSigned w32 next → HasBytes (second next)
 second_has next h = record { dst = omega arith; src = omega arith; holds = record { offset = no_offset; imm = h } }
 
-both_have : (kind : ImmKind) (dst : ℕ) (imm next : ℤ) → dst ≤ 10 → FitsSigned w32 imm → FitsSigned w32 next → IfOk (both kind dst imm next) HaveBytes
-both_have kind dst imm next d i n = (slot_has form.LoadImm dst (kind_src kind) (pos 0) imm d (kind_src-le kind) no_offset i, (second_has next n, tt))
+both_have : (kind : ImmKind) (dst : ℕ) (imm next : ℤ) → dst ≤ 10 → FitsSigned w32 imm → FitsSigned w32 next
+    → IfOk (both kind dst imm next) HaveBytes
+both_have kind dst imm next d i n =
+    (slot_has form.LoadImm dst (kind_src kind) (pos 0) imm d (kind_src-le kind) no_offset i, (second_has next n, tt))
 
-two_have : (kind : ImmKind) (b : Bool) (dst : ℕ) (imm next : ℤ) → dst ≤ 10 → FitsSigned w32 imm → FitsSigned w32 next → IfOk (two_slots kind b dst imm next) HaveBytes
+two_have : (kind : ImmKind) (b : Bool) (dst : ℕ) (imm next : ℤ) → dst ≤ 10 → FitsSigned w32 imm → FitsSigned w32 next
+    → IfOk (two_slots kind b dst imm next) HaveBytes
 two_have kind true dst imm next d i n = both_have kind dst imm next d i n
 two_have kind false dst imm (pos zero) d i n = both_have kind dst imm (pos 0) d i n
 two_have kind false dst imm (pos (suc k)) d i n = tt
@@ -90,28 +94,60 @@ mov_has f dst src n d s h = slot_has f dst src (pos n) (pos 0) d s (fits16 n h) 
 
 -- the slots of an instruction have bytes
 pub spelling_has : (i : Insn) → InsnFits i → IfOk (spelling i) HaveBytes
-spelling_has (insn.Alu w o dst (Imm imm)) h = (record { dst = h.0; src = omega arith; holds = record { offset = op_fits o; imm = h.1 } }, tt)
-spelling_has (insn.Alu w o dst (Reg src)) h = (record { dst = h.0; src = h.1; holds = record { offset = op_fits o; imm = no_imm } }, tt)
+spelling_has (insn.Alu w o dst (Imm imm)) h =
+    (record { dst = h.0; src = omega arith; holds = record { offset = op_fits o; imm = h.1 } }, tt)
+spelling_has (insn.Alu w o dst (Reg src)) h =
+    (record { dst = h.0; src = h.1; holds = record { offset = op_fits o; imm = no_imm } }, tt)
 spelling_has (insn.Neg w dst) h = (slot_has (form.Neg w) dst 0 (pos 0) (pos 0) h (omega arith) no_offset no_imm, tt)
-spelling_has (insn.Movsx W32 movsx.B8 dst src) h = (mov_has (form.AluReg W32 alu.Mov) dst src 8 h.0 h.1 (omega arith), tt)
-spelling_has (insn.Movsx W32 movsx.B16 dst src) h = (mov_has (form.AluReg W32 alu.Mov) dst src 16 h.0 h.1 (omega arith), tt)
+spelling_has (insn.Movsx W32 movsx.B8 dst src) h = (
+  mov_has (form.AluReg W32 alu.Mov) dst src 8 h.0 h.1 (omega arith),
+  tt,
+)
+spelling_has (insn.Movsx W32 movsx.B16 dst src) h = (
+  mov_has (form.AluReg W32 alu.Mov) dst src 16 h.0 h.1 (omega arith),
+  tt,
+)
 spelling_has (insn.Movsx W32 movsx.B32 dst src) h = tt
-spelling_has (insn.Movsx W64 movsx.B8 dst src) h = (mov_has (form.AluReg W64 alu.Mov) dst src 8 h.0 h.1 (omega arith), tt)
-spelling_has (insn.Movsx W64 movsx.B16 dst src) h = (mov_has (form.AluReg W64 alu.Mov) dst src 16 h.0 h.1 (omega arith), tt)
-spelling_has (insn.Movsx W64 movsx.B32 dst src) h = (mov_has (form.AluReg W64 alu.Mov) dst src 32 h.0 h.1 (omega arith), tt)
-spelling_has (insn.Endian o b dst) h = (slot_has (form.Endian o) dst 0 (pos 0) (endian_imm b) h (omega arith) no_offset (endian_fits b), tt)
+spelling_has (insn.Movsx W64 movsx.B8 dst src) h = (
+  mov_has (form.AluReg W64 alu.Mov) dst src 8 h.0 h.1 (omega arith),
+  tt,
+)
+spelling_has (insn.Movsx W64 movsx.B16 dst src) h = (
+  mov_has (form.AluReg W64 alu.Mov) dst src 16 h.0 h.1 (omega arith),
+  tt,
+)
+spelling_has (insn.Movsx W64 movsx.B32 dst src) h = (
+  mov_has (form.AluReg W64 alu.Mov) dst src 32 h.0 h.1 (omega arith),
+  tt,
+)
+spelling_has (insn.Endian o b dst) h = (
+  slot_has (form.Endian o) dst 0 (pos 0) (endian_imm b) h (omega arith) no_offset
+      (endian_fits b),
+  tt,
+)
 spelling_has (insn.Ja offset) h = (slot_has form.Ja 0 0 offset (pos 0) (omega arith) (omega arith) h no_imm, tt)
 spelling_has (insn.Ja32 imm) h = (slot_has form.Ja32 0 0 (pos 0) imm (omega arith) (omega arith) no_offset h, tt)
-spelling_has (insn.Jump w c dst (Imm imm) offset) h = (slot_has (form.JumpImm w c) dst 0 offset imm h.0 (omega arith) h.2 h.1, tt)
-spelling_has (insn.Jump w c dst (Reg src) offset) h = (slot_has (form.JumpReg w c) dst src offset (pos 0) h.0 h.1 h.2 no_imm, tt)
-spelling_has (insn.Call k imm) h = (slot_has form.Call 0 (callee_src k) (pos 0) imm (omega arith) (callee_src-le k) no_offset h, tt)
+spelling_has (insn.Jump w c dst (Imm imm) offset) h =
+    (slot_has (form.JumpImm w c) dst 0 offset imm h.0 (omega arith) h.2 h.1, tt)
+spelling_has (insn.Jump w c dst (Reg src) offset) h =
+    (slot_has (form.JumpReg w c) dst src offset (pos 0) h.0 h.1 h.2 no_imm, tt)
+spelling_has (insn.Call k imm) h = (
+  slot_has form.Call 0 (callee_src k) (pos 0) imm (omega arith) (callee_src-le k)
+      no_offset h,
+  tt,
+)
 spelling_has insn.Exit h = (slot_has form.Exit 0 0 (pos 0) (pos 0) (omega arith) (omega arith) no_offset no_imm, tt)
 spelling_has (insn.Load z dst src offset) h = (slot_has (form.Load z) dst src offset (pos 0) h.0 h.1 h.2 no_imm, tt)
-spelling_has (insn.LoadSx size.B dst src offset) h = (slot_has (form.LoadSx size.B) dst src offset (pos 0) h.0 h.1 h.2 no_imm, tt)
-spelling_has (insn.LoadSx size.H dst src offset) h = (slot_has (form.LoadSx size.H) dst src offset (pos 0) h.0 h.1 h.2 no_imm, tt)
-spelling_has (insn.LoadSx size.W dst src offset) h = (slot_has (form.LoadSx size.W) dst src offset (pos 0) h.0 h.1 h.2 no_imm, tt)
+spelling_has (insn.LoadSx size.B dst src offset) h =
+    (slot_has (form.LoadSx size.B) dst src offset (pos 0) h.0 h.1 h.2 no_imm, tt)
+spelling_has (insn.LoadSx size.H dst src offset) h =
+    (slot_has (form.LoadSx size.H) dst src offset (pos 0) h.0 h.1 h.2 no_imm, tt)
+spelling_has (insn.LoadSx size.W dst src offset) h =
+    (slot_has (form.LoadSx size.W) dst src offset (pos 0) h.0 h.1 h.2 no_imm, tt)
 spelling_has (insn.LoadSx size.Dw dst src offset) h = tt
-spelling_has (insn.StoreImm z dst offset imm) h = (slot_has (form.StoreImm z) dst 0 offset imm h.0 (omega arith) h.1 h.2, tt)
+spelling_has (insn.StoreImm z dst offset imm) h =
+    (slot_has (form.StoreImm z) dst 0 offset imm h.0 (omega arith) h.1 h.2, tt)
 spelling_has (insn.Store z dst src offset) h = (slot_has (form.Store z) dst src offset (pos 0) h.0 h.1 h.2 no_imm, tt)
-spelling_has (insn.Atomic w o dst src offset) h = (slot_has (form.Atomic w) dst src offset (atomic_imm o) h.0 h.1 h.2 (atomic_fits o), tt)
+spelling_has (insn.Atomic w o dst src offset) h =
+    (slot_has (form.Atomic w) dst src offset (atomic_imm o) h.0 h.1 h.2 (atomic_fits o), tt)
 spelling_has (insn.LoadImm kind dst imm next) h = two_have kind (has_next kind) dst imm next h.0 h.1 h.2

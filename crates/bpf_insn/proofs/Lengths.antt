@@ -49,10 +49,12 @@ spelling_takes (insn.Store s dst src offset) = refl
 spelling_takes (insn.Atomic w o dst src offset) = refl
 spelling_takes (insn.LoadImm kind dst imm next) = two_take kind (has_next kind) dst imm next
 
-bytes_take : (n k : ℕ) (r : Result (List Slot) CodecFault) (bytes : List ℕ) → TakeSlots k r → bytes_at n r ≡ Ok bytes → length bytes ≡ 8 * k
+bytes_take : (n k : ℕ) (r : Result (List Slot) CodecFault) (bytes : List ℕ) → TakeSlots k r → bytes_at n r ≡ Ok bytes
+    → length bytes ≡ 8 * k
 bytes_take n k (Ok ss) bytes h e = let same : slots_bytes ss ≡ bytes = cc in ap length (sym same) ∙ h
 bytes_take n k (Err f) bytes h e = absurd cc
 
 -- the bytes of an instruction are 8 a slot
-pub spelled_len : (n : ℕ) (i : Insn) (bytes : List ℕ) → bytes_at n (spelling i) ≡ Ok bytes → length bytes ≡ 8 * slots_of i
+pub spelled_len : (n : ℕ) (i : Insn) (bytes : List ℕ) → bytes_at n (spelling i) ≡ Ok bytes
+    → length bytes ≡ 8 * slots_of i
 spelled_len n i bytes e = bytes_take n (slots_of i) (spelling i) bytes (spelling_takes i) e

@@ -96,11 +96,13 @@ uses_imm _ = false
 -- each field that the form doesn't use is zero
 abbrev pub unused_are_zero : Form → Slot → Bool
 unused_are_zero f s =
-    (uses_dst f || s.dst == 0) && (uses_src f || s.src == 0) && (uses_offset f || is s.offset 0) && (uses_imm f || is s.imm 0)
+    (uses_dst f || s.dst == 0) && (uses_src f || s.src == 0) && (uses_offset f || is s.offset 0)
+    && (uses_imm f || is s.imm 0)
 
 -- plain at offset 0, signed at offset 1
 abbrev pub signed_op_at : ℤ → AluOp → AluOp → Result AluOp CodecFault
-signed_op_at offset plain signed = if is offset 0 then Ok plain else if is offset 1 then Ok signed else Err faults.Offset
+signed_op_at offset plain signed = if is offset 0 then Ok plain else if is offset 1 then Ok signed
+    else Err faults.Offset
 
 -- the operation of a code and an offset (RFC 9669, section 4.1)
 abbrev pub alu_op_at : AluCode → ℤ → Result AluOp CodecFault
@@ -229,7 +231,8 @@ front_slot bytes = if nat_lt (length bytes) 8 then None else Some (slot_at bytes
 
 -- the instruction at the front of bytes
 unfoldable pub first_insn : List ℕ → Result Insn CodecFault
-first_insn bytes = if nat_lt (length bytes) 8 then Err faults.Incomplete else insn_of_slot (slot_at bytes) (front_slot (drop 8 bytes))
+first_insn bytes = if nat_lt (length bytes) 8 then Err faults.Incomplete
+    else insn_of_slot (slot_at bytes) (front_slot (drop 8 bytes))
 
 -- the refusal of the instruction at the front of bytes, at this slot
 abbrev pub FailsFirst : List ℕ → ℕ → CodecError → Type 0
@@ -262,7 +265,8 @@ abbrev pub end_of_bytes : ℕ → ℕ → Result (List Insn) CodecError
 end_of_bytes zero n = Ok []
 end_of_bytes (suc left) n = Err (Refused faults.Incomplete n)
 
--- the instructions in slots from slot n on, of which the first may be taken by the instruction before, with some bytes left after
+-- the instructions in slots from slot n on, of which the first may be taken by the instruction before, with some bytes
+-- left after
 unfoldable pub insns_in : ℕ → List Slot → ℕ → ℕ → Result (List Insn) CodecError
 insns_in left [] taken n = end_of_bytes left n
 insns_in left (s ∷ ss) (suc taken) n = insns_in left ss taken (n + 1)

@@ -12,7 +12,8 @@ slot f dst src offset imm = record { opcode = opcode f; dst = dst; src = src; of
 -- opcode; dst in the low and src in the high half of a byte; offset and imm in little endian (RFC 9669, section 3)
 abbrev pub slot_bytes : Slot → List ℕ
 slot_bytes s =
-    s.opcode ∷ (s.dst + 16 * s.src) ∷ (to_le_bytes w16 (cast_unsigned w16 s.offset) ++ to_le_bytes w32 (cast_unsigned w32 s.imm))
+    s.opcode ∷ (s.dst + 16 * s.src) ∷ (to_le_bytes w16 (cast_unsigned w16 s.offset)
+    ++ to_le_bytes w32 (cast_unsigned w32 s.imm))
 
 -- both register fields fit the halves of a byte
 pub record SlotFits (s : Slot) : Type 0 where
@@ -31,7 +32,8 @@ slot_at bytes = record {
   dst = slice_index bytes 1 % 16;
   src = slice_index bytes 1 / 16;
   offset = cast_signed w16 (from_le_bytes w16 (slice_index bytes 2 ∷ slice_index bytes 3 ∷ []));
-  imm = cast_signed w32 (from_le_bytes w32 (slice_index bytes 4 ∷ slice_index bytes 5 ∷ slice_index bytes 6 ∷ slice_index bytes 7 ∷ []));
+  imm = cast_signed w32 (from_le_bytes w32 (slice_index bytes 4 ∷ slice_index bytes 5 ∷ slice_index bytes 6
+      ∷ slice_index bytes 7 ∷ []));
 }
 
 -- each number is one of a byte

@@ -178,7 +178,8 @@ spelling_from n (i ∷ is) = both_or_refusal (bytes_at n (spelling i)) (spelling
 abbrev pub program_spelling : List Insn → Result (List ℕ) CodecError
 program_spelling insns = spelling_from 0 insns
 
--- what writing an instruction after the bytes of whole slots leaves: its bytes at the end, or the refusal at the next slot
+-- what writing an instruction after the bytes of whole slots leaves: its bytes at the end, or the refusal at the next
+-- slot
 abbrev pub Appends : List ℕ → List ℕ → Insn → Result (Unit {0}) CodecError → Type 0
 Appends old new i (Ok u) = (bytes : List ℕ) × (bytes_at (length old / 8) (spelling i) ≡ Ok bytes) × (new ≡ old ++ bytes)
 Appends old new i (Err Memory) = Unit {0}

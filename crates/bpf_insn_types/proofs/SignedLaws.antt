@@ -69,7 +69,8 @@ kept-wide width a x h e =
     ap (λ v. cast_signed w64 (cast_unsigned w64 v)) e ∙ to_z-of_z w64 (signed width a) (signed-fits width a h)
 
 -- what is low in the word of q, which has the bits of z
-low-of_word : (width : Width) (z q : ℤ) (u r : ℕ) → unsigned_abs z ≤ half width → cast_unsigned w64 q ≡ cast_unsigned w64 z →
+low-of_word : (width : Width) (z q : ℤ) (u r : ℕ) → unsigned_abs z ≤ half width → cast_unsigned w64 q ≡ cast_unsigned
+    w64 z →
     u ≡ cast_unsigned w64 (cast_signed w64 (cast_unsigned w64 q)) → r ≡ u % modulus width →
     r ≡ cast_unsigned (integers width) z
 low-of_word width z q u r small same word low =

@@ -6,7 +6,8 @@ use Rattle.bpf_insn_types.specs.Program.{Program, slot_count}
 
 -- sizes within the limits: 1 to 16 maps, each of at least 1 element, and at most 65,536 elements over all
 abbrev pub sizes_fit : List ℕ → Bool
-sizes_fit sizes = nat_le 1 (length sizes) && (nat_le (length sizes) 16 && (list_all (nat_le 1) sizes && nat_le (sum sizes) 65536))
+sizes_fit sizes = nat_le 1 (length sizes)
+    && (nat_le (length sizes) 16 && (list_all (nat_le 1) sizes && nat_le (sum sizes) 65536))
 
 -- the same as a fact
 abbrev pub AreSizes : List ℕ → Type 0

@@ -3,8 +3,8 @@
 ghost use Rattle.std.specs.Prelude.{◌≡◌, ◌<◌};
 ghost use Rattle.bpf_insn_types.specs.Words.{modulus, quotient, remainder, signed_quotient, signed_remainder, arithmetic_shift, computed, alu, negated, shift};
 
-use crate::widths::{greatest, low_part, shift_amount, signed_value};
 use crate::insn::{AluOp, Width};
+use crate::widths::{greatest, low_part, shift_amount, signed_value};
 
 /// What a register has after an operation on two words: at 32 bits the lower halves count, and the
 /// upper half of the result is cleared (RFC 9669, section 4.1).

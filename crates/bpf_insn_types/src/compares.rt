@@ -3,8 +3,8 @@
 ghost use Rattle.std.specs.Prelude.{◌≡◌, ◌<◌};
 ghost use Rattle.bpf_insn_types.specs.Words.{modulus, compared, holds};
 
-use crate::widths::{low_part, signed_value};
 use crate::insn::{Compare, Width};
+use crate::widths::{low_part, signed_value};
 
 /// Whether the test of a conditional jump holds for two words: at 32 bits for their lower halves
 /// (RFC 9669, section 4.3).

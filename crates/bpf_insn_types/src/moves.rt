@@ -3,8 +3,8 @@
 ghost use Rattle.std.specs.Prelude.{◌≡◌, ◌+◌};
 ghost use Rattle.bpf_insn_types.specs.Words.{moved_signed, low_modulus};
 
-use crate::widths::greatest;
 use crate::insn::{MovsxBits, Width};
+use crate::widths::greatest;
 
 /// The low 8, 16 or 32 bits of a word, sign-extended to the width; at 32 bits the upper half is
 /// cleared (RFC 9669, section 4.1, MOVSX).

@@ -28,7 +28,8 @@ unfolding half_of with_half
 replaced Low word n = omega arith
 replaced High word n = omega arith
 
-stays : (half : Half) (word n : ℕ) → word < 2 ^ 64 → half_of (other half) (with_half half word n) ≡ half_of (other half) word
+stays : (half : Half) (word n : ℕ) → word < 2 ^ 64 → half_of (other half) (with_half half word n) ≡ half_of (other half)
+    word
 unfolding half_of with_half
 stays Low word n fits = omega arith
 stays High word n fits = omega arith
@@ -77,20 +78,27 @@ idle-fits simple.Xor = omega arith
 
 -- what a reduce of a half is, by its operator on words
 reduced : (op : SimpleOp) (half : Half) (word n : ℕ) → word < 2 ^ 64 →
-    half_of half (combined (half_operator op) word (with_half half (idle_operand op) n)) ≡ alu W32 (operator op) (half_of half word) n
+    half_of half (combined (half_operator op) word (with_half half (idle_operand op) n)) ≡ alu W32 (operator op)
+    (half_of half word) n
 unfolding combined
 reduced simple.Add half word n fits =
     half_of-added half word (with_half half 0 n) ∙ ap (λ k. (half_of half word + k) % 2 ^ 32) (replaced half 0 n)
     ∙ sym (alu-half AluOp.Add (half_of half word) n (half_of-fits half word fits))
 reduced simple.Or half word n fits =
-    ap (half_of half) (alu-words AluOp.Or word (with_half half 0 n) fits (with_half-fits half 0 n)) ∙ half_of-or half word (with_half half 0 n)
-    ∙ ap (bit_or (half_of half word)) (replaced half 0 n) ∙ sym (alu-half AluOp.Or (half_of half word) n (half_of-fits half word fits))
+    ap (half_of half) (alu-words AluOp.Or word (with_half half 0 n) fits (with_half-fits half 0 n))
+    ∙ half_of-or half word (with_half half 0 n)
+    ∙ ap (bit_or (half_of half word)) (replaced half 0 n)
+    ∙ sym (alu-half AluOp.Or (half_of half word) n (half_of-fits half word fits))
 reduced simple.And half word n fits =
-    ap (half_of half) (alu-words AluOp.And word (with_half half (2 ^ 64 - 1) n) fits (with_half-fits half (2 ^ 64 - 1) n)) ∙ half_of-and half word (with_half half (2 ^ 64 - 1) n)
-    ∙ ap (bit_and (half_of half word)) (replaced half (2 ^ 64 - 1) n) ∙ sym (alu-half AluOp.And (half_of half word) n (half_of-fits half word fits))
+    ap (half_of half) (alu-words AluOp.And word (with_half half (2 ^ 64 - 1) n) fits (with_half-fits half (2 ^ 64 - 1)
+    n)) ∙ half_of-and half word (with_half half (2 ^ 64 - 1) n)
+    ∙ ap (bit_and (half_of half word)) (replaced half (2 ^ 64 - 1) n)
+    ∙ sym (alu-half AluOp.And (half_of half word) n (half_of-fits half word fits))
 reduced simple.Xor half word n fits =
-    ap (half_of half) (alu-words AluOp.Xor word (with_half half 0 n) fits (with_half-fits half 0 n)) ∙ half_of-xor half word (with_half half 0 n)
-    ∙ ap (bit_xor (half_of half word)) (replaced half 0 n) ∙ sym (alu-half AluOp.Xor (half_of half word) n (half_of-fits half word fits))
+    ap (half_of half) (alu-words AluOp.Xor word (with_half half 0 n) fits (with_half-fits half 0 n))
+    ∙ half_of-xor half word (with_half half 0 n)
+    ∙ ap (bit_xor (half_of half word)) (replaced half 0 n)
+    ∙ sym (alu-half AluOp.Xor (half_of half word) n (half_of-fits half word fits))
 
 -- halves of the operands that change nothing
 zero_half : (half : Half) → half_of half 0 ≡ 0
@@ -105,7 +113,8 @@ full_half High = refl
 
 -- what it leaves of the other half
 unreduced : (op : SimpleOp) (half : Half) (word n : ℕ) → word < 2 ^ 64 →
-    half_of (other half) (combined (half_operator op) word (with_half half (idle_operand op) n)) ≡ half_of (other half) word
+    half_of (other half) (combined (half_operator op) word (with_half half (idle_operand op) n)) ≡ half_of (other half)
+    word
 unfolding combined
 unreduced simple.Add half word n fits =
     let h = half_of (other half) word in
@@ -114,18 +123,23 @@ unreduced simple.Add half word n fits =
     half_of-added (other half) word (with_half half 0 n)
     ∙ ap (λ k. (h + k) % 2 ^ 32) (stays half 0 n (idle-fits simple.Add) ∙ zero_half (other half)) ∙ low
 unreduced simple.Or half word n fits =
-    ap (half_of (other half)) (alu-words AluOp.Or word (with_half half 0 n) fits (with_half-fits half 0 n)) ∙ half_of-or (other half) word (with_half half 0 n)
-    ∙ ap (bit_or (half_of (other half) word)) (stays half 0 n (idle-fits simple.Or) ∙ zero_half (other half)) ∙ or_zero_r (half_of (other half) word)
+    ap (half_of (other half)) (alu-words AluOp.Or word (with_half half 0 n) fits (with_half-fits half 0 n))
+    ∙ half_of-or (other half) word (with_half half 0 n)
+    ∙ ap (bit_or (half_of (other half) word)) (stays half 0 n (idle-fits simple.Or) ∙ zero_half (other half))
+    ∙ or_zero_r (half_of (other half) word)
 unreduced simple.And half word n fits =
     let h = half_of (other half) word in
     let small = half_of-fits (other half) word fits in
     let low : h % 2 ^ 32 ≡ h = omega (arith, small) in
-    ap (half_of (other half)) (alu-words AluOp.And word (with_half half (2 ^ 64 - 1) n) fits (with_half-fits half (2 ^ 64 - 1) n))
+    ap (half_of (other half)) (alu-words AluOp.And word (with_half half (2 ^ 64 - 1) n) fits
+    (with_half-fits half (2 ^ 64 - 1) n))
     ∙ half_of-and (other half) word (with_half half (2 ^ 64 - 1) n)
     ∙ ap (bit_and h) (stays half (2 ^ 64 - 1) n (idle-fits simple.And) ∙ full_half (other half)) ∙ and_mask h 32 ∙ low
 unreduced simple.Xor half word n fits =
-    ap (half_of (other half)) (alu-words AluOp.Xor word (with_half half 0 n) fits (with_half-fits half 0 n)) ∙ half_of-xor (other half) word (with_half half 0 n)
-    ∙ ap (bit_xor (half_of (other half) word)) (stays half 0 n (idle-fits simple.Xor) ∙ zero_half (other half)) ∙ xor_zero_r (half_of (other half) word)
+    ap (half_of (other half)) (alu-words AluOp.Xor word (with_half half 0 n) fits (with_half-fits half 0 n))
+    ∙ half_of-xor (other half) word (with_half half 0 n)
+    ∙ ap (bit_xor (half_of (other half) word)) (stays half 0 n (idle-fits simple.Xor) ∙ zero_half (other half))
+    ∙ xor_zero_r (half_of (other half) word)
 
 -- an operator on whole words, and on the numbers of halves
 whole_same : (op : SimpleOp) (word n : ℕ) → combined (map_operator op) word n ≡ alu W64 (operator op) word n
@@ -135,24 +149,28 @@ whole_same simple.Or word n = refl
 whole_same simple.And word n = refl
 whole_same simple.Xor word n = refl
 
-numbers_same : (op : SimpleOp) (h n : ℕ) → h < 2 ^ 32 → alu W64 (operator op) h (n % 2 ^ 32) % 2 ^ 32 ≡ alu W32 (operator op) h n
+numbers_same : (op : SimpleOp) (h n : ℕ) → h < 2 ^ 32 → alu W64 (operator op) h (n % 2 ^ 32) % 2 ^ 32
+    ≡ alu W32 (operator op) h n
 unfolding alu
 numbers_same simple.Add h n fits = omega arith
 numbers_same simple.Or h n fits =
     let first : h % 2 ^ 64 ≡ h = omega arith in
     let second : n % 2 ^ 32 % 2 ^ 64 ≡ n % 2 ^ 32 = omega arith in
     let again : n % 2 ^ 32 % 2 ^ 32 ≡ n % 2 ^ 32 = omega arith in
-    ap (λ a. bit_or a (n % 2 ^ 32 % 2 ^ 64) % 2 ^ 32) first ∙ ap (λ b. bit_or h b % 2 ^ 32) second ∙ or_mod h (n % 2 ^ 32) 32 ∙ ap (bit_or (h % 2 ^ 32)) again
+    ap (λ a. bit_or a (n % 2 ^ 32 % 2 ^ 64) % 2 ^ 32) first ∙ ap (λ b. bit_or h b % 2 ^ 32) second
+    ∙ or_mod h (n % 2 ^ 32) 32 ∙ ap (bit_or (h % 2 ^ 32)) again
 numbers_same simple.And h n fits =
     let first : h % 2 ^ 64 ≡ h = omega arith in
     let second : n % 2 ^ 32 % 2 ^ 64 ≡ n % 2 ^ 32 = omega arith in
     let again : n % 2 ^ 32 % 2 ^ 32 ≡ n % 2 ^ 32 = omega arith in
-    ap (λ a. bit_and a (n % 2 ^ 32 % 2 ^ 64) % 2 ^ 32) first ∙ ap (λ b. bit_and h b % 2 ^ 32) second ∙ and_mod h (n % 2 ^ 32) 32 ∙ ap (bit_and (h % 2 ^ 32)) again
+    ap (λ a. bit_and a (n % 2 ^ 32 % 2 ^ 64) % 2 ^ 32) first ∙ ap (λ b. bit_and h b % 2 ^ 32) second
+    ∙ and_mod h (n % 2 ^ 32) 32 ∙ ap (bit_and (h % 2 ^ 32)) again
 numbers_same simple.Xor h n fits =
     let first : h % 2 ^ 64 ≡ h = omega arith in
     let second : n % 2 ^ 32 % 2 ^ 64 ≡ n % 2 ^ 32 = omega arith in
     let again : n % 2 ^ 32 % 2 ^ 32 ≡ n % 2 ^ 32 = omega arith in
-    ap (λ a. bit_xor a (n % 2 ^ 32 % 2 ^ 64) % 2 ^ 32) first ∙ ap (λ b. bit_xor h b % 2 ^ 32) second ∙ xor_mod h (n % 2 ^ 32) 32 ∙ ap (bit_xor (h % 2 ^ 32)) again
+    ap (λ a. bit_xor a (n % 2 ^ 32 % 2 ^ 64) % 2 ^ 32) first ∙ ap (λ b. bit_xor h b % 2 ^ 32) second
+    ∙ xor_mod h (n % 2 ^ 32) 32 ∙ ap (bit_xor (h % 2 ^ 32)) again
 
 -- a move
 moved_whole : (word n : ℕ) → n < 2 ^ 64 → n ≡ alu W64 AluOp.Mov word n
@@ -168,44 +186,57 @@ unfolding half_of
 low_half n = refl
 
 -- what is left of a half by a change that tells
-exchanged_half : (half : Half) (word left left' : ℕ) → left ≡ left' → half_of half (with_half half word left) ≡ left' % 2 ^ 32
+exchanged_half : (half : Half) (word left left' : ℕ) → left ≡ left' → half_of half (with_half half word left)
+    ≡ left' % 2 ^ 32
 exchanged_half half word left left' same = replaced half word left ∙ ap (λ n. n % 2 ^ 32) same
 
-compared_half : (equal : Bool) (h n : ℕ) → h < 2 ^ 32 → (if equal then n % 2 ^ 32 else h) % 2 ^ 32 ≡ (if equal then alu W32 AluOp.Mov h n else h)
+compared_half : (equal : Bool) (h n : ℕ) → h < 2 ^ 32 → (if equal then n % 2 ^ 32 else h) % 2 ^ 32 ≡ (if equal
+    then alu W32 AluOp.Mov h n else h)
 compared_half true h n fits = moved_half h n
 compared_half false h n fits = omega arith
 
-compared_whole : (equal : Bool) (word n : ℕ) → n < 2 ^ 64 → (if equal then n else word) ≡ (if equal then alu W64 AluOp.Mov word n else word)
+compared_whole : (equal : Bool) (word n : ℕ) → n < 2 ^ 64 → (if equal then n else word) ≡ (if equal
+    then alu W64 AluOp.Mov word n else word)
 compared_whole true word n fits = moved_whole word n fits
 compared_whole false word n fits = refl
 
-pub left_same : (part : Part) (op : AtomicOp) (src word operand compare : ℕ) → word < 2 ^ 64 → operand < 2 ^ 64 → compare < 2 ^ 64 →
-    part_of part (element_left part op src word operand compare) ≡ atomic_left (width_of part) op (part_of part word) operand compare
+pub left_same : (part : Part) (op : AtomicOp) (src word operand compare : ℕ) → word < 2 ^ 64 → operand < 2 ^ 64
+    → compare < 2 ^ 64 →
+    part_of part (element_left part op src word operand compare) ≡ atomic_left (width_of part) op (part_of part word)
+    operand compare
 left_same Whole (Simple op) src word operand compare fits first second = whole_same op word operand
 left_same Whole (Fetch op) src word operand compare fits first second = whole_same op word operand
 left_same Whole Xchg src word operand compare fits first second = moved_whole word operand first
 left_same Whole Cmpxchg src word operand compare fits first second =
     let low : compare ≡ compare % 2 ^ 64 = omega arith in
-    compared_whole (word == compare) word operand first ∙ ap (λ n. if word == n then alu W64 AluOp.Mov word operand else word) low
+    compared_whole (word == compare) word operand first ∙ ap (λ n. if word == n then alu W64 AluOp.Mov word operand
+    else word) low
 left_same (Of half) (Simple op) src word operand compare fits first second = reduced op half word operand fits
 left_same (Of half) (Fetch op) src word operand compare fits first second =
-    exchanged_half half word (combined (map_operator op) (half_of half word) (half_of Low operand)) (alu W64 (operator op) (half_of half word) (operand % 2 ^ 32))
-    (whole_same op (half_of half word) (half_of Low operand) ∙ ap (alu W64 (operator op) (half_of half word)) (low_half operand))
+    exchanged_half half word (combined (map_operator op) (half_of half word) (half_of Low operand))
+    (alu W64 (operator op) (half_of half word) (operand % 2 ^ 32))
+    (whole_same op (half_of half word) (half_of Low operand) ∙ ap (alu W64 (operator op) (half_of half word))
+    (low_half operand))
     ∙ numbers_same op (half_of half word) operand (half_of-fits half word fits)
 left_same (Of half) Xchg src word operand compare fits first second =
-    exchanged_half half word (half_of Low operand) (operand % 2 ^ 32) (low_half operand) ∙ moved_half (half_of half word) operand
+    exchanged_half half word (half_of Low operand) (operand % 2 ^ 32) (low_half operand)
+    ∙ moved_half (half_of half word) operand
 left_same (Of half) Cmpxchg src word operand compare fits first second =
     let h = half_of half word in
-    exchanged_half half word (if h == half_of Low compare then half_of Low operand else h) (if h == compare % 2 ^ 32 then operand % 2 ^ 32 else h)
-    (ap (λ n. if h == n then half_of Low operand else h) (low_half compare) ∙ ap (λ n. if h == compare % 2 ^ 32 then n else h) (low_half operand))
+    exchanged_half half word (if h == half_of Low compare then half_of Low operand else h) (if h == compare % 2 ^ 32
+    then operand % 2 ^ 32 else h)
+    (ap (λ n. if h == n then half_of Low operand else h) (low_half compare) ∙ ap (λ n. if h == compare % 2 ^ 32 then n
+    else h) (low_half operand))
     ∙ compared_half (h == compare % 2 ^ 32) h operand (half_of-fits half word fits)
 
 pub kept_other : (half : Half) (op : AtomicOp) (src word operand compare : ℕ) → word < 2 ^ 64 →
     half_of (other half) (element_left (Of half) op src word operand compare) ≡ half_of (other half) word
 kept_other half (Simple op) src word operand compare fits = unreduced op half word operand fits
-kept_other half (Fetch op) src word operand compare fits = stays half word (combined (map_operator op) (half_of half word) (half_of Low operand)) fits
+kept_other half (Fetch op) src word operand compare fits =
+    stays half word (combined (map_operator op) (half_of half word) (half_of Low operand)) fits
 kept_other half Xchg src word operand compare fits = stays half word (half_of Low operand) fits
-kept_other half Cmpxchg src word operand compare fits = stays half word (if half_of half word == half_of Low compare then half_of Low operand else half_of half word) fits
+kept_other half Cmpxchg src word operand compare fits = stays half word (if half_of half word == half_of Low compare
+    then half_of Low operand else half_of half word) fits
 
 pub told_same : (part : Part) (op : AtomicOp) (src word operand compare : ℕ) (m : Machine) →
     after_request (request_of part op src operand compare) word m ≡ tells op src (part_of part word) m

@@ -30,8 +30,10 @@ element_left part op src word operand compare = left_by (action_of (request_of p
 -- of words it leaves in the part what it leaves of such a number of a frame, and the other half as it was; and it tells
 -- the same register the same number
 pub record AtomicsAgree : Type 0 where
-  pub left : (part : Part) (op : AtomicOp) (src word operand compare : ℕ) → word < 2 ^ 64 → operand < 2 ^ 64 → compare < 2 ^ 64 →
-      part_of part (element_left part op src word operand compare) ≡ atomic_left (width_of part) op (part_of part word) operand compare
+  pub left : (part : Part) (op : AtomicOp) (src word operand compare : ℕ) → word < 2 ^ 64 → operand < 2 ^ 64
+      → compare < 2 ^ 64 →
+      part_of part (element_left part op src word operand compare) ≡ atomic_left (width_of part) op (part_of part word)
+      operand compare
   pub kept : (half : Half) (op : AtomicOp) (src word operand compare : ℕ) → word < 2 ^ 64 →
       half_of (other half) (element_left (Of half) op src word operand compare) ≡ half_of (other half) word
   pub tells_same : (part : Part) (op : AtomicOp) (src word operand compare : ℕ) (m : Machine) →

@@ -13,7 +13,8 @@ Extends short long = (short ≡ Unfinished) ⊎ (long ≡ short)
 
 -- with a greater bound what ended ends the same way, and what was stuck is stuck
 pub record GreaterBoundAgrees : Type 0 where
-  pub runs : (program : Program) (low high : ℕ) → low ≤ high → (m : Machine) (words : List ℕ) → Extends (run program low m words) (run program high m words)
+  pub runs : (program : Program) (low high : ℕ) → low ≤ high → (m : Machine) (words : List ℕ)
+      → Extends (run program low m words) (run program high m words)
   pub iterations : (program : Program) (low high : ℕ) → low ≤ high → (call : LoopCall) (index : ℕ) (words : List ℕ) →
       Extends (iteration program low call index words) (iteration program high call index words)
   pub loops : (program : Program) (low high : ℕ) → low ≤ high → (call : LoopCall) (words : List ℕ) →

@@ -67,7 +67,12 @@ over_two insns = record { sizes = 2 ∷ []; insns = insns }
 -- from these two elements the lines return this and leave those
 abbrev pub LinesGive : List Insn → (first second ret first' second' : ℕ) → Type 0
 LinesGive insns first second ret first' second' =
-    program_in_order (over_two insns) 20 0 (first ∷ second ∷ []) ≡ Ended (record { ret = ret; loops = []; words = first' ∷ second' ∷ [] })
+    program_in_order (over_two insns) 20 0 (first ∷ second ∷ []) ≡ Ended (record {
+      ret = ret;
+      loops = [];
+      words = first'
+          ∷ second' ∷ [];
+    })
 
 -- the lines return this, and touch no map
 abbrev pub Returns : List Insn → ℕ → Type 0

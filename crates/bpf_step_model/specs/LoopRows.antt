@@ -88,7 +88,11 @@ LoopComputes sizes n callback before answer after =
 abbrev pub CallIsRefused : (n flags : ℕ) → ℤ → ℕ → Type 0
 CallIsRefused n flags answer ret =
     program_in_order (record { sizes = 1 ∷ []; insns = loop_with n flags end }) 20 0 (0 ∷ [])
-    ≡ Ended (record { ret = ret; loops = record { slot = 5; answer = answer; words = 0 ∷ []; call = None } ∷ []; words = 0 ∷ [] })
+    ≡ Ended (record {
+      ret = ret;
+      loops = record { slot = 5; answer = answer; words = 0 ∷ []; call = None } ∷ [];
+      words = 0 ∷ [];
+    })
 
 -- loops of one call
 pub record OneLoopRows : Type 0 where
@@ -113,11 +117,23 @@ pub record RefusedCallRows : Type 0 where
 -- a valid call of main, where the words stood so
 abbrev pub made : (slot callback n : ℕ) → Option ℕ → Bytes → List ℕ → LoopMade
 made slot callback n ctx frame words =
-    record { slot = slot; answer = pos n; words = words; call = Some (record { slot = slot; callback = callback; n = n; ctx = ctx; frame = frame }) }
+    record {
+      slot = slot;
+      answer = pos n;
+      words = words;
+      call = Some (record {
+        slot = slot;
+        callback = callback;
+        n = n;
+        ctx = ctx;
+        frame = frame;
+      });
+    }
 
 -- calls whose first or fourth argument is a number of more than 32 bits, at slot 6, or whose third is 1
 abbrev pub arguments : Insn → Insn → Insn → ℤ → List Insn
-arguments count ctx flags distance = count ∷ LoadImm Code 2 distance (pos 0) ∷ ctx ∷ flags ∷ Call Helper (pos 181) ∷ Exit ∷ add_index
+arguments count ctx flags distance = count ∷ LoadImm Code 2 distance (pos 0) ∷ ctx ∷ flags ∷ Call Helper (pos 181)
+    ∷ Exit ∷ add_index
 
 abbrev pub wide_number : ℕ → (low high : ℕ) → Insn
 wide_number r low high = LoadImm Number r (pos low) (pos high)
@@ -131,15 +147,23 @@ pub record ArgumentRows : Type 0 where
   pub count_modulo : Finishes (arguments (wide_number 1 4 1) (mov 3 0) (mov 4 0) (pos 5))
       (record { ret = 4; loops = made 6 8 4 None fresh_frame (0 ∷ []) ∷ []; words = 6 ∷ [] })
   pub wide_flags : Finishes (arguments (mov 1 4) (mov 3 0) (wide_number 4 0 1) (pos 6))
-      (record { ret = 18446744073709551594; loops = record { slot = 6; answer = negsuc 21; words = 0 ∷ []; call = None } ∷ []; words = 0 ∷ [] })
-  pub ctx_of_one : program_in_order (record { sizes = 1 ∷ []; insns = arguments (mov 1 4) (mov 3 1) (mov 4 0) (pos 5) }) 20 0 (0 ∷ []) ≡ Stuck
+      (record {
+        ret = 18446744073709551594;
+        loops = record { slot = 6; answer = negsuc 21; words = 0 ∷ []; call = None }
+            ∷ [];
+        words = 0 ∷ [];
+      })
+  pub ctx_of_one : program_in_order (record { sizes = 1 ∷ []; insns = arguments (mov 1 4) (mov 3 1) (mov 4 0) (pos 5) })
+      20 0 (0 ∷ []) ≡ Stuck
 
 -- main stores 5 on its frame, and each iteration adds that through ctx
 abbrev pub through_ctx : Program
 through_ctx = record {
   sizes = 1 ∷ [];
-  insns = StoreImm Dw 10 (negsuc 7) (pos 5) ∷ mov 1 4 ∷ LoadImm Code 2 (pos 6) (pos 0) ∷ alu_reg Mov 3 10 ∷ Alu W64 Add 3 (Imm (negsuc 7))
-      ∷ mov 4 0 ∷ Call Helper (pos 181) ∷ Exit ∷ Load Dw 4 2 (pos 0) ∷ map_value 3 0 0 ∷ Atomic W64 (Simple AddOp) 3 4 (pos 0) ∷ end;
+  insns = StoreImm Dw 10 (negsuc 7) (pos 5) ∷ mov 1 4 ∷ LoadImm Code 2 (pos 6) (pos 0) ∷ alu_reg Mov 3 10
+      ∷ Alu W64 Add 3 (Imm (negsuc 7))
+      ∷ mov 4 0 ∷ Call Helper (pos 181) ∷ Exit ∷ Load Dw 4 2 (pos 0) ∷ map_value 3 0 0 ∷ Atomic W64 (Simple AddOp) 3 4
+      (pos 0) ∷ end;
 }
 
 abbrev pub five_on_frame : Bytes
@@ -152,7 +176,8 @@ loop_lines distance = alu_reg Mov 1 6 ∷ LoadImm Code 2 distance (pos 0) ∷ mo
 abbrev pub two_loops : Program
 two_loops = record {
   sizes = 2 ∷ [];
-  insns = mov 6 3 ∷ (loop_lines (pos 11) ++ (loop_lines (pos 5) ++ (Exit ∷ map_value 3 0 8 ∷ Atomic W64 (Simple AddOp) 3 1 (pos 0) ∷ end)));
+  insns = mov 6 3 ∷ (loop_lines (pos 11)
+      ++ (loop_lines (pos 5) ++ (Exit ∷ map_value 3 0 8 ∷ Atomic W64 (Simple AddOp) 3 1 (pos 0) ∷ end)));
 }
 
 -- main's frame through ctx, and a second loop that starts from what the first left
@@ -160,7 +185,12 @@ pub record MainRows : Type 0 where
   pub ctx : program_in_order through_ctx 20 0 (0 ∷ [])
       ≡ Ended (record { ret = 4; loops = made 7 9 4 (Some 504) five_on_frame (0 ∷ []) ∷ []; words = 20 ∷ [] })
   pub twice : program_in_order two_loops 20 0 (0 ∷ 0 ∷ [])
-      ≡ Ended (record { ret = 3; loops = made 6 14 3 None fresh_frame (0 ∷ 0 ∷ []) ∷ made 12 14 3 None fresh_frame (0 ∷ 3 ∷ []) ∷ []; words = 0 ∷ 6 ∷ [] })
+      ≡ Ended (record {
+        ret = 3;
+        loops = made 6 14 3 None fresh_frame (0 ∷ 0 ∷ []) ∷ made 12 14 3 None fresh_frame
+            (0 ∷ 3 ∷ []) ∷ [];
+        words = 0 ∷ 6 ∷ [];
+      })
 
 -- all of them
 pub record LoopRows : Type 0 where

@@ -36,7 +36,8 @@ pub record ArithmeticRows : Type 0 where
   pub sdiv_truncates : Returns (minus_seven_and (alu_imm Sdiv 0 2)) 18446744073709551613
   pub smod_sign : Returns (minus_seven_and (alu_imm Smod 0 2)) 18446744073709551615
   pub lsh_masked : Returns (mov 0 1 ∷ alu_imm Lsh 0 65 ∷ Exit ∷ []) 2
-  pub argument : program_in_order (over_two (alu_reg Mov 0 1 ∷ Exit ∷ [])) 20 5 (0 ∷ 0 ∷ []) ≡ Ended (record { ret = 5; loops = []; words = 0 ∷ 0 ∷ [] })
+  pub argument : program_in_order (over_two (alu_reg Mov 0 1 ∷ Exit ∷ [])) 20 5 (0 ∷ 0 ∷ [])
+      ≡ Ended (record { ret = 5; loops = []; words = 0 ∷ 0 ∷ [] })
 
 -- negation, sign-extending moves, byte orders and a jump by 32 bits
 pub record OtherRows : Type 0 where
@@ -49,13 +50,15 @@ pub record OtherRows : Type 0 where
   pub swapped : Returns (mov 0 1 ∷ Endian Swap E64 0 ∷ Exit ∷ []) 72057594037927936
   pub long_jump : Returns (mov 0 1 ∷ Ja32 (pos 1) ∷ mov 0 2 ∷ Exit ∷ []) 1
   pub compared_registers : Returns (mov 2 9 ∷ mov 3 5 ∷ mov 0 1 ∷ Jump W64 Gt 2 (Reg 3) (pos 1) ∷ mov 0 2 ∷ Exit ∷ []) 1
-  pub compared_halves : Returns (LoadImm Number 2 (pos 5) (pos 1) ∷ mov 0 1 ∷ Jump W32 Eq 2 (Imm (pos 5)) (pos 1) ∷ mov 0 2 ∷ Exit ∷ []) 1
+  pub compared_halves : Returns (LoadImm Number 2 (pos 5) (pos 1) ∷ mov 0 1 ∷ Jump W32 Eq 2 (Imm (pos 5)) (pos 1)
+      ∷ mov 0 2 ∷ Exit ∷ []) 1
 
 -- four elements 10, 20, 30 and 40, looked up by a key on the frame
 abbrev pub lookup_of : ℕ → Program
 lookup_of key = record {
   sizes = 4 ∷ [];
-  insns = StoreImm W 10 (negsuc 3) (pos key) ∷ LoadImm Map 1 (pos 0) (pos 0) ∷ alu_reg Mov 2 10 ∷ Alu W64 Add 2 (Imm (negsuc 3))
+  insns = StoreImm W 10 (negsuc 3) (pos key) ∷ LoadImm Map 1 (pos 0) (pos 0) ∷ alu_reg Mov 2 10
+      ∷ Alu W64 Add 2 (Imm (negsuc 3))
       ∷ Call Helper (pos 1) ∷ Jump W64 Eq 0 (Imm (pos 0)) (pos 1) ∷ Load Dw 0 0 (pos 0) ∷ Exit ∷ [];
 }
 
@@ -66,8 +69,10 @@ four = 10 ∷ 20 ∷ 30 ∷ 40 ∷ []
 pub record MemoryRows : Type 0 where
   pub hit : program_in_order (lookup_of 3) 20 0 four ≡ Ended (record { ret = 40; loops = []; words = four })
   pub miss : program_in_order (lookup_of 4) 20 0 four ≡ Ended (record { ret = 0; loops = []; words = four })
-  pub unwritten_register : program_in_order (record { sizes = 1 ∷ []; insns = alu_reg Mov 0 2 ∷ Exit ∷ [] }) 10 0 (0 ∷ []) ≡ Stuck
-  pub unwritten_bytes : program_in_order (record { sizes = 1 ∷ []; insns = Load Dw 0 10 (negsuc 7) ∷ Exit ∷ [] }) 10 0 (0 ∷ []) ≡ Stuck
+  pub unwritten_register : program_in_order (record { sizes = 1 ∷ []; insns = alu_reg Mov 0 2 ∷ Exit ∷ [] }) 10 0
+      (0 ∷ []) ≡ Stuck
+  pub unwritten_bytes : program_in_order (record { sizes = 1 ∷ []; insns = Load Dw 0 10 (negsuc 7) ∷ Exit ∷ [] }) 10 0
+      (0 ∷ []) ≡ Stuck
 
 -- all of them
 pub record ProgramRows : Type 0 where

@@ -14,7 +14,8 @@ access_of element request word = record { element = element; action = action_of 
 abbrev pub GoesOn : StepOutcome → List ℕ → List Access → Machine → List ℕ → Type 0
 GoesOn (Next m) words accesses next after = (accesses ≡ []) × (next ≡ m) × (after ≡ words)
 GoesOn (Asks element request m) words accesses next after =
-    (word : ℕ) × (slice_get words element ≡ Some word) × (accesses ≡ access_of element request word ∷ []) × (next ≡ after_request request word m)
+    (word : ℕ) × (slice_get words element ≡ Some word) × (accesses ≡ access_of element request word ∷ [])
+    × (next ≡ after_request request word m)
     × (after ≡ words_after (access_of element request word) words)
 GoesOn NoStep words accesses next after = ⊥
 GoesOn (Loops call m) words accesses next after = ⊥
@@ -34,7 +35,8 @@ EndsBy slot (Asks element request next) turn = ⊥
 abbrev pub Steps : Program → ℕ → Machine → List ℕ → List Access → Machine → List ℕ → Type 0
 Steps program zero m words accesses last after = (accesses ≡ []) × (last ≡ m) × (after ≡ words)
 Steps program (suc count) m words accesses last after =
-    (next : Machine) × (between : List ℕ) × (first : List Access) × (rest : List Access) × GoesOn (step program m) words first next between
+    (next : Machine) × (between : List ℕ) × (first : List Access) × (rest : List Access)
+    × GoesOn (step program m) words first next between
     × Steps program count next between rest last after × (accesses ≡ first ++ rest)
 
 -- the states of a stretch: steps to a last state, whose instruction ends it; the length counts that instruction too

@@ -70,4 +70,5 @@ schedule_of (line ∷ lines) = do
 
 -- what an events text means
 abbrev pub events_text : List ℕ → Result (List ℕ × List Event) TextError
-events_text text = if nat_lt 1048576 (length text) then Err (errors.Refused faults.TooLong 0) else schedule_of (contents_of text)
+events_text text = if nat_lt 1048576 (length text) then Err (errors.Refused faults.TooLong 0)
+    else schedule_of (contents_of text)

@@ -74,7 +74,8 @@ some_maps (Ok (values ∷ maps)) = Ok (values ∷ maps)
 
 -- what a maps text means
 abbrev pub maps_text : List ℕ → Result (List (List ℕ)) TextError
-maps_text text = if nat_lt 1048576 (length text) then Err (errors.Refused faults.TooLong 0) else some_maps (maps_behind [] (contents_of text))
+maps_text text = if nat_lt 1048576 (length text) then Err (errors.Refused faults.TooLong 0)
+    else some_maps (maps_behind [] (contents_of text))
 
 -- a value after a space
 abbrev pub element_spelling : ℕ → List ℕ
@@ -82,7 +83,8 @@ element_spelling value = codes " " ++ decimal value
 
 -- a map's line: its number and its values
 abbrev pub map_spelling : ℕ → List ℕ → List ℕ
-map_spelling number values = codes "map " ++ decimal number ++ codes ":" ++ flat_map element_spelling values ++ codes "\n"
+map_spelling number values = codes "map " ++ decimal number ++ codes ":" ++ flat_map element_spelling values
+    ++ codes "\n"
 
 -- the lines of maps, the first of which has this number
 abbrev pub map_spellings_from : ℕ → List (List ℕ) → List ℕ

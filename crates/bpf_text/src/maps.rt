@@ -69,7 +69,8 @@ fn read_values(
     held: usize,
 ) -> Result<Vec<u64>, TextError>
     requires { held ≤ 65536 }
-    ensures meaning { MatchesUnlessMemory text_refusal (λ v. v.items) result (at_line line (values_read number held (words_of content.now))) }
+    ensures meaning { MatchesUnlessMemory text_refusal (λ v. v.items) result
+        (at_line line (values_read number held (words_of content.now))) }
     ensures room { IfOk result (λ v. held + vec_len v ≤ 65536) }
 {
     let Some((word, rest)) = next_word(content) else {

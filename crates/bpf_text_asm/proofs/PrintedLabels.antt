@@ -11,7 +11,8 @@ last_byte : (line : List ℕ) → (e : Ends line) → get_or line (length line -
 last_byte line e =
     let long : length (e.front ++ e.last ∷ []) ≡ length e.front + 1 = length-append e.front (e.last ∷ []) in
     let at : length (e.front ++ e.last ∷ []) - 1 ≡ length e.front = omega (arith, long) in
-    ap (λ (x : List ℕ). get_or x (length x - 1) 0) e.whole ∙ ap (λ n. get_or (e.front ++ e.last ∷ []) n 0) at ∙ get_or-append_seam e.front e.last [] 0
+    ap (λ (x : List ℕ). get_or x (length x - 1) 0) e.whole ∙ ap (λ n. get_or (e.front ++ e.last ∷ []) n 0) at
+    ∙ get_or-append_seam e.front e.last [] 0
 
 no_and : (a b : Bool) → a ≡ false → (a && b) ≡ false
 no_and true b e = absurd cc
@@ -19,4 +20,5 @@ no_and false b e = refl
 
 -- a printed line is no label
 pub no_label : (line : List ℕ) → Line line → is_label line ≡ false
-no_label line l = no_and (get_or line (length line - 1) 0 == 58) (is_name (name_of line)) (ap (λ b. b == 58) (last_byte line l.ends) ∙ solid_no_colon l.ends.last l.ends.solid)
+no_label line l = no_and (get_or line (length line - 1) 0 == 58) (is_name (name_of line))
+    (ap (λ b. b == 58) (last_byte line l.ends) ∙ solid_no_colon l.ends.last l.ends.solid)

@@ -22,16 +22,21 @@ option_or-assoc (Some label) b c = refl
 option_or-assoc None b c = refl
 
 -- one more line defines its label, if it is one
-pub labels_move : (before after whole : Option Label) (slot next : ℕ) (line : ℕ × List ℕ) (lines all : List (ℕ × List ℕ)) (name : List ℕ) →
-    next ≡ slot + line_slots line.1 → after ≡ option_or before (line_label slot line.0 line.1 name) → all ≡ line ∷ lines →
+pub labels_move : (before after whole : Option Label) (slot next : ℕ) (line : ℕ × List ℕ)
+    (lines all : List (ℕ × List ℕ)) (name : List ℕ) →
+    next ≡ slot + line_slots line.1 → after ≡ option_or before (line_label slot line.0 line.1 name) → all ≡ line ∷ lines
+    →
     option_or before (labels_from slot all name) ≡ whole → option_or after (labels_from next lines name) ≡ whole
 unfolding labels_from
 labels_move before after whole slot next line lines all name step put same so_far =
-    let here : option_or before (option_or (line_label slot line.0 line.1 name) (labels_from (slot + line_slots line.1) lines name)) ≡ whole = rw same at so_far in
-    rw (step, put) (option_or-assoc before (line_label slot line.0 line.1 name) (labels_from (slot + line_slots line.1) lines name) ∙ here)
+    let here : option_or before (option_or (line_label slot line.0 line.1 name) (labels_from (slot + line_slots line.1)
+    lines name)) ≡ whole = rw same at so_far in
+    rw (step, put) (option_or-assoc before (line_label slot line.0 line.1 name) (labels_from (slot + line_slots line.1)
+    lines name) ∙ here)
 
 -- no line is left
-pub labels_end : (before whole : Option Label) (slot : ℕ) (all : List (ℕ × List ℕ)) (name : List ℕ) → all ≡ [] → option_or before (labels_from slot all name) ≡ whole → before ≡ whole
+pub labels_end : (before whole : Option Label) (slot : ℕ) (all : List (ℕ × List ℕ)) (name : List ℕ) → all ≡ []
+    → option_or before (labels_from slot all name) ≡ whole → before ≡ whole
 unfolding labels_from
 labels_end before whole slot all name none so_far =
     let here : option_or before None ≡ whole = rw none at so_far in
@@ -39,18 +44,23 @@ labels_end before whole slot all name none so_far =
 
 -- ---- instructions
 
-pub insns_behind-line : (labels : List ℕ → Option Label) (before : List Insn) (slot : ℕ) (line : ℕ × List ℕ) (lines : List (ℕ × List ℕ)) (more : List Insn) → slot ≡ slot_count before →
-    at_line line.0 (line_at labels slot line.0 line.1) ≡ Ok more → insns_behind labels before (line ∷ lines) ≡ insns_behind labels (before ++ more) lines
+pub insns_behind-line : (labels : List ℕ → Option Label) (before : List Insn) (slot : ℕ) (line : ℕ × List ℕ)
+    (lines : List (ℕ × List ℕ)) (more : List Insn) → slot ≡ slot_count before →
+    at_line line.0 (line_at labels slot line.0 line.1) ≡ Ok more → insns_behind labels before (line ∷ lines)
+    ≡ insns_behind labels (before ++ more) lines
 unfolding insns_behind
 insns_behind-line labels before slot line lines more same read =
     let here : at_line line.0 (line_at labels (slot_count before) line.0 line.1) ≡ Ok more = rw (← same) read in
     ap (λ (r : Result (List Insn) TextError). r >>= λ m. insns_behind labels (before ++ m) lines) here
 
-pub insns_behind-fails : (labels : List ℕ → Option Label) (e : TextError) (before : List Insn) (slot : ℕ) (line : ℕ × List ℕ) (lines : List (ℕ × List ℕ)) → slot ≡ slot_count before →
-    RefusalMatches (text_refusal e) (at_line line.0 (line_at labels slot line.0 line.1)) → RefusalMatches (text_refusal e) (insns_behind labels before (line ∷ lines))
+pub insns_behind-fails : (labels : List ℕ → Option Label) (e : TextError) (before : List Insn) (slot : ℕ) (line : ℕ
+    × List ℕ) (lines : List (ℕ × List ℕ)) → slot ≡ slot_count before →
+    RefusalMatches (text_refusal e) (at_line line.0 (line_at labels slot line.0 line.1))
+    → RefusalMatches (text_refusal e) (insns_behind labels before (line ∷ lines))
 unfolding insns_behind
 insns_behind-fails labels e before slot line lines same fails =
-    bind_fails e (at_line line.0 (line_at labels (slot_count before) line.0 line.1)) (λ m. insns_behind labels (before ++ m) lines)
+    bind_fails e (at_line line.0 (line_at labels (slot_count before) line.0 line.1))
+    (λ m. insns_behind labels (before ++ m) lines)
     (subst (λ n. RefusalMatches (text_refusal e) (at_line line.0 (line_at labels n line.0 line.1))) same fails)
 
 pub insns_behind-end : (labels : List ℕ → Option Label) (before : List Insn) → insns_behind labels before [] ≡ Ok before
@@ -63,28 +73,41 @@ pub no_head : (contents : List (ℕ × List ℕ)) → contents ≡ [] → unit_o
 unfolding unit_of
 no_head contents none = rw none refl
 
-pub head_fails : (e : TextError) (contents : List (ℕ × List ℕ)) (line : ℕ × List ℕ) (lines : List (ℕ × List ℕ)) → contents ≡ line ∷ lines →
-    RefusalMatches (text_refusal e) (at_line line.0 (head_of (words_of line.1))) → RefusalMatches (text_refusal e) (unit_of contents)
+pub head_fails : (e : TextError) (contents : List (ℕ × List ℕ)) (line : ℕ × List ℕ) (lines : List (ℕ × List ℕ))
+    → contents ≡ line ∷ lines →
+    RefusalMatches (text_refusal e) (at_line line.0 (head_of (words_of line.1)))
+    → RefusalMatches (text_refusal e) (unit_of contents)
 unfolding unit_of
-head_fails e contents line lines same fails = rw same (bind_fails e (at_line line.0 (head_of (words_of line.1))) _ fails)
+head_fails e contents line lines same fails =
+    rw same (bind_fails e (at_line line.0 (head_of (words_of line.1))) _ fails)
 
 -- the unit whose sizes are read
 abbrev with_insns : List ℕ → Result (List Insn) TextError → Result Program TextError
 with_insns sizes read = read >>= λ insns. Ok (record { sizes = sizes; insns = insns })
 
-head_read : (contents : List (ℕ × List ℕ)) (line : ℕ × List ℕ) (lines : List (ℕ × List ℕ)) (sizes : List ℕ) (labels : List ℕ → Option Label) → contents ≡ line ∷ lines →
-    at_line line.0 (head_of (words_of line.1)) ≡ Ok sizes → ((name : List ℕ) → labels name ≡ labels_from 0 lines name) → unit_of contents ≡ with_insns sizes (insns_behind labels [] lines)
+head_read : (contents : List (ℕ × List ℕ)) (line : ℕ × List ℕ) (lines : List (ℕ × List ℕ)) (sizes : List ℕ)
+    (labels : List ℕ → Option Label) → contents ≡ line ∷ lines →
+    at_line line.0 (head_of (words_of line.1)) ≡ Ok sizes → ((name : List ℕ) → labels name ≡ labels_from 0 lines name)
+    → unit_of contents ≡ with_insns sizes (insns_behind labels [] lines)
 unfolding unit_of
 head_read contents line lines sizes labels same read table =
-    rw same (ap (λ (r : Result (List ℕ) TextError). r >>= λ s. with_insns s (insns_behind (labels_from 0 lines) [] lines)) read)
+    rw same (ap (λ (r : Result (List ℕ) TextError). r >>= λ s. with_insns s (insns_behind (labels_from 0 lines) []
+    lines)) read)
     ∙ ap (λ (t : List ℕ → Option Label). with_insns sizes (insns_behind t [] lines)) (sym (λ i name. table name i))
 
-pub insns_fail : (e : TextError) (contents : List (ℕ × List ℕ)) (line : ℕ × List ℕ) (lines : List (ℕ × List ℕ)) (sizes : List ℕ) (labels : List ℕ → Option Label) → contents ≡ line ∷ lines →
-    at_line line.0 (head_of (words_of line.1)) ≡ Ok sizes → ((name : List ℕ) → labels name ≡ labels_from 0 lines name) → RefusalMatches (text_refusal e) (insns_behind labels [] lines) → RefusalMatches (text_refusal e) (unit_of contents)
+pub insns_fail : (e : TextError) (contents : List (ℕ × List ℕ)) (line : ℕ × List ℕ) (lines : List (ℕ × List ℕ))
+    (sizes : List ℕ) (labels : List ℕ → Option Label) → contents ≡ line ∷ lines →
+    at_line line.0 (head_of (words_of line.1)) ≡ Ok sizes → ((name : List ℕ) → labels name ≡ labels_from 0 lines name)
+    → RefusalMatches (text_refusal e) (insns_behind labels [] lines)
+    → RefusalMatches (text_refusal e) (unit_of contents)
 insns_fail e contents line lines sizes labels same read table fails =
     let P : Result Program TextError → Type 0 = λ r. RefusalMatches (text_refusal e) r in
-    subst P (sym (head_read contents line lines sizes labels same read table)) (bind_fails e (insns_behind labels [] lines) (λ insns. Ok (record { sizes = sizes; insns = insns })) fails)
+    subst P (sym (head_read contents line lines sizes labels same read table))
+    (bind_fails e (insns_behind labels [] lines) (λ insns. Ok (record { sizes = sizes; insns = insns })) fails)
 
-pub insns_read : (contents : List (ℕ × List ℕ)) (line : ℕ × List ℕ) (lines : List (ℕ × List ℕ)) (sizes : List ℕ) (insns : List Insn) (labels : List ℕ → Option Label) → contents ≡ line ∷ lines →
-    at_line line.0 (head_of (words_of line.1)) ≡ Ok sizes → ((name : List ℕ) → labels name ≡ labels_from 0 lines name) → insns_behind labels [] lines ≡ Ok insns → unit_of contents ≡ Ok (record { sizes = sizes; insns = insns })
-insns_read contents line lines sizes insns labels same read table rest = head_read contents line lines sizes labels same read table ∙ ap (with_insns sizes) rest
+pub insns_read : (contents : List (ℕ × List ℕ)) (line : ℕ × List ℕ) (lines : List (ℕ × List ℕ)) (sizes : List ℕ)
+    (insns : List Insn) (labels : List ℕ → Option Label) → contents ≡ line ∷ lines →
+    at_line line.0 (head_of (words_of line.1)) ≡ Ok sizes → ((name : List ℕ) → labels name ≡ labels_from 0 lines name)
+    → insns_behind labels [] lines ≡ Ok insns → unit_of contents ≡ Ok (record { sizes = sizes; insns = insns })
+insns_read contents line lines sizes insns labels same read table rest =
+    head_read contents line lines sizes labels same read table ∙ ap (with_insns sizes) rest

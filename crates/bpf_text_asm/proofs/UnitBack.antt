@@ -51,27 +51,33 @@ abbrev numbered : ℕ → List Insn → List (ℕ × List ℕ)
 numbered n [] = []
 numbered n (i ∷ is) = (n, insn_spelling i) ∷ numbered (n + 1) is
 
-contents_of-insns : (n : ℕ) (insns : List Insn) → AreInsns insns → contents_from n (lines_of (flat_map insn_line insns)) ≡ numbered n insns
+contents_of-insns : (n : ℕ) (insns : List Insn) → AreInsns insns → contents_from n (lines_of (flat_map insn_line insns))
+    ≡ numbered n insns
 contents_of-insns n [] fit = refl
 contents_of-insns n (i ∷ is) fit =
     contents-line n (insn_spelling i) (flat_map insn_line is) (insn_is_line i fit.0).line
     ∙ ap (λ (lines : List (ℕ × List ℕ)). (n, insn_spelling i) ∷ lines) (contents_of-insns (n + 1) is fit.1)
 
-line_read : (labels : List ℕ → Option Label) (slot n : ℕ) (i : Insn) (ss : List Slot) → InsnFits i → spelling i ≡ Ok ss → slot + slots_of i ≤ 4096 →
+line_read : (labels : List ℕ → Option Label) (slot n : ℕ) (i : Insn) (ss : List Slot) → InsnFits i → spelling i ≡ Ok ss
+    → slot + slots_of i ≤ 4096 →
     at_line n (line_at labels slot n (insn_spelling i)) ≡ Ok (i ∷ [])
 line_read labels slot n i ss fits e le =
     let line = insn_spelling i in
     let find : List ℕ → Option ℕ = λ name. slot_in (labels name) in
     ap (at_line n)
-    (cond-false (is_label line) (label_at n (labels (name_of line))) (in_limit slot (insn_of_line find slot line)) (no_label line (insn_is_line i fits).line)
+    (cond-false (is_label line) (label_at n (labels (name_of line))) (in_limit slot (insn_of_line find slot line))
+    (no_label line (insn_is_line i fits).line)
     ∙ ap (in_limit slot) (insn_back find slot i ss fits e)
     ∙ cond-true (nat_le (slot + slots_of i) 4096) (Ok (i ∷ [])) (Err faults.TooLong) (le-leb _ _ le))
 
-insns_back : (labels : List ℕ → Option Label) (before insns : List Insn) (n : ℕ) → AreInsns insns → Spelled insns → slot_count before + slot_count insns ≤ 4096 →
+insns_back : (labels : List ℕ → Option Label) (before insns : List Insn) (n : ℕ) → AreInsns insns → Spelled insns
+    → slot_count before + slot_count insns ≤ 4096 →
     insns_behind labels before (numbered n insns) ≡ Ok (before ++ insns)
-insns_back labels before [] n fit spelled le = insns_behind-end labels before ∙ ap (λ (is : List Insn). Ok is) (sym (append-nil before))
+insns_back labels before [] n fit spelled le = insns_behind-end labels before
+    ∙ ap (λ (is : List Insn). Ok is) (sym (append-nil before))
 insns_back labels before (i ∷ is) n fit spelled le =
-    let more : slot_count (before ++ i ∷ []) ≡ slot_count before + slot_count (i ∷ []) = slot_count-append before (i ∷ []) in
+    let more : slot_count (before ++ i ∷ []) ≡ slot_count before + slot_count (i ∷ []) =
+    slot_count-append before (i ∷ []) in
     insns_behind-line labels before (slot_count before) (n, insn_spelling i) (numbered (n + 1) is) (i ∷ []) refl
     (line_read labels (slot_count before) n i spelled.0.0 fit.0 spelled.0.1 (omega (arith, le)))
     ∙ insns_back labels (before ++ i ∷ []) is (n + 1) fit.1 spelled.1 (omega (arith, le, more))
@@ -85,8 +91,10 @@ lines_short (i ∷ is) fit =
     let here = (insn_is_line i fit.0).short in
     let some = slots_some i in
     let others = lines_short is fit.1 in
-    let line : length (insn_spelling i ++ 10 ∷ []) ≡ length (insn_spelling i) + 1 = length-append (insn_spelling i) (10 ∷ []) in
-    let long : length ((insn_spelling i ++ 10 ∷ []) ++ flat_map insn_line is) ≡ length (insn_spelling i ++ 10 ∷ []) + length (flat_map insn_line is) = length-append (insn_spelling i ++ 10 ∷ []) (flat_map insn_line is) in
+    let line : length (insn_spelling i ++ 10 ∷ []) ≡ length (insn_spelling i) + 1 =
+    length-append (insn_spelling i) (10 ∷ []) in
+    let long : length ((insn_spelling i ++ 10 ∷ []) ++ flat_map insn_line is) ≡ length (insn_spelling i ++ 10 ∷ [])
+    + length (flat_map insn_line is) = length-append (insn_spelling i ++ 10 ∷ []) (flat_map insn_line is) in
     omega (arith, here, some, others, line, long)
 
 whole_short : (p : Program) → IsUnit p → length (assembler_lines p) ≤ 1048576
@@ -94,7 +102,9 @@ whole_short p u =
     let head = head_short p.sizes u.sizes in
     let lines = lines_short p.insns u.insns in
     let few = u.slots in
-    let long : length (assembler_lines p) ≡ length (head_spelling p.sizes ++ 10 ∷ []) + length (flat_map insn_line p.insns) = length-append (head_spelling p.sizes ++ 10 ∷ []) (flat_map insn_line p.insns) in
+    let long : length (assembler_lines p) ≡ length (head_spelling p.sizes ++ 10 ∷ [])
+    + length (flat_map insn_line p.insns) = length-append (head_spelling p.sizes ++ 10 ∷ [])
+    (flat_map insn_line p.insns) in
     omega (arith, head, lines, few, long)
 
 whole_back : (p : Program) → IsUnit p → Spelled p.insns → unit_of (contents_of (assembler_lines p)) ≡ Ok p
@@ -102,7 +112,8 @@ whole_back p u spelled =
     let lines = numbered 2 p.insns in
     let few = u.slots in
     insns_read (contents_of (assembler_lines p)) (1, head_spelling p.sizes) lines p.sizes p.insns (labels_from 0 lines)
-    (contents-line 1 (head_spelling p.sizes) (flat_map insn_line p.insns) (head_is_line p.sizes u.sizes) ∙ ap (λ (ls : List (ℕ × List ℕ)). (1, head_spelling p.sizes) ∷ ls) (contents_of-insns 2 p.insns u.insns))
+    (contents-line 1 (head_spelling p.sizes) (flat_map insn_line p.insns) (head_is_line p.sizes u.sizes)
+    ∙ ap (λ (ls : List (ℕ × List ℕ)). (1, head_spelling p.sizes) ∷ ls) (contents_of-insns 2 p.insns u.insns))
     (ap (at_line 1) (head_back p.sizes u.sizes))
     (λ name. refl)
     (insns_back (labels_from 0 lines) [] p.insns 2 u.insns spelled (omega (arith, few)))
@@ -111,8 +122,10 @@ pub unit_back : (p : Program) (text : List ℕ) → IsUnit p → assembler_form 
 unit_back p text u e =
     let printed = mapped (λ bytes. assembler_lines p) (program_spelling p.insns) text e in
     ap assembler_text (sym printed.is_image)
-    ∙ cond-false (nat_lt 1048576 (length (assembler_lines p))) (Err (errors.Refused faults.TooLong 0)) (unit_of (contents_of (assembler_lines p))) (le-ltb _ _ (whole_short p u))
+    ∙ cond-false (nat_lt 1048576 (length (assembler_lines p))) (Err (errors.Refused faults.TooLong 0))
+    (unit_of (contents_of (assembler_lines p))) (le-ltb _ _ (whole_short p u))
     ∙ whole_back p u (spelled_from 0 p.insns printed.value printed.is_there)
 
-pub one_unit : (p q : Program) (text : List ℕ) → IsUnit p → IsUnit q → assembler_form p ≡ Ok text → assembler_form q ≡ Ok text → p ≡ q
+pub one_unit : (p q : Program) (text : List ℕ) → IsUnit p → IsUnit q → assembler_form p ≡ Ok text
+    → assembler_form q ≡ Ok text → p ≡ q
 one_unit p q text u v e h = same_ok p q (assembler_text text) (unit_back p text u e) (unit_back q text v h)

@@ -34,7 +34,8 @@ line_slots line = if is_label line then 0 else slots_at line
 -- where a line of this number at this slot defines a name
 abbrev pub line_label : (slot number : ℕ) → (line name : List ℕ) → Option Label
 line_label slot number line name =
-    if is_label line then (if bytes_eq name (name_of line) then Some (record { line = number; slot = slot }) else None) else None
+    if is_label line then (if bytes_eq name (name_of line) then Some (record { line = number; slot = slot }) else None)
+    else None
 
 -- where lines, the first of which stands at this slot, define a name: the first label of that name
 unfoldable pub labels_from : ℕ → List (ℕ × List ℕ) → List ℕ → Option Label
@@ -75,9 +76,12 @@ unit_of (head ∷ lines) = do
 
 -- what a unit's assembler text means
 abbrev pub assembler_text : List ℕ → Result Program TextError
-assembler_text text = if nat_lt 1048576 (length text) then Err (errors.Refused faults.TooLong 0) else unit_of (contents_of text)
+assembler_text text = if nat_lt 1048576 (length text) then Err (errors.Refused faults.TooLong 0)
+    else unit_of (contents_of text)
 
--- what adding a line's instructions after others leaves, where the line has this meaning and stands at a slot: them, and the slot after them, or the refusal
+-- what adding a line's instructions after others leaves, where the line has this meaning and stands at a slot: them,
+-- and the slot after them, or the refusal
 abbrev pub Adds : (old new : List Insn) → ℕ → Result ℕ TextError → Result (List Insn) TextError → Type 0
-Adds old new slot (Ok next) meaning = (more : List Insn) × (meaning ≡ Ok more) × (new ≡ old ++ more) × (next ≡ slot + slot_count more)
+Adds old new slot (Ok next) meaning = (more : List Insn) × (meaning ≡ Ok more) × (new ≡ old ++ more)
+    × (next ≡ slot + slot_count more)
 Adds old new slot (Err e) meaning = RefusalMatches (text_refusal e) meaning

@@ -35,7 +35,8 @@ fn define_line<'a>(
     requires { slot ≤ 2097152 }
     ensures slot { IfOk result (λ next. next ≡ slot + line_slots content.now) }
     ensures bound { IfOk result (λ next. next ≤ slot + 2) }
-    ensures labels { OnOk result ((name : List ℕ) → label_named labels.new name ≡ option_or (label_named labels.old name) (line_label slot number content.now name)) }
+    ensures labels { OnOk result ((name : List ℕ) → label_named labels.new name
+        ≡ option_or (label_named labels.old name) (line_label slot number content.now name)) }
 {
     let Some(name) = label_name(content) else {
         return Ok(slot + line_slots(content));

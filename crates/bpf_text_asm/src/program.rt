@@ -17,7 +17,8 @@ use std::alloc::Global;
 
 /// Whether the label line of this number repeats the label of another line.
 fn repeats(labels: &Labels<'_>, name: &[u8], number: u32) -> bool
-    ensures { (if result then Err TextFault.RepeatedLabel else Ok []) ≡ label_at number (label_named labels.now name.now) }
+    ensures { (if result then Err TextFault.RepeatedLabel else Ok []) ≡ label_at number
+        (label_named labels.now name.now) }
 {
     match labels.get(name) {
         Some(label) => label.line != number,
@@ -34,7 +35,8 @@ fn add_insn(
     slot: u32,
 ) -> Result<u32, TextError>
     requires { slot ≤ 4096 }
-    ensures adds { Adds insns.old.items insns.new.items slot result (at_line number (in_limit slot (insn_of_line (label_slots labels.now) slot content.now))) }
+    ensures adds { Adds insns.old.items insns.new.items slot result
+        (at_line number (in_limit slot (insn_of_line (label_slots labels.now) slot content.now))) }
     ensures bound { IfOk result (λ next. next ≤ 4096) }
 {
     let insn = match read_insn(content, labels, slot) {
@@ -58,7 +60,8 @@ fn add_line(
     slot: u32,
 ) -> Result<u32, TextError>
     requires { slot ≤ 4096 }
-    ensures adds { Adds insns.old.items insns.new.items slot result (at_line number (line_at (label_named labels.now) slot number content.now)) }
+    ensures adds { Adds insns.old.items insns.new.items slot result
+        (at_line number (line_at (label_named labels.now) slot number content.now)) }
     ensures bound { IfOk result (λ next. next ≤ 4096) }
 {
     match label_name(content) {
@@ -74,7 +77,8 @@ pub fn read_insns(
     lines: Lines<'_>,
     labels: &Labels<'_>,
 ) -> Result<Vec<Insn>, TextError>
-    ensures { MatchesUnlessMemory text_refusal (λ v. v.items) result (insns_behind (label_named labels.now) [] lines.entry) }
+    ensures { MatchesUnlessMemory text_refusal (λ v. v.items) result (insns_behind (label_named labels.now) []
+        lines.entry) }
 {
     let mut lines = lines;
     let mut insns = Vec::new(alloc);

@@ -5,7 +5,8 @@ use Rattle.hex.specs.Hex.{encode_lower}
 use Rattle.bpf_text_hex.specs.HexForm.{slot_lines}
 
 -- the first slot, and those after it
-pub slot_lines-slot : (bytes : List ℕ) → 8 ≤ length bytes → slot_lines bytes ≡ encode_lower (take 8 bytes) ++ codes "\n" ++ slot_lines (drop 8 bytes)
+pub slot_lines-slot : (bytes : List ℕ) → 8 ≤ length bytes → slot_lines bytes ≡ encode_lower (take 8 bytes) ++ codes "\n"
+    ++ slot_lines (drop 8 bytes)
 unfolding slot_lines
 slot_lines-slot (a ∷ b ∷ c ∷ d ∷ e ∷ f ∷ g ∷ h ∷ rest) le = refl
 slot_lines-slot [] le = absurd (omega arith)
@@ -35,7 +36,8 @@ joined : (out digits end rest : List ℕ) → ((out ++ digits) ++ end) ++ rest �
 joined out digits end rest = simp append_assoc
 
 -- one more slot is printed
-pub prints_slot : (out new whole bytes : List ℕ) → 8 ≤ length bytes → new ≡ (out ++ encode_lower (take 8 bytes)) ++ codes "\n" → out ++ slot_lines bytes ≡ whole → new ++ slot_lines (drop 8 bytes) ≡ whole
+pub prints_slot : (out new whole bytes : List ℕ) → 8 ≤ length bytes → new ≡ (out ++ encode_lower (take 8 bytes))
+    ++ codes "\n" → out ++ slot_lines bytes ≡ whole → new ++ slot_lines (drop 8 bytes) ≡ whole
 prints_slot out new whole bytes le printed so_far =
     ap (λ (text : List ℕ). text ++ slot_lines (drop 8 bytes)) printed
     ∙ joined out (encode_lower (take 8 bytes)) (codes "\n") (slot_lines (drop 8 bytes))
@@ -44,4 +46,5 @@ prints_slot out new whole bytes le printed so_far =
 
 -- all slots are printed
 pub prints_end : (out whole bytes : List ℕ) → length bytes < 8 → out ++ slot_lines bytes ≡ whole → out ≡ whole
-prints_end out whole bytes lt so_far = sym (append-nil out) ∙ ap (λ (text : List ℕ). out ++ text) (sym (slot_lines-end bytes lt)) ∙ so_far
+prints_end out whole bytes lt so_far = sym (append-nil out) ∙ ap (λ (text : List ℕ). out ++ text)
+    (sym (slot_lines-end bytes lt)) ∙ so_far

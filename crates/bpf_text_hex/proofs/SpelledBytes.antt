@@ -138,25 +138,37 @@ imm_bytes n = (omega arith, (omega arith, (omega arith, (omega arith, tt))))
 slot_are : (s : Slot) → s.opcode < 256 → HasBytes s → Bytes (slot_bytes s)
 slot_are s small has =
     let dst = has.dst in
-    let src = has.src in
-    (small, (omega (arith, dst, src), bytes-append (to_le_bytes w16 (cast_unsigned w16 s.offset)) (to_le_bytes w32 (cast_unsigned w32 s.imm)) (offset_bytes (cast_unsigned w16 s.offset)) (imm_bytes (cast_unsigned w32 s.imm))))
+    let src = has.src in (
+      small,
+      (
+        omega (arith, dst, src),
+        bytes-append (to_le_bytes w16 (cast_unsigned w16 s.offset))
+            (to_le_bytes w32 (cast_unsigned w32 s.imm)) (offset_bytes (cast_unsigned w16 s.offset))
+            (imm_bytes (cast_unsigned w32 s.imm)),
+      ),
+    )
 
 slots_are : (ss : List Slot) → Small ss → HaveBytes ss → Bytes (slots_bytes ss)
 slots_are [] small has = tt
-slots_are (s ∷ ss) small has = bytes-append (slot_bytes s) (slots_bytes ss) (slot_are s small.0 has.0) (slots_are ss small.1 has.1)
+slots_are (s ∷ ss) small has = bytes-append (slot_bytes s) (slots_bytes ss) (slot_are s small.0 has.0)
+    (slots_are ss small.1 has.1)
 
-at_are : (n : ℕ) (r : Result (List Slot) CodecFault) (bytes : List ℕ) → IfOk r Small → IfOk r HaveBytes → bytes_at n r ≡ Ok bytes → Bytes bytes
+at_are : (n : ℕ) (r : Result (List Slot) CodecFault) (bytes : List ℕ) → IfOk r Small → IfOk r HaveBytes
+    → bytes_at n r ≡ Ok bytes → Bytes bytes
 at_are n r bytes small has e =
     let slots = bytes_ok n r bytes e in
-    subst Bytes (sym slots.2) (slots_are slots.0 (of_ok Small r slots.0 slots.1 small) (of_ok HaveBytes r slots.0 slots.1 has))
+    subst Bytes (sym slots.2) (slots_are slots.0 (of_ok Small r slots.0 slots.1 small)
+    (of_ok HaveBytes r slots.0 slots.1 has))
 
 -- bytes of this many slots
 pub record SlotBytes (n : ℕ) (bytes : List ℕ) : Type 0 where
   pub are : Bytes bytes
   pub long : length bytes ≡ 8 * n
 
-pub spelled_bytes : (n : ℕ) (insns : List Insn) (bytes : List ℕ) → AreInsns insns → spelling_from n insns ≡ Ok bytes → SlotBytes (slot_count insns) bytes
-spelled_bytes n [] bytes fit e = (let same : [] ≡ bytes = cc in subst (SlotBytes 0) same (record { are = tt; long = omega arith }))
+pub spelled_bytes : (n : ℕ) (insns : List Insn) (bytes : List ℕ) → AreInsns insns → spelling_from n insns ≡ Ok bytes
+    → SlotBytes (slot_count insns) bytes
+spelled_bytes n [] bytes fit e =
+    (let same : [] ≡ bytes = cc in subst (SlotBytes 0) same (record { are = tt; long = omega arith }))
 spelled_bytes n (i ∷ is) bytes fit e =
     let cut = both_ok (bytes_at n (spelling i)) (spelling_from (n + slots_of i) is) bytes e in
     let here = at_are n (spelling i) cut.0 (spelling_small i) (spelling_has i fit.0) cut.2 in
@@ -164,4 +176,7 @@ spelled_bytes n (i ∷ is) bytes fit e =
     let later = spelled_bytes (n + slots_of i) is cut.1 fit.1 cut.3 in
     let others = later.long in
     let total : length (cut.0 ++ cut.1) ≡ length cut.0 + length cut.1 = length-append cut.0 cut.1 in
-    subst (SlotBytes (slot_count (i ∷ is))) (sym cut.4) (record { are = bytes-append cut.0 cut.1 here later.are; long = omega (arith, len, others, total) })
+    subst (SlotBytes (slot_count (i ∷ is))) (sym cut.4) (record {
+      are = bytes-append cut.0 cut.1 here later.are;
+      long = omega (arith, len, others, total);
+    })

@@ -9,7 +9,8 @@ use Rattle.bpf_text_mnemonics.specs.PrintedLines.{head_line}
 
 -- slots of 8 bytes, a line of hex digits each
 unfoldable pub slot_lines : List ℕ → List ℕ
-slot_lines (a ∷ b ∷ c ∷ d ∷ e ∷ f ∷ g ∷ h ∷ rest) = encode_lower (a ∷ b ∷ c ∷ d ∷ e ∷ f ∷ g ∷ h ∷ []) ++ codes "\n" ++ slot_lines rest
+slot_lines (a ∷ b ∷ c ∷ d ∷ e ∷ f ∷ g ∷ h ∷ rest) = encode_lower (a ∷ b ∷ c ∷ d ∷ e ∷ f ∷ g ∷ h ∷ []) ++ codes "\n"
+    ++ slot_lines rest
 slot_lines _ = []
 
 -- the first line and a line for each slot of these bytes

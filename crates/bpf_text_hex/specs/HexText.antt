@@ -40,4 +40,5 @@ hex_parts_of (line ∷ lines) = do
 
 -- what a text in hex form means
 abbrev pub hex_text : List ℕ → Result SizesAndBytes TextError
-hex_text text = if nat_lt 1048576 (length text) then Err (errors.Refused faults.TooLong 0) else hex_parts_of (contents_of text)
+hex_text text = if nat_lt 1048576 (length text) then Err (errors.Refused faults.TooLong 0)
+    else hex_parts_of (contents_of text)

@@ -33,7 +33,8 @@ impl Model for HexUnit {
 /// The bytes of a word of hex digits, or the fault of its line.
 fn read_digits(alloc: Global, word: &[u8], line: u32, before: usize) -> Result<Vec<u8>, TextError>
     requires { before ≤ 32768 }
-    ensures meaning { MatchesUnlessMemory text_refusal (λ v. v.items) result (at_line line (as_bytes before (decode_of word.now))) }
+    ensures meaning { MatchesUnlessMemory text_refusal (λ v. v.items) result
+        (at_line line (as_bytes before (decode_of word.now))) }
     ensures room { IfOk result (λ v. before + vec_len v ≤ 32768) }
 {
     match hex::decode(alloc, word) {
@@ -51,7 +52,8 @@ fn read_digits(alloc: Global, word: &[u8], line: u32, before: usize) -> Result<V
 /// The bytes that a line gives after this many bytes of the lines before it, or its fault.
 fn read_bytes(alloc: Global, content: &[u8], line: u32, before: usize) -> Result<Vec<u8>, TextError>
     requires { before ≤ 32768 }
-    ensures meaning { MatchesUnlessMemory text_refusal (λ v. v.items) result (at_line line (bytes_of_lines before (words_of content.now))) }
+    ensures meaning { MatchesUnlessMemory text_refusal (λ v. v.items) result
+        (at_line line (bytes_of_lines before (words_of content.now))) }
     ensures room { IfOk result (λ v. before + vec_len v ≤ 32768) }
 {
     let Some((word, rest)) = next_word(content) else {

@@ -14,13 +14,15 @@ use Rattle.bpf_text_lex.specs.Numbers.{is_numeral, is_negative, value_after, val
 own : IsNumeralModel (λ ds. list_all is_ascii_digit ds ≡ true) value_of
 own = numerals_by_fold _ (search rules) value_after (search rules)
 
-answers : (numeral small negative : Bool) (v n : ℕ) → cond numeral (cond small (Ok v) (Err Field)) (cond negative (Err Field) (Err Form)) ≡ Ok n → (numeral ≡ true) × (small ≡ true) × (v ≡ n)
+answers : (numeral small negative : Bool) (v n : ℕ) → cond numeral (cond small (Ok v) (Err Field))
+    (cond negative (Err Field) (Err Form)) ≡ Ok n → (numeral ≡ true) × (small ≡ true) × (v ≡ n)
 answers true true negative v n e = (refl, refl, cc)
 answers true false negative v n e = absurd cc
 answers false small true v n e = absurd cc
 answers false small false v n e = absurd cc
 
-one_digit : (a : Bool) (word : List ℕ) → (length word == 1) ≡ a → (a || nat_lt 48 (get_or word 0 0)) ≡ true → get_or word 0 0 ≡ 48 → length word ≡ 1
+one_digit : (a : Bool) (word : List ℕ) → (length word == 1) ≡ a → (a || nat_lt 48 (get_or word 0 0)) ≡ true
+    → get_or word 0 0 ≡ 48 → length word ≡ 1
 one_digit true word same h zero_first = eqb-true _ _ same
 one_digit false word same h zero_first = (let above : 48 < get_or word 0 0 = ltb-true _ _ h in absurd (omega arith))
 
@@ -29,27 +31,33 @@ is_filled [] h = absurd cc
 is_filled (b ∷ bs) h = omega arith
 
 -- what is read is the decimal digits of its value
-pub spelled : (limit : ℕ) (word : List ℕ) (n : ℕ) → limit < 2 ^ 64 → number_in limit word ≡ Ok n → (word ≡ decimal n) × (n ≤ limit)
+pub spelled : (limit : ℕ) (word : List ℕ) (n : ℕ) → limit < 2 ^ 64 → number_in limit word ≡ Ok n → (word ≡ decimal n)
+    × (n ≤ limit)
 spelled limit word n fits e =
     let a = answers (is_numeral word) (nat_le (value_of word) limit) (is_negative word) (value_of word) n e in
     let parts = and_parts (list_all is_ascii_digit word) ((length word == 1) || nat_lt 48 (get_or word 0 0)) a.0 in
     let small : value_of word ≤ limit = leb-true _ _ a.1 in
     let below : value_of word < 2 ^ 64 = omega arith in
-    let back = decimal-digits_value own word parts.0 (is_filled word parts.1) (one_digit (length word == 1) word refl parts.1) below in
+    let back = decimal-digits_value own word parts.0 (is_filled word parts.1) (one_digit (length word == 1) word refl
+    parts.1) below in
     (sym back ∙ ap decimal a.2, rw (← a.2) small)
 
-pub spelled_if : (limit : ℕ) (word : List ℕ) (r : Result ℕ NumberError) → limit < 2 ^ 64 → r ≡ number_in limit word → IfOk r (λ n. (word ≡ decimal n) × (n ≤ limit))
+pub spelled_if : (limit : ℕ) (word : List ℕ) (r : Result ℕ NumberError) → limit < 2 ^ 64 → r ≡ number_in limit word
+    → IfOk r (λ n. (word ≡ decimal n) × (n ≤ limit))
 spelled_if limit word (Ok n) fits e = spelled limit word n fits (sym e)
 spelled_if limit word (Err error) fits e = tt
 
 no_zero_in_front : (n : ℕ) → n < 2 ^ 64 → ((length (decimal n) == 1) || nat_lt 48 (get_or (decimal n) 0 0)) ≡ true
 no_zero_in_front zero fits = rw (decimal_digit 0 (omega arith)) refl
-no_zero_in_front (suc n) fits = or_right (length (decimal (suc n)) == 1) _ (lt-ltb _ _ (first_decimal (suc n) (omega arith) fits))
+no_zero_in_front (suc n) fits =
+    or_right (length (decimal (suc n)) == 1) _ (lt-ltb _ _ (first_decimal (suc n) (omega arith) fits))
 
 is_numeral-decimal : (n : ℕ) → n < 2 ^ 64 → is_numeral (decimal n) ≡ true
-is_numeral-decimal n fits = and_from (list_all is_ascii_digit (decimal n)) _ (digits_decimal own n fits) (no_zero_in_front n fits)
+is_numeral-decimal n fits = and_from (list_all is_ascii_digit (decimal n)) _ (digits_decimal own n fits)
+    (no_zero_in_front n fits)
 
-chosen : (numeral small : Bool) (others : Result ℕ NumberError) (v n : ℕ) → numeral ≡ true → small ≡ true → v ≡ n → cond numeral (cond small (Ok v) (Err Field)) others ≡ Ok n
+chosen : (numeral small : Bool) (others : Result ℕ NumberError) (v n : ℕ) → numeral ≡ true → small ≡ true → v ≡ n
+    → cond numeral (cond small (Ok v) (Err Field)) others ≡ Ok n
 chosen true true others v n e h same = ap (λ (m : ℕ). Ok m) same
 chosen true false others v n e h same = absurd cc
 chosen false small others v n e h same = absurd cc
@@ -60,10 +68,12 @@ in_field limit n fits le =
     let below : n < 2 ^ 64 = omega arith in
     let value : value_of (decimal n) ≡ n = digits_value-decimal own n below in
     let small : value_of (decimal n) ≤ limit = omega arith in
-    chosen (is_numeral (decimal n)) (nat_le (value_of (decimal n)) limit) (cond (is_negative (decimal n)) (Err Field) (Err Form)) (value_of (decimal n)) n
+    chosen (is_numeral (decimal n)) (nat_le (value_of (decimal n)) limit) (cond (is_negative (decimal n)) (Err Field)
+    (Err Form)) (value_of (decimal n)) n
     (is_numeral-decimal n below) (le-leb _ _ small) value
 
-pub read_back : (limit : ℕ) (word : List ℕ) (n : ℕ) → limit < 2 ^ 64 → n ≤ limit → word ≡ decimal n → number_in limit word ≡ Ok n
+pub read_back : (limit : ℕ) (word : List ℕ) (n : ℕ) → limit < 2 ^ 64 → n ≤ limit → word ≡ decimal n
+    → number_in limit word ≡ Ok n
 read_back limit word n fits le same = ap (number_in limit) same ∙ in_field limit n fits le
 
 -- ---- digits
@@ -78,7 +88,8 @@ pub record Digits (word : List ℕ) : Type 0 where
   pub filled : 0 < length word
   pub first : 48 ≤ get_or word 0 0
 
-is_answer : (numeral small negative : Bool) (v n : ℕ) → cond numeral (cond small (Ok v) (Err Field)) (cond negative (Err Field) (Err Form)) ≡ Ok n → numeral ≡ true
+is_answer : (numeral small negative : Bool) (v n : ℕ) → cond numeral (cond small (Ok v) (Err Field))
+    (cond negative (Err Field) (Err Form)) ≡ Ok n → numeral ≡ true
 is_answer true small negative v n e = refl
 is_answer false small true v n e = absurd cc
 is_answer false small false v n e = absurd cc
@@ -90,11 +101,13 @@ first_from (b ∷ bs) some e = digit_low b (and_parts (is_ascii_digit b) (list_a
 pub decimal_digits : (n : ℕ) → n < 2 ^ 64 → Digits (decimal n)
 decimal_digits n fits =
     let read : number_in (2 ^ 64 - 1) (decimal n) ≡ Ok n = in_field (2 ^ 64 - 1) n (omega arith) (omega arith) in
-    let numeral = is_answer (is_numeral (decimal n)) (nat_le (value_of (decimal n)) (2 ^ 64 - 1)) (is_negative (decimal n)) (value_of (decimal n)) n read in
+    let numeral = is_answer (is_numeral (decimal n)) (nat_le (value_of (decimal n)) (2 ^ 64 - 1))
+    (is_negative (decimal n)) (value_of (decimal n)) n read in
     let parts = and_parts (list_all is_ascii_digit (decimal n)) _ numeral in
     let filled = is_filled (decimal n) parts.1 in
     record { numeral = numeral; digits = parts.0; filled = filled; first = first_from (decimal n) filled parts.0 }
 
 -- what is read without a sign is a numeral
 pub numeral_if : (limit : ℕ) (word : List ℕ) (n : ℕ) → number_in limit word ≡ Ok n → is_numeral word ≡ true
-numeral_if limit word n e = is_answer (is_numeral word) (nat_le (value_of word) limit) (is_negative word) (value_of word) n e
+numeral_if limit word n e = is_answer (is_numeral word) (nat_le (value_of word) limit) (is_negative word)
+    (value_of word) n e

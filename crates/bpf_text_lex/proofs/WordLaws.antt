@@ -10,7 +10,8 @@ use Rattle.bpf_text_lex.specs.Words.{ends_word, words_of}
 
 blank_step : (t : Bool) (b : ℕ) (bs : List ℕ) → words_of (trim_start bs) ≡ words_of bs →
     (t ≡ false → words_of (b ∷ bs) ≡ cond (ends_word bs) ((b ∷ []) ∷ words_of bs) (with_front b (words_of bs))) →
-    words_of (cond t (trim_start bs) (b ∷ bs)) ≡ cond t (words_of bs) (cond (ends_word bs) ((b ∷ []) ∷ words_of bs) (with_front b (words_of bs)))
+    words_of (cond t (trim_start bs) (b ∷ bs)) ≡ cond t (words_of bs) (cond (ends_word bs) ((b ∷ []) ∷ words_of bs)
+    (with_front b (words_of bs)))
 blank_step true b bs shorter here = shorter
 blank_step false b bs shorter here = here refl
 
@@ -28,12 +29,15 @@ word_step true b c cs k same on = refl
 word_step false b c cs k same on = rw (next_of k) (ap (with_front b) (on (sym same)))
 
 -- a line whose first byte is no blank begins with a word, which ends before the first blank
-first_word : (b : ℕ) (bs : List ℕ) → is_blank b ≡ false → words_of (b ∷ bs) ≡ (b ∷ take (position_or_len is_blank bs) bs) ∷ words_of (drop (position_or_len is_blank bs) bs)
+first_word : (b : ℕ) (bs : List ℕ) → is_blank b ≡ false
+    → words_of (b ∷ bs) ≡ (b ∷ take (position_or_len is_blank bs) bs) ∷ words_of (drop (position_or_len is_blank bs) bs)
 first_word b [] h = rw h refl
-first_word b (c ∷ cs) h = rw h (word_step (is_blank c) b c cs (position_or_len is_blank cs) refl (λ e. first_word c cs e))
+first_word b (c ∷ cs) h =
+    rw h (word_step (is_blank c) b c cs (position_or_len is_blank cs) refl (λ e. first_word c cs e))
 
 -- what begins a line after its blanks is no blank
-begins_word : (t : Bool) (b : ℕ) (bs : List ℕ) (c : ℕ) (cs : List ℕ) → is_blank b ≡ t → (trim_start bs ≡ c ∷ cs → is_blank c ≡ false) → cond t (trim_start bs) (b ∷ bs) ≡ c ∷ cs → is_blank c ≡ false
+begins_word : (t : Bool) (b : ℕ) (bs : List ℕ) (c : ℕ) (cs : List ℕ) → is_blank b ≡ t
+    → (trim_start bs ≡ c ∷ cs → is_blank c ≡ false) → cond t (trim_start bs) (b ∷ bs) ≡ c ∷ cs → is_blank c ≡ false
 begins_word true b bs c cs same shorter e = shorter e
 begins_word false b bs c cs same shorter e = (let heads : b ≡ c = cc in ap is_blank (sym heads) ∙ same)
 
@@ -54,7 +58,8 @@ found_step b bs n plain at =
     let n-is : n ≡ suc k = sym at ∙ rw plain (next_of k) in
     rw n-is (first_word b bs plain)
 
-pub word_found : (line trimmed : List ℕ) (n : ℕ) → trimmed ≡ trim_start line → 0 < length trimmed → Some n ≡ position is_blank trimmed → words_of line ≡ take n trimmed ∷ words_of (drop n trimmed)
+pub word_found : (line trimmed : List ℕ) (n : ℕ) → trimmed ≡ trim_start line → 0 < length trimmed
+    → Some n ≡ position is_blank trimmed → words_of line ≡ take n trimmed ∷ words_of (drop n trimmed)
 word_found line [] n same some e = absurd (omega arith)
 word_found line (b ∷ bs) n same some e =
     let f = position_found is_blank (b ∷ bs) n e in
@@ -62,7 +67,8 @@ word_found line (b ∷ bs) n same some e =
     ∙ found_step b bs n (is_blank-trim_start line b bs (sym same)) f.0
 
 -- a word is never empty
-pub word_some : (line trimmed : List ℕ) (n : ℕ) → trimmed ≡ trim_start line → 0 < length trimmed → Some n ≡ position is_blank trimmed → 0 < n
+pub word_some : (line trimmed : List ℕ) (n : ℕ) → trimmed ≡ trim_start line → 0 < length trimmed
+    → Some n ≡ position is_blank trimmed → 0 < n
 word_some line [] n same some e = absurd (omega arith)
 word_some line (b ∷ bs) n same some e =
     let f = position_found is_blank (b ∷ bs) n e in
@@ -71,7 +77,8 @@ word_some line (b ∷ bs) n same some e =
     let n-is : n ≡ suc k = sym f.0 ∙ rw plain (next_of k) in
     omega arith
 
-pub word_missing : (line trimmed : List ℕ) → trimmed ≡ trim_start line → 0 < length trimmed → None ≡ position is_blank trimmed → words_of line ≡ trimmed ∷ []
+pub word_missing : (line trimmed : List ℕ) → trimmed ≡ trim_start line → 0 < length trimmed
+    → None ≡ position is_blank trimmed → words_of line ≡ trimmed ∷ []
 word_missing line [] same some e = absurd (omega arith)
 word_missing line (b ∷ bs) same some e =
     let le = position_missing is_blank (b ∷ bs) e in

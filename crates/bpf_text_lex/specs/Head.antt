@@ -14,4 +14,5 @@ as_sizes (Ok sizes) = if sizes_fit sizes then Ok sizes else Err faults.Limits
 -- the sizes that the words of a first line give
 abbrev pub head_of : List (List ℕ) → Result (List ℕ) TextFault
 head_of [] = Err faults.Form
-head_of (word ∷ words) = if bytes_eq word (codes "maps") then as_sizes (fields_of (2 ^ 32 - 1) words) else Err faults.Form
+head_of (word ∷ words) = if bytes_eq word (codes "maps") then as_sizes (fields_of (2 ^ 32 - 1) words)
+    else Err faults.Form

@@ -13,4 +13,5 @@ continues_name b = is_ascii_alphanumeric b || (b == 95)
 
 -- a letter or an underscore, then letters, digits and underscores, at most 32 bytes
 abbrev pub is_name : List ℕ → Bool
-is_name word = nat_lt 0 (length word) && (nat_le (length word) 32 && (begins_name (slice_index word 0) && list_all continues_name (drop 1 word)))
+is_name word = nat_lt 0 (length word) && (nat_le (length word) 32 && (begins_name (slice_index word 0)
+    && list_all continues_name (drop 1 word)))

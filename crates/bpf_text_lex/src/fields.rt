@@ -62,7 +62,8 @@ pub fn read_fields(
     limit: u64,
     line: u32,
 ) -> Result<Vec<u64>, TextError>
-    ensures { MatchesUnlessMemory text_refusal (λ v. v.items) result (at_line line (fields_of limit (words_of words.now))) }
+    ensures { MatchesUnlessMemory text_refusal (λ v. v.items) result
+        (at_line line (fields_of limit (words_of words.now))) }
 {
     if !are_numbers(Words::of(words)) {
         return Err(TextFault::Form.at(line));
@@ -85,7 +86,8 @@ fn narrowed(alloc: Global, numbers: &[u64]) -> Result<Vec<u32>, AllocError>
 /// The numbers of a line's words, each in a field of 32 bits. A word that is no number is found
 /// before one outside its field.
 pub fn read_u32_fields(alloc: Global, words: &[u8], line: u32) -> Result<Vec<u32>, TextError>
-    ensures { MatchesUnlessMemory text_refusal (λ v. v.items) result (at_line line (fields_of (2 ^ 32 - 1) (words_of words.now))) }
+    ensures { MatchesUnlessMemory text_refusal (λ v. v.items) result
+        (at_line line (fields_of (2 ^ 32 - 1) (words_of words.now))) }
 {
     let numbers = read_fields(alloc, words, u64::from(u32::MAX), line)?;
     let numbers = narrowed(alloc, &numbers)?;

@@ -6,7 +6,8 @@ use Rattle.std.specs.Fmt.{decimal, format_spec, styled_signed_decimal, padded_in
 use Rattle.bpf_text_mnemonics.specs.PrintedLines.{distance_spelling}
 
 -- a sign and the digits
-with_sign : (negative : Bool) (digits : List ℕ) → padded_integral (format_spec 32 0 1 0 (2 ^ 64 - 1)) negative [] digits ≡ sign_text_with true negative ++ digits
+with_sign : (negative : Bool) (digits : List ℕ) → padded_integral (format_spec 32 0 1 0 (2 ^ 64 - 1)) negative [] digits
+    ≡ sign_text_with true negative ++ digits
 unfolding padded_integral char_count
 with_sign false digits = let none : 0 - length digits ≡ 0 = omega arith in rw (none, append-nil digits) refl
 with_sign true digits = let none : 0 - length digits ≡ 0 = omega arith in rw (none, append-nil digits) refl

@@ -35,18 +35,21 @@ solid_no_colon b e =
     not_true (b == 58) rest.0
 
 -- a line and its newline before a text are a line before the text's lines
-pub lines_of-line : (line rest : List ℕ) → list_all in_line line ≡ true → lines_of ((line ++ 10 ∷ []) ++ rest) ≡ line ∷ lines_of rest
+pub lines_of-line : (line rest : List ℕ) → list_all in_line line ≡ true → lines_of ((line ++ 10 ∷ []) ++ rest) ≡ line
+    ∷ lines_of rest
 lines_of-line [] rest e = refl
 lines_of-line (b ∷ bs) rest e =
     let h = and_parts (in_line b) (list_all in_line bs) e in
-    cond-false (b == 10) ([] ∷ lines_of ((bs ++ 10 ∷ []) ++ rest)) (with_front b (lines_of ((bs ++ 10 ∷ []) ++ rest))) (no_newline b h.0)
+    cond-false (b == 10) ([] ∷ lines_of ((bs ++ 10 ∷ []) ++ rest)) (with_front b (lines_of ((bs ++ 10 ∷ []) ++ rest)))
+    (no_newline b h.0)
     ∙ ap (with_front b) (lines_of-line bs rest h.1)
 
 before_comment-all : (line : List ℕ) → list_all in_line line ≡ true → before_comment line ≡ line
 before_comment-all [] e = refl
 before_comment-all (b ∷ bs) e =
     let h = and_parts (in_line b) (list_all in_line bs) e in
-    cond-false (b == 59) [] (b ∷ before_comment bs) (no_semicolon b h.0) ∙ ap (λ (cs : List ℕ). b ∷ cs) (before_comment-all bs h.1)
+    cond-false (b == 59) [] (b ∷ before_comment bs) (no_semicolon b h.0)
+    ∙ ap (λ (cs : List ℕ). b ∷ cs) (before_comment-all bs h.1)
 
 trim_start-solid : (b : ℕ) (bs : List ℕ) → is_solid b ≡ true → trim_start (b ∷ bs) ≡ b ∷ bs
 trim_start-solid b bs e = cond-false (is_blank b) (trim_start bs) (b ∷ bs) (solid_no_blank b e)
@@ -58,16 +61,19 @@ trim_end-ends line e = ap trim_end e.whole ∙ trim_end-kept e.front e.last (sol
 content_of-line : (line : List ℕ) → Line line → content_of line ≡ line
 content_of-line line l =
     let begins = l.begins in
-    let start : trim_start line ≡ line = ap trim_start begins.2 ∙ trim_start-solid begins.0 begins.1 begins.3 ∙ sym begins.2 in
+    let start : trim_start line ≡ line = ap trim_start begins.2 ∙ trim_start-solid begins.0 begins.1 begins.3
+    ∙ sym begins.2 in
     ap trim (before_comment-all line l.inner) ∙ ap trim_end start ∙ trim_end-ends line l.ends
 
-with_content-line : (n : ℕ) (line : List ℕ) (others : List (ℕ × List ℕ)) → Line line → with_content n line others ≡ (n, line) ∷ others
+with_content-line : (n : ℕ) (line : List ℕ) (others : List (ℕ × List ℕ)) → Line line → with_content n line others
+    ≡ (n, line) ∷ others
 with_content-line n line others l =
     let begins = l.begins in
     ap (λ (x : List ℕ). with_content n x others) begins.2 ∙ ap (λ (x : List ℕ). (n, x) ∷ others) (sym begins.2)
 
 -- a printed line before a text is the first content
-pub contents-line : (n : ℕ) (line rest : List ℕ) → Line line → contents_from n (lines_of ((line ++ 10 ∷ []) ++ rest)) ≡ (n, line) ∷ contents_from (n + 1) (lines_of rest)
+pub contents-line : (n : ℕ) (line rest : List ℕ) → Line line → contents_from n (lines_of ((line ++ 10 ∷ []) ++ rest))
+    ≡ (n, line) ∷ contents_from (n + 1) (lines_of rest)
 contents-line n line rest l =
     ap (contents_from n) (lines_of-line line rest l.inner)
     ∙ ap (λ (x : List ℕ). with_content n x (contents_from (n + 1) (lines_of rest))) (content_of-line line l)

@@ -20,20 +20,25 @@ use Rattle.bpf_text_mnemonics.proofs.PrintedInsns.{decimal_solid, decimal_short}
 use Rattle.bpf_text_mnemonics.proofs.LineLaws.{solid_no_blank}
 
 -- a word before the end of a line or a blank
-word_before : (b : ℕ) (bs rest : List ℕ) → is_solid b ≡ true → list_all is_solid bs ≡ true → ends_word rest ≡ true → words_of ((b ∷ bs) ++ rest) ≡ (b ∷ bs) ∷ words_of rest
+word_before : (b : ℕ) (bs rest : List ℕ) → is_solid b ≡ true → list_all is_solid bs ≡ true → ends_word rest ≡ true
+    → words_of ((b ∷ bs) ++ rest) ≡ (b ∷ bs) ∷ words_of rest
 word_before b [] rest e all ends =
-    cond-false (is_blank b) (words_of rest) (cond (ends_word rest) ((b ∷ []) ∷ words_of rest) (with_front b (words_of rest))) (solid_no_blank b e)
+    cond-false (is_blank b) (words_of rest) (cond (ends_word rest) ((b ∷ []) ∷ words_of rest)
+    (with_front b (words_of rest))) (solid_no_blank b e)
     ∙ cond-true (ends_word rest) ((b ∷ []) ∷ words_of rest) (with_front b (words_of rest)) ends
 word_before b (c ∷ cs) rest e all ends =
     let h = and_parts (is_solid c) (list_all is_solid cs) all in
     let behind = (c ∷ cs) ++ rest in
-    cond-false (is_blank b) (words_of behind) (cond (ends_word behind) ((b ∷ []) ∷ words_of behind) (with_front b (words_of behind))) (solid_no_blank b e)
+    cond-false (is_blank b) (words_of behind) (cond (ends_word behind) ((b ∷ []) ∷ words_of behind)
+    (with_front b (words_of behind))) (solid_no_blank b e)
     ∙ cond-false (ends_word behind) ((b ∷ []) ∷ words_of behind) (with_front b (words_of behind)) (solid_no_blank c h.0)
     ∙ ap (with_front b) (word_before c cs rest h.0 h.1 ends)
 
-pub word_first : (w rest : List ℕ) → 0 < length w → list_all is_solid w ≡ true → ends_word rest ≡ true → words_of (w ++ rest) ≡ w ∷ words_of rest
+pub word_first : (w rest : List ℕ) → 0 < length w → list_all is_solid w ≡ true → ends_word rest ≡ true
+    → words_of (w ++ rest) ≡ w ∷ words_of rest
 word_first [] rest some all ends = absurd (omega arith)
-word_first (b ∷ bs) rest some all ends = (let h = and_parts (is_solid b) (list_all is_solid bs) all in word_before b bs rest h.0 h.1 ends)
+word_first (b ∷ bs) rest some all ends = (let h = and_parts (is_solid b) (list_all is_solid bs) all in
+    word_before b bs rest h.0 h.1 ends)
 
 -- each size is at most the limit of all
 abbrev Small : List ℕ → Type 0
@@ -57,23 +62,27 @@ words_of-sizes : (sizes : List ℕ) → Small sizes → words_of (flat_map size_
 words_of-sizes [] le = refl
 words_of-sizes (size ∷ sizes) le =
     let fits = fits_64 size le.0 in
-    word_first (decimal size) (flat_map size_spelling sizes) (decimal_digits size fits).filled (decimal_solid size fits) (sizes_end sizes)
+    word_first (decimal size) (flat_map size_spelling sizes) (decimal_digits size fits).filled (decimal_solid size fits)
+    (sizes_end sizes)
     ∙ ap (λ (ws : List (List ℕ)). decimal size ∷ ws) (words_of-sizes sizes le.1)
 
 are_numbers : (sizes : List ℕ) → Small sizes → list_all is_number (map decimal sizes) ≡ true
 are_numbers [] le = refl
 are_numbers (size ∷ sizes) le =
     and_from (is_number (decimal size)) (list_all is_number (map decimal sizes))
-    (or_left (is_numeral (decimal size)) (is_negative (decimal size)) (decimal_digits size (fits_64 size le.0)).numeral) (are_numbers sizes le.1)
+    (or_left (is_numeral (decimal size)) (is_negative (decimal size)) (decimal_digits size (fits_64 size le.0)).numeral)
+    (are_numbers sizes le.1)
 
 numbers_back : (sizes : List ℕ) → Small sizes → numbers_in (2 ^ 32 - 1) (map decimal sizes) ≡ Ok sizes
 numbers_back [] le = refl
 numbers_back (size ∷ sizes) le =
-    ap (λ r. with_first_item (as_field r) (numbers_in (2 ^ 32 - 1) (map decimal sizes))) (in_field (2 ^ 32 - 1) size (omega arith) (omega (arith, le.0)))
+    ap (λ r. with_first_item (as_field r) (numbers_in (2 ^ 32 - 1) (map decimal sizes)))
+    (in_field (2 ^ 32 - 1) size (omega arith) (omega (arith, le.0)))
     ∙ ap (with_first_item (Ok size)) (numbers_back sizes le.1)
 
 fields_back : (sizes : List ℕ) → Small sizes → fields_of (2 ^ 32 - 1) (map decimal sizes) ≡ Ok sizes
-fields_back sizes le = cond-true (list_all is_number (map decimal sizes)) (numbers_in (2 ^ 32 - 1) (map decimal sizes)) (Err faults.Form) (are_numbers sizes le) ∙ numbers_back sizes le
+fields_back sizes le = cond-true (list_all is_number (map decimal sizes)) (numbers_in (2 ^ 32 - 1) (map decimal sizes))
+    (Err faults.Form) (are_numbers sizes le) ∙ numbers_back sizes le
 
 -- ---- what sizes stand under
 
@@ -83,7 +92,8 @@ pub record Stand (sizes : List ℕ) : Type 0 where
 
 pub stand : (sizes : List ℕ) → sizes_fit sizes ≡ true → Stand sizes
 stand sizes e =
-    let some = and_parts (nat_le 1 (length sizes)) (nat_le (length sizes) 16 && (list_all (nat_le 1) sizes && nat_le (sum sizes) 65536)) e in
+    let some = and_parts (nat_le 1 (length sizes)) (nat_le (length sizes) 16
+    && (list_all (nat_le 1) sizes && nat_le (sum sizes) 65536)) e in
     let few = and_parts (nat_le (length sizes) 16) (list_all (nat_le 1) sizes && nat_le (sum sizes) 65536) some.1 in
     let small = and_parts (list_all (nat_le 1) sizes) (nat_le (sum sizes) 65536) few.1 in
     record { few = leb-true _ _ few.0; small = are_small sizes (leb-true _ _ small.1) }
@@ -92,29 +102,36 @@ stand sizes e =
 pub head_back : (sizes : List ℕ) → sizes_fit sizes ≡ true → head_of (words_of (head_spelling sizes)) ≡ Ok sizes
 head_back sizes e =
     let s = stand sizes e in
-    ap head_of (word_first (codes "maps") (flat_map size_spelling sizes) (omega arith) refl (sizes_end sizes) ∙ ap (λ (ws : List (List ℕ)). codes "maps" ∷ ws) (words_of-sizes sizes s.small))
-    ∙ cond-true (bytes_eq (codes "maps") (codes "maps")) (as_sizes (fields_of (2 ^ 32 - 1) (map decimal sizes))) (Err faults.Form) refl
+    ap head_of (word_first (codes "maps") (flat_map size_spelling sizes) (omega arith) refl (sizes_end sizes)
+    ∙ ap (λ (ws : List (List ℕ)). codes "maps" ∷ ws) (words_of-sizes sizes s.small))
+    ∙ cond-true (bytes_eq (codes "maps") (codes "maps")) (as_sizes (fields_of (2 ^ 32 - 1) (map decimal sizes)))
+    (Err faults.Form) refl
     ∙ ap as_sizes (fields_back sizes s.small)
     ∙ cond-true (sizes_fit sizes) (Ok sizes) (Err faults.Limits) e
 
 sizes_inner : (sizes : List ℕ) → Small sizes → list_all in_line (flat_map size_spelling sizes) ≡ true
 sizes_inner [] le = refl
 sizes_inner (size ∷ sizes) le =
-    all_append in_line (32 ∷ decimal size) (flat_map size_spelling sizes) (solids_in_line (decimal size) (decimal_solid size (fits_64 size le.0))) (sizes_inner sizes le.1)
+    all_append in_line (32 ∷ decimal size) (flat_map size_spelling sizes) (solids_in_line (decimal size)
+    (decimal_solid size (fits_64 size le.0))) (sizes_inner sizes le.1)
 
 sizes_ends : (front : List ℕ) (sizes : List ℕ) → Small sizes → Ends front → Ends (front ++ flat_map size_spelling sizes)
 sizes_ends front [] le e = subst Ends (sym (append-nil front)) e
 sizes_ends front (size ∷ sizes) le e =
     let fits = fits_64 size le.0 in
-    let here : Ends (front ++ 32 ∷ decimal size) = ends_behind front (32 ∷ decimal size) (ends_behind (32 ∷ []) (decimal size) (ends_solid (decimal size) (decimal_digits size fits).filled (decimal_solid size fits))) in
-    subst Ends (append_assoc front (32 ∷ decimal size) (flat_map size_spelling sizes)) (sizes_ends (front ++ 32 ∷ decimal size) sizes le.1 here)
+    let here : Ends (front ++ 32 ∷ decimal size) =
+    ends_behind front (32 ∷ decimal size) (ends_behind (32 ∷ []) (decimal size)
+    (ends_solid (decimal size) (decimal_digits size fits).filled (decimal_solid size fits))) in
+    subst Ends (append_assoc front (32 ∷ decimal size) (flat_map size_spelling sizes))
+    (sizes_ends (front ++ 32 ∷ decimal size) sizes le.1 here)
 
 sizes_short : (sizes : List ℕ) → Small sizes → length (flat_map size_spelling sizes) ≤ 21 * length sizes
 sizes_short [] le = omega arith
 sizes_short (size ∷ sizes) le =
     let digits = decimal_short size (fits_64 size le.0) in
     let others = sizes_short sizes le.1 in
-    let long : length ((32 ∷ decimal size) ++ flat_map size_spelling sizes) ≡ suc (length (decimal size)) + length (flat_map size_spelling sizes) = length-append (32 ∷ decimal size) (flat_map size_spelling sizes) in
+    let long : length ((32 ∷ decimal size) ++ flat_map size_spelling sizes) ≡ suc (length (decimal size))
+    + length (flat_map size_spelling sizes) = length-append (32 ∷ decimal size) (flat_map size_spelling sizes) in
     omega (arith, digits, others, long)
 
 -- the first line is printed as a line
@@ -132,6 +149,8 @@ head_short sizes e =
     let s = stand sizes e in
     let few = s.few in
     let short = sizes_short sizes s.small in
-    let long : length (codes "maps" ++ flat_map size_spelling sizes) ≡ 4 + length (flat_map size_spelling sizes) = length-append (codes "maps") (flat_map size_spelling sizes) in
-    let whole : length (head_spelling sizes ++ 10 ∷ []) ≡ length (codes "maps" ++ flat_map size_spelling sizes) + 1 = length-append (head_spelling sizes) (10 ∷ []) in
+    let long : length (codes "maps" ++ flat_map size_spelling sizes) ≡ 4 + length (flat_map size_spelling sizes) =
+    length-append (codes "maps") (flat_map size_spelling sizes) in
+    let whole : length (head_spelling sizes ++ 10 ∷ []) ≡ length (codes "maps" ++ flat_map size_spelling sizes) + 1 =
+    length-append (head_spelling sizes) (10 ∷ []) in
     omega (arith, few, short, long, whole)

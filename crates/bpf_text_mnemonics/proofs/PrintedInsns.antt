@@ -40,13 +40,21 @@ pub record Word (text : List ℕ) : Type 0 where
   pub short : length text ≤ 50
 
 decimal_word : (n : ℕ) → n < 2 ^ 64 → Word (decimal n)
-decimal_word n fits = (let short = decimal_short n fits in record { solid = decimal_solid n fits; filled = (decimal_digits n fits).filled; short = omega (arith, short) })
+decimal_word n fits = (let short = decimal_short n fits in record {
+  solid = decimal_solid n fits;
+  filled = (decimal_digits n fits).filled;
+  short = omega (arith, short);
+})
 
 -- a byte before the digits of a number
 marked_word : (b n : ℕ) → is_solid b ≡ true → n < 2 ^ 64 → Word (b ∷ decimal n)
 marked_word b n e fits =
     let short = decimal_short n fits in
-    record { solid = and_from (is_solid b) (list_all is_solid (decimal n)) e (decimal_solid n fits); filled = omega arith; short = omega (arith, short) }
+    record {
+      solid = and_from (is_solid b) (list_all is_solid (decimal n)) e (decimal_solid n fits);
+      filled = omega arith;
+      short = omega (arith, short);
+    }
 
 signed_word : (z : ℤ) → InBound (2 ^ 31) z → Word (signed_decimal z)
 signed_word (pos n) lt = decimal_word n (omega arith)
@@ -68,8 +76,10 @@ address_word r z le lt =
     let offset_short = distance_short z lt in
     let inside = all_append is_solid (114 ∷ decimal r) (distance_spelling z) base.solid offset.solid in
     let whole = all_append is_solid ((114 ∷ decimal r) ++ distance_spelling z) (93 ∷ []) inside refl in
-    let long : length (((114 ∷ decimal r) ++ distance_spelling z) ++ 93 ∷ []) ≡ length ((114 ∷ decimal r) ++ distance_spelling z) + 1 = length-append ((114 ∷ decimal r) ++ distance_spelling z) (93 ∷ []) in
-    let inner : length ((114 ∷ decimal r) ++ distance_spelling z) ≡ suc (length (decimal r)) + length (distance_spelling z) = length-append (114 ∷ decimal r) (distance_spelling z) in
+    let long : length (((114 ∷ decimal r) ++ distance_spelling z) ++ 93 ∷ []) ≡ length ((114 ∷ decimal r)
+    ++ distance_spelling z) + 1 = length-append ((114 ∷ decimal r) ++ distance_spelling z) (93 ∷ []) in
+    let inner : length ((114 ∷ decimal r) ++ distance_spelling z) ≡ suc (length (decimal r))
+    + length (distance_spelling z) = length-append (114 ∷ decimal r) (distance_spelling z) in
     record { solid = whole; filled = omega arith; short = omega (arith, long, inner, base_short, offset_short) }
 
 -- the numbers of an operand are those of its type
@@ -102,26 +112,36 @@ record Tail (text : List ℕ) : Type 0 where
   short : length text ≤ 160
 
 -- a text and a word after it
-tail_behind : (front w : List ℕ) → list_all in_line front ≡ true → Word w → length front + length w ≤ 160 → Tail (front ++ w)
+tail_behind : (front w : List ℕ) → list_all in_line front ≡ true → Word w → length front + length w ≤ 160
+    → Tail (front ++ w)
 tail_behind front w e word le =
     let long : length (front ++ w) ≡ length front + length w = length-append front w in
-    record { inner = all_append in_line front w e (solids_in_line w word.solid); ends = ends_behind front w (ends_word w word.filled word.solid); short = omega (arith, long, le) }
+    record {
+      inner = all_append in_line front w e (solids_in_line w word.solid);
+      ends = ends_behind front w (ends_word w word.filled word.solid);
+      short = omega (arith, long, le);
+    }
 
 -- a word and a comma after a text
-comma_behind : (front w : List ℕ) → list_all in_line front ≡ true → Word w → list_all in_line ((front ++ w) ++ 44 ∷ 32 ∷ []) ≡ true
-comma_behind front w e word = all_append in_line (front ++ w) (44 ∷ 32 ∷ []) (all_append in_line front w e (solids_in_line w word.solid)) refl
+comma_behind : (front w : List ℕ) → list_all in_line front ≡ true → Word w → list_all in_line ((front ++ w) ++ 44 ∷ 32
+    ∷ []) ≡ true
+comma_behind front w e word =
+    all_append in_line (front ++ w) (44 ∷ 32 ∷ []) (all_append in_line front w e (solids_in_line w word.solid)) refl
 
 operands_tail : (o : Operands) → OperandsFit o → (o ≡ operands.Zero → ⊥) → Tail (operands_spelling o)
 operands_tail operands.Zero fits some = absurd (some refl)
-operands_tail (operands.One a) fits some = (let x = value_word a fits in let short = x.short in tail_behind (32 ∷ []) (value_spelling a) refl x (omega (arith, short)))
+operands_tail (operands.One a) fits some = (let x = value_word a fits in let short = x.short in
+    tail_behind (32 ∷ []) (value_spelling a) refl x (omega (arith, short)))
 operands_tail (operands.Two a b) fits some =
     let x = value_word a fits.0 in
     let y = value_word b fits.1 in
     let x_short = x.short in
     let y_short = y.short in
     let front = (32 ∷ value_spelling a) ++ 44 ∷ 32 ∷ [] in
-    let long : length front ≡ suc (length (value_spelling a)) + 2 = length-append (32 ∷ value_spelling a) (44 ∷ 32 ∷ []) in
-    tail_behind front (value_spelling b) (comma_behind (32 ∷ []) (value_spelling a) refl x) y (omega (arith, long, x_short, y_short))
+    let long : length front ≡ suc (length (value_spelling a)) + 2 = length-append (32 ∷ value_spelling a) (44 ∷ 32 ∷ [])
+    in
+    tail_behind front (value_spelling b) (comma_behind (32 ∷ []) (value_spelling a) refl x) y
+    (omega (arith, long, x_short, y_short))
 operands_tail (operands.Three a b c) fits some =
     let x = value_word a fits.0 in
     let y = value_word b fits.1 in
@@ -131,10 +151,22 @@ operands_tail (operands.Three a b c) fits some =
     let z_short = z.short in
     let first = (32 ∷ value_spelling a) ++ 44 ∷ 32 ∷ [] in
     let front = (first ++ value_spelling b) ++ 44 ∷ 32 ∷ [] in
-    let first_long : length first ≡ suc (length (value_spelling a)) + 2 = length-append (32 ∷ value_spelling a) (44 ∷ 32 ∷ []) in
-    let mid_long : length (first ++ value_spelling b) ≡ length first + length (value_spelling b) = length-append first (value_spelling b) in
-    let long : length front ≡ length (first ++ value_spelling b) + 2 = length-append (first ++ value_spelling b) (44 ∷ 32 ∷ []) in
-    tail_behind front (value_spelling c) (comma_behind first (value_spelling b) (comma_behind (32 ∷ []) (value_spelling a) refl x) y) z (omega (arith, first_long, mid_long, long, x_short, y_short, z_short))
+    let first_long : length first ≡ suc (length (value_spelling a)) + 2 =
+    length-append (32 ∷ value_spelling a) (44 ∷ 32 ∷ []) in
+    let mid_long : length (first ++ value_spelling b) ≡ length first + length (value_spelling b) =
+    length-append first (value_spelling b) in
+    let long : length front ≡ length (first ++ value_spelling b) + 2 =
+    length-append (first ++ value_spelling b) (44 ∷ 32 ∷ []) in
+    tail_behind front (value_spelling c) (comma_behind first (value_spelling b)
+    (comma_behind (32 ∷ []) (value_spelling a) refl x) y) z (omega (
+      arith,
+      first_long,
+      mid_long,
+      long,
+      x_short,
+      y_short,
+      z_short,
+    ))
 
 -- ---- instructions
 
@@ -146,7 +178,8 @@ operand_fits : (o : Operand) → OperandFits o → ValueFits (printed_operand o)
 operand_fits (operand.Imm z) fits = far_bound z fits
 operand_fits (operand.Reg r) fits = fits
 
-load_fits : (k : ImmKind) (dst : ℕ) (imm next : ℤ) → InsnFits (insn.LoadImm k dst imm next) → OperandsFit (two_slot_operands k dst imm next)
+load_fits : (k : ImmKind) (dst : ℕ) (imm next : ℤ) → InsnFits (insn.LoadImm k dst imm next)
+    → OperandsFit (two_slot_operands k dst imm next)
 load_fits kind.Number dst imm next fits = (fits.0, wide_fits imm next fits.1 fits.2)
 load_fits kind.MapFd dst imm next fits = (fits.0, far_bound imm fits.1)
 load_fits kind.MapFdValue dst imm next fits = (fits.0, far_bound imm fits.1, far_bound next fits.2)
@@ -207,15 +240,32 @@ line_from front tail f t =
     let t_short = t.short in
     let begins = f.begins in
     record {
-      line = record { inner = all_append in_line front tail f.inner t.inner; begins = (begins.0, begins.1 ++ tail, ap (λ (x : List ℕ). x ++ tail) begins.2, begins.3); ends = ends_behind front tail t.ends };
+      line = record {
+        inner = all_append in_line front tail f.inner t.inner;
+        begins = (
+          begins.0,
+          begins.1 ++ tail,
+          ap (λ (x : List ℕ). x ++ tail) begins.2,
+          begins.3,
+        );
+        ends = ends_behind front tail t.ends;
+      };
       short = omega (arith, long, f_short, t_short);
     }
 
 exit_line : ShortLine (insn_spelling insn.Exit)
-exit_line = record { line = record { inner = refl; begins = (_, _, refl, refl); ends = ends_word (insn_spelling insn.Exit) (omega arith) refl }; short = omega arith }
+exit_line = record {
+  line = record {
+    inner = refl;
+    begins = (_, _, refl, refl);
+    ends = ends_word (insn_spelling insn.Exit) (omega arith) refl;
+  };
+  short = omega arith;
+}
 
 with_operands : (i : Insn) → InsnFits i → (i ≡ insn.Exit → ⊥) → ShortLine (insn_spelling i)
-with_operands i fits other = line_from (mnemonic_word (mnemonic_of i)) (operands_spelling (operands_of i)) (mnemonic_front (mnemonic_of i)) (operands_tail (operands_of i) (operands_fit i fits) (has_operands i other))
+with_operands i fits other = line_from (mnemonic_word (mnemonic_of i)) (operands_spelling (operands_of i))
+    (mnemonic_front (mnemonic_of i)) (operands_tail (operands_of i) (operands_fit i fits) (has_operands i other))
 
 -- an instruction is printed as a line
 pub insn_is_line : (i : Insn) → InsnFits i → ShortLine (insn_spelling i)
@@ -230,7 +280,9 @@ insn_is_line (insn.Jump w c dst src offset) fits = with_operands (insn.Jump w c 
 insn_is_line (insn.Call c imm) fits = with_operands (insn.Call c imm) fits (λ e. absurd cc)
 insn_is_line (insn.Load s dst src offset) fits = with_operands (insn.Load s dst src offset) fits (λ e. absurd cc)
 insn_is_line (insn.LoadSx s dst src offset) fits = with_operands (insn.LoadSx s dst src offset) fits (λ e. absurd cc)
-insn_is_line (insn.StoreImm s dst offset imm) fits = with_operands (insn.StoreImm s dst offset imm) fits (λ e. absurd cc)
+insn_is_line (insn.StoreImm s dst offset imm) fits = with_operands (insn.StoreImm s dst offset imm) fits
+    (λ e. absurd cc)
 insn_is_line (insn.Store s dst src offset) fits = with_operands (insn.Store s dst src offset) fits (λ e. absurd cc)
-insn_is_line (insn.Atomic w o dst src offset) fits = with_operands (insn.Atomic w o dst src offset) fits (λ e. absurd cc)
+insn_is_line (insn.Atomic w o dst src offset) fits = with_operands (insn.Atomic w o dst src offset) fits
+    (λ e. absurd cc)
 insn_is_line (insn.LoadImm k dst imm next) fits = with_operands (insn.LoadImm k dst imm next) fits (λ e. absurd cc)

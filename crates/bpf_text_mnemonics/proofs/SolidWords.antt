@@ -1,4 +1,5 @@
--- Printed lines: they have no newline and no semicolon, begin with no blank, and end in a byte that is neither a blank nor a colon.
+-- Printed lines: they have no newline and no semicolon, begin with no blank, and end in a byte that is neither a blank
+-- nor a colon.
 use Rattle.std.proofs.Common.{◌≡◌, ℕ, ◌<◌, ◌≤◌, Bool, true, false, ◌&&◌, ◌==◌, not, List, [], ◌∷◌, ◌++◌, length, refl, sym, ap, ◌∙◌, append_assoc, arith}
 use Rattle.std.specs.Prelude.{nat_le}
 use Rattle.std.specs.Char.{is_ascii_digit}
@@ -23,9 +24,11 @@ solid_in_line b e =
 
 pub solids_in_line : (w : List ℕ) → list_all is_solid w ≡ true → list_all in_line w ≡ true
 solids_in_line [] e = refl
-solids_in_line (b ∷ bs) e = (let h = and_parts (is_solid b) (list_all is_solid bs) e in and_from (in_line b) (list_all in_line bs) (solid_in_line b h.0) (solids_in_line bs h.1))
+solids_in_line (b ∷ bs) e = (let h = and_parts (is_solid b) (list_all is_solid bs) e in
+    and_from (in_line b) (list_all in_line bs) (solid_in_line b h.0) (solids_in_line bs h.1))
 
-pub all_append : (p : ℕ → Bool) (xs ys : List ℕ) → list_all p xs ≡ true → list_all p ys ≡ true → list_all p (xs ++ ys) ≡ true
+pub all_append : (p : ℕ → Bool) (xs ys : List ℕ) → list_all p xs ≡ true → list_all p ys ≡ true
+    → list_all p (xs ++ ys) ≡ true
 all_append p xs ys e h = list_all-append p xs ys ∙ and_from (list_all p xs) (list_all p ys) e h
 
 -- the last byte of a text is one of a word
@@ -36,12 +39,20 @@ pub record Ends (text : List ℕ) : Type 0 where
   pub solid : is_solid last ≡ true
 
 pub ends_behind : (xs ys : List ℕ) → Ends ys → Ends (xs ++ ys)
-ends_behind xs ys e = record { front = xs ++ e.front; last = e.last; whole = ap (λ (t : List ℕ). xs ++ t) e.whole ∙ sym (append_assoc xs e.front (e.last ∷ [])); solid = e.solid }
+ends_behind xs ys e = record {
+  front = xs ++ e.front;
+  last = e.last;
+  whole = ap (λ (t : List ℕ). xs ++ t) e.whole
+      ∙ sym (append_assoc xs e.front (e.last ∷ []));
+  solid = e.solid;
+}
 
 pub ends_word : (w : List ℕ) → 0 < length w → list_all is_solid w ≡ true → Ends w
 ends_word [] some e = absurd (omega arith)
 ends_word (b ∷ []) some e = record { front = []; last = b; whole = refl; solid = (and_parts (is_solid b) true e).0 }
-ends_word (b ∷ c ∷ cs) some e = ends_behind (b ∷ []) (c ∷ cs) (ends_word (c ∷ cs) (omega arith) (and_parts (is_solid b) (list_all is_solid (c ∷ cs)) e).1)
+ends_word (b ∷ c ∷ cs) some e =
+    ends_behind (b ∷ []) (c ∷ cs) (ends_word (c ∷ cs) (omega arith) (and_parts (is_solid b) (list_all is_solid (c ∷ cs))
+    e).1)
 
 -- a line as it is printed
 pub record Line (text : List ℕ) : Type 0 where
@@ -76,4 +87,5 @@ digits_solid (b ∷ bs) e =
     let high : b ≤ 57 = leb-true b 57 d.1 in
     let colon : (b == 58) ≡ false = ne_eqb b 58 (λ same. absurd (omega (arith, same, high))) in
     let semicolon : (b == 59) ≡ false = ne_eqb b 59 (λ same. absurd (omega (arith, same, high))) in
-    and_from (is_solid b) (list_all is_solid bs) (and_from (nat_le 33 b) _ (le-leb 33 b (omega (arith, low))) (and_from (not (b == 58)) (not (b == 59)) (ap not colon) (ap not semicolon))) (digits_solid bs h.1)
+    and_from (is_solid b) (list_all is_solid bs) (and_from (nat_le 33 b) _ (le-leb 33 b (omega (arith, low)))
+    (and_from (not (b == 58)) (not (b == 59)) (ap not colon) (ap not semicolon))) (digits_solid bs h.1)

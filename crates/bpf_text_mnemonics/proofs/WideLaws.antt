@@ -16,10 +16,13 @@ small : (z : ℤ) → FitsSigned w32 z → cast_unsigned w32 z < 2 ^ 32
 small z fits = (Fits-of_z fits).fits
 
 pub wide_low : (imm next : ℤ) → FitsSigned w32 imm → cast_signed w32 (wide imm next % 2 ^ 32) ≡ imm
-wide_low imm next fits = ap (cast_signed w32) (low_half (cast_unsigned w32 imm) (cast_unsigned w32 next) (small imm fits)) ∙ to_z-of_z w32 imm fits
+wide_low imm next fits = ap (cast_signed w32) (low_half (cast_unsigned w32 imm) (cast_unsigned w32 next)
+    (small imm fits)) ∙ to_z-of_z w32 imm fits
 
-pub wide_high : (imm next : ℤ) → FitsSigned w32 imm → FitsSigned w32 next → cast_signed w32 (wide imm next / 2 ^ 32) ≡ next
-wide_high imm next low fits = ap (cast_signed w32) (high_half (cast_unsigned w32 imm) (cast_unsigned w32 next) (small imm low)) ∙ to_z-of_z w32 next fits
+pub wide_high : (imm next : ℤ) → FitsSigned w32 imm → FitsSigned w32 next → cast_signed w32 (wide imm next / 2 ^ 32)
+    ≡ next
+wide_high imm next low fits = ap (cast_signed w32) (high_half (cast_unsigned w32 imm) (cast_unsigned w32 next)
+    (small imm low)) ∙ to_z-of_z w32 next fits
 
 pub wide_fits : (imm next : ℤ) → FitsSigned w32 imm → FitsSigned w32 next → wide imm next < 2 ^ 64
 wide_fits imm next low high = let a = small imm low in let b = small next high in omega (arith, a, b)

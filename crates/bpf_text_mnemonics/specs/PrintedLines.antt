@@ -22,14 +22,16 @@ value_spelling (value.Imm imm) = signed_decimal imm
 value_spelling (value.Wide n) = decimal n
 value_spelling (value.Distance d) = distance_spelling d
 value_spelling (value.FarDistance d) = distance_spelling d
-value_spelling (value.Address base offset) = codes "[" ++ (codes "r" ++ decimal base) ++ distance_spelling offset ++ codes "]"
+value_spelling (value.Address base offset) = codes "[" ++ (codes "r" ++ decimal base) ++ distance_spelling offset
+    ++ codes "]"
 
 -- operands: a space before the first, a comma and a space before the others
 abbrev pub operands_spelling : Operands → List ℕ
 operands_spelling Zero = []
 operands_spelling (One a) = codes " " ++ value_spelling a
 operands_spelling (Two a b) = codes " " ++ value_spelling a ++ codes ", " ++ value_spelling b
-operands_spelling (Three a b c) = codes " " ++ value_spelling a ++ codes ", " ++ value_spelling b ++ codes ", " ++ value_spelling c
+operands_spelling (Three a b c) = codes " " ++ value_spelling a ++ codes ", " ++ value_spelling b ++ codes ", "
+    ++ value_spelling c
 
 -- an instruction
 abbrev pub insn_spelling : Insn → List ℕ

@@ -35,36 +35,45 @@ module _ (find : List ℕ → Option ℕ) (slot : ℕ) where
     pub filled : 0 < length word
     pub read : value_at find slot k word ≡ Ok v
 
-  one_back : (k : Kind) (x : List ℕ) (u : Value) → Reads k x u → operands_at find slot (kinds.One k) x ≡ Ok (operands.One u)
+  one_back : (k : Kind) (x : List ℕ) (u : Value) → Reads k x u → operands_at find slot (kinds.One k) x
+      ≡ Ok (operands.One u)
   one_back k x u r = ap (λ w. one_operand (value_at find slot k w)) (trim-plain x r.plain) ∙ ap one_operand r.read
 
-  both_back : (a b : Kind) (x y front : List ℕ) (u w : Value) → Reads a x u → Reads b y w → trim front ≡ x → both_at find slot a b (Some (front, 32 ∷ y)) ≡ Ok (u, w)
+  both_back : (a b : Kind) (x y front : List ℕ) (u w : Value) → Reads a x u → Reads b y w → trim front ≡ x
+      → both_at find slot a b (Some (front, 32 ∷ y)) ≡ Ok (u, w)
   both_back a b x y front u w r s same =
       ap (λ f. pair (value_at find slot a f) (value_at find slot b (trim (32 ∷ y)))) same
       ∙ ap (λ f. pair f (value_at find slot b (trim (32 ∷ y)))) r.read
       ∙ ap (λ f. pair (Ok u) f) (ap (value_at find slot b) (trim-plain y s.plain) ∙ s.read)
 
-  two_back : (a b : Kind) (x y : List ℕ) (u w : Value) → Reads a x u → Reads b y w → operands_at find slot (kinds.Two a b) (x ++ 44 ∷ 32 ∷ y) ≡ Ok (operands.Two u w)
+  two_back : (a b : Kind) (x y : List ℕ) (u w : Value) → Reads a x u → Reads b y w
+      → operands_at find slot (kinds.Two a b) (x ++ 44 ∷ 32 ∷ y) ≡ Ok (operands.Two u w)
   two_back a b x y u w r s =
       ap (λ parts. two_operands (both_at find slot a b parts)) (cut_back x (32 ∷ y) (plain-no_comma x r.plain))
       ∙ ap two_operands (both_back a b x y x u w r s (trim-plain x r.plain))
 
-  three_back : (a b c : Kind) (x y z : List ℕ) (u v w : Value) → Reads a x u → Reads b y v → Reads c z w → operands_at find slot (kinds.Three a b c) (x ++ 44 ∷ 32 ∷ (y ++ 44 ∷ 32 ∷ z)) ≡ Ok (operands.Three u v w)
+  three_back : (a b c : Kind) (x y z : List ℕ) (u v w : Value) → Reads a x u → Reads b y v → Reads c z w
+      → operands_at find slot (kinds.Three a b c) (x ++ 44 ∷ 32 ∷ (y ++ 44 ∷ 32 ∷ z)) ≡ Ok (operands.Three u v w)
   three_back a b c x y z u v w r s t =
-      ap (λ parts. three_operands (three_at find slot a b c parts)) (cut_back x (32 ∷ (y ++ 44 ∷ 32 ∷ z)) (plain-no_comma x r.plain))
-      ∙ ap (λ f. three_operands (pair (value_at find slot a f) (both_at find slot b c (cut_comma (32 ∷ (y ++ 44 ∷ 32 ∷ z)))))) (trim-plain x r.plain)
+      ap (λ parts. three_operands (three_at find slot a b c parts)) (cut_back x (32 ∷ (y ++ 44 ∷ 32 ∷ z))
+      (plain-no_comma x r.plain))
+      ∙ ap (λ f. three_operands (pair (value_at find slot a f)
+      (both_at find slot b c (cut_comma (32 ∷ (y ++ 44 ∷ 32 ∷ z)))))) (trim-plain x r.plain)
       ∙ ap (λ f. three_operands (pair f (both_at find slot b c (cut_comma (32 ∷ (y ++ 44 ∷ 32 ∷ z)))))) r.read
-      ∙ ap (λ parts. three_operands (pair (Ok u) (both_at find slot b c parts))) (cut_back (32 ∷ y) (32 ∷ z) ((λ e. absurd cc), plain-no_comma y s.plain))
+      ∙ ap (λ parts. three_operands (pair (Ok u) (both_at find slot b c parts)))
+      (cut_back (32 ∷ y) (32 ∷ z) ((λ e. absurd cc), plain-no_comma y s.plain))
       ∙ ap (λ f. three_operands (pair (Ok u) f)) (both_back b c y z (32 ∷ y) v w s t (trim-plain y s.plain))
 
   -- a line whose mnemonic and operands are read is its instruction
-  from_parts : (m : Mnemonic) (line text : List ℕ) (o : Operands) (i : Insn) → statement_at line ≡ Some (m, text) → operands_at find slot (kinds_of m) text ≡ Ok o → insn_of_mnemonic m o ≡ Some i →
+  from_parts : (m : Mnemonic) (line text : List ℕ) (o : Operands) (i : Insn) → statement_at line ≡ Some (m, text)
+      → operands_at find slot (kinds_of m) text ≡ Ok o → insn_of_mnemonic m o ≡ Some i →
       insn_of_line find slot line ≡ Ok i
   unfolding insn_of_line
   from_parts m line text o i said read made =
       ap (with_operands find slot) said ∙ ap (built m) read ∙ ap some_insn made
 
-  pub line_one : (m : Mnemonic) (k : Kind) (v : Value) (i : Insn) → HasWord m → kinds_of m ≡ kinds.One k → Reads k (value_spelling v) v → insn_of_mnemonic m (operands.One v) ≡ Some i →
+  pub line_one : (m : Mnemonic) (k : Kind) (v : Value) (i : Insn) → HasWord m → kinds_of m ≡ kinds.One k
+      → Reads k (value_spelling v) v → insn_of_mnemonic m (operands.One v) ≡ Some i →
       insn_of_line find slot (mnemonic_word m ++ operands_spelling (operands.One v)) ≡ Ok i
   line_one m k v i h same r made =
       let x = value_spelling v in
@@ -72,27 +81,35 @@ module _ (find : List ℕ → Option ℕ) (slot : ℕ) where
       (mnemonic_back m h x ∙ ap (λ text. Some (m, text)) (trim_start-plain x r.plain))
       (ap (λ ks. operands_at find slot ks x) same ∙ one_back k x v r) made
 
-  pub line_two : (m : Mnemonic) (a b : Kind) (u v : Value) (i : Insn) → HasWord m → kinds_of m ≡ kinds.Two a b → Reads a (value_spelling u) u → Reads b (value_spelling v) v → insn_of_mnemonic m (operands.Two u v) ≡ Some i →
+  pub line_two : (m : Mnemonic) (a b : Kind) (u v : Value) (i : Insn) → HasWord m → kinds_of m ≡ kinds.Two a b
+      → Reads a (value_spelling u) u → Reads b (value_spelling v) v → insn_of_mnemonic m (operands.Two u v) ≡ Some i →
       insn_of_line find slot (mnemonic_word m ++ operands_spelling (operands.Two u v)) ≡ Ok i
   line_two m a b u v i h same r s made =
       let x = value_spelling u in
       let y = value_spelling v in
       let joined : (x ++ 44 ∷ 32 ∷ []) ++ y ≡ x ++ 44 ∷ 32 ∷ y = append_assoc x (44 ∷ 32 ∷ []) y in
       from_parts m (mnemonic_word m ++ 32 ∷ ((x ++ 44 ∷ 32 ∷ []) ++ y)) (x ++ 44 ∷ 32 ∷ y) (operands.Two u v) i
-      (mnemonic_back m h ((x ++ 44 ∷ 32 ∷ []) ++ y) ∙ ap (λ text. Some (m, trim_start text)) joined ∙ ap (λ text. Some (m, text)) (trim_start-text x (44 ∷ 32 ∷ y) r.plain r.filled))
+      (mnemonic_back m h ((x ++ 44 ∷ 32 ∷ []) ++ y) ∙ ap (λ text. Some (m, trim_start text)) joined
+      ∙ ap (λ text. Some (m, text)) (trim_start-text x (44 ∷ 32 ∷ y) r.plain r.filled))
       (ap (λ ks. operands_at find slot ks (x ++ 44 ∷ 32 ∷ y)) same ∙ two_back a b x y u v r s) made
 
-  pub line_three : (m : Mnemonic) (a b c : Kind) (u v w : Value) (i : Insn) → HasWord m → kinds_of m ≡ kinds.Three a b c → Reads a (value_spelling u) u → Reads b (value_spelling v) v → Reads c (value_spelling w) w →
-      insn_of_mnemonic m (operands.Three u v w) ≡ Some i → insn_of_line find slot (mnemonic_word m ++ operands_spelling (operands.Three u v w)) ≡ Ok i
+  pub line_three : (m : Mnemonic) (a b c : Kind) (u v w : Value) (i : Insn) → HasWord m → kinds_of m ≡ kinds.Three a b c
+      → Reads a (value_spelling u) u → Reads b (value_spelling v) v → Reads c (value_spelling w) w →
+      insn_of_mnemonic m (operands.Three u v w) ≡ Some i
+      → insn_of_line find slot (mnemonic_word m ++ operands_spelling (operands.Three u v w)) ≡ Ok i
   line_three m a b c u v w i h same r s t made =
       let x = value_spelling u in
       let y = value_spelling v in
       let z = value_spelling w in
-      let joined : (((x ++ 44 ∷ 32 ∷ []) ++ y) ++ 44 ∷ 32 ∷ []) ++ z ≡ x ++ 44 ∷ 32 ∷ (y ++ 44 ∷ 32 ∷ z) = simp append_assoc in
-      from_parts m (mnemonic_word m ++ 32 ∷ ((((x ++ 44 ∷ 32 ∷ []) ++ y) ++ 44 ∷ 32 ∷ []) ++ z)) (x ++ 44 ∷ 32 ∷ (y ++ 44 ∷ 32 ∷ z)) (operands.Three u v w) i
-      (mnemonic_back m h ((((x ++ 44 ∷ 32 ∷ []) ++ y) ++ 44 ∷ 32 ∷ []) ++ z) ∙ ap (λ text. Some (m, trim_start text)) joined
+      let joined : (((x ++ 44 ∷ 32 ∷ []) ++ y) ++ 44 ∷ 32 ∷ []) ++ z ≡ x ++ 44 ∷ 32 ∷ (y ++ 44 ∷ 32 ∷ z) =
+      simp append_assoc in
+      from_parts m (mnemonic_word m ++ 32 ∷ ((((x ++ 44 ∷ 32 ∷ []) ++ y) ++ 44 ∷ 32 ∷ []) ++ z)) (x ++ 44 ∷ 32
+      ∷ (y ++ 44 ∷ 32 ∷ z)) (operands.Three u v w) i
+      (mnemonic_back m h ((((x ++ 44 ∷ 32 ∷ []) ++ y) ++ 44 ∷ 32 ∷ []) ++ z) ∙ ap (λ text. Some (m, trim_start text))
+      joined
       ∙ ap (λ text. Some (m, text)) (trim_start-text x (44 ∷ 32 ∷ (y ++ 44 ∷ 32 ∷ z)) r.plain r.filled))
-      (ap (λ ks. operands_at find slot ks (x ++ 44 ∷ 32 ∷ (y ++ 44 ∷ 32 ∷ z))) same ∙ three_back a b c x y z u v w r s t) made
+      (ap (λ ks. operands_at find slot ks (x ++ 44 ∷ 32 ∷ (y ++ 44 ∷ 32 ∷ z))) same
+      ∙ three_back a b c x y z u v w r s t) made
 
   -- ---- the operands of each kind
 
@@ -131,20 +148,47 @@ module _ (find : List ℕ → Option ℕ) (slot : ℕ) where
   filled_distance (negsuc n) = omega arith
 
   pub reg_reads : (r : ℕ) → r ≤ 10 → Reads kind.Reg (value_spelling (value.Reg r)) (value.Reg r)
-  reg_reads r le = record { plain = plain_register r le; filled = omega arith; read = ap as_reg (register_decimal r le) }
+  reg_reads r le = record {
+    plain = plain_register r le;
+    filled = omega arith;
+    read = ap as_reg (register_decimal r le);
+  }
 
   pub imm_reads : (z : ℤ) → FitsSigned w32 z → Reads kind.Imm (value_spelling (value.Imm z)) (value.Imm z)
-  imm_reads z fits = record { plain = plain_signed (2 ^ 31) z (omega arith) (far_bound z fits); filled = filled_signed z fits; read = ap as_imm (signed_back z fits) }
+  imm_reads z fits = record {
+    plain = plain_signed (2 ^ 31) z (omega arith) (far_bound z fits);
+    filled = filled_signed z fits;
+    read = ap as_imm (signed_back z fits);
+  }
 
-  pub near_reads : (z : ℤ) → FitsSigned w16 z → Reads kind.Distance (value_spelling (value.Distance z)) (value.Distance z)
-  near_reads z fits = record { plain = plain_distance (2 ^ 15) z (omega arith) (near_bound z fits); filled = filled_distance z; read = ap as_distance (distance_back find (2 ^ 15) slot z (omega arith) (near_bound z fits)) }
+  pub near_reads : (z : ℤ) → FitsSigned w16 z → Reads kind.Distance (value_spelling (value.Distance z))
+      (value.Distance z)
+  near_reads z fits = record {
+    plain = plain_distance (2 ^ 15) z (omega arith) (near_bound z fits);
+    filled = filled_distance z;
+    read =
+        ap as_distance (distance_back find (2 ^ 15) slot z (omega arith) (near_bound z fits));
+  }
 
-  pub far_reads : (z : ℤ) → FitsSigned w32 z → Reads kind.FarDistance (value_spelling (value.FarDistance z)) (value.FarDistance z)
-  far_reads z fits = record { plain = plain_distance (2 ^ 31) z (omega arith) (far_bound z fits); filled = filled_distance z; read = ap as_far_distance (distance_back find (2 ^ 31) slot z (omega arith) (far_bound z fits)) }
+  pub far_reads : (z : ℤ) → FitsSigned w32 z → Reads kind.FarDistance (value_spelling (value.FarDistance z))
+      (value.FarDistance z)
+  far_reads z fits = record {
+    plain = plain_distance (2 ^ 31) z (omega arith) (far_bound z fits);
+    filled = filled_distance z;
+    read =
+        ap as_far_distance (distance_back find (2 ^ 31) slot z (omega arith) (far_bound z fits));
+  }
 
-  pub address_reads : (r : ℕ) (z : ℤ) → r ≤ 10 → FitsSigned w16 z → Reads kind.Address (value_spelling (value.Address r z)) (value.Address r z)
+  pub address_reads : (r : ℕ) (z : ℤ) → r ≤ 10 → FitsSigned w16 z
+      → Reads kind.Address (value_spelling (value.Address r z)) (value.Address r z)
   address_reads r z le fits = record {
-    plain = (omega arith, (λ e. absurd cc), plain-append ((114 ∷ decimal r) ++ distance_spelling z) (93 ∷ []) (plain-append (114 ∷ decimal r) (distance_spelling z) (plain_register r le) (plain_distance (2 ^ 15) z (omega arith) (near_bound z fits))) (omega arith, (λ e. absurd cc), tt));
+    plain = (
+      omega arith,
+      (λ e. absurd cc),
+      plain-append ((114 ∷ decimal r) ++ distance_spelling z) (93 ∷ [])
+          (plain-append (114 ∷ decimal r) (distance_spelling z) (plain_register r le)
+          (plain_distance (2 ^ 15) z (omega arith) (near_bound z fits))) (omega arith, (λ e. absurd cc), tt),
+    );
     filled = omega arith;
     read = address_back r z le (near_bound z fits);
   }
@@ -154,26 +198,32 @@ module _ (find : List ℕ → Option ℕ) (slot : ℕ) where
 
   no_register : (word : List ℕ) → get_or word 0 0 < 114 → is_register word ≡ false
   no_register word lt =
-      let other : (get_or word 0 0 == 114) ≡ false = ne_eqb (get_or word 0 0) 114 (λ e. absurd (omega (arith, e, lt))) in
+      let other : (get_or word 0 0 == 114) ≡ false = ne_eqb (get_or word 0 0) 114 (λ e. absurd (omega (arith, e, lt)))
+      in
       rw other refl
 
   first_high : (word : List ℕ) → list_all is_ascii_digit word ≡ true → get_or word 0 0 < 114
   first_high [] e = omega arith
-  first_high (b ∷ bs) e = let h = digit_high b (and_parts (is_ascii_digit b) (list_all is_ascii_digit bs) e).0 in omega (arith, h)
+  first_high (b ∷ bs) e = let h = digit_high b (and_parts (is_ascii_digit b) (list_all is_ascii_digit bs) e).0 in
+      omega (arith, h)
 
   number_no_register : (z : ℤ) → InBound (2 ^ 31) z → is_register (signed_decimal z) ≡ false
-  number_no_register (pos n) lt = no_register (decimal n) (first_high (decimal n) (decimal_digits n (below (2 ^ 31) n (omega arith) lt)).digits)
+  number_no_register (pos n) lt =
+      no_register (decimal n) (first_high (decimal n) (decimal_digits n (below (2 ^ 31) n (omega arith) lt)).digits)
   number_no_register (negsuc n) lt = no_register (45 ∷ decimal (suc n)) (omega arith)
 
   pub imm_operand : (z : ℤ) → FitsSigned w32 z → Reads kind.RegOrImm (value_spelling (value.Imm z)) (value.Imm z)
   imm_operand z fits = record {
     plain = plain_signed (2 ^ 31) z (omega arith) (far_bound z fits);
     filled = filled_signed z fits;
-    read = cond-false (is_register (signed_decimal z)) _ _ (number_no_register z (far_bound z fits)) ∙ ap as_imm (signed_back z fits);
+    read = cond-false (is_register (signed_decimal z)) _ _ (number_no_register z (far_bound z fits))
+        ∙ ap as_imm (signed_back z fits);
   }
 
-  register_word : (word : List ℕ) → 0 < length word → list_all is_ascii_digit word ≡ true → is_register (114 ∷ word) ≡ true
-  register_word word some digits = and_from (nat_lt 1 (length (114 ∷ word))) _ (lt-ltb 1 (length (114 ∷ word)) (omega arith)) digits
+  register_word : (word : List ℕ) → 0 < length word → list_all is_ascii_digit word ≡ true → is_register (114 ∷ word)
+      ≡ true
+  register_word word some digits =
+      and_from (nat_lt 1 (length (114 ∷ word))) _ (lt-ltb 1 (length (114 ∷ word)) (omega arith)) digits
 
   pub reg_operand : (r : ℕ) → r ≤ 10 → Reads kind.RegOrImm (value_spelling (value.Reg r)) (value.Reg r)
   reg_operand r le =
@@ -181,7 +231,8 @@ module _ (find : List ℕ → Option ℕ) (slot : ℕ) where
       record {
         plain = plain_register r le;
         filled = omega arith;
-        read = cond-true (is_register (114 ∷ decimal r)) _ _ (register_word (decimal r) d.filled d.digits) ∙ ap as_reg (register_decimal r le);
+        read = cond-true (is_register (114 ∷ decimal r)) _ _ (register_word (decimal r) d.filled d.digits)
+            ∙ ap as_reg (register_decimal r le);
       }
 
   pub wide_reads : (n : ℕ) → n < 2 ^ 64 → Reads kind.Wide (value_spelling (value.Wide n)) (value.Wide n)

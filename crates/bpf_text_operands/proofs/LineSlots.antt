@@ -31,7 +31,8 @@ use Rattle.bpf_text_operands.specs.Statements.{statement_at, two_slots_of, insn_
 -- ---- what is read has its form
 
 -- both of a pair that is read
-both_read : {A B : Type 0} (a : Result A TextFault) (b : Result B TextFault) (x : A × B) → pair a b ≡ Ok x → ((u : A) × (a ≡ Ok u)) × ((v : B) × (b ≡ Ok v))
+both_read : {A B : Type 0} (a : Result A TextFault) (b : Result B TextFault) (x : A × B) → pair a b ≡ Ok x
+    → ((u : A) × (a ≡ Ok u)) × ((v : B) × (b ≡ Ok v))
 both_read (Ok u) (Ok v) x e = ((u, refl), (v, refl))
 both_read (Ok u) (Err fault) x e = absurd cc
 both_read (Err fault) (Ok v) x e = absurd cc
@@ -71,7 +72,8 @@ ok_is_ok r x e = ap is_ok e
 signed_read : (bound : ℕ) (word : List ℕ) (z : ℤ) → signed_at bound word ≡ Ok z → is_number word ≡ true
 signed_read bound word z e = by_sign (is_negative word) refl e
   where
-    by_sign : (b : Bool) → is_negative word ≡ b → cond b (back (number_in bound (drop 1 word))) (ahead (number_in (bound - 1) word)) ≡ Ok z → (is_numeral word || is_negative word) ≡ true
+    by_sign : (b : Bool) → is_negative word ≡ b → cond b (back (number_in bound (drop 1 word)))
+        (ahead (number_in (bound - 1) word)) ≡ Ok z → (is_numeral word || is_negative word) ≡ true
     by_sign true same h = or_right (is_numeral word) (is_negative word) same
     by_sign false same h =
         let n = ahead_read (number_in (bound - 1) word) z h in
@@ -81,16 +83,19 @@ offset_read : (bound : ℕ) (word : List ℕ) (z : ℤ) → offset_at bound word
 offset_read bound word z e = by_sign (is_negative word) (is_ahead word) refl refl e
   where
     by_sign : (b c : Bool) → is_negative word ≡ b → is_ahead word ≡ c →
-        cond b (back (number_in bound (drop 1 word))) (cond c (ahead (number_in (bound - 1) (drop 1 word))) (Err faults.Form)) ≡ Ok z → (is_negative word || is_ahead word) ≡ true
+        cond b (back (number_in bound (drop 1 word))) (cond c (ahead (number_in (bound - 1) (drop 1 word)))
+        (Err faults.Form)) ≡ Ok z → (is_negative word || is_ahead word) ≡ true
     by_sign true c same other h = or_left (is_negative word) (is_ahead word) same
     by_sign false true same other h = or_right (is_negative word) (is_ahead word) other
     by_sign false false same other h = absurd cc
 
 module _ (find : List ℕ → Option ℕ) (slot : ℕ) where
-  distance_read : (bound : ℕ) (word : List ℕ) (z : ℤ) → distance_at find bound slot word ≡ Ok z → (is_name word || is_offset word) ≡ true
+  distance_read : (bound : ℕ) (word : List ℕ) (z : ℤ) → distance_at find bound slot word ≡ Ok z
+      → (is_name word || is_offset word) ≡ true
   distance_read bound word z e = by_name (is_name word) refl e
     where
-      by_name : (b : Bool) → is_name word ≡ b → cond b (to_label bound slot (find word)) (offset_at bound word) ≡ Ok z → (is_name word || is_offset word) ≡ true
+      by_name : (b : Bool) → is_name word ≡ b → cond b (to_label bound slot (find word)) (offset_at bound word) ≡ Ok z
+          → (is_name word || is_offset word) ≡ true
       by_name true same h = or_left (is_name word) (is_offset word) same
       by_name false same h = or_right (is_name word) (is_offset word) (offset_read bound word z h)
 
@@ -99,47 +104,61 @@ module _ (find : List ℕ → Option ℕ) (slot : ℕ) where
   value_stands kind.Reg word v e = reg_read (register_at word) v e
   value_stands kind.RegOrImm word v e = by_register (is_register word) e
     where
-      by_register : (b : Bool) → cond b (as_reg (register_at word)) (as_imm (signed_at (2 ^ 31) word)) ≡ Ok v → cond b (is_ok (register_at word)) (is_number word) ≡ true
+      by_register : (b : Bool) → cond b (as_reg (register_at word)) (as_imm (signed_at (2 ^ 31) word)) ≡ Ok v
+          → cond b (is_ok (register_at word)) (is_number word) ≡ true
       by_register true h = reg_read (register_at word) v h
       by_register false h = (let z = imm_read (signed_at (2 ^ 31) word) v h in signed_read (2 ^ 31) word z.0 z.1)
   value_stands kind.Imm word v e = (let z = imm_read (signed_at (2 ^ 31) word) v e in signed_read (2 ^ 31) word z.0 z.1)
   value_stands kind.Wide word v e =
       let n = wide_read (number_in (2 ^ 64 - 1) word) v e in
       or_left (is_numeral word) (is_negative word) (numeral_if (2 ^ 64 - 1) word n.0 n.1)
-  value_stands kind.Distance word v e = (let z = near_read (distance_at find (2 ^ 15) slot word) v e in distance_read (2 ^ 15) word z.0 z.1)
-  value_stands kind.FarDistance word v e = (let z = far_read (distance_at find (2 ^ 31) slot word) v e in distance_read (2 ^ 31) word z.0 z.1)
+  value_stands kind.Distance word v e = (let z = near_read (distance_at find (2 ^ 15) slot word) v e in
+      distance_read (2 ^ 15) word z.0 z.1)
+  value_stands kind.FarDistance word v e = (let z = far_read (distance_at find (2 ^ 31) slot word) v e in
+      distance_read (2 ^ 31) word z.0 z.1)
   value_stands kind.Address word v e = by_brackets (is_bracketed word) e
     where
-      by_brackets : (b : Bool) → cond b (as_address (pair (register_at (base_part (inside word))) (offset_at (2 ^ 15) (offset_part (inside word))))) (Err faults.Form) ≡ Ok v →
+      by_brackets : (b : Bool) → cond b
+          (as_address (pair (register_at (base_part (inside word))) (offset_at (2 ^ 15) (offset_part (inside word)))))
+          (Err faults.Form) ≡ Ok v →
           (b && (is_ok (register_at (base_part (inside word))) && is_offset (offset_part (inside word)))) ≡ true
       by_brackets true h =
-          let x = address_read (pair (register_at (base_part (inside word))) (offset_at (2 ^ 15) (offset_part (inside word)))) v h in
-          let parts = both_read (register_at (base_part (inside word))) (offset_at (2 ^ 15) (offset_part (inside word))) x.0 x.1 in
+          let x = address_read (pair (register_at (base_part (inside word)))
+          (offset_at (2 ^ 15) (offset_part (inside word)))) v h in
+          let parts = both_read (register_at (base_part (inside word))) (offset_at (2 ^ 15) (offset_part (inside word)))
+          x.0 x.1 in
           and_from (is_ok (register_at (base_part (inside word)))) (is_offset (offset_part (inside word)))
-          (ok_is_ok (register_at (base_part (inside word))) parts.0.0 parts.0.1) (offset_read (2 ^ 15) (offset_part (inside word)) parts.1.0 parts.1.1)
+          (ok_is_ok (register_at (base_part (inside word))) parts.0.0 parts.0.1)
+          (offset_read (2 ^ 15) (offset_part (inside word)) parts.1.0 parts.1.1)
       by_brackets false h = absurd cc
 
-  both_stands : (a b : Kind) (cut : Option (List ℕ × List ℕ)) (x : Value × Value) → both_at find slot a b cut ≡ Ok x → both_stand a b cut ≡ true
+  both_stands : (a b : Kind) (cut : Option (List ℕ × List ℕ)) (x : Value × Value) → both_at find slot a b cut ≡ Ok x
+      → both_stand a b cut ≡ true
   both_stands a b None x e = absurd cc
   both_stands a b (Some parts) x e =
       let read = both_read (value_at find slot a (trim parts.0)) (value_at find slot b (trim parts.1)) x e in
-      and_from (stands a (trim parts.0)) (stands b (trim parts.1)) (value_stands a (trim parts.0) read.0.0 read.0.1) (value_stands b (trim parts.1) read.1.0 read.1.1)
+      and_from (stands a (trim parts.0)) (stands b (trim parts.1)) (value_stands a (trim parts.0) read.0.0 read.0.1)
+      (value_stands b (trim parts.1) read.1.0 read.1.1)
 
-  three_stands : (a b c : Kind) (cut : Option (List ℕ × List ℕ)) (x : Value × (Value × Value)) → three_at find slot a b c cut ≡ Ok x → three_stand a b c cut ≡ true
+  three_stands : (a b c : Kind) (cut : Option (List ℕ × List ℕ)) (x : Value × (Value × Value))
+      → three_at find slot a b c cut ≡ Ok x → three_stand a b c cut ≡ true
   three_stands a b c None x e = absurd cc
   three_stands a b c (Some parts) x e =
       let read = both_read (value_at find slot a (trim parts.0)) (both_at find slot b c (cut_comma parts.1)) x e in
-      and_from (stands a (trim parts.0)) (both_stand b c (cut_comma parts.1)) (value_stands a (trim parts.0) read.0.0 read.0.1) (both_stands b c (cut_comma parts.1) read.1.0 read.1.1)
+      and_from (stands a (trim parts.0)) (both_stand b c (cut_comma parts.1)) (value_stands a (trim parts.0) read.0.0
+      read.0.1) (both_stands b c (cut_comma parts.1) read.1.0 read.1.1)
 
   one_read : (r : Result Value TextFault) (o : Operands) → one_operand r ≡ Ok o → (v : Value) × (r ≡ Ok v)
   one_read (Ok v) o e = (v, refl)
   one_read (Err fault) o e = absurd cc
 
-  two_read : (r : Result (Value × Value) TextFault) (o : Operands) → two_operands r ≡ Ok o → (x : Value × Value) × (r ≡ Ok x)
+  two_read : (r : Result (Value × Value) TextFault) (o : Operands) → two_operands r ≡ Ok o → (x : Value × Value)
+      × (r ≡ Ok x)
   two_read (Ok x) o e = (x, refl)
   two_read (Err fault) o e = absurd cc
 
-  three_read : (r : Result (Value × (Value × Value)) TextFault) (o : Operands) → three_operands r ≡ Ok o → (x : Value × (Value × Value)) × (r ≡ Ok x)
+  three_read : (r : Result (Value × (Value × Value)) TextFault) (o : Operands) → three_operands r ≡ Ok o
+      → (x : Value × (Value × Value)) × (r ≡ Ok x)
   three_read (Ok x) o e = (x, refl)
   three_read (Err fault) o e = absurd cc
 
@@ -148,11 +167,15 @@ module _ (find : List ℕ → Option ℕ) (slot : ℕ) where
   nothing_read false o e = absurd cc
 
   -- a text that is read as operands has their form
-  operands_stand : (ks : Kinds) (text : List ℕ) (o : Operands) → operands_at find slot ks text ≡ Ok o → all_stand ks text ≡ true
+  operands_stand : (ks : Kinds) (text : List ℕ) (o : Operands) → operands_at find slot ks text ≡ Ok o
+      → all_stand ks text ≡ true
   operands_stand kinds.Zero text o e = nothing_read (length text == 0) o e
-  operands_stand (kinds.One a) text o e = (let v = one_read (value_at find slot a (trim text)) o e in value_stands a (trim text) v.0 v.1)
-  operands_stand (kinds.Two a b) text o e = (let x = two_read (both_at find slot a b (cut_comma text)) o e in both_stands a b (cut_comma text) x.0 x.1)
-  operands_stand (kinds.Three a b c) text o e = (let x = three_read (three_at find slot a b c (cut_comma text)) o e in three_stands a b c (cut_comma text) x.0 x.1)
+  operands_stand (kinds.One a) text o e = (let v = one_read (value_at find slot a (trim text)) o e in
+      value_stands a (trim text) v.0 v.1)
+  operands_stand (kinds.Two a b) text o e = (let x = two_read (both_at find slot a b (cut_comma text)) o e in
+      both_stands a b (cut_comma text) x.0 x.1)
+  operands_stand (kinds.Three a b c) text o e = (let x = three_read (three_at find slot a b c (cut_comma text)) o e in
+      three_stands a b c (cut_comma text) x.0 x.1)
 
   -- ---- the slots of a mnemonic's instruction
 
@@ -174,8 +197,10 @@ module _ (find : List ℕ → Option ℕ) (slot : ℕ) where
   insn_slots (mnemonic.Endian p bits) (One (value.Reg dst)) i e = same_slots _ i 1 e refl
   insn_slots mnemonic.Ja (One (value.Distance d)) i e = same_slots _ i 1 e refl
   insn_slots mnemonic.Ja32 (One (value.FarDistance d)) i e = same_slots _ i 1 e refl
-  insn_slots (mnemonic.Jump w c) (Three (value.Reg dst) (value.Imm imm) (value.Distance d)) i e = same_slots _ i 1 e refl
-  insn_slots (mnemonic.Jump w c) (Three (value.Reg dst) (value.Reg src) (value.Distance d)) i e = same_slots _ i 1 e refl
+  insn_slots (mnemonic.Jump w c) (Three (value.Reg dst) (value.Imm imm) (value.Distance d)) i e =
+      same_slots _ i 1 e refl
+  insn_slots (mnemonic.Jump w c) (Three (value.Reg dst) (value.Reg src) (value.Distance d)) i e =
+      same_slots _ i 1 e refl
   insn_slots (mnemonic.Call c) (One (value.Imm imm)) i e = same_slots _ i 1 e refl
   insn_slots mnemonic.Exit Zero i e = same_slots _ i 1 e refl
   insn_slots (mnemonic.Load s) (Two (value.Reg dst) (value.Address base offset)) i e = same_slots _ i 1 e refl
@@ -189,7 +214,8 @@ module _ (find : List ℕ → Option ℕ) (slot : ℕ) where
   -- ---- the line
 
   -- what was read of the operands of an instruction that was built
-  built_read : (m : Mnemonic) (r : Result Operands TextFault) (i : Insn) → built m r ≡ Ok i → (o : Operands) × (r ≡ Ok o) × (some_insn (insn_of_mnemonic m o) ≡ Ok i)
+  built_read : (m : Mnemonic) (r : Result Operands TextFault) (i : Insn) → built m r ≡ Ok i → (o : Operands)
+      × (r ≡ Ok o) × (some_insn (insn_of_mnemonic m o) ≡ Ok i)
   built_read m (Ok o) i e = (o, refl, e)
   built_read m (Err fault) i e = absurd cc
 
@@ -197,7 +223,8 @@ module _ (find : List ℕ → Option ℕ) (slot : ℕ) where
   insn_there (Some j) i e = (let same : j ≡ i = cc in ap (λ (x : Insn). Some x) same)
   insn_there None i e = absurd cc
 
-  statement_slots : (s : Option (Mnemonic × List ℕ)) (i : Insn) → with_operands find slot s ≡ Ok i → slots_where s ≡ slots_of i
+  statement_slots : (s : Option (Mnemonic × List ℕ)) (i : Insn) → with_operands find slot s ≡ Ok i
+      → slots_where s ≡ slots_of i
   statement_slots None i e = absurd cc
   statement_slots (Some s) i e =
       let made = built_read s.0 (operands_at find slot (kinds_of s.0) s.1) i e in

@@ -65,7 +65,8 @@ pub cut_back : (v rest : List ℕ) → NoComma v → cut_comma (v ++ 44 ∷ rest
 cut_back v rest p =
     let text = v ++ 44 ∷ rest in
     let long : length text ≡ length v + length (44 ∷ rest) = length-append v (44 ∷ rest) in
-    let at : position (λ b. b == 44) text ≡ Some (length v) = found_at text (length v) (position_or_len (λ b. b == 44) text) (comma_at v rest p) (omega (arith, long)) in
+    let at : position (λ b. b == 44) text ≡ Some (length v) =
+    found_at text (length v) (position_or_len (λ b. b == 44) text) (comma_at v rest p) (omega (arith, long)) in
     ap (cut text) at
     ∙ ap (λ (front : List ℕ). Some (front, drop (length v + 1) text)) (take-append_seam v (44 ∷ rest))
     ∙ ap (λ (behind : List ℕ). Some (v, behind)) (drop-append-add v (44 ∷ rest) 1)

@@ -29,35 +29,43 @@ no_minus word low =
 
 -- ---- registers
 
-pub register_back : (word : List ℕ) (r : ℕ) → list_all is_ascii_digit word ≡ true → 0 < length word → number_in 10 word ≡ Ok r → register_at (114 ∷ word) ≡ Ok r
+pub register_back : (word : List ℕ) (r : ℕ) → list_all is_ascii_digit word ≡ true → 0 < length word
+    → number_in 10 word ≡ Ok r → register_at (114 ∷ word) ≡ Ok r
 register_back word r digits filled read =
     let long : nat_lt 1 (length (114 ∷ word)) ≡ true = lt-ltb 1 (length (114 ∷ word)) (omega arith) in
-    cond-true (nat_lt 1 (length (114 ∷ word)) && list_all is_ascii_digit word) (as_register (number_in 10 word)) (Err faults.Form) (and_from _ _ long digits) ∙ ap as_register read
+    cond-true (nat_lt 1 (length (114 ∷ word)) && list_all is_ascii_digit word) (as_register (number_in 10 word))
+    (Err faults.Form) (and_from _ _ long digits) ∙ ap as_register read
 
 pub register_decimal : (r : ℕ) → r ≤ 10 → register_at (114 ∷ decimal r) ≡ Ok r
-register_decimal r le = let d = decimal_digits r (omega arith) in register_back (decimal r) r d.digits d.filled (in_field 10 r (omega arith) le)
+register_decimal r le = let d = decimal_digits r (omega arith) in register_back (decimal r) r d.digits d.filled
+    (in_field 10 r (omega arith) le)
 
 -- ---- numbers with a sign
 
-minus_back : (bound n : ℕ) → bound < 2 ^ 64 → suc n ≤ bound → (x : Result ℤ TextFault) → cond (is_negative (45 ∷ decimal (suc n))) (back (number_in bound (decimal (suc n)))) x ≡ Ok (negsuc n)
+minus_back : (bound n : ℕ) → bound < 2 ^ 64 → suc n ≤ bound → (x : Result ℤ TextFault)
+    → cond (is_negative (45 ∷ decimal (suc n))) (back (number_in bound (decimal (suc n)))) x ≡ Ok (negsuc n)
 minus_back bound n small le x =
     let fits : suc n < 2 ^ 64 = omega arith in
     let d = decimal_digits (suc n) fits in
-    let first : nat_lt 48 (get_or (decimal (suc n)) 0 0) ≡ true = lt-ltb _ _ (first_decimal (suc n) (omega arith) fits) in
-    cond-true (nat_lt 48 (get_or (decimal (suc n)) 0 0) && is_numeral (decimal (suc n))) (back (number_in bound (decimal (suc n)))) x (and_from _ _ first d.numeral)
+    let first : nat_lt 48 (get_or (decimal (suc n)) 0 0) ≡ true = lt-ltb _ _ (first_decimal (suc n) (omega arith) fits)
+    in
+    cond-true (nat_lt 48 (get_or (decimal (suc n)) 0 0) && is_numeral (decimal (suc n)))
+    (back (number_in bound (decimal (suc n)))) x (and_from _ _ first d.numeral)
     ∙ ap back (in_field bound (suc n) small le)
 
 pub signed_back : (z : ℤ) → FitsSigned w32 z → signed_at (2 ^ 31) (signed_decimal z) ≡ Ok z
 signed_back (pos n) fits =
     let d = decimal_digits n (omega (arith, fits.sfits)) in
-    cond-false (is_negative (decimal n)) (back (number_in (2 ^ 31) (drop 1 (decimal n)))) (ahead (number_in (2 ^ 31 - 1) (decimal n))) (no_minus (decimal n) d.first)
+    cond-false (is_negative (decimal n)) (back (number_in (2 ^ 31) (drop 1 (decimal n))))
+    (ahead (number_in (2 ^ 31 - 1) (decimal n))) (no_minus (decimal n) d.first)
     ∙ ap ahead (in_field (2 ^ 31 - 1) n (omega arith) (omega (arith, fits.sfits)))
 signed_back (negsuc n) fits = minus_back (2 ^ 31) n (omega arith) (omega (arith, fits.sfits)) _
 
 pub offset_back : (bound : ℕ) (z : ℤ) → bound < 2 ^ 64 → InBound bound z → offset_at bound (distance_spelling z) ≡ Ok z
 offset_back bound (pos n) small lt =
     let d = decimal_digits n (omega arith) in
-    cond-true (is_numeral (decimal n)) (ahead (number_in (bound - 1) (decimal n))) (Err faults.Form) d.numeral ∙ ap ahead (in_field (bound - 1) n (omega arith) (omega arith))
+    cond-true (is_numeral (decimal n)) (ahead (number_in (bound - 1) (decimal n))) (Err faults.Form) d.numeral
+    ∙ ap ahead (in_field (bound - 1) n (omega arith) (omega arith))
 offset_back bound (negsuc n) small lt = minus_back bound n small (omega arith) _
 
 no_name : (a b c d : Bool) → c ≡ false → (a && (b && (c && d))) ≡ false
@@ -65,9 +73,14 @@ no_name true true c d e = rw e refl
 no_name true false c d e = refl
 no_name false b c d e = refl
 
-pub distance_back : (find : List ℕ → Option ℕ) (bound slot : ℕ) (z : ℤ) → bound < 2 ^ 64 → InBound bound z → distance_at find bound slot (distance_spelling z) ≡ Ok z
-distance_back find bound slot (pos n) small lt = cond-false (is_name (43 ∷ decimal n)) _ _ (no_name _ _ _ (list_all continues_name (decimal n)) refl) ∙ offset_back bound (pos n) small lt
-distance_back find bound slot (negsuc n) small lt = cond-false (is_name (45 ∷ decimal (suc n))) _ _ (no_name _ _ _ (list_all continues_name (decimal (suc n))) refl) ∙ offset_back bound (negsuc n) small lt
+pub distance_back : (find : List ℕ → Option ℕ) (bound slot : ℕ) (z : ℤ) → bound < 2 ^ 64 → InBound bound z
+    → distance_at find bound slot (distance_spelling z) ≡ Ok z
+distance_back find bound slot (pos n) small lt =
+    cond-false (is_name (43 ∷ decimal n)) _ _ (no_name _ _ _ (list_all continues_name (decimal n)) refl)
+    ∙ offset_back bound (pos n) small lt
+distance_back find bound slot (negsuc n) small lt =
+    cond-false (is_name (45 ∷ decimal (suc n))) _ _ (no_name _ _ _ (list_all continues_name (decimal (suc n))) refl)
+    ∙ offset_back bound (negsuc n) small lt
 
 -- ---- memory
 
@@ -77,22 +90,26 @@ no_sign b low =
     let dash : (b == 45) ≡ false = ne_eqb b 45 (λ e. absurd (omega (arith, e, low))) in
     rw (plus, dash) refl
 
-sign_behind : (digits rest : List ℕ) (s : ℕ) → list_all is_ascii_digit digits ≡ true → is_sign s ≡ true → position_or_len is_sign (digits ++ s ∷ rest) ≡ length digits
+sign_behind : (digits rest : List ℕ) (s : ℕ) → list_all is_ascii_digit digits ≡ true → is_sign s ≡ true
+    → position_or_len is_sign (digits ++ s ∷ rest) ≡ length digits
 sign_behind [] rest s e sign = rw sign refl
 sign_behind (b ∷ bs) rest s e sign =
     let h = and_parts (is_ascii_digit b) (list_all is_ascii_digit bs) e in
     let behind = sign_behind bs rest s h.1 sign in
     rw (no_sign b (digit_low b h.0)) (omega (arith, behind))
 
-sign_at : (digits rest : List ℕ) (s : ℕ) → list_all is_ascii_digit digits ≡ true → is_sign s ≡ true → position_or_len is_sign ((114 ∷ digits) ++ s ∷ rest) ≡ length (114 ∷ digits)
+sign_at : (digits rest : List ℕ) (s : ℕ) → list_all is_ascii_digit digits ≡ true → is_sign s ≡ true
+    → position_or_len is_sign ((114 ∷ digits) ++ s ∷ rest) ≡ length (114 ∷ digits)
 sign_at digits rest s e sign = let behind = sign_behind digits rest s e sign in omega (arith, behind)
 
 bracketed : (text : List ℕ) → is_bracketed (91 ∷ (text ++ 93 ∷ [])) ≡ true
 bracketed text =
     let long : length (text ++ 93 ∷ []) ≡ length text + 1 = length-append text (93 ∷ []) in
-    let some : nat_lt 1 (length (91 ∷ (text ++ 93 ∷ []))) ≡ true = lt-ltb 1 (length (91 ∷ (text ++ 93 ∷ []))) (omega (arith, long)) in
+    let some : nat_lt 1 (length (91 ∷ (text ++ 93 ∷ []))) ≡ true =
+    lt-ltb 1 (length (91 ∷ (text ++ 93 ∷ []))) (omega (arith, long)) in
     let at : length (91 ∷ (text ++ 93 ∷ [])) - 1 ≡ suc (length text) = omega (arith, long) in
-    let last : get_or (91 ∷ (text ++ 93 ∷ [])) (length (91 ∷ (text ++ 93 ∷ [])) - 1) 0 ≡ 93 = ap (λ n. get_or (91 ∷ (text ++ 93 ∷ [])) n 0) at ∙ get_or-append_seam text 93 [] 0 in
+    let last : get_or (91 ∷ (text ++ 93 ∷ [])) (length (91 ∷ (text ++ 93 ∷ [])) - 1) 0 ≡ 93 =
+    ap (λ n. get_or (91 ∷ (text ++ 93 ∷ [])) n 0) at ∙ get_or-append_seam text 93 [] 0 in
     and_from _ _ some (ap (λ b. b == 93) last)
 
 inside_is : (text : List ℕ) → inside (91 ∷ (text ++ 93 ∷ [])) ≡ text
@@ -105,24 +122,33 @@ inside_is text =
 abbrev memory : List ℕ → Result Value TextFault
 memory text = as_address (pair (register_at (base_part text)) (offset_at (2 ^ 15) (offset_part text)))
 
-memory_back : (digits rest : List ℕ) (s r : ℕ) (z : ℤ) → list_all is_ascii_digit digits ≡ true → is_sign s ≡ true → register_at (114 ∷ digits) ≡ Ok r → offset_at (2 ^ 15) (s ∷ rest) ≡ Ok z →
+memory_back : (digits rest : List ℕ) (s r : ℕ) (z : ℤ) → list_all is_ascii_digit digits ≡ true → is_sign s ≡ true
+    → register_at (114 ∷ digits) ≡ Ok r → offset_at (2 ^ 15) (s ∷ rest) ≡ Ok z →
     memory ((114 ∷ digits) ++ s ∷ rest) ≡ Ok (value.Address r z)
 memory_back digits rest s r z e sign reg off =
     let at = sign_at digits rest s e sign in
-    let base : base_part ((114 ∷ digits) ++ s ∷ rest) ≡ 114 ∷ digits = ap (λ n. take n ((114 ∷ digits) ++ s ∷ rest)) at ∙ take-append_seam (114 ∷ digits) (s ∷ rest) in
-    let offset : offset_part ((114 ∷ digits) ++ s ∷ rest) ≡ s ∷ rest = ap (λ n. drop n ((114 ∷ digits) ++ s ∷ rest)) at ∙ drop-append_seam (114 ∷ digits) (s ∷ rest) in
-    ap (λ b. as_address (pair b (offset_at (2 ^ 15) (offset_part ((114 ∷ digits) ++ s ∷ rest))))) (ap register_at base ∙ reg)
+    let base : base_part ((114 ∷ digits) ++ s ∷ rest) ≡ 114 ∷ digits = ap (λ n. take n ((114 ∷ digits) ++ s ∷ rest)) at
+    ∙ take-append_seam (114 ∷ digits) (s ∷ rest) in
+    let offset : offset_part ((114 ∷ digits) ++ s ∷ rest) ≡ s ∷ rest = ap (λ n. drop n ((114 ∷ digits) ++ s ∷ rest)) at
+    ∙ drop-append_seam (114 ∷ digits) (s ∷ rest) in
+    ap (λ b. as_address (pair b (offset_at (2 ^ 15) (offset_part ((114 ∷ digits) ++ s ∷ rest))))) (ap register_at base
+    ∙ reg)
     ∙ ap (λ o. as_address (pair (Ok r) o)) (ap (offset_at (2 ^ 15)) offset ∙ off)
 
 -- text between brackets, as it is printed
 address_from : (text : List ℕ) (v : Value) → memory text ≡ Ok v → address_at (91 ∷ (text ++ 93 ∷ [])) ≡ Ok v
 address_from text v read =
-    cond-true (is_bracketed (91 ∷ (text ++ 93 ∷ []))) (memory (inside (91 ∷ (text ++ 93 ∷ [])))) (Err faults.Form) (bracketed text) ∙ ap memory (inside_is text) ∙ read
+    cond-true (is_bracketed (91 ∷ (text ++ 93 ∷ []))) (memory (inside (91 ∷ (text ++ 93 ∷ [])))) (Err faults.Form)
+    (bracketed text) ∙ ap memory (inside_is text) ∙ read
 
-pub address_back : (r : ℕ) (z : ℤ) → r ≤ 10 → InBound (2 ^ 15) z → address_at (value_spelling (value.Address r z)) ≡ Ok (value.Address r z)
+pub address_back : (r : ℕ) (z : ℤ) → r ≤ 10 → InBound (2 ^ 15) z → address_at (value_spelling (value.Address r z))
+    ≡ Ok (value.Address r z)
 address_back r (pos n) le lt =
     let d = decimal_digits r (omega arith) in
-    address_from ((114 ∷ decimal r) ++ 43 ∷ decimal n) (value.Address r (pos n)) (memory_back (decimal r) (decimal n) 43 r (pos n) d.digits refl (register_decimal r le) (offset_back (2 ^ 15) (pos n) (omega arith) lt))
+    address_from ((114 ∷ decimal r) ++ 43 ∷ decimal n) (value.Address r (pos n)) (memory_back (decimal r) (decimal n) 43
+    r (pos n) d.digits refl (register_decimal r le) (offset_back (2 ^ 15) (pos n) (omega arith) lt))
 address_back r (negsuc n) le lt =
     let d = decimal_digits r (omega arith) in
-    address_from ((114 ∷ decimal r) ++ 45 ∷ decimal (suc n)) (value.Address r (negsuc n)) (memory_back (decimal r) (decimal (suc n)) 45 r (negsuc n) d.digits refl (register_decimal r le) (offset_back (2 ^ 15) (negsuc n) (omega arith) lt))
+    address_from ((114 ∷ decimal r) ++ 45 ∷ decimal (suc n)) (value.Address r (negsuc n))
+    (memory_back (decimal r) (decimal (suc n)) 45 r (negsuc n) d.digits refl (register_decimal r le)
+    (offset_back (2 ^ 15) (negsuc n) (omega arith) lt))

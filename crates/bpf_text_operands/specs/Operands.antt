@@ -102,13 +102,15 @@ offset_part text = drop (position_or_len is_sign text) text
 -- the memory that a word names: a register and an offset with its sign, between brackets
 abbrev pub address_at : List ℕ → Result Value TextFault
 address_at word =
-    if is_bracketed word then as_address (pair (register_at (base_part (inside word))) (offset_at (2 ^ 15) (offset_part (inside word))))
+    if is_bracketed word then as_address (pair (register_at (base_part (inside word)))
+    (offset_at (2 ^ 15) (offset_part (inside word))))
     else Err faults.Form
 
 -- the operand that a word of a kind is, at a slot, where labels are found by this function
 abbrev pub value_at : (List ℕ → Option ℕ) → ℕ → Kind → List ℕ → Result Value TextFault
 value_at find slot kind.Reg word = as_reg (register_at word)
-value_at find slot kind.RegOrImm word = if is_register word then as_reg (register_at word) else as_imm (signed_at (2 ^ 31) word)
+value_at find slot kind.RegOrImm word = if is_register word then as_reg (register_at word)
+    else as_imm (signed_at (2 ^ 31) word)
 value_at find slot kind.Imm word = as_imm (signed_at (2 ^ 31) word)
 value_at find slot kind.Wide word = as_wide (field_of (2 ^ 64 - 1) word)
 value_at find slot kind.Distance word = as_distance (distance_at find (2 ^ 15) slot word)
@@ -143,9 +145,11 @@ both_at find slot a b None = Err faults.Form
 both_at find slot a b (Some parts) = pair (value_at find slot a (trim parts.0)) (value_at find slot b (trim parts.1))
 
 -- an operand, and two after the first comma
-abbrev pub three_at : (List ℕ → Option ℕ) → ℕ → Kind → Kind → Kind → Option (List ℕ × List ℕ) → Result (Value × (Value × Value)) TextFault
+abbrev pub three_at : (List ℕ → Option ℕ) → ℕ → Kind → Kind → Kind → Option (List ℕ × List ℕ)
+    → Result (Value × (Value × Value)) TextFault
 three_at find slot a b c None = Err faults.Form
-three_at find slot a b c (Some parts) = pair (value_at find slot a (trim parts.0)) (both_at find slot b c (cut_comma parts.1))
+three_at find slot a b c (Some parts) =
+    pair (value_at find slot a (trim parts.0)) (both_at find slot b c (cut_comma parts.1))
 
 -- the operands of these kinds that a text is, parted by commas with blanks round them
 abbrev pub operands_at : (List ℕ → Option ℕ) → ℕ → Kinds → List ℕ → Result Operands TextFault
@@ -162,7 +166,8 @@ stands kind.Imm word = is_number word
 stands kind.Wide word = is_number word
 stands kind.Distance word = is_name word || is_offset word
 stands kind.FarDistance word = is_name word || is_offset word
-stands kind.Address word = is_bracketed word && (is_ok (register_at (base_part (inside word))) && is_offset (offset_part (inside word)))
+stands kind.Address word = is_bracketed word && (is_ok (register_at (base_part (inside word)))
+    && is_offset (offset_part (inside word)))
 
 abbrev pub both_stand : Kind → Kind → Option (List ℕ × List ℕ) → Bool
 both_stand a b None = false

@@ -33,7 +33,8 @@ back (Err error) = Err (number_fault error)
 
 -- the number of a word, in a field of -bound to bound - 1
 abbrev pub signed_at : ℕ → List ℕ → Result ℤ TextFault
-signed_at bound word = if is_negative word then back (number_in bound (drop 1 word)) else ahead (number_in (bound - 1) word)
+signed_at bound word = if is_negative word then back (number_in bound (drop 1 word))
+    else ahead (number_in (bound - 1) word)
 
 -- a plus sign and a number of any size
 abbrev pub is_ahead : List ℕ → Bool
@@ -53,7 +54,8 @@ offset_at bound word =
 -- the distance from the slot after one slot to another, in a field of -bound to bound - 1
 abbrev pub distance_to : (bound slot target : ℕ) → Result ℤ TextFault
 distance_to bound slot target =
-    if nat_lt slot target then (if nat_lt (target - slot - 1) bound then Ok (pos (target - slot - 1)) else Err faults.Field)
+    if nat_lt slot target then (if nat_lt (target - slot - 1) bound then Ok (pos (target - slot - 1))
+    else Err faults.Field)
     else (if nat_le (slot + 1 - target) bound then Ok (neg_ℤ (pos (slot + 1 - target))) else Err faults.Field)
 
 -- the distance to a label's slot, if there is one

@@ -22,7 +22,8 @@ use Rattle.bpf_text_operands.specs.Operands.{kinds_of, operands_at, all_stand}
 
 -- a two-slot load of this kind
 abbrev pub two_slots_of : ImmKind → Operands → Option Insn
-two_slots_of load.Number (Two (value.Reg dst) (value.Wide n)) = Some (insn.LoadImm load.Number dst (cast_signed w32 (n % 2 ^ 32)) (cast_signed w32 (n / 2 ^ 32)))
+two_slots_of load.Number (Two (value.Reg dst) (value.Wide n)) =
+    Some (insn.LoadImm load.Number dst (cast_signed w32 (n % 2 ^ 32)) (cast_signed w32 (n / 2 ^ 32)))
 two_slots_of load.Code (Two (value.Reg dst) (value.FarDistance d)) = Some (insn.LoadImm load.Code dst d (pos 0))
 two_slots_of kind (Two (value.Reg dst) (value.Imm imm)) = Some (insn.LoadImm kind dst imm (pos 0))
 two_slots_of kind (Three (value.Reg dst) (value.Imm imm) (value.Imm next)) = Some (insn.LoadImm kind dst imm next)
@@ -37,15 +38,22 @@ insn_of_mnemonic (mnemonic.Movsx w bits) (Two (value.Reg dst) (value.Reg src)) =
 insn_of_mnemonic (mnemonic.Endian o bits) (One (value.Reg dst)) = Some (insn.Endian o bits dst)
 insn_of_mnemonic mnemonic.Ja (One (value.Distance d)) = Some (insn.Ja d)
 insn_of_mnemonic mnemonic.Ja32 (One (value.FarDistance d)) = Some (insn.Ja32 d)
-insn_of_mnemonic (mnemonic.Jump w c) (Three (value.Reg dst) (value.Imm imm) (value.Distance d)) = Some (insn.Jump w c dst (operand.Imm imm) d)
-insn_of_mnemonic (mnemonic.Jump w c) (Three (value.Reg dst) (value.Reg src) (value.Distance d)) = Some (insn.Jump w c dst (operand.Reg src) d)
+insn_of_mnemonic (mnemonic.Jump w c) (Three (value.Reg dst) (value.Imm imm) (value.Distance d)) =
+    Some (insn.Jump w c dst (operand.Imm imm) d)
+insn_of_mnemonic (mnemonic.Jump w c) (Three (value.Reg dst) (value.Reg src) (value.Distance d)) =
+    Some (insn.Jump w c dst (operand.Reg src) d)
 insn_of_mnemonic (mnemonic.Call c) (One (value.Imm imm)) = Some (insn.Call c imm)
 insn_of_mnemonic mnemonic.Exit Zero = Some insn.Exit
-insn_of_mnemonic (mnemonic.Load s) (Two (value.Reg dst) (value.Address base offset)) = Some (insn.Load s dst base offset)
-insn_of_mnemonic (mnemonic.LoadSx s) (Two (value.Reg dst) (value.Address base offset)) = Some (insn.LoadSx s dst base offset)
-insn_of_mnemonic (mnemonic.StoreImm s) (Two (value.Address base offset) (value.Imm imm)) = Some (insn.StoreImm s base offset imm)
-insn_of_mnemonic (mnemonic.Store s) (Two (value.Address base offset) (value.Reg src)) = Some (insn.Store s base src offset)
-insn_of_mnemonic (mnemonic.Atomic w o) (Two (value.Address base offset) (value.Reg src)) = Some (insn.Atomic w o base src offset)
+insn_of_mnemonic (mnemonic.Load s) (Two (value.Reg dst) (value.Address base offset)) =
+    Some (insn.Load s dst base offset)
+insn_of_mnemonic (mnemonic.LoadSx s) (Two (value.Reg dst) (value.Address base offset)) =
+    Some (insn.LoadSx s dst base offset)
+insn_of_mnemonic (mnemonic.StoreImm s) (Two (value.Address base offset) (value.Imm imm)) =
+    Some (insn.StoreImm s base offset imm)
+insn_of_mnemonic (mnemonic.Store s) (Two (value.Address base offset) (value.Reg src)) =
+    Some (insn.Store s base src offset)
+insn_of_mnemonic (mnemonic.Atomic w o) (Two (value.Address base offset) (value.Reg src)) =
+    Some (insn.Atomic w o base src offset)
 insn_of_mnemonic (mnemonic.LoadImm k) values = two_slots_of k values
 insn_of_mnemonic m values = None
 

@@ -44,13 +44,18 @@ stem_word stem.Store = codes "stx"
 abbrev pub stems : List Stem
 stems =
     stem.Ja ∷ stem.Ja32 ∷ stem.Exit ∷ stem.Call callee.Helper ∷ stem.Call callee.Local ∷ stem.Call callee.Btf
-    ∷ stem.LoadImm kind.Number ∷ stem.LoadImm kind.MapFd ∷ stem.LoadImm kind.MapFdValue ∷ stem.LoadImm kind.Variable ∷ stem.LoadImm kind.Code ∷ stem.LoadImm kind.Map ∷ stem.LoadImm kind.MapValue
-    ∷ stem.Alu op.Add ∷ stem.Alu op.Sub ∷ stem.Alu op.Mul ∷ stem.Alu op.Div ∷ stem.Alu op.Sdiv ∷ stem.Alu op.Or ∷ stem.Alu op.And
-    ∷ stem.Alu op.Lsh ∷ stem.Alu op.Rsh ∷ stem.Alu op.Mod ∷ stem.Alu op.Smod ∷ stem.Alu op.Xor ∷ stem.Alu op.Mov ∷ stem.Alu op.Arsh
+    ∷ stem.LoadImm kind.Number ∷ stem.LoadImm kind.MapFd ∷ stem.LoadImm kind.MapFdValue ∷ stem.LoadImm kind.Variable
+    ∷ stem.LoadImm kind.Code ∷ stem.LoadImm kind.Map ∷ stem.LoadImm kind.MapValue
+    ∷ stem.Alu op.Add ∷ stem.Alu op.Sub ∷ stem.Alu op.Mul ∷ stem.Alu op.Div ∷ stem.Alu op.Sdiv ∷ stem.Alu op.Or
+    ∷ stem.Alu op.And
+    ∷ stem.Alu op.Lsh ∷ stem.Alu op.Rsh ∷ stem.Alu op.Mod ∷ stem.Alu op.Smod ∷ stem.Alu op.Xor ∷ stem.Alu op.Mov
+    ∷ stem.Alu op.Arsh
     ∷ stem.Neg ∷ stem.Movsx width.W32 ∷ stem.Movsx width.W64
     ∷ stem.Endian order.Le ∷ stem.Endian order.Be ∷ stem.Endian order.Swap
-    ∷ stem.Jump compare.Eq ∷ stem.Jump compare.Gt ∷ stem.Jump compare.Ge ∷ stem.Jump compare.Set ∷ stem.Jump compare.Ne ∷ stem.Jump compare.Sgt
-    ∷ stem.Jump compare.Sge ∷ stem.Jump compare.Lt ∷ stem.Jump compare.Le ∷ stem.Jump compare.Slt ∷ stem.Jump compare.Sle
+    ∷ stem.Jump compare.Eq ∷ stem.Jump compare.Gt ∷ stem.Jump compare.Ge ∷ stem.Jump compare.Set ∷ stem.Jump compare.Ne
+    ∷ stem.Jump compare.Sgt
+    ∷ stem.Jump compare.Sge ∷ stem.Jump compare.Lt ∷ stem.Jump compare.Le ∷ stem.Jump compare.Slt
+    ∷ stem.Jump compare.Sle
     ∷ stem.Load ∷ stem.LoadSx ∷ stem.StoreImm ∷ stem.Store ∷ []
 
 -- the first of some stems whose word this is

@@ -43,7 +43,8 @@ impl<'a> Labels<'a> {
 
     /// Adds a label, unless one of this name is defined already.
     pub fn define(&mut self, name: &'a [u8], label: Label) -> Result<(), AllocError>
-        ensures { OnOk result ((other : List ℕ) → label_named self.new other ≡ defined (label_named self.old) name.now label other) }
+        ensures { OnOk result ((other : List ℕ) → label_named self.new other ≡ defined (label_named self.old) name.now
+            label other) }
     {
         self.places.entry(name)?.or_insert(label);
         Ok(())

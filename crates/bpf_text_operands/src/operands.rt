@@ -70,7 +70,8 @@ fn split_address(word: &[u8]) -> (&[u8], &[u8])
 /// The register and the offset that a word between brackets names.
 fn base_and_offset(word: &[u8]) -> Result<(Reg, i16), TextFault>
     requires { 2 ≤ length word.now }
-    ensures { result ≡ pair (register_at (base_part (inside word.now))) (offset_at (2 ^ 15) (offset_part (inside word.now))) }
+    ensures { result ≡ pair (register_at (base_part (inside word.now)))
+        (offset_at (2 ^ 15) (offset_part (inside word.now))) }
 {
     let (base, offset) = split_address(word);
     pair(register_at(base), near(offset_at(offset, NEAR)))

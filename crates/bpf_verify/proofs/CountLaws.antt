@@ -21,8 +21,10 @@ pub record Back (insns : List Insn) (n slot slot' i : ℕ) (x : Insn) : Type 0 w
   pub some : 1 ≤ slots_of x
   pub inner : (k : ℕ) → slot' < k → k < slot → insn_at insns k ≡ None
 
-pub back-index : (insns : List Insn) (n slot size left : ℕ) (x : Insn) → 0 < left → left ≤ length insns → slot ≡ slot_count (take left insns) →
-    x ≡ get_or insns (left - 1) x → size ≡ slots_of x → slot_count insns ≡ n → Back insns n slot (slot - size) (left - 1) x
+pub back-index : (insns : List Insn) (n slot size left : ℕ) (x : Insn) → 0 < left → left ≤ length insns
+    → slot ≡ slot_count (take left insns) →
+    x ≡ get_or insns (left - 1) x → size ≡ slots_of x → slot_count insns ≡ n
+    → Back insns n slot (slot - size) (left - 1) x
 back-index insns n slot size left x some within low read size_is counted =
     let inside : left - 1 < length insns = omega arith in
     let left_is : left - 1 + 1 ≡ left = omega arith in
@@ -45,39 +47,52 @@ pub record CountsFrom (insns : List Insn) (n slot : ℕ) (xs : List ℕ) : Type 
   pub small : (k : ℕ) → get_or xs k 0 ≤ 4096
 
 -- at no slot's instruction there is none
-longest-none : (insns : List Insn) (n k : ℕ) → JumpsForward insns → slot_count insns ≡ n → 0 < n → insn_at insns k ≡ None → longest insns n k ≡ 0
+longest-none : (insns : List Insn) (n k : ℕ) → JumpsForward insns → slot_count insns ≡ n → 0 < n
+    → insn_at insns k ≡ None → longest insns n k ≡ 0
 longest-none insns n k forward counted some none = longest-step insns n k None forward counted some none
 
 -- an instruction's number
-most-is : (insns : List Insn) (n slot slot' i most : ℕ) (x : Insn) (xs : List ℕ) → JumpsForward insns → slot_count insns ≡ n →
-    Back insns n slot slot' i x → CountsFrom insns n slot xs → most ≡ through (most_at xs) slot' (Some x) → most ≡ longest insns n slot'
+most-is : (insns : List Insn) (n slot slot' i most : ℕ) (x : Insn) (xs : List ℕ) → JumpsForward insns
+    → slot_count insns ≡ n →
+    Back insns n slot slot' i x → CountsFrom insns n slot xs → most ≡ through (most_at xs) slot' (Some x)
+    → most ≡ longest insns n slot'
 most-is insns n slot slot' i most x xs forward counted back counts is =
     is ∙ through-congr (most_at xs) (longest insns n) slot' x (λ k h. counts.done k (omega (arith, back.step, h)))
     (λ target jump_outflow. forward.later slot' x target back.here jump_outflow)
-    ∙ sym (longest-step insns n slot' (Some x) forward counted (omega (arith, back.inside, back.step, back.some)) back.here)
+    ∙ sym (longest-step insns n slot' (Some x) forward counted (omega (arith, back.inside, back.step, back.some))
+    back.here)
 
 -- the numbers from the slot before on
-pub counts-more : (insns : List Insn) (n slot slot' i most : ℕ) (x : Insn) (xs xs' : List ℕ) → JumpsForward insns → slot_count insns ≡ n → n ≤ 4096 →
-    Back insns n slot slot' i x → length xs ≡ n → CountsFrom insns n slot xs → most ≡ through (most_at xs) slot' (Some x) →
+pub counts-more : (insns : List Insn) (n slot slot' i most : ℕ) (x : Insn) (xs xs' : List ℕ) → JumpsForward insns
+    → slot_count insns ≡ n → n ≤ 4096 →
+    Back insns n slot slot' i x → length xs ≡ n → CountsFrom insns n slot xs
+    → most ≡ through (most_at xs) slot' (Some x) →
     xs' ≡ set xs slot' most → CountsFrom insns n slot' xs'
 counts-more insns n slot slot' i most x xs xs' forward counted few back size counts is written =
     let inside : slot' < length xs = omega (arith, back.inside, back.step, back.some) in
-    let most_is : most ≡ longest insns n slot' = most-is insns n slot slot' i most x xs forward counted back counts is in
-    let at_slot : get_or xs' slot' 0 ≡ most = ap (λ (l : List ℕ). get_or l slot' 0) written ∙ get_or-set_same xs slot' most 0 inside in
+    let most_is : most ≡ longest insns n slot' = most-is insns n slot slot' i most x xs forward counted back counts is
+    in
+    let at_slot : get_or xs' slot' 0 ≡ most = ap (λ (l : List ℕ). get_or l slot' 0) written
+    ∙ get_or-set_same xs slot' most 0 inside in
     let elsewhere : (k : ℕ) → k ≢ slot' → get_or xs' k 0 ≡ get_or xs k 0 =
     λ k other. ap (λ (l : List ℕ). get_or l k 0) written ∙ get_or-set_other xs slot' k most 0 other in
     record {
-      done = λ k h. from_here insns n slot slot' i k x xs xs' forward counted back counts (at_slot ∙ most_is) (elsewhere k) h (nat_eq k slot') refl (nat_lt k slot) refl;
+      done = λ k h. from_here insns n slot slot' i k x xs xs' forward counted back counts (at_slot ∙ most_is)
+          (elsewhere k) h (nat_eq k slot') refl (nat_lt k slot) refl;
       before = λ k h.
           let other : k ≢ slot' = λ e. omega (arith, e, h) in
           let below : k < slot = omega (arith, back.step, h) in
           elsewhere k other ∙ counts.before k below;
-      small = λ k. bounded insns n slot' k most xs xs' few at_slot most_is (elsewhere k) counts.small (nat_eq k slot') refl;
+      small = λ k. bounded insns n slot' k most xs xs' few at_slot most_is (elsewhere k) counts.small (nat_eq k slot')
+          refl;
     }
   where
-    from_here : (insns : List Insn) (n slot slot' i k : ℕ) (x : Insn) (xs xs' : List ℕ) → JumpsForward insns → slot_count insns ≡ n →
-        Back insns n slot slot' i x → CountsFrom insns n slot xs → get_or xs' slot' 0 ≡ longest insns n slot' → (k ≢ slot' → get_or xs' k 0 ≡ get_or xs k 0) →
-        slot' ≤ k → (same : Bool) → nat_eq k slot' ≡ same → (inner : Bool) → nat_lt k slot ≡ inner → get_or xs' k 0 ≡ longest insns n k
+    from_here : (insns : List Insn) (n slot slot' i k : ℕ) (x : Insn) (xs xs' : List ℕ) → JumpsForward insns
+        → slot_count insns ≡ n →
+        Back insns n slot slot' i x → CountsFrom insns n slot xs → get_or xs' slot' 0 ≡ longest insns n slot'
+        → (k ≢ slot' → get_or xs' k 0 ≡ get_or xs k 0) →
+        slot' ≤ k → (same : Bool) → nat_eq k slot' ≡ same → (inner : Bool) → nat_lt k slot ≡ inner
+        → get_or xs' k 0 ≡ longest insns n k
     from_here insns n slot slot' i k x xs xs' forward counted back counts here elsewhere h true e inner f =
         let same : k ≡ slot' = grind (arith, nat_tests) in
         ap (λ (j : ℕ). get_or xs' j 0) same ∙ here ∙ sym (ap (longest insns n) same)
@@ -85,14 +100,18 @@ counts-more insns n slot slot' i most x xs xs' forward counted few back size cou
         let other : k ≢ slot' = grind (arith, nat_tests) in
         let below : k < slot = grind (arith, nat_tests) in
         let above : slot' < k = omega (arith, other) in
-        elsewhere other ∙ counts.before k below ∙ sym (longest-none insns n k forward counted (omega (arith, back.inside, below)) (back.inner k above below))
+        elsewhere other ∙ counts.before k below
+        ∙ sym (longest-none insns n k forward counted (omega (arith, back.inside, below))
+        (back.inner k above below))
     from_here insns n slot slot' i k x xs xs' forward counted back counts here elsewhere h false e false f =
         let other : k ≢ slot' = grind (arith, nat_tests) in
         let past : slot ≤ k = grind (arith, nat_tests) in
         elsewhere other ∙ counts.done k past
 
-    bounded : (insns : List Insn) (n slot' k most : ℕ) (xs xs' : List ℕ) → n ≤ 4096 → get_or xs' slot' 0 ≡ most → most ≡ longest insns n slot' →
-        (k ≢ slot' → get_or xs' k 0 ≡ get_or xs k 0) → ((k : ℕ) → get_or xs k 0 ≤ 4096) → (same : Bool) → nat_eq k slot' ≡ same → get_or xs' k 0 ≤ 4096
+    bounded : (insns : List Insn) (n slot' k most : ℕ) (xs xs' : List ℕ) → n ≤ 4096 → get_or xs' slot' 0 ≡ most
+        → most ≡ longest insns n slot' →
+        (k ≢ slot' → get_or xs' k 0 ≡ get_or xs k 0) → ((k : ℕ) → get_or xs k 0 ≤ 4096) → (same : Bool)
+        → nat_eq k slot' ≡ same → get_or xs' k 0 ≤ 4096
     bounded insns n slot' k most xs xs' few here most_is elsewhere small true e =
         let same : k ≡ slot' = grind (arith, nat_tests) in
         let at : get_or xs' k 0 ≡ longest insns n slot' = ap (λ (j : ℕ). get_or xs' j 0) same ∙ here ∙ most_is in
@@ -102,7 +121,8 @@ counts-more insns n slot slot' i most x xs xs' forward counted few back size cou
         omega (arith, elsewhere other, small k)
 
 -- before the first, all numbers are 0
-pub counts-none : (insns : List Insn) (n : ℕ) (xs : List ℕ) → slot_count insns ≡ n → ((k : ℕ) → get_or xs k 0 ≡ 0) → CountsFrom insns n n xs
+pub counts-none : (insns : List Insn) (n : ℕ) (xs : List ℕ) → slot_count insns ≡ n → ((k : ℕ) → get_or xs k 0 ≡ 0)
+    → CountsFrom insns n n xs
 counts-none insns n xs counted zeros = record {
   done = λ k h. zeros k ∙ sym (longest-end insns n k (omega (arith, h)));
   before = λ k h. zeros k;
@@ -126,9 +146,11 @@ get_or-map g (x ∷ xs) (suc k) h = get_or-map g xs k (omega arith)
 
 -- a function's count is its start's
 pub count-at : (insns : List Insn) (starts counts : List ℕ) (f : ℕ) → starts ≡ callback_starts insns →
-    counts ≡ map (longest insns (slot_count insns)) (0 ∷ starts) → f ≤ length starts → get_or counts f 0 ≡ count_of insns f
+    counts ≡ map (longest insns (slot_count insns)) (0 ∷ starts) → f ≤ length starts
+    → get_or counts f 0 ≡ count_of insns f
 unfolding count_of
 count-at insns starts counts zero starts_are counts_are h = ap (λ (l : List ℕ). get_or l 0 0) counts_are
 count-at insns starts counts (suc k) starts_are counts_are h =
-    ap (λ (l : List ℕ). get_or l (suc k) 0) counts_are ∙ get_or-map (longest insns (slot_count insns)) starts k (omega arith)
+    ap (λ (l : List ℕ). get_or l (suc k) 0) counts_are ∙ get_or-map (longest insns (slot_count insns)) starts k
+    (omega arith)
     ∙ ap (λ (l : List ℕ). longest insns (slot_count insns) (get_or l k 0)) starts_are

@@ -12,20 +12,25 @@ use Rattle.bpf_insn_types.proofs.ProgramLaws.{insn_at-front, starts-push}
 use Rattle.bpf_verify.specs.SlotFlags.{slot_flagged}
 
 -- the marks of a front with one instruction more
-pub begin-step : (xs : List Insn) (x : Insn) (marks : List Bool) → ((k : ℕ) → get_or marks k false ≡ is_some (insn_at xs k)) →
-    slot_count xs < length marks → (k : ℕ) → get_or (set marks (slot_count xs) true) k false ≡ is_some (insn_at (xs ++ (x ∷ [])) k)
+pub begin-step : (xs : List Insn) (x : Insn) (marks : List Bool)
+    → ((k : ℕ) → get_or marks k false ≡ is_some (insn_at xs k)) →
+    slot_count xs < length marks → (k : ℕ) → get_or (set marks (slot_count xs) true) k false
+    ≡ is_some (insn_at (xs ++ (x ∷ [])) k)
 begin-step xs x marks so_far inside k = by_place xs x marks so_far inside k (nat_eq k (slot_count xs)) refl
   where
-    by_place : (xs : List Insn) (x : Insn) (marks : List Bool) → ((k : ℕ) → get_or marks k false ≡ is_some (insn_at xs k)) →
+    by_place : (xs : List Insn) (x : Insn) (marks : List Bool)
+        → ((k : ℕ) → get_or marks k false ≡ is_some (insn_at xs k)) →
         slot_count xs < length marks → (k : ℕ) (b : Bool) → nat_eq k (slot_count xs) ≡ b →
         get_or (set marks (slot_count xs) true) k false ≡ is_some (insn_at (xs ++ (x ∷ [])) k)
     by_place xs x marks so_far inside k true e =
         let here : k ≡ slot_count xs = grind (arith, nat_tests) in
-        ap (λ (j : ℕ). get_or (set marks (slot_count xs) true) j false) here ∙ get_or-set_same marks (slot_count xs) true false inside
+        ap (λ (j : ℕ). get_or (set marks (slot_count xs) true) j false) here ∙ get_or-set_same marks (slot_count xs)
+        true false inside
         ∙ sym (ap is_some (ap (insn_at (xs ++ (x ∷ []))) here ∙ insn_at-front xs x []))
     by_place xs x marks so_far inside k false e =
         let other : k ≢ slot_count xs = grind (arith, nat_tests) in
-        get_or-set_other marks (slot_count xs) k true false other ∙ so_far k ∙ sym (ap is_some (starts-push xs x k other))
+        get_or-set_other marks (slot_count xs) k true false other ∙ so_far k
+        ∙ sym (ap is_some (starts-push xs x k other))
 
 -- marks of named slots with one more
 named-step : (named : List ℕ) (target : Option ℕ) (marks : List Bool) (k : ℕ) → k < length marks →
@@ -33,7 +38,8 @@ named-step : (named : List ℕ) (target : Option ℕ) (marks : List Bool) (k : �
     ((t : ℕ) → target ≡ Some t → after ≡ set marks t true) →
     get_or after k false ≡ list_any (nat_eq k) (named ++ cons_option target [])
 named-step named None marks k inside so_far after none some =
-    ap (λ (m : List Bool). get_or m k false) (none refl) ∙ so_far ∙ sym (list_any-append (nat_eq k) named [] ∙ or_false (list_any (nat_eq k) named))
+    ap (λ (m : List Bool). get_or m k false) (none refl) ∙ so_far ∙ sym (list_any-append (nat_eq k) named []
+    ∙ or_false (list_any (nat_eq k) named))
   where
     or_false : (b : Bool) → (b || false) ≡ b
     or_false true = refl
@@ -50,11 +56,14 @@ named-step named (Some t) marks k inside so_far after none some =
     or_false true = refl
     or_false false = refl
 
-    by_place : (named : List ℕ) (t : ℕ) (marks : List Bool) (k : ℕ) → k < length marks → get_or marks k false ≡ list_any (nat_eq k) named →
-        (b : Bool) → nat_eq k t ≡ b → get_or (set marks t true) k false ≡ (list_any (nat_eq k) named || list_any (nat_eq k) (t ∷ []))
+    by_place : (named : List ℕ) (t : ℕ) (marks : List Bool) (k : ℕ) → k < length marks
+        → get_or marks k false ≡ list_any (nat_eq k) named →
+        (b : Bool) → nat_eq k t ≡ b → get_or (set marks t true) k false ≡ (list_any (nat_eq k) named
+        || list_any (nat_eq k) (t ∷ []))
     by_place named t marks k inside so_far true e =
         let here : k ≡ t = grind (arith, nat_tests) in
-        ap (λ (j : ℕ). get_or (set marks t true) j false) here ∙ get_or-set_same marks t true false (subst (λ (j : ℕ). j < length marks) here inside)
+        ap (λ (j : ℕ). get_or (set marks t true) j false) here ∙ get_or-set_same marks t true false
+        (subst (λ (j : ℕ). j < length marks) here inside)
         ∙ or_true (list_any (nat_eq k) named) ∙ ap (λ (b : Bool). list_any (nat_eq k) named || (b || false)) (sym e)
     by_place named t marks k inside so_far false e =
         let other : k ≢ t = grind (arith, nat_tests) in
@@ -64,9 +73,11 @@ named-step named (Some t) marks k inside so_far after none some =
 pub named-marked : (named : List ℕ) (target : Option ℕ) (marks : List Bool) (k : ℕ) → k < length marks →
     get_or marks k false ≡ list_any (nat_eq k) named →
     get_or (slot_flagged marks target) k false ≡ list_any (nat_eq k) (named ++ cons_option target [])
-named-marked named None marks k inside so_far = named-step named None marks k inside so_far marks (λ _. refl) (λ t e. cc)
+named-marked named None marks k inside so_far = named-step named None marks k inside so_far marks (λ _. refl)
+    (λ t e. cc)
 named-marked named (Some s) marks k inside so_far =
-    named-step named (Some s) marks k inside so_far (set marks s true) (λ e. cc) (λ t e. let same : s ≡ t = cc in ap (λ (n : ℕ). set marks n true) same)
+    named-step named (Some s) marks k inside so_far (set marks s true) (λ e. cc) (λ t e. let same : s ≡ t = cc in
+    ap (λ (n : ℕ). set marks n true) same)
 
 pub length-marked : (marks : List Bool) (target : Option ℕ) → length (slot_flagged marks target) ≡ length marks
 length-marked marks None = refl

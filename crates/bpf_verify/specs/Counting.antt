@@ -21,7 +21,8 @@ pub record AreLongest (insns : List Insn) (counts : List ℕ) : Type 0 where
 
 -- what an accepted unit is kept with: its numbers fit, and it has where its callbacks start, the most instructions of
 -- each function, an operation for each slot, and those that run
-pub record IsVerifiedProgram (program : Program) (starts counts : List ℕ) (ops : List PlainOp) (fast : List FastOp) : Type 0 where
+pub record IsVerifiedProgram (program : Program) (starts counts : List ℕ) (ops : List PlainOp)
+    (fast : List FastOp) : Type 0 where
   pub accepted : first_fault program ≡ None
   pub insns_fit : AreInsns program.insns
   pub sizes_fit : AreSizes program.sizes

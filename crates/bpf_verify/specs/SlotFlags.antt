@@ -17,4 +17,5 @@ pub record StartFlags (insns : List Insn) (marks : List Bool) : Type 0 where
 -- the slots that code addresses name are flagged
 pub record NamedFlags (insns : List Insn) (marks : List Bool) : Type 0 where
   pub count : length marks ≡ slot_count insns
-  pub at : (slot : ℕ) → slot < slot_count insns → slice_index_or marks slot false ≡ list_any (nat_eq slot) (named_from 0 insns)
+  pub at : (slot : ℕ) → slot < slot_count insns → slice_index_or marks slot false ≡ list_any (nat_eq slot)
+      (named_from 0 insns)

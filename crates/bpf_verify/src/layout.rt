@@ -68,7 +68,8 @@ fn start_at(begins: &[bool], named: &[bool], slot: usize) -> Option<u32>
     requires begins { slot < length begins.now }
     requires named { slot < length named.now }
     requires few { slot < 4096 }
-    ensures { result ≡ if slice_index_or named.now slot false && slice_index_or begins.now slot false then Some slot else None }
+    ensures { result ≡ if slice_index_or named.now slot false && slice_index_or begins.now slot false then Some slot
+        else None }
 {
     if named[slot] && begins[slot] {
         Some(slot as u32)

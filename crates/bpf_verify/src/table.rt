@@ -58,7 +58,8 @@ fn join_before(before: &mut Option<State>, state: &State)
 fn receive_at(table: &mut Vec<Option<State>>, target: u32, state: &State)
     ensures size { length table.new.items ≡ length table.old.items }
     ensures received { (slot : ℕ) → slot < length table.old.items
-        → slice_index_or table.new.items slot None ≡ received slot (slice_index_or table.old.items slot None) (Some (record { target = target; state = state.now })) }
+        → slice_index_or table.new.items slot None ≡ received slot (slice_index_or table.old.items slot None)
+        (Some (record { target = target; state = state.now })) }
 {
     let at = target as usize;
     if at < table.len() {
@@ -82,7 +83,8 @@ fn receive(table: &mut Vec<Option<State>>, edge: &Option<Edge>)
 fn receive_both(table: &mut Vec<Option<State>>, out: &Outflow)
     ensures size { length table.new.items ≡ length table.old.items }
     ensures received { (slot : ℕ) → slot < length table.old.items
-        → slice_index_or table.new.items slot None ≡ received_all slot (slice_index_or table.old.items slot None) out.now }
+        → slice_index_or table.new.items slot None ≡ received_all slot (slice_index_or table.old.items slot None)
+        out.now }
 {
     receive(table, &out.ahead);
     receive(table, &out.aside);
@@ -100,7 +102,8 @@ fn hand_ahead(
     ensures size { length table.new.items ≡ length table.old.items }
     ensures received { (t : ℕ) → t < length table.old.items
         → slice_index_or table.new.items t None
-        ≡ received_all t (slice_index_or table.old.items t None) (ahead_outflow (slot + slots_of insn) (known_behind sizes.now slot state.old insn)) }
+        ≡ received_all t (slice_index_or table.old.items t None) (ahead_outflow (slot + slots_of insn)
+        (known_behind sizes.now slot state.old insn)) }
 {
     behind(sizes, slot, state, insn);
     receive_at(table, slot + slots(&insn), state);
@@ -112,7 +115,8 @@ fn hand_on(table: &mut Vec<Option<State>>, sizes: &[u32], slot: u32, state: &mut
     requires { slot < 4096 }
     ensures size { length table.new.items ≡ length table.old.items }
     ensures received { (t : ℕ) → t < length table.old.items
-        → slice_index_or table.new.items t None ≡ received_all t (slice_index_or table.old.items t None) (flow sizes.now slot state.old insn) }
+        → slice_index_or table.new.items t None ≡ received_all t (slice_index_or table.old.items t None)
+        (flow sizes.now slot state.old insn) }
 {
     match insn {
         Insn::Ja { offset } => receive_both(table, &flow(sizes, slot, state, Insn::Ja { offset })),
@@ -153,7 +157,8 @@ pub fn hand_on_reached(
     requires { slot < 4096 }
     ensures size { length table.new.items ≡ length table.old.items }
     ensures received { (t : ℕ) → t < length table.old.items
-        → slice_index_or table.new.items t None ≡ received_all t (slice_index_or table.old.items t None) (out_of sizes.now slot insn before.old) }
+        → slice_index_or table.new.items t None ≡ received_all t (slice_index_or table.old.items t None)
+        (out_of sizes.now slot insn before.old) }
 {
     match before {
         None => {}

@@ -15,11 +15,16 @@ use Rattle.bpf_verify_written.specs.Written.{all_written}
 
 -- the access of memory that an instruction makes, if it makes one (RFC 9669, section 5)
 abbrev pub memory_access_of : Insn → Option MemoryAccess
-memory_access_of (Load size dst src offset) = Some (record { kind = Reads; base = src; offset = offset; size = bytes_of size })
-memory_access_of (LoadSx size dst src offset) = Some (record { kind = Reads; base = src; offset = offset; size = bytes_of size })
-memory_access_of (StoreImm size dst offset imm) = Some (record { kind = Writes; base = dst; offset = offset; size = bytes_of size })
-memory_access_of (Store size dst src offset) = Some (record { kind = Writes; base = dst; offset = offset; size = bytes_of size })
-memory_access_of (Atomic width op dst src offset) = Some (record { kind = Changes; base = dst; offset = offset; size = atomic_bytes width })
+memory_access_of (Load size dst src offset) =
+    Some (record { kind = Reads; base = src; offset = offset; size = bytes_of size })
+memory_access_of (LoadSx size dst src offset) =
+    Some (record { kind = Reads; base = src; offset = offset; size = bytes_of size })
+memory_access_of (StoreImm size dst offset imm) =
+    Some (record { kind = Writes; base = dst; offset = offset; size = bytes_of size })
+memory_access_of (Store size dst src offset) =
+    Some (record { kind = Writes; base = dst; offset = offset; size = bytes_of size })
+memory_access_of (Atomic width op dst src offset) =
+    Some (record { kind = Changes; base = dst; offset = offset; size = atomic_bytes width })
 memory_access_of _ = None
 
 -- whether it is the address of memory, as V16 asks of the base of an access
@@ -60,7 +65,8 @@ is_outside_frame size place = is_outside_bytes 512 size place place
 -- whether n bytes at an offset from places of a range aren't all of a map's values, if there is such a map
 abbrev pub is_outside_map : Option ℕ → ℕ → ℤ → Span → Bool
 is_outside_map None size offset range = true
-is_outside_map (Some count) size offset range = is_outside_bytes (8 * count) size (pos range.lo +ℤ offset) (pos range.hi +ℤ offset)
+is_outside_map (Some count) size offset range = is_outside_bytes (8 * count) size (pos range.lo +ℤ offset)
+    (pos range.hi +ℤ offset)
 
 -- V19: an access isn't within its frame, or within its map's values
 abbrev pub is_outside : List ℕ → ℕ → ℤ → AbstractValue → Bool

@@ -112,16 +112,22 @@ known_answer sizes state None = Unwritten
 unfoldable pub known_behind : List ℕ → ℕ → State → Insn → State
 known_behind sizes slot state (Alu width op dst operand) =
     with_known_result state dst (known_result width op (known_register state dst) (known_operand state operand))
-known_behind sizes slot state (Neg width dst) = with_known_result state dst (known_of_number NegOperation width (known_register state dst))
-known_behind sizes slot state (Movsx width bits dst src) = with_known_result state dst (known_of_number (MovsxOperation bits) width (known_register state src))
-known_behind sizes slot state (Endian order bits dst) = with_known_result state dst (known_of_number (EndianOperation order bits) W64 (known_register state dst))
+known_behind sizes slot state (Neg width dst) =
+    with_known_result state dst (known_of_number NegOperation width (known_register state dst))
+known_behind sizes slot state (Movsx width bits dst src) =
+    with_known_result state dst (known_of_number (MovsxOperation bits) width (known_register state src))
+known_behind sizes slot state (Endian order bits dst) =
+    with_known_result state dst (known_of_number (EndianOperation order bits) W64 (known_register state dst))
 known_behind sizes slot state (Load size dst src offset) = with_known state dst (number_of_size size)
 known_behind sizes slot state (LoadSx size dst src offset) = with_known state dst (Number (top W64))
-known_behind sizes slot state (StoreImm size dst offset imm) = with_store state (bytes_of size) offset (known_register state dst)
-known_behind sizes slot state (Store size dst src offset) = with_store state (bytes_of size) offset (known_register state dst)
+known_behind sizes slot state (StoreImm size dst offset imm) =
+    with_store state (bytes_of size) offset (known_register state dst)
+known_behind sizes slot state (Store size dst src offset) =
+    with_store state (bytes_of size) offset (known_register state dst)
 known_behind sizes slot state (Atomic width op dst src offset) = with_fetched state width op src
 known_behind sizes slot state (LoadImm kind dst imm next_imm) = with_known state dst (known_wide slot kind imm next_imm)
-known_behind sizes slot state (Call callee imm) = known_after_call state (known_answer sizes state (helper_called callee imm))
+known_behind sizes slot state (Call callee imm) =
+    known_after_call state (known_answer sizes state (helper_called callee imm))
 known_behind sizes slot state _ = state
 
 -- an edge to a slot, if it is followed
@@ -163,7 +169,8 @@ register_branch state width compare dst r a (Number b) =
 register_branch state width compare dst r a _ = unrefined_branch state
 
 abbrev pub operand_branch : State → Width → Compare → ℕ → Operand → Span → BranchStates
-operand_branch state width compare dst (Imm imm) a = number_branch state width compare dst (Imm imm) a (exact (compared_imm width imm))
+operand_branch state width compare dst (Imm imm) a = number_branch state width compare dst (Imm imm) a
+    (exact (compared_imm width imm))
 operand_branch state width compare dst (Reg r) a = register_branch state width compare dst r a (known_register state r)
 
 -- the null check: null where it is equal, and an address where it isn't
@@ -185,7 +192,10 @@ branch_states state width compare dst operand _ = unrefined_branch state
 
 -- the edges out of a comparison
 abbrev pub branch_outflow : ℕ → ℤ → BranchStates → Outflow
-branch_outflow slot offset ways = record { ahead = edge_to (Some (slot + 1)) ways.fails; aside = edge_to (moved (slot + 1) offset) ways.holds }
+branch_outflow slot offset ways = record {
+  ahead = edge_to (Some (slot + 1)) ways.fails;
+  aside = edge_to (moved (slot + 1) offset) ways.holds;
+}
 
 -- a jump's one edge
 abbrev pub jump_outflow : ℕ → ℤ → State → Outflow
@@ -212,7 +222,8 @@ known_ctx _ = Unwritten
 -- a callback as it starts: the index in R1, ctx in R2, a fresh frame, and main's as at the call
 unfoldable pub known_callback_entry : State → State
 known_callback_entry state = record {
-  registers = slice_set (starting_registers (known_index (known_register state 1))) 2 (known_ctx (known_register state 3));
+  registers = slice_set (starting_registers (known_index (known_register state 1))) 2
+      (known_ctx (known_register state 3));
   own = none_written;
   caller = Some state.own;
 }
@@ -234,5 +245,8 @@ flow sizes slot state (Jump width compare dst operand offset) =
     branch_outflow slot offset (branch_states state width compare dst operand (known_register state dst))
 flow sizes slot state Exit = record { ahead = None; aside = None }
 flow sizes slot state (Call callee imm) =
-    record { ahead = edge_to (Some (slot + 1)) (Some (known_behind sizes slot state (Call callee imm))); aside = calls_back state (helper_called callee imm) }
+    record {
+      ahead = edge_to (Some (slot + 1)) (Some (known_behind sizes slot state (Call callee imm)));
+      aside = calls_back state (helper_called callee imm);
+    }
 flow sizes slot state insn = ahead_outflow (slot + slots_of insn) (known_behind sizes slot state insn)

@@ -21,7 +21,8 @@ successors slot (Some insn) = (slot + slots_of insn) ∷ []
 abbrev pub IsPath : List Insn → (starts path : List ℕ) → Type 0
 IsPath insns starts [] = Unit {0}
 IsPath insns starts (slot ∷ path) =
-    (list_any (nat_eq slot) starts ≡ true) × (is_some (insn_at insns slot) ≡ true) × IsPath insns (successors slot (insn_at insns slot)) path
+    (list_any (nat_eq slot) starts ≡ true) × (is_some (insn_at insns slot) ≡ true)
+    × IsPath insns (successors slot (insn_at insns slot)) path
 
 -- the slots after a path from one of some slots: the edges out of its last slot, of which an exit has none
 abbrev pub successors_of_path : List Insn → (starts path : List ℕ) → List ℕ
@@ -35,10 +36,12 @@ pub record PathOf (insns : List Insn) (slot count : ℕ) : Type 0 where
   pub long : length path ≡ count
   pub ends : list_any (λ next. is_some (insn_at insns next)) (successors_of_path insns (slot ∷ []) path) ≡ false
 
--- of each function of an accepted program some path from its start to an end has its worst-case instruction count, and none
+-- of each function of an accepted program some path from its start to an end has its worst-case instruction count, and
+-- none
 -- has more
 pub record CountIsLongestPath : Type 0 where
   pub some_path : (program : Program) → Accepted program → (function : ℕ) →
       PathOf program.insns (function_start program.insns function) (count_of program.insns function)
   pub none_longer : (program : Program) → Accepted program → (function : ℕ) (path : List ℕ) →
-      IsPath program.insns (function_start program.insns function ∷ []) path → length path ≤ count_of program.insns function
+      IsPath program.insns (function_start program.insns function ∷ []) path → length path ≤ count_of program.insns
+      function

@@ -48,19 +48,26 @@ pub record StoreRows : Type 0 where
 
 -- two edges out of slot 0: to the next slot, and by a jump of two slots
 abbrev pub branch_edges : State → State → Outflow
-branch_edges falls jumps = record { ahead = Some (record { target = 1; state = falls }); aside = Some (record { target = 3; state = jumps }) }
+branch_edges falls jumps = record {
+  ahead = Some (record { target = 1; state = falls });
+  aside = Some (record { target = 3; state = jumps });
+}
 
 -- if r0 > 7, of 0 to 15 and of 3 to 5; if r0 == 4
 pub record EdgeRows : Type 0 where
-  pub greater : flow [] 0 (knowing (numbers 0 15)) (Jump W64 Gt 0 (Imm (pos 7)) (pos 2)) ≡ branch_edges (knowing (numbers 0 7)) (knowing (numbers 8 15))
+  pub greater : flow [] 0 (knowing (numbers 0 15)) (Jump W64 Gt 0 (Imm (pos 7)) (pos 2)) ≡ branch_edges
+      (knowing (numbers 0 7)) (knowing (numbers 8 15))
   pub never_greater : flow [] 0 (knowing (numbers 3 5)) (Jump W64 Gt 0 (Imm (pos 7)) (pos 2))
       ≡ record { ahead = Some (record { target = 1; state = knowing (numbers 3 5) }); aside = None }
-  pub equal : flow [] 0 (knowing (numbers 4 15)) (Jump W64 Eq 0 (Imm (pos 4)) (pos 2)) ≡ branch_edges (knowing (numbers 5 15)) (knowing (numbers 4 4))
+  pub equal : flow [] 0 (knowing (numbers 4 15)) (Jump W64 Eq 0 (Imm (pos 4)) (pos 2)) ≡ branch_edges
+      (knowing (numbers 5 15)) (knowing (numbers 4 4))
 
 -- if r0 == 0 and if r0 != 0, of what a lookup answers
 pub record NullRows : Type 0 where
-  pub equal : flow [] 0 (knowing (AreaOrNull 0 (exact 8))) (Jump W64 Eq 0 (Imm (pos 0)) (pos 2)) ≡ branch_edges (knowing (Area 0 (exact 8))) (knowing (Number (exact 0)))
-  pub unequal : flow [] 0 (knowing (AreaOrNull 0 (exact 8))) (Jump W64 Ne 0 (Imm (pos 0)) (pos 2)) ≡ branch_edges (knowing (Number (exact 0))) (knowing (Area 0 (exact 8)))
+  pub equal : flow [] 0 (knowing (AreaOrNull 0 (exact 8))) (Jump W64 Eq 0 (Imm (pos 0)) (pos 2)) ≡ branch_edges
+      (knowing (Area 0 (exact 8))) (knowing (Number (exact 0)))
+  pub unequal : flow [] 0 (knowing (AreaOrNull 0 (exact 8))) (Jump W64 Ne 0 (Imm (pos 0)) (pos 2)) ≡ branch_edges
+      (knowing (Number (exact 0))) (knowing (Area 0 (exact 8)))
 
 -- a callback's result is 0 or 1, main's any number
 pub record EndRows : Type 0 where

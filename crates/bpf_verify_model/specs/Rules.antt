@@ -173,7 +173,8 @@ unwritten_compared state _ = false
 -- the same of a helper's arguments: two of a lookup, and four of a loop
 abbrev pub unwritten_arguments : State → Option Helper → Bool
 unwritten_arguments state (Some Lookup) = unwritten_register state 1 || unwritten_register state 2
-unwritten_arguments state (Some Loop) = unwritten_register state 1 || unwritten_register state 2 || unwritten_register state 3 || unwritten_register state 4
+unwritten_arguments state (Some Loop) = unwritten_register state 1 || unwritten_register state 2
+    || unwritten_register state 3 || unwritten_register state 4
 unwritten_arguments state None = false
 
 -- the same of arithmetic's operands: a move reads its second alone
@@ -187,19 +188,22 @@ reads_unwritten state (Alu width op dst operand) = unwritten_operands state op d
 reads_unwritten state (Neg width dst) = unwritten_register state dst
 reads_unwritten state (Movsx width bits dst src) = unwritten_register state src
 reads_unwritten state (Endian order bits dst) = unwritten_register state dst
-reads_unwritten state (Jump width compare dst operand offset) = unwritten_register state dst || unwritten_operand state operand
+reads_unwritten state (Jump width compare dst operand offset) = unwritten_register state dst || unwritten_operand state
+    operand
 reads_unwritten state (Call callee imm) = unwritten_arguments state (helper_called callee imm)
 reads_unwritten state Exit = unwritten_register state 0
 reads_unwritten state (Load size dst src offset) = unwritten_register state src
 reads_unwritten state (LoadSx size dst src offset) = unwritten_register state src
 reads_unwritten state (StoreImm size dst offset imm) = unwritten_register state dst
 reads_unwritten state (Store size dst src offset) = unwritten_register state dst || unwritten_register state src
-reads_unwritten state (Atomic width op dst src offset) = unwritten_register state dst || unwritten_register state src || unwritten_compared state op
+reads_unwritten state (Atomic width op dst src offset) = unwritten_register state dst || unwritten_register state src
+    || unwritten_compared state op
 reads_unwritten state _ = false
 
 -- V13: arithmetic with an operand that isn't of a kind that it takes
 abbrev pub has_wrong_arithmetic_operands : State → Insn → Bool
-has_wrong_arithmetic_operands state (Alu width op dst operand) = is_none (known_result width op (known_register state dst) (known_operand state operand))
+has_wrong_arithmetic_operands state (Alu width op dst operand) =
+    is_none (known_result width op (known_register state dst) (known_operand state operand))
 has_wrong_arithmetic_operands state (Neg width dst) = not (is_number_value (known_register state dst))
 has_wrong_arithmetic_operands state (Movsx width bits dst src) = not (is_number_value (known_register state src))
 has_wrong_arithmetic_operands state (Endian order bits dst) = not (is_number_value (known_register state dst))
@@ -207,7 +211,8 @@ has_wrong_arithmetic_operands state _ = false
 
 -- V14: a comparison with an operand that isn't of a kind that it takes
 abbrev pub has_wrong_comparison_operands : State → Insn → Bool
-has_wrong_comparison_operands state (Jump width compare dst operand offset) = not (compares state width compare operand (known_register state dst))
+has_wrong_comparison_operands state (Jump width compare dst operand offset) =
+    not (compares state width compare operand (known_register state dst))
 has_wrong_comparison_operands state _ = false
 
 -- whether what an atomic operation compares with isn't a number
@@ -218,10 +223,12 @@ compares_with_no_number state _ = false
 -- V15: what is stored, or an atomic operation's operand, isn't a number
 abbrev pub stores_no_number : State → Insn → Bool
 stores_no_number state (Store size dst src offset) = not (is_number_value (known_register state src))
-stores_no_number state (Atomic width op dst src offset) = not (is_number_value (known_register state src)) || compares_with_no_number state op
+stores_no_number state (Atomic width op dst src offset) = not (is_number_value (known_register state src))
+    || compares_with_no_number state op
 stores_no_number state _ = false
 
--- V16, V17, V18, V19: the base of an access isn't the address of memory; an access of a map's values isn't of 8 or 4 bytes;
+-- V16, V17, V18, V19: the base of an access isn't the address of memory; an access of a map's values isn't of 8 or 4
+-- bytes;
 -- an access isn't aligned; an access isn't within its frame or its map's values
 abbrev pub place_fault : List ℕ → MemoryAccess → AbstractValue → Option Rule
 place_fault sizes access base =
@@ -247,7 +254,8 @@ or_else None later = later
 abbrev pub access_fault : List ℕ → State → Option MemoryAccess → Option Rule
 access_fault sizes state None = None
 access_fault sizes state (Some access) =
-    or_else (place_fault sizes access (known_register state access.base)) (bytes_fault state access (known_register state access.base))
+    or_else (place_fault sizes access (known_register state access.base))
+    (bytes_fault state access (known_register state access.base))
 
 -- the address of a key: a multiple of 4, with 4 bytes in a frame from there on
 abbrev pub is_key_position : ℕ → Bool
@@ -276,7 +284,8 @@ is_ctx_argument _ = false
 -- V22 of a loop: its arguments aren't a number, a callback, ctx and a number
 abbrev pub has_wrong_loop_arguments : State → Bool
 has_wrong_loop_arguments state =
-    not (is_number_value (known_register state 1)) || not (is_code (known_register state 2)) || not (is_ctx_argument (known_register state 3))
+    not (is_number_value (known_register state 1)) || not (is_code (known_register state 2))
+    || not (is_ctx_argument (known_register state 3))
     || not (is_number_value (known_register state 4))
 
 -- V20 of a lookup: a byte of its key isn't written. V22: its arguments aren't a map and the address of a key
@@ -305,7 +314,8 @@ operand_fault state insn =
 -- the least of V12 to V22 that an instruction breaks in a state
 unfoldable pub state_fault : List ℕ → State → Insn → Option Rule
 state_fault sizes state insn =
-    or_else (operand_fault state insn) (or_else (access_fault sizes state (memory_access_of insn)) (call_fault state insn))
+    or_else (operand_fault state insn) (or_else (access_fault sizes state (memory_access_of insn))
+    (call_fault state insn))
 
 -- the least of V7 to V11 that an instruction breaks wherever it stands
 unfoldable pub insn_fault : List ℕ → Insn → Option Rule

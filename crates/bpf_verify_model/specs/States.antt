@@ -13,7 +13,11 @@ known_register state r = slice_index_or state.registers r Unwritten
 
 -- a state with another abstract value of a register
 abbrev pub with_known : State → ℕ → AbstractValue → State
-with_known state r value = record { registers = slice_set state.registers r value; own = state.own; caller = state.caller }
+with_known state r value = record {
+  registers = slice_set state.registers r value;
+  own = state.own;
+  caller = state.caller;
+}
 
 -- the join of two abstract values: kinds that are equal with equal constants or maps stay, ranges are joined, an
 -- address that may be null makes one that may be null, and all else is unwritten

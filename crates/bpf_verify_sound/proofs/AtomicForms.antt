@@ -48,25 +48,34 @@ of-width W32 n h = h
 of-width W64 n h = h
 
 -- what is told of an old number is known
-tell-known : (state : State) (m : Machine) (width : Width) (r old : ℕ) → Contained state m → old < modulus width → Contained (with_known state r (known.Number (top width))) (with_register r (Word old) m)
+tell-known : (state : State) (m : Machine) (width : Width) (r old : ℕ) → Contained state m → old < modulus width
+    → Contained (with_known state r (known.Number (top width))) (with_register r (Word old) m)
 tell-known state m width r old c h = record {
-  registers = contain-set state.registers m.registers r (known.Number (top width)) (Word old) c.registers (top-contains width old h);
+  registers = contain-set state.registers m.registers r (known.Number (top width)) (Word old) c.registers
+      (top-contains width old h);
   own = c.own;
   caller = c.caller;
 }
 
-tells-known : (program : Program) (m next : Machine) (state : State) (width : Width) (op : AtomicOp) (src old : ℕ) → leads_to program.insns m.slot (m.slot + 1) ≡ true → next.slot ≡ m.slot + 1 →
-    Contained state next → old < modulus width → GoesBy program m.slot (ahead_outflow (m.slot + 1) (with_fetched state width op src)) (tells op src old next)
-tells-known program m next state width (Simple op) src old leads at c h = ahead-goes program m.slot 1 None state next leads (omega arith) at c
+tells-known : (program : Program) (m next : Machine) (state : State) (width : Width) (op : AtomicOp) (src old : ℕ)
+    → leads_to program.insns m.slot (m.slot + 1) ≡ true → next.slot ≡ m.slot + 1 →
+    Contained state next → old < modulus width
+    → GoesBy program m.slot (ahead_outflow (m.slot + 1) (with_fetched state width op src)) (tells op src old next)
+tells-known program m next state width (Simple op) src old leads at c h =
+    ahead-goes program m.slot 1 None state next leads (omega arith) at c
 tells-known program m next state width (FetchOp op) src old leads at c h =
-    ahead-goes program m.slot 1 None (with_known state src (known.Number (top width))) (with_register src (Word old) next) leads (omega arith) at (tell-known state next width src old c h)
+    ahead-goes program m.slot 1 None (with_known state src (known.Number (top width)))
+    (with_register src (Word old) next) leads (omega arith) at (tell-known state next width src old c h)
 tells-known program m next state width XchgOp src old leads at c h =
-    ahead-goes program m.slot 1 None (with_known state src (known.Number (top width))) (with_register src (Word old) next) leads (omega arith) at (tell-known state next width src old c h)
+    ahead-goes program m.slot 1 None (with_known state src (known.Number (top width)))
+    (with_register src (Word old) next) leads (omega arith) at (tell-known state next width src old c h)
 tells-known program m next state width Cmpxchg src old leads at c h =
-    ahead-goes program m.slot 1 None (with_known state 0 (known.Number (top width))) (with_register 0 (Word old) next) leads (omega arith) at (tell-known state next width 0 old c h)
+    ahead-goes program m.slot 1 None (with_known state 0 (known.Number (top width))) (with_register 0 (Word old) next)
+    leads (omega arith) at (tell-known state next width 0 old c h)
 
 -- a frame's bytes are changed, and as many are known to be written as before
-frame-changed : (program : Program) (m : Machine) (state : State) (p size n : ℕ) → Contained state m → IsWellFormedState state → SoundMachine program m → p + size ≤ 512 →
+frame-changed : (program : Program) (m : Machine) (state : State) (p size n : ℕ) → Contained state m
+    → IsWellFormedState state → SoundMachine program m → p + size ≤ 512 →
     Contained state (with_frame (written_at m.frame p size n) (advanced 1 m))
 frame-changed program m state p size n c spans sound h = record {
   registers = c.registers;
@@ -74,41 +83,61 @@ frame-changed program m state p size n c spans sound h = record {
   caller = c.caller;
 }
 
-frame-change : (program : Program) (m : Machine) (state : State) (width : Width) (op : AtomicOp) (src operand compare p : ℕ) (old : Option ℕ) →
-    leads_to program.insns m.slot (m.slot + 1) ≡ true → Contained state m → IsWellFormedState state → SoundMachine program m → p + atomic_bytes width ≤ 512 → IsNumberOf (atomic_bytes width) old →
-    StepFlows program m.slot (ahead_outflow (m.slot + 1) (with_fetched state width op src)) (changes_frame m width op src operand compare p old)
+frame-change : (program : Program) (m : Machine) (state : State) (width : Width) (op : AtomicOp)
+    (src operand compare p : ℕ) (old : Option ℕ) →
+    leads_to program.insns m.slot (m.slot + 1) ≡ true → Contained state m → IsWellFormedState state
+    → SoundMachine program m → p + atomic_bytes width ≤ 512 → IsNumberOf (atomic_bytes width) old →
+    StepFlows program m.slot (ahead_outflow (m.slot + 1) (with_fetched state width op src))
+    (changes_frame m width op src operand compare p old)
 frame-change program m state width op src operand compare p None leads c spans sound h number = absurd number
 frame-change program m state width op src operand compare p (Some old) leads c spans sound h number =
-    tells-known program m (with_frame (written_at m.frame p (atomic_bytes width) (atomic_left width op old operand compare)) (advanced 1 m)) state width op src old leads refl
-    (frame-changed program m state p (atomic_bytes width) (atomic_left width op old operand compare) c spans sound h) (of-width width old number)
+    tells-known program m (with_frame (written_at m.frame p (atomic_bytes width) (atomic_left width op old operand
+    compare)) (advanced 1 m)) state width op src old leads refl
+    (frame-changed program m state p (atomic_bytes width) (atomic_left width op old operand compare) c spans sound h)
+    (of-width width old number)
 
 -- what a map tells
-map-change : (program : Program) (m : Machine) (state : State) (width : Width) (op : AtomicOp) (src operand compare word : ℕ) (part : Part) →
-    leads_to program.insns m.slot (m.slot + 1) ≡ true → Contained state m → part_bytes part ≡ atomic_bytes width → word < 2 ^ 64 →
-    GoesBy program m.slot (ahead_outflow (m.slot + 1) (with_fetched state width op src)) (after_request (request_of part op src operand compare) word (advanced 1 m))
-map-change program m state width (Simple op) src operand compare word Whole leads c bytes w = same-ahead program m state leads c
-map-change program m state width (Simple op) src operand compare word (Of half) leads c bytes w = same-ahead program m state leads c
+map-change : (program : Program) (m : Machine) (state : State) (width : Width) (op : AtomicOp)
+    (src operand compare word : ℕ) (part : Part) →
+    leads_to program.insns m.slot (m.slot + 1) ≡ true → Contained state m → part_bytes part ≡ atomic_bytes width
+    → word < 2 ^ 64 →
+    GoesBy program m.slot (ahead_outflow (m.slot + 1) (with_fetched state width op src))
+    (after_request (request_of part op src operand compare) word (advanced 1 m))
+map-change program m state width (Simple op) src operand compare word Whole leads c bytes w =
+    same-ahead program m state leads c
+map-change program m state width (Simple op) src operand compare word (Of half) leads c bytes w =
+    same-ahead program m state leads c
 map-change program m state width (FetchOp op) src operand compare word part leads c bytes w =
-    tells-known program m (advanced 1 m) state width (FetchOp op) src (part_of part word) leads refl (record { registers = c.registers; own = c.own; caller = c.caller })
+    tells-known program m (advanced 1 m) state width (FetchOp op) src (part_of part word) leads refl
+    (record { registers = c.registers; own = c.own; caller = c.caller })
     (of-width width (part_of part word) (subst (λ (k : ℕ). part_of part word < 256 ^ k) bytes (part-below part word w)))
 map-change program m state width XchgOp src operand compare word part leads c bytes w =
-    tells-known program m (advanced 1 m) state width XchgOp src (part_of part word) leads refl (record { registers = c.registers; own = c.own; caller = c.caller })
+    tells-known program m (advanced 1 m) state width XchgOp src (part_of part word) leads refl
+    (record { registers = c.registers; own = c.own; caller = c.caller })
     (of-width width (part_of part word) (subst (λ (k : ℕ). part_of part word < 256 ^ k) bytes (part-below part word w)))
 map-change program m state width Cmpxchg src operand compare word part leads c bytes w =
-    tells-known program m (advanced 1 m) state width Cmpxchg src (part_of part word) leads refl (record { registers = c.registers; own = c.own; caller = c.caller })
+    tells-known program m (advanced 1 m) state width Cmpxchg src (part_of part word) leads refl
+    (record { registers = c.registers; own = c.own; caller = c.caller })
     (of-width width (part_of part word) (subst (λ (k : ℕ). part_of part word < 256 ^ k) bytes (part-below part word w)))
 
 -- at a place that is known
-changes-flow : (program : Program) (m : Machine) (state : State) (width : Width) (op : AtomicOp) (src operand compare : ℕ) (offset : ℤ) (x : AbstractValue) (at : Option Place) →
-    leads_to program.insns m.slot (m.slot + 1) ≡ true → Contained state m → IsWellFormedState state → SoundMachine program m → is_ctx x ≡ false → PlaceIs program.sizes (atomic_bytes width) offset x at →
+changes-flow : (program : Program) (m : Machine) (state : State) (width : Width) (op : AtomicOp)
+    (src operand compare : ℕ) (offset : ℤ) (x : AbstractValue) (at : Option Place) →
+    leads_to program.insns m.slot (m.slot + 1) ≡ true → Contained state m → IsWellFormedState state
+    → SoundMachine program m → is_ctx x ≡ false → PlaceIs program.sizes (atomic_bytes width) offset x at →
     has_unwritten_byte state (atomic_bytes width) offset x ≡ false →
-    StepFlows program m.slot (ahead_outflow (m.slot + 1) (with_fetched state width op src)) (changes_at m width op src operand compare at)
-changes-flow program m state width op src operand compare offset (known.Frame q) (Some (InFrame p)) leads c spans sound own is e =
-    frame-change program m state width op src operand compare p (number_at m.frame p (atomic_bytes width)) leads c spans sound is.1
+    StepFlows program m.slot (ahead_outflow (m.slot + 1) (with_fetched state width op src))
+    (changes_at m width op src operand compare at)
+changes-flow program m state width op src operand compare offset (known.Frame q) (Some (InFrame p)) leads c spans sound
+    own is e =
+    frame-change program m state width op src operand compare p (number_at m.frame p (atomic_bytes width)) leads c spans
+    sound is.1
     (own-number state m program q p (atomic_bytes width) offset c spans sound is.0 is.1 e)
-changes-flow program m state width op src operand compare offset (known.Area map range) (Some (InMap element part)) leads c spans sound own is e =
+changes-flow program m state width op src operand compare offset (known.Area map range) (Some (InMap element part))
+    leads c spans sound own is e =
     (is.0, λ word w. map-change program m state width op src operand compare word part leads c is.1 w)
-changes-flow program m state width op src operand compare offset (known.Ctx q) at leads c spans sound own is e = absurd cc
+changes-flow program m state width op src operand compare offset (known.Ctx q) at leads c spans sound own is e =
+    absurd cc
 changes-flow program m state width op src operand compare offset x at leads c spans sound own is e = absurd is
 
 -- V11: R10 isn't told
@@ -119,28 +148,36 @@ after_request-kept XchgOp src e = ap not e
 after_request-kept Cmpxchg src e = refl
 
 -- a number is a word
-pub number-word_of : (x : AbstractValue) (v : Value) → is_number_value x ≡ true → ContainsValue x v → (n : ℕ) × (v ≡ Word n)
+pub number-word_of : (x : AbstractValue) (v : Value) → is_number_value x ≡ true → ContainsValue x v → (n : ℕ)
+    × (v ≡ Word n)
 number-word_of (known.Number a) (Word n) e c = (n, refl)
 number-word_of (known.Number a) v e c = absurd c
 number-word_of x v e c = absurd cc
 
-compared-word : (state : State) (m : Machine) (op : AtomicOp) → Contained state m → compares_with_no_number state op ≡ false → (n : ℕ) × (compared_value m op ≡ Word n)
+compared-word : (state : State) (m : Machine) (op : AtomicOp) → Contained state m → compares_with_no_number state op
+    ≡ false → (n : ℕ) × (compared_value m op ≡ Word n)
 compared-word state m (Simple op) c e = (0, refl)
 compared-word state m (FetchOp op) c e = (0, refl)
 compared-word state m XchgOp c e = (0, refl)
-compared-word state m Cmpxchg c e = number-word_of (known_register state 0) (register m 0) (not-not-true (is_number_value (known_register state 0)) e) (register-known state m 0 c)
+compared-word state m Cmpxchg c e = number-word_of (known_register state 0) (register m 0)
+    (not-not-true (is_number_value (known_register state 0)) e) (register-known state m 0 c)
 
-change-words : (program : Program) (m : Machine) (state : State) (width : Width) (op : AtomicOp) (src operand compare : ℕ) (offset : ℤ) (x : AbstractValue) (at : Option Place) →
-    leads_to program.insns m.slot (m.slot + 1) ≡ true → Contained state m → IsWellFormedState state → SoundMachine program m → is_ctx x ≡ false → PlaceIs program.sizes (atomic_bytes width) offset x at →
+change-words : (program : Program) (m : Machine) (state : State) (width : Width) (op : AtomicOp)
+    (src operand compare : ℕ) (offset : ℤ) (x : AbstractValue) (at : Option Place) →
+    leads_to program.insns m.slot (m.slot + 1) ≡ true → Contained state m → IsWellFormedState state
+    → SoundMachine program m → is_ctx x ≡ false → PlaceIs program.sizes (atomic_bytes width) offset x at →
     has_unwritten_byte state (atomic_bytes width) offset x ≡ false → (test : Bool) → test ≡ true →
-    StepFlows program m.slot (ahead_outflow (m.slot + 1) (with_fetched state width op src)) (if test then changes_at m width op src operand compare at else NoStep)
+    StepFlows program m.slot (ahead_outflow (m.slot + 1) (with_fetched state width op src)) (if test
+    then changes_at m width op src operand compare at else NoStep)
 change-words program m state width op src operand compare offset x at leads c spans sound own is e true t =
     changes-flow program m state width op src operand compare offset x at leads c spans sound own is e
 change-words program m state width op src operand compare offset x at leads c spans sound own is e false t = absurd cc
 
-pub atomic-flows : (program : Program) (m : Machine) (state : State) (width : Width) (op : AtomicOp) (dst src : ℕ) (offset : ℤ) →
+pub atomic-flows : (program : Program) (m : Machine) (state : State) (width : Width) (op : AtomicOp) (dst src : ℕ)
+    (offset : ℤ) →
     KeepsRules program m.slot (Atomic width op dst src offset) state → SoundMachine program m → Contained state m →
-    StepFlows program m.slot (flow program.sizes m.slot state (Atomic width op dst src offset)) (insn_step program m (Atomic width op dst src offset))
+    StepFlows program m.slot (flow program.sizes m.slot state (Atomic width op dst src offset))
+    (insn_step program m (Atomic width op dst src offset))
 unfolding flow known_behind
 atomic-flows program m state width op dst src offset keeps sound c =
     let x = known_register state dst in
@@ -148,15 +185,19 @@ atomic-flows program m state width op dst src offset keeps sound c =
     let place_none = or_else-one (place_fault program.sizes access x) (bytes_fault state access x) keeps.access in
     let bytes_none = or_else-two (place_fault program.sizes access x) (bytes_fault state access x) keeps.access in
     let unread = not (is_number_value (known_register state src)) in
-    let operand = number-word_of (known_register state src) (register m src) (not-not-true (is_number_value (known_register state src)) (or-left unread (compares_with_no_number state op) keeps.stored)) (register-known state m src c) in
+    let operand = number-word_of (known_register state src) (register m src)
+    (not-not-true (is_number_value (known_register state src)) (or-left unread (compares_with_no_number state op)
+    keeps.stored)) (register-known state m src c) in
     let compare = compared-word state m op c (or-right unread (compares_with_no_number state op) keeps.stored) in
     let at = place program (register m dst) offset (atomic_bytes width) in
     let out = ahead_outflow (m.slot + 1) (with_fetched state width op src) in
-    subst (λ (v : Value). StepFlows program m.slot out (changes m width op src v (compared_value m op) at)) (sym operand.1)
+    subst (λ (v : Value). StepFlows program m.slot out (changes m width op src v (compared_value m op) at))
+    (sym operand.1)
     (subst (λ (v : Value). StepFlows program m.slot out (changes m width op src (Word operand.0) v at)) (sym compare.1)
     (change-words program m state width op src operand.0 compare.0 offset x at
     (follows-on program.insns m.slot (Atomic width op dst src offset) refl keeps.falls) c keeps.spans sound
     (test-fails (is_ctx x) _ _ (test-later (has_unwritten_byte state (atomic_bytes width) offset x) _ _ bytes_none))
-    (place-is program x (register m dst) offset (atomic_bytes width) (register-span state dst keeps.spans) (register-known state m dst c) (place-rules program.sizes access x place_none))
+    (place-is program x (register m dst) offset (atomic_bytes width) (register-span state dst keeps.spans)
+    (register-known state m dst c) (place-rules program.sizes access x place_none))
     (test-fails (has_unwritten_byte state (atomic_bytes width) offset x) _ _ bytes_none)
     (may_tell op src) (after_request-kept op src keeps.frame_pointer)))

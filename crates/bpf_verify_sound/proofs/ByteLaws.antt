@@ -16,31 +16,36 @@ abbrev pub IsNumberOf : ℕ → Option ℕ → Type 0
 IsNumberOf size None = ⊥
 IsNumberOf size (Some n) = n < 256 ^ size
 
-take-written : (marks : List Bool) (bytes : Bytes) (k : ℕ) → AreWritten marks bytes → AreWritten (take k marks) (take k bytes)
+take-written : (marks : List Bool) (bytes : Bytes) (k : ℕ) → AreWritten marks bytes
+    → AreWritten (take k marks) (take k bytes)
 take-written marks bytes zero c = tt
 take-written [] bytes (suc k) c = tt
 take-written (x ∷ marks) [] (suc k) c = absurd c
 take-written (x ∷ marks) (b ∷ bytes) (suc k) c = (c.0, take-written marks bytes k c.1)
 
-drop-written : (marks : List Bool) (bytes : Bytes) (k : ℕ) → AreWritten marks bytes → AreWritten (drop k marks) (drop k bytes)
+drop-written : (marks : List Bool) (bytes : Bytes) (k : ℕ) → AreWritten marks bytes
+    → AreWritten (drop k marks) (drop k bytes)
 drop-written marks bytes zero c = c
 drop-written [] bytes (suc k) c = tt
 drop-written (x ∷ marks) [] (suc k) c = absurd c
 drop-written (x ∷ marks) (b ∷ bytes) (suc k) c = drop-written marks bytes k c.1
 
-append-written : (xs ys : List Bool) (bs cs : Bytes) → length xs ≡ length bs → AreWritten xs bs → AreWritten ys cs → AreWritten (xs ++ ys) (bs ++ cs)
+append-written : (xs ys : List Bool) (bs cs : Bytes) → length xs ≡ length bs → AreWritten xs bs → AreWritten ys cs
+    → AreWritten (xs ++ ys) (bs ++ cs)
 append-written [] ys [] cs same c d = d
 append-written [] ys (b ∷ bs) cs same c d = absurd (omega arith)
 append-written (x ∷ xs) ys [] cs same c d = absurd c
 append-written (x ∷ xs) ys (b ∷ bs) cs same c d = (c.0, append-written xs ys bs cs (omega arith) c.1 d)
 
 -- one more byte below
-low-byte : (byte size : ℕ) (n : Option ℕ) → byte < 256 → IsNumberOf size n → IsNumberOf (suc size) (with_low_byte byte n)
+low-byte : (byte size : ℕ) (n : Option ℕ) → byte < 256 → IsNumberOf size n
+    → IsNumberOf (suc size) (with_low_byte byte n)
 low-byte byte size None b h = h
 low-byte byte size (Some high) b h = omega (arith, pow-suc 256 size)
 
 -- bytes that are all written are a number
-number-of-written : (marks : List Bool) (bytes : Bytes) → length marks ≡ length bytes → AreWritten marks bytes → list_all (λ byte. byte) marks ≡ true →
+number-of-written : (marks : List Bool) (bytes : Bytes) → length marks ≡ length bytes → AreWritten marks bytes
+    → list_all (λ byte. byte) marks ≡ true →
     IsNumberOf (length bytes) (number_of bytes)
 number-of-written [] [] same c all = omega arith
 number-of-written [] (b ∷ bytes) same c all = absurd (omega arith)
@@ -50,17 +55,20 @@ number-of-written (true ∷ marks) (None ∷ bytes) same c all = absurd c.0
 number-of-written (true ∷ marks) (Some b ∷ bytes) same c all =
     low-byte b (length bytes) (number_of bytes) c.0 (number-of-written marks bytes (omega arith) c.1 all)
 
-length-range : {A : Type 0} (xs : List A) (p size : ℕ) → p + size ≤ length xs → length (slice_range xs p (p + size)) ≡ size
+length-range : {A : Type 0} (xs : List A) (p size : ℕ) → p + size ≤ length xs → length (slice_range xs p (p + size))
+    ≡ size
 length-range xs p size h =
     let some : p + size - p ≤ length (drop p xs) = omega (arith, length-drop p xs) in
     length-take-le (p + size - p) (drop p xs) some ∙ omega arith
 
 -- so are n from a position on
-pub number-known : (marks : List Bool) (bytes : Bytes) (p size : ℕ) → AreWritten marks bytes → p + size ≤ length marks → p + size ≤ length bytes →
+pub number-known : (marks : List Bool) (bytes : Bytes) (p size : ℕ) → AreWritten marks bytes → p + size ≤ length marks
+    → p + size ≤ length bytes →
     all_written marks p size ≡ true → IsNumberOf size (number_at bytes p size)
 number-known marks bytes p size c h k all =
     subst (λ (n : ℕ). IsNumberOf n (number_at bytes p size)) (length-range bytes p size k)
-    (number-of-written (slice_range marks p (p + size)) (slice_range bytes p (p + size)) (length-range marks p size h ∙ sym (length-range bytes p size k))
+    (number-of-written (slice_range marks p (p + size)) (slice_range bytes p (p + size)) (length-range marks p size h
+    ∙ sym (length-range bytes p size k))
     (take-written (drop p marks) (drop p bytes) (p + size - p) (drop-written marks bytes p c)) all)
 
 -- written bytes are written, whatever is known
@@ -72,39 +80,54 @@ any-written : (x : Bool) (b : ℕ) → b < 256 → IsWritten x (Some b)
 any-written true b h = h
 any-written false b h = tt
 
-low-written : (marks : List Bool) (i size n : ℕ) → length marks ≤ size → AreWritten marks (map Some (bytes_low_first i size n))
+low-written : (marks : List Bool) (i size n : ℕ) → length marks ≤ size
+    → AreWritten marks (map Some (bytes_low_first i size n))
 low-written [] i size n h = tt
 low-written (x ∷ marks) i zero n h = absurd (omega arith)
-low-written (x ∷ marks) i (suc size) n h = (any-written x (byte_at i n) (byte-below i n), low-written marks (suc i) size n (omega arith))
+low-written (x ∷ marks) i (suc size) n h = (
+  any-written x (byte_at i n) (byte-below i n),
+  low-written marks (suc i) size n (omega arith),
+)
 
 pub length-low : (i size n : ℕ) → length (map Some (bytes_low_first i size n)) ≡ size
 length-low i zero n = refl
 length-low i (suc size) n = ap suc (length-low (suc i) size n)
 
 -- some bytes written from a position on
-middle-written : (marks middle : List Bool) (bytes : Bytes) (p size n : ℕ) → AreWritten marks bytes → length middle ≡ size → p + size ≤ length marks → p + size ≤ length bytes →
+middle-written : (marks middle : List Bool) (bytes : Bytes) (p size n : ℕ) → AreWritten marks bytes
+    → length middle ≡ size → p + size ≤ length marks → p + size ≤ length bytes →
     AreWritten (take p marks ++ middle ++ drop (p + size) marks) (written_at bytes p size n)
 middle-written marks middle bytes p size n c same h k =
-    let first : length (take p marks) ≡ length (take p bytes) = omega (arith, length-take-le p marks (omega arith), length-take-le p bytes (omega arith)) in
+    let first : length (take p marks) ≡ length (take p bytes) = omega (
+      arith,
+      length-take-le p marks (omega arith),
+      length-take-le p bytes (omega arith),
+    ) in
     let low : length middle ≡ length (map Some (bytes_low_first 0 size n)) = same ∙ sym (length-low 0 size n) in
-    append-written (take p marks ++ middle) (drop (p + size) marks) (take p bytes ++ map Some (bytes_low_first 0 size n)) (drop (p + size) bytes)
+    append-written (take p marks ++ middle) (drop (p + size) marks) (take p bytes
+    ++ map Some (bytes_low_first 0 size n)) (drop (p + size) bytes)
     (simp length-append (omega (arith, first, low)))
-    (append-written (take p marks) middle (take p bytes) (map Some (bytes_low_first 0 size n)) first (take-written marks bytes p c) (low-written middle 0 size n (omega arith)))
+    (append-written (take p marks) middle (take p bytes) (map Some (bytes_low_first 0 size n)) first
+    (take-written marks bytes p c) (low-written middle 0 size n (omega arith)))
     (drop-written marks bytes (p + size) c)
 
 -- a write that is known
-pub write-known : (marks : List Bool) (bytes : Bytes) (p size n : ℕ) → AreWritten marks bytes → p + size ≤ length marks → p + size ≤ length bytes →
+pub write-known : (marks : List Bool) (bytes : Bytes) (p size n : ℕ) → AreWritten marks bytes → p + size ≤ length marks
+    → p + size ≤ length bytes →
     AreWritten (written_from marks p size) (written_at bytes p size n)
-write-known marks bytes p size n c h k = middle-written marks (replicate size true) bytes p size n c (length-replicate size true) h k
+write-known marks bytes p size n c h k = middle-written marks (replicate size true) bytes p size n c
+    (length-replicate size true) h k
 
 -- and one that isn't
-parts : (marks : List Bool) (p size : ℕ) → p + size ≤ length marks → take p marks ++ slice_range marks p (p + size) ++ drop (p + size) marks ≡ marks
+parts : (marks : List Bool) (p size : ℕ) → p + size ≤ length marks → take p marks ++ slice_range marks p (p + size)
+    ++ drop (p + size) marks ≡ marks
 parts marks p size h =
     append_assoc (take p marks) (slice_range marks p (p + size)) (drop (p + size) marks)
     ∙ ap (λ (l : List Bool). take p marks ++ l) (sym (drop_split marks p (p + size) (omega arith)))
     ∙ take-append-drop p marks
 
-pub write-unknown : (marks : List Bool) (bytes : Bytes) (p size n : ℕ) → AreWritten marks bytes → p + size ≤ length marks → p + size ≤ length bytes →
+pub write-unknown : (marks : List Bool) (bytes : Bytes) (p size n : ℕ) → AreWritten marks bytes
+    → p + size ≤ length marks → p + size ≤ length bytes →
     AreWritten marks (written_at bytes p size n)
 write-unknown marks bytes p size n c h k =
     subst (λ (l : List Bool). AreWritten l (written_at bytes p size n)) (parts marks p size h)

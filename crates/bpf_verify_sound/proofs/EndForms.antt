@@ -41,11 +41,13 @@ bit-small (known.Number a) n e c =
     omega (arith, c.below)
 bit-small x n e c = absurd cc
 
-small-ends : (program : Program) (slot : ℕ) (out : Outflow) (n : ℕ) (test : Bool) → test ≡ true → StepFlows program slot out (if test then Exits n else NoStep)
+small-ends : (program : Program) (slot : ℕ) (out : Outflow) (n : ℕ) (test : Bool) → test ≡ true
+    → StepFlows program slot out (if test then Exits n else NoStep)
 small-ends program slot out n true e = tt
 small-ends program slot out n false e = absurd cc
 
-word-ends : (program : Program) (slot : ℕ) (out : Outflow) (function : ℕ) (x : AbstractValue) (n : ℕ) (caller : Option Bytes) → is_some caller ≡ nat_lt 0 function → end_fault function x ≡ None →
+word-ends : (program : Program) (slot : ℕ) (out : Outflow) (function : ℕ) (x : AbstractValue) (n : ℕ)
+    (caller : Option Bytes) → is_some caller ≡ nat_lt 0 function → end_fault function x ≡ None →
     ContainsValue x (Word n) → StepFlows program slot out (ends_with caller n)
 word-ends program slot out function x n None there e c = tt
 word-ends program slot out zero x n (Some frame) there e c = absurd cc
@@ -53,7 +55,8 @@ word-ends program slot out (suc f) x n (Some frame) there e c =
     let small : n ≤ 1 = bit-small x n (kept (is_bit x) _ e) c in
     small-ends program slot out n (nat_le n 1) (grind (arith, nat_tests))
 
-pub exit-flows : (program : Program) (m : Machine) (state : State) → KeepsRules program m.slot Exit state → SoundMachine program m → Contained state m →
+pub exit-flows : (program : Program) (m : Machine) (state : State) → KeepsRules program m.slot Exit state
+    → SoundMachine program m → Contained state m →
     StepFlows program m.slot (flow program.sizes m.slot state Exit) (insn_step program m Exit)
 unfolding flow
 exit-flows program m state keeps sound c =
@@ -61,5 +64,6 @@ exit-flows program m state keeps sound c =
     let x = known_register state 0 in
     let word = number-word_of x (register m 0) (end-number function x keeps.end) (register-known state m 0 c) in
     subst (λ (v : Value). StepFlows program m.slot (record { ahead = None; aside = None }) (ends m v)) (sym word.1)
-    (word-ends program m.slot (record { ahead = None; aside = None }) function x word.0 m.caller sound.in_callback keeps.end
+    (word-ends program m.slot (record { ahead = None; aside = None }) function x word.0 m.caller sound.in_callback
+    keeps.end
     (subst (ContainsValue x) word.1 (register-known state m 0 c)))

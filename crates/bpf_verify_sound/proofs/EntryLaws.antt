@@ -17,7 +17,8 @@ pub accepted-some : (program : Program) → Accepted program → (slot_count pro
 unfolding first_fault
 accepted-some program accepted = by_test (slot_count program.insns == 0) _ _ accepted
   where
-    by_test : {A : Type 0} (test : Bool) (a : A) (later : Option A) → (if test then Some a else later) ≡ None → test ≡ false
+    by_test : {A : Type 0} (test : Bool) (a : A) (later : Option A) → (if test then Some a else later) ≡ None
+        → test ≡ false
     by_test true a later e = absurd cc
     by_test false a later e = refl
 
@@ -37,8 +38,10 @@ state_before-first : (program : Program) → state_before program 0 ≡ Some kno
 unfolding incoming
 state_before-first program = refl
 
-pub main-contained : (program : Program) (argument : ℕ) → Accepted program → argument < 2 ^ 64 → ContainedBefore program (main_entry argument)
+pub main-contained : (program : Program) (argument : ℕ) → Accepted program → argument < 2 ^ 64
+    → ContainedBefore program (main_entry argument)
 main-contained program argument accepted h = record {
   stands = first-stands program.insns (accepted-some program accepted);
-  contained = subst (λ (o : Option _). ContainedIf o (main_entry argument)) (sym (state_before-first program)) (entry-contained argument h);
+  contained = subst (λ (o : Option _). ContainedIf o (main_entry argument)) (sym (state_before-first program))
+      (entry-contained argument h);
 }

@@ -12,16 +12,19 @@ use Rattle.bpf_verify_sound.specs.Containment.{Contained, ContainedIf}
 use Rattle.bpf_verify_sound.specs.Ways.{EdgeLeadsTo, FlowsTo}
 use Rattle.bpf_verify_sound.proofs.JoinLaws.{states-first, states-second}
 
-joined_with-first : (before : Option State) (state : State) (m : Machine) → ContainedIf before m → ContainedIf (joined_with before state) m
+joined_with-first : (before : Option State) (state : State) (m : Machine) → ContainedIf before m
+    → ContainedIf (joined_with before state) m
 joined_with-first None state m c = absurd c
 joined_with-first (Some known) state m c = states-first known state m c
 
-joined_with-second : (before : Option State) (state : State) (m : Machine) → Contained state m → ContainedIf (joined_with before state) m
+joined_with-second : (before : Option State) (state : State) (m : Machine) → Contained state m
+    → ContainedIf (joined_with before state) m
 joined_with-second None state m c = c
 joined_with-second (Some known) state m c = states-second known state m c
 
 -- one more edge in keeps what is known true
-received-keeps : (slot : ℕ) (before : Option State) (edge : Option Edge) (m : Machine) → ContainedIf before m → ContainedIf (received slot before edge) m
+received-keeps : (slot : ℕ) (before : Option State) (edge : Option Edge) (m : Machine) → ContainedIf before m
+    → ContainedIf (received slot before edge) m
 received-keeps slot before None m c = c
 received-keeps slot before (Some edge) m c = by_test slot before edge m c (edge.target == slot)
   where
@@ -31,46 +34,60 @@ received-keeps slot before (Some edge) m c = by_test slot before edge m c (edge.
     by_test slot before edge m c false = c
 
 -- and a way that leads to the machine makes it known
-received-brings : (before : Option State) (edge : Option Edge) (m : Machine) → EdgeLeadsTo edge m → ContainedIf (received m.slot before edge) m
+received-brings : (before : Option State) (edge : Option Edge) (m : Machine) → EdgeLeadsTo edge m
+    → ContainedIf (received m.slot before edge) m
 received-brings before None m leads = absurd leads
 received-brings before (Some edge) m leads = by_test before edge m leads (edge.target == m.slot) refl
   where
-    by_test : (before : Option State) (edge : Edge) (m : Machine) → EdgeLeadsTo (Some edge) m → (test : Bool) → (edge.target == m.slot) ≡ test →
+    by_test : (before : Option State) (edge : Edge) (m : Machine) → EdgeLeadsTo (Some edge) m → (test : Bool)
+        → (edge.target == m.slot) ≡ test →
         ContainedIf (if test then joined_with before edge.state else before) m
     by_test before edge m leads true e = joined_with-second before edge.state m leads.1
     by_test before edge m leads false e =
         let here : edge.target ≡ m.slot = leads.0 in
         absurd (grind (arith, nat_tests))
 
-received_all-keeps : (slot : ℕ) (before : Option State) (out : Outflow) (m : Machine) → ContainedIf before m → ContainedIf (received_all slot before out) m
-received_all-keeps slot before out m c = received-keeps slot (received slot before out.ahead) out.aside m (received-keeps slot before out.ahead m c)
+received_all-keeps : (slot : ℕ) (before : Option State) (out : Outflow) (m : Machine) → ContainedIf before m
+    → ContainedIf (received_all slot before out) m
+received_all-keeps slot before out m c = received-keeps slot (received slot before out.ahead) out.aside m
+    (received-keeps slot before out.ahead m c)
 
-received_all-brings : (before : Option State) (out : Outflow) (m : Machine) → FlowsTo out m → ContainedIf (received_all m.slot before out) m
+received_all-brings : (before : Option State) (out : Outflow) (m : Machine) → FlowsTo out m
+    → ContainedIf (received_all m.slot before out) m
 received_all-brings before out m (inl ahead) =
     received-keeps m.slot (received m.slot before out.ahead) out.aside m (received-brings before out.ahead m ahead)
 received_all-brings before out m (inr aside) = received-brings (received m.slot before out.ahead) out.aside m aside
 
 -- what flows from one of the first n slots is known by what flows from all of them
 incoming-brings : (program : Program) (count from : ℕ) (m : Machine) → from < count →
-    FlowsTo (flow_from program from (insn_at program.insns from) (state_before program from)) m → ContainedIf (incoming program count m.slot) m
+    FlowsTo (flow_from program from (insn_at program.insns from) (state_before program from)) m
+    → ContainedIf (incoming program count m.slot) m
 unfolding incoming
 incoming-brings program zero from m h flows = absurd (omega arith)
-incoming-brings program (suc count) from m h flows = by_place program count from m h flows (nat_eq from count) refl (incoming-brings program count from m)
+incoming-brings program (suc count) from m h flows = by_place program count from m h flows (nat_eq from count) refl
+    (incoming-brings program count from m)
   where
     by_place : (program : Program) (count from : ℕ) (m : Machine) → from < suc count →
-        FlowsTo (flow_from program from (insn_at program.insns from) (state_before program from)) m → (b : Bool) → nat_eq from count ≡ b →
-        (from < count → FlowsTo (flow_from program from (insn_at program.insns from) (state_before program from)) m → ContainedIf (incoming program count m.slot) m) →
-        ContainedIf (received_all m.slot (incoming program count m.slot) (flow_from program count (insn_at program.insns count) (incoming program count count))) m
+        FlowsTo (flow_from program from (insn_at program.insns from) (state_before program from)) m → (b : Bool)
+        → nat_eq from count ≡ b →
+        (from < count → FlowsTo (flow_from program from (insn_at program.insns from) (state_before program from)) m
+        → ContainedIf (incoming program count m.slot) m) →
+        ContainedIf (received_all m.slot (incoming program count m.slot)
+        (flow_from program count (insn_at program.insns count) (incoming program count count))) m
     by_place program count from m h flows true e go =
         let last : from ≡ count = grind (arith, nat_tests) in
-        received_all-brings (incoming program count m.slot) (flow_from program count (insn_at program.insns count) (state_before program count)) m
-        (subst (λ (slot : ℕ). FlowsTo (flow_from program slot (insn_at program.insns slot) (state_before program slot)) m) last flows)
+        received_all-brings (incoming program count m.slot) (flow_from program count (insn_at program.insns count)
+        (state_before program count)) m
+        (subst (λ (slot : ℕ). FlowsTo (flow_from program slot (insn_at program.insns slot) (state_before program slot))
+        m) last flows)
     by_place program count from m h flows false e go =
         let earlier : from < count = grind (arith, nat_tests) in
-        received_all-keeps m.slot (incoming program count m.slot) (flow_from program count (insn_at program.insns count) (incoming program count count)) m
+        received_all-keeps m.slot (incoming program count m.slot) (flow_from program count (insn_at program.insns count)
+        (incoming program count count)) m
         (go earlier flows)
 
 -- so what flows from a slot to a machine at a later one is known before it
 pub state_before-brings : (program : Program) (from : ℕ) (m : Machine) → from < m.slot →
-    FlowsTo (flow_from program from (insn_at program.insns from) (state_before program from)) m → ContainedIf (state_before program m.slot) m
+    FlowsTo (flow_from program from (insn_at program.insns from) (state_before program from)) m
+    → ContainedIf (state_before program m.slot) m
 state_before-brings program from m later flows = incoming-brings program m.slot from m later flows

@@ -14,12 +14,14 @@ use Rattle.bpf_step_model.specs.State.{Value, Unwritten, Word, Frame, Ctx, Map, 
 use Rattle.bpf_verify_sound.specs.Containment.{ContainsValue, ContainEach, IsWritten, AreWritten, AreWrittenByCaller, Contained}
 
 -- what is kept only where a test holds
-if_kept : (test : Bool) (x : AbstractValue) (v : Value) → (test ≡ true → ContainsValue x v) → ContainsValue (if test then x else known.Unwritten) v
+if_kept : (test : Bool) (x : AbstractValue) (v : Value) → (test ≡ true → ContainsValue x v)
+    → ContainsValue (if test then x else known.Unwritten) v
 if_kept true x v kept = kept refl
 if_kept false x v kept = tt
 
 -- a wider range
-number-wider : (a b : Span) (v : Value) → ((n : ℕ) → Contains a n → Contains b n) → ContainsValue (known.Number a) v → ContainsValue (known.Number b) v
+number-wider : (a b : Span) (v : Value) → ((n : ℕ) → Contains a n → Contains b n) → ContainsValue (known.Number a) v
+    → ContainsValue (known.Number b) v
 number-wider a b (Word n) wider c = wider n c
 number-wider a b Unwritten wider c = c
 number-wider a b (Frame p) wider c = c
@@ -28,7 +30,8 @@ number-wider a b (Map m) wider c = c
 number-wider a b (Area m o) wider c = c
 number-wider a b (Code s) wider c = c
 
-area-wider : (m : ℕ) (a b : Span) (v : Value) → ((n : ℕ) → Contains a n → Contains b n) → ContainsValue (known.Area m a) v → ContainsValue (known.Area m b) v
+area-wider : (m : ℕ) (a b : Span) (v : Value) → ((n : ℕ) → Contains a n → Contains b n)
+    → ContainsValue (known.Area m a) v → ContainsValue (known.Area m b) v
 area-wider m a b (Area n o) wider c = (c.0, wider o c.1)
 area-wider m a b Unwritten wider c = c
 area-wider m a b (Word n) wider c = c
@@ -37,7 +40,8 @@ area-wider m a b (Ctx p) wider c = c
 area-wider m a b (Map n) wider c = c
 area-wider m a b (Code s) wider c = c
 
-null-wider : (m : ℕ) (a b : Span) (v : Value) → ((n : ℕ) → Contains a n → Contains b n) → ContainsValue (known.AreaOrNull m a) v → ContainsValue (known.AreaOrNull m b) v
+null-wider : (m : ℕ) (a b : Span) (v : Value) → ((n : ℕ) → Contains a n → Contains b n)
+    → ContainsValue (known.AreaOrNull m a) v → ContainsValue (known.AreaOrNull m b) v
 null-wider m a b (Area n o) wider c = (c.0, wider o c.1)
 null-wider m a b (Word n) wider c = c
 null-wider m a b Unwritten wider c = c
@@ -47,7 +51,8 @@ null-wider m a b (Map n) wider c = c
 null-wider m a b (Code s) wider c = c
 
 -- an address may be one that may be null
-pub area-null : (m : ℕ) (a : Span) (v : Value) → ContainsValue (known.Area m a) v → ContainsValue (known.AreaOrNull m a) v
+pub area-null : (m : ℕ) (a : Span) (v : Value) → ContainsValue (known.Area m a) v → ContainsValue (known.AreaOrNull m a)
+    v
 area-null m a (Area n o) c = c
 area-null m a (Word n) c = absurd c
 area-null m a Unwritten c = c
@@ -65,39 +70,55 @@ joined-first (known.Number a) (known.Number b) v c = number-wider a (join a b) v
 joined-first (known.Frame p) (known.Frame q) v c = if_kept (p == q) (known.Frame p) v (λ e. c)
 joined-first (known.Ctx p) (known.Ctx q) v c = if_kept (p == q) (known.Ctx p) v (λ e. c)
 joined-first (known.Map m) (known.Map n) v c = if_kept (m == n) (known.Map m) v (λ e. c)
-joined-first (known.Area m a) (known.Area n b) v c = if_kept (m == n) (known.Area m (join a b)) v (λ e. area-wider m a (join a b) v (join-first a b) c)
+joined-first (known.Area m a) (known.Area n b) v c =
+    if_kept (m == n) (known.Area m (join a b)) v (λ e. area-wider m a (join a b) v (join-first a b) c)
 joined-first (known.Area m a) (known.AreaOrNull n b) v c =
-    if_kept (m == n) (known.AreaOrNull m (join a b)) v (λ e. null-wider m a (join a b) v (join-first a b) (area-null m a v c))
-joined-first (known.AreaOrNull m a) (known.Area n b) v c = if_kept (m == n) (known.AreaOrNull m (join a b)) v (λ e. null-wider m a (join a b) v (join-first a b) c)
-joined-first (known.AreaOrNull m a) (known.AreaOrNull n b) v c = if_kept (m == n) (known.AreaOrNull m (join a b)) v (λ e. null-wider m a (join a b) v (join-first a b) c)
+    if_kept (m == n) (known.AreaOrNull m (join a b)) v (λ e. null-wider m a (join a b) v (join-first a b)
+    (area-null m a v c))
+joined-first (known.AreaOrNull m a) (known.Area n b) v c = if_kept (m == n) (known.AreaOrNull m (join a b)) v
+    (λ e. null-wider m a (join a b) v (join-first a b) c)
+joined-first (known.AreaOrNull m a) (known.AreaOrNull n b) v c = if_kept (m == n) (known.AreaOrNull m (join a b)) v
+    (λ e. null-wider m a (join a b) v (join-first a b) c)
 joined-first (known.Code s) (known.Code t) v c = if_kept (s == t) (known.Code s) v (λ e. c)
 joined-first _ _ v c = tt
 
 pub joined-second : (x y : AbstractValue) (v : Value) → ContainsValue y v → ContainsValue (joined_values x y) v
 joined-second (known.Number a) (known.Number b) v c = number-wider b (join a b) v (join-second a b) c
-joined-second (known.Frame p) (known.Frame q) v c = if_kept (p == q) (known.Frame p) v (λ e. subst (λ (r : ℕ). ContainsValue (known.Frame r) v) (same p q e) c)
-joined-second (known.Ctx p) (known.Ctx q) v c = if_kept (p == q) (known.Ctx p) v (λ e. subst (λ (r : ℕ). ContainsValue (known.Ctx r) v) (same p q e) c)
-joined-second (known.Map m) (known.Map n) v c = if_kept (m == n) (known.Map m) v (λ e. subst (λ (r : ℕ). ContainsValue (known.Map r) v) (same m n e) c)
+joined-second (known.Frame p) (known.Frame q) v c =
+    if_kept (p == q) (known.Frame p) v (λ e. subst (λ (r : ℕ). ContainsValue (known.Frame r) v) (same p q e) c)
+joined-second (known.Ctx p) (known.Ctx q) v c =
+    if_kept (p == q) (known.Ctx p) v (λ e. subst (λ (r : ℕ). ContainsValue (known.Ctx r) v) (same p q e) c)
+joined-second (known.Map m) (known.Map n) v c =
+    if_kept (m == n) (known.Map m) v (λ e. subst (λ (r : ℕ). ContainsValue (known.Map r) v) (same m n e) c)
 joined-second (known.Area m a) (known.Area n b) v c =
-    if_kept (m == n) (known.Area m (join a b)) v (λ e. subst (λ (r : ℕ). ContainsValue (known.Area r (join a b)) v) (same m n e) (area-wider n b (join a b) v (join-second a b) c))
+    if_kept (m == n) (known.Area m (join a b)) v (λ e. subst (λ (r : ℕ). ContainsValue (known.Area r (join a b)) v)
+    (same m n e) (area-wider n b (join a b) v (join-second a b) c))
 joined-second (known.Area m a) (known.AreaOrNull n b) v c =
-    if_kept (m == n) (known.AreaOrNull m (join a b)) v (λ e. subst (λ (r : ℕ). ContainsValue (known.AreaOrNull r (join a b)) v) (same m n e) (null-wider n b (join a b) v (join-second a b) c))
+    if_kept (m == n) (known.AreaOrNull m (join a b)) v
+    (λ e. subst (λ (r : ℕ). ContainsValue (known.AreaOrNull r (join a b)) v) (same m n e)
+    (null-wider n b (join a b) v (join-second a b) c))
 joined-second (known.AreaOrNull m a) (known.Area n b) v c =
     if_kept (m == n) (known.AreaOrNull m (join a b)) v
-    (λ e. subst (λ (r : ℕ). ContainsValue (known.AreaOrNull r (join a b)) v) (same m n e) (null-wider n b (join a b) v (join-second a b) (area-null n b v c)))
+    (λ e. subst (λ (r : ℕ). ContainsValue (known.AreaOrNull r (join a b)) v) (same m n e)
+    (null-wider n b (join a b) v (join-second a b) (area-null n b v c)))
 joined-second (known.AreaOrNull m a) (known.AreaOrNull n b) v c =
-    if_kept (m == n) (known.AreaOrNull m (join a b)) v (λ e. subst (λ (r : ℕ). ContainsValue (known.AreaOrNull r (join a b)) v) (same m n e) (null-wider n b (join a b) v (join-second a b) c))
-joined-second (known.Code s) (known.Code t) v c = if_kept (s == t) (known.Code s) v (λ e. subst (λ (r : ℕ). ContainsValue (known.Code r) v) (same s t e) c)
+    if_kept (m == n) (known.AreaOrNull m (join a b)) v
+    (λ e. subst (λ (r : ℕ). ContainsValue (known.AreaOrNull r (join a b)) v) (same m n e)
+    (null-wider n b (join a b) v (join-second a b) c))
+joined-second (known.Code s) (known.Code t) v c =
+    if_kept (s == t) (known.Code s) v (λ e. subst (λ (r : ℕ). ContainsValue (known.Code r) v) (same s t e) c)
 joined-second _ _ v c = tt
 
 -- of each register
-registers-first : (xs ys : List AbstractValue) (vs : List Value) → ContainEach xs vs → ContainEach (joined_registers xs ys) vs
+registers-first : (xs ys : List AbstractValue) (vs : List Value) → ContainEach xs vs
+    → ContainEach (joined_registers xs ys) vs
 registers-first [] ys vs c = tt
 registers-first (x ∷ xs) [] vs c = tt
 registers-first (x ∷ xs) (y ∷ ys) [] c = c
 registers-first (x ∷ xs) (y ∷ ys) (v ∷ vs) c = (joined-first x y v c.0, registers-first xs ys vs c.1)
 
-registers-second : (xs ys : List AbstractValue) (vs : List Value) → ContainEach ys vs → ContainEach (joined_registers xs ys) vs
+registers-second : (xs ys : List AbstractValue) (vs : List Value) → ContainEach ys vs
+    → ContainEach (joined_registers xs ys) vs
 registers-second [] ys vs c = tt
 registers-second (x ∷ xs) [] vs c = tt
 registers-second (x ∷ xs) (y ∷ ys) [] c = c
@@ -125,13 +146,15 @@ written-second (x ∷ xs) [] bytes c = tt
 written-second (x ∷ xs) (y ∷ ys) [] c = c
 written-second (x ∷ xs) (y ∷ ys) (b ∷ bytes) c = (byte-second x y b c.0, written-second xs ys bytes c.1)
 
-callers-first : (x y : Option (List Bool)) (caller : Option Bytes) → AreWrittenByCaller x caller → AreWrittenByCaller (joined_callers x y) caller
+callers-first : (x y : Option (List Bool)) (caller : Option Bytes) → AreWrittenByCaller x caller
+    → AreWrittenByCaller (joined_callers x y) caller
 callers-first None y caller c = tt
 callers-first (Some xs) None caller c = tt
 callers-first (Some xs) (Some ys) None c = c
 callers-first (Some xs) (Some ys) (Some bytes) c = written-first xs ys bytes c
 
-callers-second : (x y : Option (List Bool)) (caller : Option Bytes) → AreWrittenByCaller y caller → AreWrittenByCaller (joined_callers x y) caller
+callers-second : (x y : Option (List Bool)) (caller : Option Bytes) → AreWrittenByCaller y caller
+    → AreWrittenByCaller (joined_callers x y) caller
 callers-second None y caller c = tt
 callers-second (Some xs) None caller c = tt
 callers-second (Some xs) (Some ys) None c = c

@@ -21,7 +21,8 @@ use Rattle.bpf_verify_sound.proofs.RegisterLaws.{contain-set}
 use Rattle.bpf_verify_sound.proofs.Tests.{and-one, and-two, not-not-true}
 
 -- V4: where an instruction goes on, one of the same function follows
-pub follows-on : (insns : List Insn) (slot : ℕ) (insn : Insn) → goes_on insn ≡ true → falls_off insns slot insn ≡ false →
+pub follows-on : (insns : List Insn) (slot : ℕ) (insn : Insn) → goes_on insn ≡ true → falls_off insns slot insn ≡ false
+    →
     leads_to insns slot (slot + slots_of insn) ≡ true
 follows-on insns slot insn goes e = by_test (goes_on insn) (leads_to insns slot (slot + slots_of insn)) goes e
   where
@@ -40,23 +41,31 @@ ahead-goes program slot count aside state m leads some at c = record {
 }
 
 -- with a register set
-pub set-contained : (state : State) (m : Machine) (count dst : ℕ) (x : AbstractValue) (v : Value) → Contained state m → ContainsValue x v →
+pub set-contained : (state : State) (m : Machine) (count dst : ℕ) (x : AbstractValue) (v : Value) → Contained state m
+    → ContainsValue x v →
     Contained (with_known state dst x) (with_register dst v (advanced count m))
-set-contained state m count dst x v c d = record { registers = contain-set state.registers m.registers dst x v c.registers d; own = c.own; caller = c.caller }
+set-contained state m count dst x v c d =
+    record { registers = contain-set state.registers m.registers dst x v c.registers d; own = c.own; caller = c.caller }
 
-pub sets-flows : (program : Program) (m : Machine) (state : State) (count dst : ℕ) (x : Option AbstractValue) (v : Option Value) →
-    leads_to program.insns m.slot (m.slot + count) ≡ true → 0 < count → (dst == 10) ≡ false → Contained state m → is_none x ≡ false → FollowsValue x v →
+pub sets-flows : (program : Program) (m : Machine) (state : State) (count dst : ℕ) (x : Option AbstractValue)
+    (v : Option Value) →
+    leads_to program.insns m.slot (m.slot + count) ≡ true → 0 < count → (dst == 10) ≡ false → Contained state m
+    → is_none x ≡ false → FollowsValue x v →
     StepFlows program m.slot (ahead_outflow (m.slot + count) (with_known_result state dst x)) (sets count m dst v)
 sets-flows program m state count dst None v leads more fp c there f = absurd cc
 sets-flows program m state count dst (Some x) None leads more fp c there f = absurd f
-sets-flows program m state count dst (Some x) (Some v) leads more fp c there f = by_test program m state count dst x v leads more c f (dst == 10) fp
+sets-flows program m state count dst (Some x) (Some v) leads more fp c there f =
+    by_test program m state count dst x v leads more c f (dst == 10) fp
   where
     by_test : (program : Program) (m : Machine) (state : State) (count dst : ℕ) (x : AbstractValue) (v : Value) →
-        leads_to program.insns m.slot (m.slot + count) ≡ true → 0 < count → Contained state m → ContainsValue x v → (test : Bool) → test ≡ false →
-        StepFlows program m.slot (ahead_outflow (m.slot + count) (with_known state dst x)) (if test then NoStep else Next (with_register dst v (advanced count m)))
+        leads_to program.insns m.slot (m.slot + count) ≡ true → 0 < count → Contained state m → ContainsValue x v
+        → (test : Bool) → test ≡ false →
+        StepFlows program m.slot (ahead_outflow (m.slot + count) (with_known state dst x)) (if test then NoStep
+        else Next (with_register dst v (advanced count m)))
     by_test program m state count dst x v leads more c f true e = absurd cc
     by_test program m state count dst x v leads more c f false e =
-        ahead-goes program m.slot count None (with_known state dst x) (with_register dst v (advanced count m)) leads more refl (set-contained state m count dst x v c f)
+        ahead-goes program m.slot count None (with_known state dst x) (with_register dst v (advanced count m)) leads
+        more refl (set-contained state m count dst x v c f)
 
 -- at a jump's target
 pub aside-goes : (program : Program) (slot target : ℕ) (ahead : Option Edge) (state : State) (m : Machine) →
@@ -66,7 +75,8 @@ aside-goes program slot target ahead state m leads at c =
     let later : nat_lt slot target ≡ true = and-one (nat_lt slot target) (leads_to program.insns slot target) leads in
     let past : slot < target = grind (arith, nat_tests) in
     record {
-      same = subst (λ (k : ℕ). leads_to program.insns slot k ≡ true) (sym at) (and-two (nat_lt slot target) (leads_to program.insns slot target) leads);
+      same = subst (λ (k : ℕ). leads_to program.insns slot k ≡ true) (sym at)
+          (and-two (nat_lt slot target) (leads_to program.insns slot target) leads);
       later = omega arith;
       flows = inr (sym at, c);
     }
@@ -94,17 +104,21 @@ land : (move : StepOutcome) (test : Bool) → test ≡ true → (if test then mo
 land move true e = refl
 land move false e = absurd cc
 
-pub within_function-flows : (program : Program) (slot : ℕ) (out : Outflow) (move : StepOutcome) → StepFlows program slot out move → StepFlows program slot out (within_function program slot move)
+pub within_function-flows : (program : Program) (slot : ℕ) (out : Outflow) (move : StepOutcome)
+    → StepFlows program slot out move → StepFlows program slot out (within_function program slot move)
 within_function-flows program slot out NoStep f = f
 within_function-flows program slot out (Next next) f =
     subst (StepFlows program slot out) (sym (land (Next next) (leads_to program.insns slot next.slot) f.same)) f
 within_function-flows program slot out (Asks element request next) f =
     let same : leads_to program.insns slot next.slot ≡ true =
-    subst (λ (k : ℕ). leads_to program.insns slot k ≡ true) (after_request-slot request 0 next) (f.1 0 (omega arith)).same in
-    subst (StepFlows program slot out) (sym (land (Asks element request next) (leads_to program.insns slot next.slot) same)) f
+    subst (λ (k : ℕ). leads_to program.insns slot k ≡ true) (after_request-slot request 0 next)
+    (f.1 0 (omega arith)).same in
+    subst (StepFlows program slot out) (sym (land (Asks element request next) (leads_to program.insns slot next.slot)
+    same)) f
 within_function-flows program slot out (Loops call next) f =
     let same : leads_to program.insns slot next.slot ≡ true = (f.1 0 (omega arith)).same in
     subst (StepFlows program slot out) (sym (land (Loops call next) (leads_to program.insns slot next.slot) same)) f
 within_function-flows program slot out (Refuses answer next) f =
-    subst (StepFlows program slot out) (sym (land (Refuses answer next) (leads_to program.insns slot next.slot) f.same)) f
+    subst (StepFlows program slot out) (sym (land (Refuses answer next) (leads_to program.insns slot next.slot) f.same))
+    f
 within_function-flows program slot out (Exits ret) f = f

@@ -27,23 +27,29 @@ use Rattle.bpf_verify_sound.specs.Ways.{FollowsValue}
 use Rattle.bpf_verify_sound.proofs.Tests.{and-one, and-two}
 
 -- the meaning of an operation on words of two ranges
-pub span-has : ResultsFit → (operation : Operation) (width : Width) (a b : Span) → IsSpan a → IsSpan b → (n k : ℕ) → Contains a n → Contains b k →
+pub span-has : ResultsFit → (operation : Operation) (width : Width) (a b : Span) → IsSpan a → IsSpan b → (n k : ℕ)
+    → Contains a n → Contains b k →
     Contains (span_of operation width a b) (meant operation width n k)
 span-has fit operation width a b i j n k c d =
-    span_of-contains fit operation width a b (operand-span operation width a i) (operand-span operation width b j) n k c d
+    span_of-contains fit operation width a b (operand-span operation width a i) (operand-span operation width b j) n k c
+    d
 
 -- on one number
-pub number-follows : ResultsFit → (operation : Operation) (width : Width) (f : ℕ → ℕ) → ((n : ℕ) → meant operation width n n ≡ f n) →
-    (x : AbstractValue) (v : Value) → HasSpan x → ContainsValue x v → FollowsValue (known_of_number operation width x) (on_word f v)
+pub number-follows : ResultsFit → (operation : Operation) (width : Width) (f : ℕ → ℕ)
+    → ((n : ℕ) → meant operation width n n ≡ f n) →
+    (x : AbstractValue) (v : Value) → HasSpan x → ContainsValue x v → FollowsValue (known_of_number operation width x)
+    (on_word f v)
 number-follows fit operation width f is (known.Number a) (Word n) i c =
     subst (λ (k : ℕ). Contains (span_of operation width a a) k) (is n) (span-has fit operation width a a i i n n c c)
 number-follows fit operation width f is (known.Number a) v i c = absurd c
 number-follows fit operation width f is x v i c = tt
 
 -- on two
-numbers-follow : ResultsFit → (width : Width) (op : AluOp) (x y : AbstractValue) (v w : Value) → HasSpan x → HasSpan y → ContainsValue x v → ContainsValue y w →
+numbers-follow : ResultsFit → (width : Width) (op : AluOp) (x y : AbstractValue) (v w : Value) → HasSpan x → HasSpan y
+    → ContainsValue x v → ContainsValue y w →
     FollowsValue (known_of_numbers width op x y) (on_words width op v w)
-numbers-follow fit width op (known.Number a) (known.Number b) (Word n) (Word k) i j c d = span-has fit (AluOperation op) width a b i j n k c d
+numbers-follow fit width op (known.Number a) (known.Number b) (Word n) (Word k) i j c d =
+    span-has fit (AluOperation op) width a b i j n k c d
 numbers-follow fit width op (known.Number a) (known.Number b) (Word n) w i j c d = absurd d
 numbers-follow fit width op (known.Number a) (known.Number b) v w i j c d = absurd c
 numbers-follow fit width op x y v w i j c d = tt
@@ -72,18 +78,23 @@ unfolding alu
 moved-low n = refl
 
 -- a value where a test holds
-pub there_if : (x : AbstractValue) (v : Value) (test : Bool) → test ≡ true → ContainsValue x v → FollowsValue (Some x) (if test then Some v else None)
+pub there_if : (x : AbstractValue) (v : Value) (test : Bool) → test ≡ true → ContainsValue x v
+    → FollowsValue (Some x) (if test then Some v else None)
 there_if x v true e c = c
 there_if x v false e c = absurd cc
 
 -- a position moved by a number that is known
-position-follows : (x : ℕ → AbstractValue) (address : ℕ → Value) → ((q : ℕ) → ContainsValue (x q) (address q)) → (op : AluOp) (p : ℕ) (n : Span) (k : ℕ) → Contains n k →
+position-follows : (x : ℕ → AbstractValue) (address : ℕ → Value) → ((q : ℕ) → ContainsValue (x q) (address q))
+    → (op : AluOp) (p : ℕ) (n : Span) (k : ℕ) → Contains n k →
     FollowsValue (option_map x (known_position op p n)) (within_frame address (alu W64 op p k))
-position-follows x address same op p n k c = by_test x address same op p n k c ((n.lo == n.hi) && nat_le (alu W64 op p n.lo) 512) refl
+position-follows x address same op p n k c =
+    by_test x address same op p n k c ((n.lo == n.hi) && nat_le (alu W64 op p n.lo) 512) refl
   where
-    by_test : (x : ℕ → AbstractValue) (address : ℕ → Value) → ((q : ℕ) → ContainsValue (x q) (address q)) → (op : AluOp) (p : ℕ) (n : Span) (k : ℕ) → Contains n k →
+    by_test : (x : ℕ → AbstractValue) (address : ℕ → Value) → ((q : ℕ) → ContainsValue (x q) (address q))
+        → (op : AluOp) (p : ℕ) (n : Span) (k : ℕ) → Contains n k →
         (test : Bool) → ((n.lo == n.hi) && nat_le (alu W64 op p n.lo) 512) ≡ test →
-        FollowsValue (option_map x (if test then Some (alu W64 op p n.lo) else None)) (within_frame address (alu W64 op p k))
+        FollowsValue (option_map x (if test then Some (alu W64 op p n.lo) else None))
+        (within_frame address (alu W64 op p k))
     by_test x address same op p n k c true e =
         let one : n.lo ≡ k = sym (exact-number n k (and-one (n.lo == n.hi) (nat_le (alu W64 op p n.lo) 512) e) c) in
         subst (λ (j : ℕ). FollowsValue (Some (x (alu W64 op p n.lo))) (within_frame address (alu W64 op p j))) one
@@ -100,17 +111,24 @@ area-follows : ResultsFit → (m : ℕ) (a b : Span) → IsSpan a → IsSpan b �
     FollowsValue (known_area m a b) (area_address m (n + k))
 area-follows fit m a b i j n k c d = by_test fit m a b i j n k c d (nat_le (a.hi + b.hi) 524288) refl
   where
-    by_test : ResultsFit → (m : ℕ) (a b : Span) → IsSpan a → IsSpan b → (n k : ℕ) → Contains a n → Contains b k → (test : Bool) → nat_le (a.hi + b.hi) 524288 ≡ test →
-        FollowsValue (if test then Some (known.Area m (span_of (AluOperation Add) W64 a b)) else None) (area_address m (n + k))
+    by_test : ResultsFit → (m : ℕ) (a b : Span) → IsSpan a → IsSpan b → (n k : ℕ) → Contains a n → Contains b k
+        → (test : Bool) → nat_le (a.hi + b.hi) 524288 ≡ test →
+        FollowsValue (if test then Some (known.Area m (span_of (AluOperation Add) W64 a b)) else None)
+        (area_address m (n + k))
     by_test fit m a b i j n k c d true e =
         let most : a.hi + b.hi ≤ 524288 = grind (arith, nat_tests) in
         let small : n + k ≤ 524288 = omega (arith, c.below, d.below) in
-        there_if (known.Area m (span_of (AluOperation Add) W64 a b)) (Area m (n + k)) (nat_le (n + k) 524288) (grind (arith, nat_tests))
-        (refl, subst (λ (o : ℕ). Contains (span_of (AluOperation Add) W64 a b) o) (small-sum n k small) (span-has fit (AluOperation Add) W64 a b i j n k c d))
+        there_if (known.Area m (span_of (AluOperation Add) W64 a b)) (Area m (n + k)) (nat_le (n + k) 524288)
+        (grind (arith, nat_tests)) (
+          refl,
+          subst (λ (o : ℕ). Contains (span_of (AluOperation Add) W64 a b) o) (small-sum n k small)
+              (span-has fit (AluOperation Add) W64 a b i j n k c d),
+        )
     by_test fit m a b i j n k c d false e = tt
 
 -- a value moved by a number
-moved-follows : ResultsFit → (op : AluOp) (x : AbstractValue) (n : Span) (v : Value) (k : ℕ) → HasSpan x → IsSpan n → ContainsValue x v → Contains n k →
+moved-follows : ResultsFit → (op : AluOp) (x : AbstractValue) (n : Span) (v : Value) (k : ℕ) → HasSpan x → IsSpan n
+    → ContainsValue x v → Contains n k →
     FollowsValue (known_moved op x n) (shifted W64 op v (Word k))
 moved-follows fit op (known.Number a) n (Word j) k i s c d = span-has fit (AluOperation op) W64 a n i s j k c d
 moved-follows fit op (known.Number a) n v k i s c d = absurd c
@@ -123,19 +141,22 @@ moved-follows fit op (known.Ctx p) n (Ctx q) k i s c d =
     (position-follows known.Ctx Ctx (λ q. refl) op p n k d)
 moved-follows fit op (known.Ctx p) n v k i s c d = absurd c
 moved-follows fit Add (known.Area m a) n (Area m' o) k i s c d =
-    subst (λ (r : ℕ). FollowsValue (known_area m a n) (area_address r (o + k))) c.0 (area-follows fit m a n i s o k c.1 d)
+    subst (λ (r : ℕ). FollowsValue (known_area m a n) (area_address r (o + k))) c.0 (area-follows fit m a n i s o k c.1
+    d)
 moved-follows fit Add (known.Area m a) n v k i s c d = absurd c
 moved-follows fit op x n v k i s c d = tt
 
 -- a sum or a difference
-sum-follows : ResultsFit → (op : AluOp) (x y : AbstractValue) (v w : Value) → HasSpan x → HasSpan y → ContainsValue x v → ContainsValue y w →
+sum-follows : ResultsFit → (op : AluOp) (x y : AbstractValue) (v w : Value) → HasSpan x → HasSpan y → ContainsValue x v
+    → ContainsValue y w →
     FollowsValue (known_sum W64 op x y) (shifted W64 op v w)
 sum-follows fit op x (known.Number n) v (Word k) i j c d = moved-follows fit op x n v k i j c d
 sum-follows fit op x (known.Number n) v w i j c d = absurd d
 sum-follows fit op x y v w i j c d = tt
 
 -- an operator
-pub result-follows : ResultsFit → (width : Width) (op : AluOp) (x y : AbstractValue) (v w : Value) → HasSpan x → HasSpan y → ContainsValue x v → ContainsValue y w →
+pub result-follows : ResultsFit → (width : Width) (op : AluOp) (x y : AbstractValue) (v w : Value) → HasSpan x
+    → HasSpan y → ContainsValue x v → ContainsValue y w →
     FollowsValue (known_result width op x y) (result_of width op v w)
 result-follows fit W64 Mov x y v w i j c d = copied-follows y w d
 result-follows fit W32 Mov x y v w i j c d = number-follows fit (AluOperation Mov) W32 (alu W32 Mov 0) moved-low y w j d

@@ -37,7 +37,8 @@ moved-at n (pos up) p e =
     ap Some at
 moved-at n (negsuc down) p e = by_test n down p e (nat_lt down n) refl
   where
-    by_test : (n down p : ℕ) → pos n +ℤ negsuc down ≡ pos p → (test : Bool) → nat_lt down n ≡ test → (if test then Some (n - suc down) else None) ≡ Some p
+    by_test : (n down p : ℕ) → pos n +ℤ negsuc down ≡ pos p → (test : Bool) → nat_lt down n ≡ test
+        → (if test then Some (n - suc down) else None) ≡ Some p
     by_test n down p e true t =
         let far : down < n = grind (arith, nat_tests) in
         let at : n - suc down ≡ p = omega (arith, ints) in
@@ -49,7 +50,8 @@ moved-at n (negsuc down) p e = by_test n down p e (nat_lt down n) refl
 -- an aligned place
 aligned : (p size : ℕ) → is_misaligned size (pos p) ≡ false → p % size ≡ 0
 aligned p size e =
-    let zero_rest : pos (p % size) ≡ pos 0 = (Decides-int_eq (pos (p % size)) (pos 0)).0 (not-not-true (int_eq (pos (p % size)) (pos 0)) e) in
+    let zero_rest : pos (p % size) ≡ pos 0 =
+    (Decides-int_eq (pos (p % size)) (pos 0)).0 (not-not-true (int_eq (pos (p % size)) (pos 0)) e) in
     cc
 
 -- a place of a frame
@@ -67,12 +69,14 @@ frame-goes p size a h =
 pub frame-inside : (position : ℕ) (offset : ℤ) (size : ℕ) → is_misaligned size (pos position +ℤ offset) ≡ false →
     is_outside_frame size (pos position +ℤ offset) ≡ false → InsideFrame position offset size
 frame-inside position offset size misaligned outside =
-    let low = not-negative (pos position +ℤ offset) (or-left (int_lt (pos position +ℤ offset) (pos 0)) (int_lt (pos 512) ((pos position +ℤ offset) +ℤ pos size)) outside) in
+    let low = not-negative (pos position +ℤ offset) (or-left (int_lt (pos position +ℤ offset) (pos 0))
+    (int_lt (pos 512) ((pos position +ℤ offset) +ℤ pos size)) outside) in
     let at : ℕ = low.0 in
     let is : pos position +ℤ offset ≡ pos at = low.1 in
     let high : nat_lt 512 (at + size) ≡ false =
     subst (λ (z : ℤ). int_lt (pos 512) (z +ℤ pos size) ≡ false) is
-    (or-right (int_lt (pos position +ℤ offset) (pos 0)) (int_lt (pos 512) ((pos position +ℤ offset) +ℤ pos size)) outside) in
+    (or-right (int_lt (pos position +ℤ offset) (pos 0)) (int_lt (pos 512) ((pos position +ℤ offset) +ℤ pos size))
+    outside) in
     let inside : at + size ≤ 512 = grind (arith, nat_tests) in
     record {
       at = at;
@@ -83,7 +87,8 @@ frame-inside position offset size misaligned outside =
     }
 
 -- a map's elements are among all
-pub base-below : (sizes : List ℕ) (map count : ℕ) → slice_get sizes map ≡ Some count → base_of sizes map + count ≤ sum sizes
+pub base-below : (sizes : List ℕ) (map count : ℕ) → slice_get sizes map ≡ Some count → base_of sizes map + count
+    ≤ sum sizes
 base-below [] map count e = absurd cc
 base-below (size ∷ sizes) zero count e =
     let is : size ≡ count = cc in
@@ -111,7 +116,8 @@ part-high : (byte size : ℕ) → byte ≡ 4 → size ≡ 4 → part_at byte siz
 part-high byte size b s = ap (λ (n : ℕ). part_at n size) b ∙ ap (part_at 4) s
 
 -- an element by the offset of a byte
-element-goes : (sizes : List ℕ) (map count byte size : ℕ) (part : Part) → slice_get sizes map ≡ Some count → byte / 8 < count → part_at (byte % 8) size ≡ Some part →
+element-goes : (sizes : List ℕ) (map count byte size : ℕ) (part : Part) → slice_get sizes map ≡ Some count
+    → byte / 8 < count → part_at (byte % 8) size ≡ Some part →
     in_map sizes map (Some count) (Some byte) size ≡ Some (InMap (base_of sizes map + byte / 8) part)
 element-goes sizes map count byte size part there below is =
     let test : nat_lt (byte / 8) count ≡ true = grind (arith, nat_tests) in
@@ -119,7 +125,8 @@ element-goes sizes map count byte size part there below is =
     ∙ ap (in_element (base_of sizes map + byte / 8)) is
 
 -- the part at an aligned byte
-area-part : (sizes : List ℕ) (map count byte at : ℕ) (offset : ℤ) (size : ℕ) (part : Part) → slice_get sizes map ≡ Some count → pos byte +ℤ offset ≡ pos at → at / 8 < count →
+area-part : (sizes : List ℕ) (map count byte at : ℕ) (offset : ℤ) (size : ℕ) (part : Part)
+    → slice_get sizes map ≡ Some count → pos byte +ℤ offset ≡ pos at → at / 8 < count →
     part_at (at % 8) size ≡ Some part → part_bytes part ≡ size → InsideArea sizes map byte offset size
 area-part sizes map count byte at offset size part there is below part_is bytes = record {
   element = base_of sizes map + at / 8;
@@ -131,22 +138,27 @@ area-part sizes map count byte at offset size part there is below part_is bytes 
   bytes = bytes;
 }
 
-area-at : (sizes : List ℕ) (map count byte at : ℕ) (offset : ℤ) (size : ℕ) → slice_get sizes map ≡ Some count → pos byte +ℤ offset ≡ pos at → at % size ≡ 0 → at + size ≤ 8 * count →
-    (whole half upper : Bool) → (size == 8) ≡ whole → (size == 4) ≡ half → (at % 8 == 4) ≡ upper → (whole || half) ≡ true → InsideArea sizes map byte offset size
+area-at : (sizes : List ℕ) (map count byte at : ℕ) (offset : ℤ) (size : ℕ) → slice_get sizes map ≡ Some count
+    → pos byte +ℤ offset ≡ pos at → at % size ≡ 0 → at + size ≤ 8 * count →
+    (whole half upper : Bool) → (size == 8) ≡ whole → (size == 4) ≡ half → (at % 8 == 4) ≡ upper
+    → (whole || half) ≡ true → InsideArea sizes map byte offset size
 area-at sizes map count byte at offset size there is a h true half upper w f u some =
     let eight : size ≡ 8 = grind (arith, nat_tests) in
     let a' : at % 8 ≡ 0 = subst (λ (n : ℕ). at % n ≡ 0) eight a in
-    area-part sizes map count byte at offset size Whole there is (omega arith) (part-whole (at % 8) size a' eight) (sym eight)
+    area-part sizes map count byte at offset size Whole there is (omega arith) (part-whole (at % 8) size a' eight)
+    (sym eight)
 area-at sizes map count byte at offset size there is a h false true true w f u some =
     let four : size ≡ 4 = grind (arith, nat_tests) in
     let high : at % 8 ≡ 4 = grind (arith, nat_tests) in
-    area-part sizes map count byte at offset size (Of High) there is (omega arith) (part-high (at % 8) size high four) (sym four)
+    area-part sizes map count byte at offset size (Of High) there is (omega arith) (part-high (at % 8) size high four)
+    (sym four)
 area-at sizes map count byte at offset size there is a h false true false w f u some =
     let four : size ≡ 4 = grind (arith, nat_tests) in
     let a' : at % 4 ≡ 0 = subst (λ (n : ℕ). at % n ≡ 0) four a in
     let other : (at % 8 ≡ 4 → ⊥) = λ e. absurd (grind (arith, nat_tests)) in
     let low : at % 8 ≡ 0 = omega arith in
-    area-part sizes map count byte at offset size (Of Low) there is (omega arith) (part-low (at % 8) size low four) (sym four)
+    area-part sizes map count byte at offset size (Of Low) there is (omega arith) (part-low (at % 8) size low four)
+    (sym four)
 area-at sizes map count byte at offset size there is a h false false upper w f u some = absurd cc
 
 -- a multiple of a power that isn't less than 4, or than 8
@@ -164,7 +176,8 @@ zeros-three (suc (suc (suc z))) h = omega arith
 multiple-of : (z size x : ℕ) → ((size == 8) || (size == 4)) ≡ true → size ≤ 2 ^ z → x % 2 ^ z ≡ 0 → x % size ≡ 0
 multiple-of z size x some h e = by_size z size x h e (size == 8) refl (size == 4) refl some
   where
-    by_size : (z size x : ℕ) → size ≤ 2 ^ z → x % 2 ^ z ≡ 0 → (whole : Bool) → (size == 8) ≡ whole → (half : Bool) → (size == 4) ≡ half → (whole || half) ≡ true → x % size ≡ 0
+    by_size : (z size x : ℕ) → size ≤ 2 ^ z → x % 2 ^ z ≡ 0 → (whole : Bool) → (size == 8) ≡ whole → (half : Bool)
+        → (size == 4) ≡ half → (whole || half) ≡ true → x % size ≡ 0
     by_size z size x h e true w half f some =
         let eight : size ≡ 8 = grind (arith, nat_tests) in
         let fine : x % 2 ^ 3 ≡ 0 = coarser 3 z x (zeros-three z (omega arith)) e in
@@ -176,11 +189,15 @@ multiple-of z size x some h e = by_size z size x h e (size == 8) refl (size == 4
     by_size z size x h e false w false f some = absurd cc
 
 -- the difference of two multiples
-multiple-moved : (a b lo byte size : ℕ) → ((size == 8) || (size == 4)) ≡ true → lo ≤ byte → b ≡ a + (byte - lo) → a % size ≡ 0 → lo % size ≡ 0 → byte % size ≡ 0 → b % size ≡ 0
-multiple-moved a b lo byte size some h is x y z = by_size a b lo byte size h is x y z (size == 8) refl (size == 4) refl some
+multiple-moved : (a b lo byte size : ℕ) → ((size == 8) || (size == 4)) ≡ true → lo ≤ byte → b ≡ a + (byte - lo)
+    → a % size ≡ 0 → lo % size ≡ 0 → byte % size ≡ 0 → b % size ≡ 0
+multiple-moved a b lo byte size some h is x y z = by_size a b lo byte size h is x y z (size == 8) refl (size == 4) refl
+    some
   where
-    by_size : (a b lo byte size : ℕ) → lo ≤ byte → b ≡ a + (byte - lo) → a % size ≡ 0 → lo % size ≡ 0 → byte % size ≡ 0 →
-        (whole : Bool) → (size == 8) ≡ whole → (half : Bool) → (size == 4) ≡ half → (whole || half) ≡ true → b % size ≡ 0
+    by_size : (a b lo byte size : ℕ) → lo ≤ byte → b ≡ a + (byte - lo) → a % size ≡ 0 → lo % size ≡ 0 → byte % size ≡ 0
+        →
+        (whole : Bool) → (size == 8) ≡ whole → (half : Bool) → (size == 4) ≡ half → (whole || half) ≡ true
+        → b % size ≡ 0
     by_size a b lo byte size h is x y z true w half f some =
         let eight : size ≡ 8 = grind (arith, nat_tests) in
         let x' : a % 8 ≡ 0 = subst (λ (n : ℕ). a % n ≡ 0) eight x in
@@ -198,8 +215,10 @@ multiple-moved a b lo byte size some h is x y z = by_size a b lo byte size h is 
     by_size a b lo byte size h is x y z false w false f some = absurd cc
 
 -- a byte of a range is as aligned as its least
-spread-aligned : (range : Span) (a b byte size : ℕ) → IsSpan range → Contains range byte → ((size == 8) || (size == 4)) ≡ true → a % size ≡ 0 → b ≡ a + (byte - range.lo) →
-    (more few : Bool) → nat_lt range.lo range.hi ≡ more → nat_lt (2 ^ range.zeros) size ≡ few → (more && few) ≡ false → b % size ≡ 0
+spread-aligned : (range : Span) (a b byte size : ℕ) → IsSpan range → Contains range byte → ((size == 8) || (size == 4))
+    ≡ true → a % size ≡ 0 → b ≡ a + (byte - range.lo) →
+    (more few : Bool) → nat_lt range.lo range.hi ≡ more → nat_lt (2 ^ range.zeros) size ≡ few → (more && few) ≡ false
+    → b % size ≡ 0
 spread-aligned range a b byte size span c some x is false few m f e =
     let one : range.hi ≤ range.lo = grind (arith, nat_tests) in
     let same : b ≡ a = omega (arith, c.above, c.below) in
@@ -207,11 +226,15 @@ spread-aligned range a b byte size span c some x is false few m f e =
 spread-aligned range a b byte size span c some x is true true m f e = absurd cc
 spread-aligned range a b byte size span c some x is true false m f e =
     let fine : size ≤ 2 ^ range.zeros = grind (arith, nat_tests) in
-    multiple-moved a b range.lo byte size some c.above is x (multiple-of range.zeros size range.lo some fine span.lo_multiple) (multiple-of range.zeros size byte some fine c.multiple)
+    multiple-moved a b range.lo byte size some c.above is x (multiple-of range.zeros size range.lo some fine
+    span.lo_multiple) (multiple-of range.zeros size byte some fine c.multiple)
 
-area-in : (sizes : List ℕ) (map count byte : ℕ) (range : Span) (offset : ℤ) (size : ℕ) → slice_get sizes map ≡ Some count → IsSpan range → Contains range byte →
-    ((size == 8) || (size == 4)) ≡ true → is_misaligned size (pos range.lo +ℤ offset) ≡ false → is_spread size range ≡ false →
-    int_lt (pos range.lo +ℤ offset) (pos 0) ≡ false → int_lt (pos (8 * count)) ((pos range.hi +ℤ offset) +ℤ pos size) ≡ false → InsideArea sizes map byte offset size
+area-in : (sizes : List ℕ) (map count byte : ℕ) (range : Span) (offset : ℤ) (size : ℕ)
+    → slice_get sizes map ≡ Some count → IsSpan range → Contains range byte →
+    ((size == 8) || (size == 4)) ≡ true → is_misaligned size (pos range.lo +ℤ offset) ≡ false
+    → is_spread size range ≡ false →
+    int_lt (pos range.lo +ℤ offset) (pos 0) ≡ false → int_lt (pos (8 * count)) ((pos range.hi +ℤ offset) +ℤ pos size)
+    ≡ false → InsideArea sizes map byte offset size
 area-in sizes map count byte range offset size there span c some misaligned spread low high =
     let least = not-negative (pos range.lo +ℤ offset) low in
     let a : ℕ = least.0 in
@@ -223,32 +246,43 @@ area-in sizes map count byte range offset size there span c some misaligned spre
     let b_is : pos byte +ℤ offset ≡ pos b = omega (arith, ints) in
     let top_is : pos range.hi +ℤ offset ≡ pos top = omega (arith, ints) in
     let x : a % size ≡ 0 = aligned a size (subst (λ (z : ℤ). is_misaligned size z ≡ false) is misaligned) in
-    let y : b % size ≡ 0 = spread-aligned range a b byte size span c some x refl (nat_lt range.lo range.hi) (nat_lt (2 ^ range.zeros) size) refl refl spread in
-    let within : nat_lt (8 * count) (top + size) ≡ false = subst (λ (z : ℤ). int_lt (pos (8 * count)) (z +ℤ pos size) ≡ false) top_is high in
+    let y : b % size ≡ 0 = spread-aligned range a b byte size span c some x refl (nat_lt range.lo range.hi)
+    (nat_lt (2 ^ range.zeros) size) refl refl spread in
+    let within : nat_lt (8 * count) (top + size) ≡ false =
+    subst (λ (z : ℤ). int_lt (pos (8 * count)) (z +ℤ pos size) ≡ false) top_is high in
     let most : top + size ≤ 8 * count = grind (arith, nat_tests) in
-    area-at sizes map count byte b offset size there b_is y (omega arith) (size == 8) (size == 4) (b % 8 == 4) refl refl refl some
+    area-at sizes map count byte b offset size there b_is y (omega arith) (size == 8) (size == 4) (b % 8 == 4) refl refl
+    refl some
 
-pub area-inside : (sizes : List ℕ) (map byte : ℕ) (range : Span) (offset : ℤ) (size : ℕ) → IsSpan range → Contains range byte →
+pub area-inside : (sizes : List ℕ) (map byte : ℕ) (range : Span) (offset : ℤ) (size : ℕ) → IsSpan range
+    → Contains range byte →
     is_part_of_half size (known.Area map range) ≡ false → misses_alignment size offset (known.Area map range) ≡ false →
     is_outside_map (slice_get sizes map) size offset range ≡ false → InsideArea sizes map byte offset size
-area-inside sizes map byte range offset size span c half misses outside = by_count sizes map byte range offset size span c half misses (slice_get sizes map) refl outside
+area-inside sizes map byte range offset size span c half misses outside =
+    by_count sizes map byte range offset size span c half misses (slice_get sizes map) refl outside
   where
-    by_count : (sizes : List ℕ) (map byte : ℕ) (range : Span) (offset : ℤ) (size : ℕ) → IsSpan range → Contains range byte →
-        is_part_of_half size (known.Area map range) ≡ false → misses_alignment size offset (known.Area map range) ≡ false →
-        (o : Option ℕ) → slice_get sizes map ≡ o → is_outside_map o size offset range ≡ false → InsideArea sizes map byte offset size
+    by_count : (sizes : List ℕ) (map byte : ℕ) (range : Span) (offset : ℤ) (size : ℕ) → IsSpan range
+        → Contains range byte →
+        is_part_of_half size (known.Area map range) ≡ false → misses_alignment size offset (known.Area map range)
+        ≡ false →
+        (o : Option ℕ) → slice_get sizes map ≡ o → is_outside_map o size offset range ≡ false
+        → InsideArea sizes map byte offset size
     by_count sizes map byte range offset size span c half misses None e outside = absurd cc
     by_count sizes map byte range offset size span c half misses (Some count) e outside =
         area-in sizes map count byte range offset size e span c (not-not-true ((size == 8) || (size == 4)) half)
         (or-left (is_misaligned size (pos range.lo +ℤ offset)) (is_spread size range) misses)
         (or-right (is_misaligned size (pos range.lo +ℤ offset)) (is_spread size range) misses)
-        (or-left (int_lt (pos range.lo +ℤ offset) (pos 0)) (int_lt (pos (8 * count)) ((pos range.hi +ℤ offset) +ℤ pos size)) outside)
-        (or-right (int_lt (pos range.lo +ℤ offset) (pos 0)) (int_lt (pos (8 * count)) ((pos range.hi +ℤ offset) +ℤ pos size)) outside)
+        (or-left (int_lt (pos range.lo +ℤ offset) (pos 0))
+        (int_lt (pos (8 * count)) ((pos range.hi +ℤ offset) +ℤ pos size)) outside)
+        (or-right (int_lt (pos range.lo +ℤ offset) (pos 0))
+        (int_lt (pos (8 * count)) ((pos range.hi +ℤ offset) +ℤ pos size)) outside)
 
 -- where an access goes, by the abstract value of its base
 abbrev pub PlaceIs : List ℕ → ℕ → ℤ → AbstractValue → Option Place → Type 0
 PlaceIs sizes size offset (known.Frame q) (Some (InFrame p)) = (pos q +ℤ offset ≡ pos p) × (p + size ≤ 512)
 PlaceIs sizes size offset (known.Ctx q) (Some (InCaller p)) = (pos q +ℤ offset ≡ pos p) × (p + size ≤ 512)
-PlaceIs sizes size offset (known.Area map range) (Some (InMap element part)) = (element < sum sizes) × (part_bytes part ≡ size)
+PlaceIs sizes size offset (known.Area map range) (Some (InMap element part)) = (element < sum sizes)
+    × (part_bytes part ≡ size)
 PlaceIs sizes size offset x at = ⊥
 
 -- V16 to V19
@@ -258,7 +292,8 @@ pub record KeepsPlaceRules (sizes : List ℕ) (size : ℕ) (offset : ℤ) (x : A
   pub alignment : misses_alignment size offset x ≡ false
   pub bounds : is_outside sizes size offset x ≡ false
 
-pub place-rules : (sizes : List ℕ) (access : MemoryAccess) (x : AbstractValue) → place_fault sizes access x ≡ None → KeepsPlaceRules sizes access.size access.offset x
+pub place-rules : (sizes : List ℕ) (access : MemoryAccess) (x : AbstractValue) → place_fault sizes access x ≡ None
+    → KeepsPlaceRules sizes access.size access.offset x
 place-rules sizes access x e =
     let e2 = test-later (not (is_memory x)) _ _ e in
     let e3 = test-later (is_part_of_half access.size x) _ _ e2 in
@@ -270,20 +305,24 @@ place-rules sizes access x e =
       bounds = test-fails (is_outside sizes access.size access.offset x) _ _ e4;
     }
 
-pub place-is : (program : Program) (x : AbstractValue) (v : Value) (offset : ℤ) (size : ℕ) → HasSpan x → ContainsValue x v → KeepsPlaceRules program.sizes size offset x →
+pub place-is : (program : Program) (x : AbstractValue) (v : Value) (offset : ℤ) (size : ℕ) → HasSpan x
+    → ContainsValue x v → KeepsPlaceRules program.sizes size offset x →
     PlaceIs program.sizes size offset x (place program v offset size)
 place-is program (known.Frame q) (Frame p) offset size i c keeps =
     let inside = frame-inside q offset size keeps.alignment keeps.bounds in
     subst (PlaceIs program.sizes size offset (known.Frame q))
-    (sym (ap (λ (r : ℕ). in_frame (frame_position (moved r offset) size)) (sym c) ∙ ap in_frame inside.goes)) (inside.is, inside.inside)
+    (sym (ap (λ (r : ℕ). in_frame (frame_position (moved r offset) size)) (sym c) ∙ ap in_frame inside.goes))
+    (inside.is, inside.inside)
 place-is program (known.Ctx q) (Ctx p) offset size i c keeps =
     let inside = frame-inside q offset size keeps.alignment keeps.bounds in
     subst (PlaceIs program.sizes size offset (known.Ctx q))
-    (sym (ap (λ (r : ℕ). in_caller (frame_position (moved r offset) size)) (sym c) ∙ ap in_caller inside.goes)) (inside.is, inside.inside)
+    (sym (ap (λ (r : ℕ). in_caller (frame_position (moved r offset) size)) (sym c) ∙ ap in_caller inside.goes))
+    (inside.is, inside.inside)
 place-is program (known.Area map range) (Area n byte) offset size i c keeps =
     let inside = area-inside program.sizes map byte range offset size i c.1 keeps.half keeps.alignment keeps.bounds in
     subst (PlaceIs program.sizes size offset (known.Area map range))
-    (sym (ap (λ (k : ℕ). in_map program.sizes k (slice_get program.sizes k) (moved byte offset) size) (sym c.0) ∙ inside.goes)) (inside.inside, inside.bytes)
+    (sym (ap (λ (k : ℕ). in_map program.sizes k (slice_get program.sizes k) (moved byte offset) size) (sym c.0)
+    ∙ inside.goes)) (inside.inside, inside.bytes)
 place-is program (known.Frame q) v offset size i c keeps = absurd c
 place-is program (known.Ctx q) v offset size i c keeps = absurd c
 place-is program (known.Area map range) v offset size i c keeps = absurd c

@@ -23,7 +23,8 @@ pub record KeepsSlotRules (insns : List Insn) (slot : ℕ) (insn : Insn) : Type 
   pub falls : falls_off insns slot insn ≡ false
   pub named : names_none insns slot insn ≡ false
 
-slot-rules : (insns : List Insn) (slot : ℕ) (insn : Insn) → slot_fault insns slot insn ≡ None → KeepsSlotRules insns slot insn
+slot-rules : (insns : List Insn) (slot : ℕ) (insn : Insn) → slot_fault insns slot insn ≡ None
+    → KeepsSlotRules insns slot insn
 unfolding slot_fault
 slot-rules insns slot insn e =
     let e2 = test-later (jumps_astray insns slot insn) _ _ e in
@@ -66,7 +67,8 @@ pub record KeepsStateRules (sizes : List ℕ) (state : State) (insn : Insn) : Ty
   pub access : access_fault sizes state (memory_access_of insn) ≡ None
   pub call : call_fault state insn ≡ None
 
-state-rules : (sizes : List ℕ) (state : State) (insn : Insn) → state_fault sizes state insn ≡ None → KeepsStateRules sizes state insn
+state-rules : (sizes : List ℕ) (state : State) (insn : Insn) → state_fault sizes state insn ≡ None
+    → KeepsStateRules sizes state insn
 unfolding state_fault
 state-rules sizes state insn e =
     let later = or_else (access_fault sizes state (memory_access_of insn)) (call_fault state insn) in
@@ -85,8 +87,10 @@ state-rules sizes state insn e =
     }
 
 -- all of them
-pub fault_of-none : (program : Program) (slot : ℕ) (insn : Insn) (state : State) → fault_of program slot insn (Some state) ≡ None →
-    insn_at program.insns slot ≡ Some insn → sizes_fit program.sizes ≡ true → InsnFits insn → IsWellFormedState state → KeepsRules program slot insn state
+pub fault_of-none : (program : Program) (slot : ℕ) (insn : Insn) (state : State)
+    → fault_of program slot insn (Some state) ≡ None →
+    insn_at program.insns slot ≡ Some insn → sizes_fit program.sizes ≡ true → InsnFits insn → IsWellFormedState state
+    → KeepsRules program slot insn state
 unfolding fault_of
 fault_of-none program slot insn state e here sizes fits spans =
     let by_slot = slot_fault program.insns slot insn in
@@ -94,10 +98,13 @@ fault_of-none program slot insn state e here sizes fits spans =
     let by_state = state_fault program.sizes state insn in
     let by_callback = callback_fault (function_of program.insns slot) insn in
     let by_end = exit_fault (function_of program.insns slot) state insn in
-    let e2 : or_else by_insn (or_else by_state (or_else by_callback by_end)) ≡ None = or_else-two by_slot (or_else by_insn (or_else by_state (or_else by_callback by_end))) e in
-    let e3 : or_else by_state (or_else by_callback by_end) ≡ None = or_else-two by_insn (or_else by_state (or_else by_callback by_end)) e2 in
+    let e2 : or_else by_insn (or_else by_state (or_else by_callback by_end)) ≡ None =
+    or_else-two by_slot (or_else by_insn (or_else by_state (or_else by_callback by_end))) e in
+    let e3 : or_else by_state (or_else by_callback by_end) ≡ None =
+    or_else-two by_insn (or_else by_state (or_else by_callback by_end)) e2 in
     let e4 : or_else by_callback by_end ≡ None = or_else-two by_state (or_else by_callback by_end) e3 in
-    let s = slot-rules program.insns slot insn (or_else-one by_slot (or_else by_insn (or_else by_state (or_else by_callback by_end))) e) in
+    let s = slot-rules program.insns slot insn
+    (or_else-one by_slot (or_else by_insn (or_else by_state (or_else by_callback by_end))) e) in
     let i = insn-rules program.sizes insn (or_else-one by_insn (or_else by_state (or_else by_callback by_end)) e2) in
     let t = state-rules program.sizes state insn (or_else-one by_state (or_else by_callback by_end) e3) in
     record {
@@ -136,7 +143,8 @@ accepted-sizes program e =
     (or-right (nat_lt 4096 (slot_count program.insns)) (not (sizes_fit program.sizes))
     (test-fails (is_too_large program) _ _ (test-later (slot_count program.insns == 0) _ _ e)))
 
-pub accepted-at : (program : Program) (slot : ℕ) (insn : Insn) → Accepted program → insn_at program.insns slot ≡ Some insn →
+pub accepted-at : (program : Program) (slot : ℕ) (insn : Insn) → Accepted program → insn_at program.insns slot
+    ≡ Some insn →
     fault_of program slot insn (state_before program slot) ≡ None
 accepted-at program slot insn accepted here =
     sym (ap (fault_at_insn program slot) here)
@@ -144,14 +152,17 @@ accepted-at program slot insn accepted here =
     (within program.insns (slot_count program.insns) slot insn (nat_lt slot (slot_count program.insns)) refl refl here)
 
 -- an instruction of a program that fits does
-pub fits_at : (insns : List Insn) (slot : ℕ) (insn : Insn) → AreInsns insns → insn_at insns slot ≡ Some insn → InsnFits insn
+pub fits_at : (insns : List Insn) (slot : ℕ) (insn : Insn) → AreInsns insns → insn_at insns slot ≡ Some insn
+    → InsnFits insn
 fits_at [] slot insn fits here = absurd cc
 fits_at (x ∷ xs) zero insn fits here =
     let e : x ≡ insn = cc in
     subst InsnFits e fits.0
-fits_at (x ∷ xs) (suc slot) insn fits here = by_test (nat_lt (suc slot) (slots_of x)) xs (suc slot - slots_of x) insn here (fits_at xs (suc slot - slots_of x) insn fits.1)
+fits_at (x ∷ xs) (suc slot) insn fits here = by_test (nat_lt (suc slot) (slots_of x)) xs (suc slot - slots_of x) insn
+    here (fits_at xs (suc slot - slots_of x) insn fits.1)
   where
-    by_test : (test : Bool) (xs : List Insn) (slot : ℕ) (insn : Insn) → (if test then None else insn_at xs slot) ≡ Some insn →
+    by_test : (test : Bool) (xs : List Insn) (slot : ℕ) (insn : Insn) → (if test then None else insn_at xs slot)
+        ≡ Some insn →
         (insn_at xs slot ≡ Some insn → InsnFits insn) → InsnFits insn
     by_test true xs slot insn e go = absurd cc
     by_test false xs slot insn e go = go e

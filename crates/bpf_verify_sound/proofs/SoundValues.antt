@@ -42,7 +42,8 @@ pub word-sound : (program : Program) (f : ℕ → ℕ) (v : Value) → ((n : ℕ
 word-sound program f (Word n) fits = fits n
 word-sound program f v fits = tt
 
-words-sound : ResultsFit → (program : Program) (width : Width) (op : AluOp) (v w : Value) → SoundIf program (on_words width op v w)
+words-sound : ResultsFit → (program : Program) (width : Width) (op : AluOp) (v w : Value)
+    → SoundIf program (on_words width op v w)
 words-sound fit program width op (Word a) (Word b) = alu-word fit width op a b
 words-sound fit program width op v w = tt
 
@@ -55,32 +56,41 @@ copied-sound program (Map m) i = i
 copied-sound program (Area m o) i = i
 copied-sound program (Code s) i = i
 
-within-sound : (program : Program) (address : ℕ → Value) → ((p : ℕ) → p ≤ 512 → SoundValue program (address p)) → (p : ℕ) (test : Bool) → nat_le p 512 ≡ test →
+within-sound : (program : Program) (address : ℕ → Value) → ((p : ℕ) → p ≤ 512 → SoundValue program (address p))
+    → (p : ℕ) (test : Bool) → nat_le p 512 ≡ test →
     SoundIf program (if test then Some (address p) else None)
 within-sound program address fits p true e = fits p (grind (arith, nat_tests))
 within-sound program address fits p false e = tt
 
-area-if : (program : Program) (m o : ℕ) → m < length program.sizes → (test : Bool) → nat_le o 524288 ≡ test → SoundIf program (if test then Some (Area m o) else None)
+area-if : (program : Program) (m o : ℕ) → m < length program.sizes → (test : Bool) → nat_le o 524288 ≡ test
+    → SoundIf program (if test then Some (Area m o) else None)
 area-if program m o inside true e = (inside, (let few : o ≤ 524288 = grind (arith, nat_tests) in few))
 area-if program m o inside false e = tt
 
 pub area-sound : (program : Program) (m o : ℕ) → m < length program.sizes → SoundIf program (area_address m o)
 area-sound program m o inside = area-if program m o inside (nat_le o 524288) refl
 
-added-sound : ResultsFit → (program : Program) (v w : Value) → SoundValue program v → SoundIf program (shifted W64 Add v w)
-added-sound fit program (Frame p) (Word n) i = within-sound program Frame (λ q h. h) (alu W64 Add p n) (nat_le (alu W64 Add p n) 512) refl
-added-sound fit program (Ctx p) (Word n) i = within-sound program Ctx (λ q h. h) (alu W64 Add p n) (nat_le (alu W64 Add p n) 512) refl
+added-sound : ResultsFit → (program : Program) (v w : Value) → SoundValue program v
+    → SoundIf program (shifted W64 Add v w)
+added-sound fit program (Frame p) (Word n) i = within-sound program Frame (λ q h. h) (alu W64 Add p n)
+    (nat_le (alu W64 Add p n) 512) refl
+added-sound fit program (Ctx p) (Word n) i = within-sound program Ctx (λ q h. h) (alu W64 Add p n)
+    (nat_le (alu W64 Add p n) 512) refl
 added-sound fit program (Area m o) (Word n) i = area-sound program m (o + n) i.0
 added-sound fit program (Word a) (Word b) i = alu-word fit W64 Add a b
 added-sound fit program v w i = tt
 
-subtracted-sound : ResultsFit → (program : Program) (v w : Value) → SoundValue program v → SoundIf program (shifted W64 Sub v w)
-subtracted-sound fit program (Frame p) (Word n) i = within-sound program Frame (λ q h. h) (alu W64 Sub p n) (nat_le (alu W64 Sub p n) 512) refl
-subtracted-sound fit program (Ctx p) (Word n) i = within-sound program Ctx (λ q h. h) (alu W64 Sub p n) (nat_le (alu W64 Sub p n) 512) refl
+subtracted-sound : ResultsFit → (program : Program) (v w : Value) → SoundValue program v
+    → SoundIf program (shifted W64 Sub v w)
+subtracted-sound fit program (Frame p) (Word n) i = within-sound program Frame (λ q h. h) (alu W64 Sub p n)
+    (nat_le (alu W64 Sub p n) 512) refl
+subtracted-sound fit program (Ctx p) (Word n) i = within-sound program Ctx (λ q h. h) (alu W64 Sub p n)
+    (nat_le (alu W64 Sub p n) 512) refl
 subtracted-sound fit program (Word a) (Word b) i = alu-word fit W64 Sub a b
 subtracted-sound fit program v w i = tt
 
-pub result-sound : ResultsFit → (program : Program) (width : Width) (op : AluOp) (v w : Value) → SoundValue program v → SoundValue program w → SoundIf program (result_of width op v w)
+pub result-sound : ResultsFit → (program : Program) (width : Width) (op : AluOp) (v w : Value) → SoundValue program v
+    → SoundValue program w → SoundIf program (result_of width op v w)
 result-sound fit program W64 Mov v w i j = copied-sound program w j
 result-sound fit program W32 Mov v w i j = word-sound program (alu W32 Mov 0) w (λ n. alu-word fit W32 Mov 0 n)
 result-sound fit program W64 Add v w i j = added-sound fit program v w i
@@ -100,7 +110,8 @@ all-drop P zero xs all = all
 all-drop P (suc n) [] all = tt
 all-drop P (suc n) (x ∷ xs) all = all-drop P n xs all.1
 
-pub all-append : {A : Type 0} (P : A → Type 0) (xs ys : List A) → AllByRecursion P xs → AllByRecursion P ys → AllByRecursion P (xs ++ ys)
+pub all-append : {A : Type 0} (P : A → Type 0) (xs ys : List A) → AllByRecursion P xs → AllByRecursion P ys
+    → AllByRecursion P (xs ++ ys)
 all-append P [] ys all rest = rest
 all-append P (x ∷ xs) ys all rest = (all.0, all-append P xs ys all.1 rest)
 
@@ -126,19 +137,30 @@ longer few many (Some n) h b =
 
 pub number-below : (bytes : Bytes) (p size : ℕ) → AllByRecursion SoundByte bytes → BelowIf size (number_at bytes p size)
 number-below bytes p size all =
-    longer (length (slice_range bytes p (p + size))) size (number_at bytes p size) (omega (arith, length-take (p + size - p) (drop p bytes)))
-    (bytes-below (slice_range bytes p (p + size)) (all-take SoundByte (p + size - p) (drop p bytes) (all-drop SoundByte p bytes all)))
+    longer (length (slice_range bytes p (p + size))) size (number_at bytes p size)
+    (omega (arith, length-take (p + size - p) (drop p bytes)))
+    (bytes-below (slice_range bytes p (p + size)) (all-take SoundByte (p + size - p) (drop p bytes)
+    (all-drop SoundByte p bytes all)))
 
 -- bytes written
 low-sound : (i size n : ℕ) → AllByRecursion SoundByte (map Some (bytes_low_first i size n))
 low-sound i zero n = tt
 low-sound i (suc size) n = (byte-below i n, low-sound (suc i) size n)
 
-pub written-sound : (bytes : Bytes) (p size n : ℕ) → SoundFrame bytes → p + size ≤ 512 → SoundFrame (written_at bytes p size n)
+pub written-sound : (bytes : Bytes) (p size n : ℕ) → SoundFrame bytes → p + size ≤ 512
+    → SoundFrame (written_at bytes p size n)
 written-sound bytes p size n frame h = record {
-  count = simp length-append (omega (arith, frame.count, length-take-le p bytes (omega (arith, frame.count)), length-drop (p + size) bytes, length-low 0 size n));
+  count = simp length-append (omega (
+    arith,
+    frame.count,
+    length-take-le p bytes (omega (arith, frame.count)),
+    length-drop (p + size) bytes,
+    length-low 0 size n,
+  ));
   bytes = all-append SoundByte (take p bytes ++ map Some (bytes_low_first 0 size n)) (drop (p + size) bytes)
-      (all-append SoundByte (take p bytes) (map Some (bytes_low_first 0 size n)) (all-take SoundByte p bytes frame.bytes) (low-sound 0 size n)) (all-drop SoundByte (p + size) bytes frame.bytes);
+      (all-append SoundByte (take p bytes) (map Some (bytes_low_first 0 size n))
+      (all-take SoundByte p bytes frame.bytes) (low-sound 0 size n)) (all-drop SoundByte (p + size) bytes
+      frame.bytes);
 }
 
 -- words of maps
@@ -156,17 +178,21 @@ combined-below fit op.Add word operand = alu-word fit W64 _ word operand
 combined-below fit op.Or word operand = alu-word fit W64 _ word operand
 combined-below fit op.And word operand = alu-word fit W64 _ word operand
 combined-below fit op.Xor word operand = alu-word fit W64 _ word operand
-combined-below fit op.AddH word operand = halves-below (half_of Low word + half_of Low operand) (half_of High word + half_of High operand)
+combined-below fit op.AddH word operand = halves-below (half_of Low word + half_of Low operand) (half_of High word
+    + half_of High operand)
 
 if-below : (a b : ℕ) (test : Bool) → a < 2 ^ 64 → b < 2 ^ 64 → (if test then a else b) < 2 ^ 64
 if-below a b true h k = h
 if-below a b false h k = k
 
-changed-below : ResultsFit → (rmw : Rmw) (old value compare : ℕ) → old < 2 ^ 64 → value < 2 ^ 64 → changed rmw old value compare < 2 ^ 64
+changed-below : ResultsFit → (rmw : Rmw) (old value compare : ℕ) → old < 2 ^ 64 → value < 2 ^ 64
+    → changed rmw old value compare < 2 ^ 64
 changed-below fit (Applies o) old value compare h k = combined-below fit o old value
 changed-below fit Xchg old value compare h k = k
 changed-below fit CmpXchg old value compare h k = if-below value old (old == compare) k h
 
-pub exchanged-below : ResultsFit → (part : Part) (rmw : Rmw) (word value compare : ℕ) → word < 2 ^ 64 → value < 2 ^ 64 → exchanged part rmw word value compare < 2 ^ 64
+pub exchanged-below : ResultsFit → (part : Part) (rmw : Rmw) (word value compare : ℕ) → word < 2 ^ 64 → value < 2 ^ 64
+    → exchanged part rmw word value compare < 2 ^ 64
 exchanged-below fit Whole rmw word value compare h k = changed-below fit rmw word value compare h k
-exchanged-below fit (Of half) rmw word value compare h k = with_half-below half word (changed rmw (half_of half word) (half_of Low value) (half_of Low compare))
+exchanged-below fit (Of half) rmw word value compare h k =
+    with_half-below half word (changed rmw (half_of half word) (half_of Low value) (half_of Low compare))

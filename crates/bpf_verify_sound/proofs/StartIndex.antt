@@ -16,9 +16,11 @@ is_among slot starts = list_any (λ start. start == slot) starts
 up_to : ℕ → List ℕ → ℕ
 up_to slot starts = count_by (λ start. nat_le start slot) starts
 
-up_to-cons : (slot x : ℕ) (xs : List ℕ) (early : Bool) → nat_le x slot ≡ early → up_to slot (x ∷ xs) ≡ cond early 1 0 + up_to slot xs
+up_to-cons : (slot x : ℕ) (xs : List ℕ) (early : Bool) → nat_le x slot ≡ early → up_to slot (x ∷ xs) ≡ cond early 1 0
+    + up_to slot xs
 unfolding up_to
-up_to-cons slot x xs early e = sum_by-cons (λ (start : ℕ). cond (nat_le start slot) 1 0) x xs ∙ ap (λ (b : Bool). cond b 1 0 + count_by (λ start. nat_le start slot) xs) e
+up_to-cons slot x xs early e = sum_by-cons (λ (start : ℕ). cond (nat_le start slot) 1 0) x xs
+    ∙ ap (λ (b : Bool). cond b 1 0 + count_by (λ start. nat_le start slot) xs) e
 
 module _ (p : ℕ → Bool) where
   -- the slots of a stretch that pass a test
@@ -31,24 +33,29 @@ module _ (p : ℕ → Bool) where
   none-before from zero slot h = refl
   none-before from (suc count) slot h = by_test (p from) refl (none-before (from + 1) count slot (omega arith))
     where
-      by_test : (keep : Bool) → p from ≡ keep → up_to slot (kept (from + 1) count) ≡ 0 → up_to slot (cond keep (from ∷ kept (from + 1) count) (kept (from + 1) count)) ≡ 0
+      by_test : (keep : Bool) → p from ≡ keep → up_to slot (kept (from + 1) count) ≡ 0
+          → up_to slot (cond keep (from ∷ kept (from + 1) count) (kept (from + 1) count)) ≡ 0
       by_test true e go =
           let late : nat_le from slot ≡ false = grind (arith, nat_tests) in
-          let more : up_to slot (from ∷ kept (from + 1) count) ≡ 0 + up_to slot (kept (from + 1) count) = up_to-cons slot from (kept (from + 1) count) false late in
+          let more : up_to slot (from ∷ kept (from + 1) count) ≡ 0 + up_to slot (kept (from + 1) count) =
+          up_to-cons slot from (kept (from + 1) count) false late in
           omega arith
       by_test false e go = go
 
   among-later : (from count slot : ℕ) → is_among slot (kept from count) ≡ true → from ≤ slot
   unfolding is_among
   among-later from zero slot there = absurd cc
-  among-later from (suc count) slot there = by_test (p from) refl (from == slot) refl there (among-later (from + 1) count slot)
+  among-later from (suc count) slot there =
+      by_test (p from) refl (from == slot) refl there (among-later (from + 1) count slot)
     where
-      by_test : (keep : Bool) → p from ≡ keep → (here : Bool) → (from == slot) ≡ here → is_among slot (cond keep (from ∷ kept (from + 1) count) (kept (from + 1) count)) ≡ true →
+      by_test : (keep : Bool) → p from ≡ keep → (here : Bool) → (from == slot) ≡ here
+          → is_among slot (cond keep (from ∷ kept (from + 1) count) (kept (from + 1) count)) ≡ true →
           (is_among slot (kept (from + 1) count) ≡ true → from + 1 ≤ slot) → from ≤ slot
       by_test true e true f there go =
           let same : from ≡ slot = grind (arith, nat_tests) in
           omega arith
-      by_test true e false f there go = omega (arith, go (sym (ap (λ (b : Bool). b || is_among slot (kept (from + 1) count)) f) ∙ there))
+      by_test true e false f there go =
+          omega (arith, go (sym (ap (λ (b : Bool). b || is_among slot (kept (from + 1) count)) f) ∙ there))
       by_test false e here f there go = omega (arith, go there)
 
   -- a slot among them is at the place of how many aren't after it
@@ -59,38 +66,48 @@ module _ (p : ℕ → Bool) where
   placed : (from count slot : ℕ) → is_among slot (kept from count) ≡ true → IsPlaced slot (kept from count)
   unfolding is_among
   placed from zero slot there = absurd cc
-  placed from (suc count) slot there = by_test (p from) refl (from == slot) refl (nat_le from slot) refl there (placed (from + 1) count slot)
+  placed from (suc count) slot there = by_test (p from) refl (from == slot) refl (nat_le from slot) refl there
+      (placed (from + 1) count slot)
     where
-      by_test : (keep : Bool) → p from ≡ keep → (here : Bool) → (from == slot) ≡ here → (early : Bool) → nat_le from slot ≡ early →
-          is_among slot (cond keep (from ∷ kept (from + 1) count) (kept (from + 1) count)) ≡ true → (is_among slot (kept (from + 1) count) ≡ true → IsPlaced slot (kept (from + 1) count)) →
+      by_test : (keep : Bool) → p from ≡ keep → (here : Bool) → (from == slot) ≡ here → (early : Bool)
+          → nat_le from slot ≡ early →
+          is_among slot (cond keep (from ∷ kept (from + 1) count) (kept (from + 1) count)) ≡ true
+          → (is_among slot (kept (from + 1) count) ≡ true → IsPlaced slot (kept (from + 1) count)) →
           IsPlaced slot (cond keep (from ∷ kept (from + 1) count) (kept (from + 1) count))
       by_test false e here f early g there go = go there
       by_test true e true f false g there go = absurd (grind (arith, nat_tests))
       by_test true e true f true g there go =
           let same : from ≡ slot = grind (arith, nat_tests) in
           let rest : up_to slot (kept (from + 1) count) ≡ 0 = none-before (from + 1) count slot (omega arith) in
-          let more : up_to slot (from ∷ kept (from + 1) count) ≡ 1 + up_to slot (kept (from + 1) count) = up_to-cons slot from (kept (from + 1) count) true g in
+          let more : up_to slot (from ∷ kept (from + 1) count) ≡ 1 + up_to slot (kept (from + 1) count) =
+          up_to-cons slot from (kept (from + 1) count) true g in
           let one : up_to slot (from ∷ kept (from + 1) count) ≡ 1 = omega arith in
           record { some = omega arith; at = ap (λ (n : ℕ). get_or (from ∷ kept (from + 1) count) (n - 1) 0) one ∙ same }
       by_test true e false f early g there go =
-          let later : is_among slot (kept (from + 1) count) ≡ true = sym (ap (λ (b : Bool). b || is_among slot (kept (from + 1) count)) f) ∙ there in
+          let later : is_among slot (kept (from + 1) count) ≡ true =
+          sym (ap (λ (b : Bool). b || is_among slot (kept (from + 1) count)) f) ∙ there in
           let past : from + 1 ≤ slot = among-later (from + 1) count slot later in
           let before : nat_le from slot ≡ true = grind (arith, nat_tests) in
           let rest : IsPlaced slot (kept (from + 1) count) = go later in
           let some : 0 < up_to slot (kept (from + 1) count) = rest.some in
-          let more : up_to slot (from ∷ kept (from + 1) count) ≡ 1 + up_to slot (kept (from + 1) count) = up_to-cons slot from (kept (from + 1) count) true before in
-          let next : up_to slot (from ∷ kept (from + 1) count) - 1 ≡ suc (up_to slot (kept (from + 1) count) - 1) = omega arith in
+          let more : up_to slot (from ∷ kept (from + 1) count) ≡ 1 + up_to slot (kept (from + 1) count) =
+          up_to-cons slot from (kept (from + 1) count) true before in
+          let next : up_to slot (from ∷ kept (from + 1) count) - 1 ≡ suc (up_to slot (kept (from + 1) count) - 1) =
+          omega arith in
           record { some = omega arith; at = ap (λ (n : ℕ). get_or (from ∷ kept (from + 1) count) n 0) next ∙ rest.at }
 
 -- so the function of a start has its start there
-start-at : (insns : List Insn) (slot function : ℕ) → function_of insns slot ≡ function → 0 < function → get_or (callback_starts insns) (function - 1) 0 ≡ slot → function_start insns function ≡ slot
+start-at : (insns : List Insn) (slot function : ℕ) → function_of insns slot ≡ function → 0 < function
+    → get_or (callback_starts insns) (function - 1) 0 ≡ slot → function_start insns function ≡ slot
 start-at insns slot zero is some at = absurd (omega arith)
 start-at insns slot (suc callback) is some at =
     let before : suc callback - 1 ≡ callback = omega arith in
     sym (ap (λ (n : ℕ). get_or (callback_starts insns) n 0) before) ∙ at
 
-pub start-function : (program : Program) (slot : ℕ) → IsStart program slot → function_start program.insns (function_of program.insns slot) ≡ slot
+pub start-function : (program : Program) (slot : ℕ) → IsStart program slot
+    → function_start program.insns (function_of program.insns slot) ≡ slot
 unfolding is_among up_to
 start-function program slot start =
-    let it = placed (is_callback_start program.insns (named_from 0 program.insns)) 0 (slot_count program.insns) slot start in
+    let it = placed (is_callback_start program.insns (named_from 0 program.insns)) 0 (slot_count program.insns) slot
+    start in
     start-at program.insns slot (function_of program.insns slot) refl it.some it.at

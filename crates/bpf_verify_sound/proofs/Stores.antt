@@ -36,12 +36,16 @@ use Rattle.bpf_verify_sound.proofs.Moves.{follows-on, ahead-goes}
 use Rattle.bpf_verify_sound.proofs.Tests.{not-not-true, or_else-one, or_else-two, test-fails}
 
 -- a store to the frame marks its bytes
-frame-store : (program : Program) (m : Machine) (state : State) (size n p : ℕ) → leads_to program.insns m.slot (m.slot + 1) ≡ true → Contained state m → IsWellFormedState state → SoundMachine program m →
+frame-store : (program : Program) (m : Machine) (state : State) (size n p : ℕ)
+    → leads_to program.insns m.slot (m.slot + 1) ≡ true → Contained state m → IsWellFormedState state
+    → SoundMachine program m →
     p + size ≤ 512 → (test : Bool) → test ≡ true →
-    GoesBy program m.slot (ahead_outflow (m.slot + 1) (if test then with_own state (written_from state.own p size) else state)) (with_frame (written_at m.frame p size n) (advanced 1 m))
+    GoesBy program m.slot (ahead_outflow (m.slot + 1) (if test then with_own state (written_from state.own p size)
+    else state)) (with_frame (written_at m.frame p size n) (advanced 1 m))
 frame-store program m state size n p leads c spans sound h false e = absurd cc
 frame-store program m state size n p leads c spans sound h true e =
-    ahead-goes program m.slot 1 None (with_own state (written_from state.own p size)) (with_frame (written_at m.frame p size n) (advanced 1 m)) leads (omega arith) refl
+    ahead-goes program m.slot 1 None (with_own state (written_from state.own p size))
+    (with_frame (written_at m.frame p size n) (advanced 1 m)) leads (omega arith) refl
     (record {
       registers = c.registers;
       own = write-known state.own m.frame p size n c.own (omega (arith, spans.own)) (omega (arith, sound.frame.count));
@@ -49,61 +53,85 @@ frame-store program m state size n p leads c spans sound h true e =
     })
 
 -- a store to a map changes nothing of the machine
-pub same-ahead : (program : Program) (m : Machine) (state : State) → leads_to program.insns m.slot (m.slot + 1) ≡ true → Contained state m →
+pub same-ahead : (program : Program) (m : Machine) (state : State) → leads_to program.insns m.slot (m.slot + 1) ≡ true
+    → Contained state m →
     GoesBy program m.slot (ahead_outflow (m.slot + 1) state) (advanced 1 m)
 same-ahead program m state leads c =
-    ahead-goes program m.slot 1 None state (advanced 1 m) leads (omega arith) refl (record { registers = c.registers; own = c.own; caller = c.caller })
+    ahead-goes program m.slot 1 None state (advanced 1 m) leads (omega arith) refl (record {
+      registers = c.registers;
+      own = c.own;
+      caller = c.caller;
+    })
 
-map-store : (program : Program) (m : Machine) (state : State) (n element word : ℕ) (part : Part) → leads_to program.insns m.slot (m.slot + 1) ≡ true → Contained state m →
+map-store : (program : Program) (m : Machine) (state : State) (n element word : ℕ) (part : Part)
+    → leads_to program.insns m.slot (m.slot + 1) ≡ true → Contained state m →
     GoesBy program m.slot (ahead_outflow (m.slot + 1) state) (after_request (store_of part n) word (advanced 1 m))
 map-store program m state n element word Whole leads c = same-ahead program m state leads c
 map-store program m state n element word (Of half) leads c = same-ahead program m state leads c
 
-stores-flow : (program : Program) (m : Machine) (state : State) (size n : ℕ) (offset : ℤ) (x : AbstractValue) (at : Option Place) →
-    leads_to program.insns m.slot (m.slot + 1) ≡ true → Contained state m → IsWellFormedState state → SoundMachine program m → is_ctx x ≡ false → PlaceIs program.sizes size offset x at →
+stores-flow : (program : Program) (m : Machine) (state : State) (size n : ℕ) (offset : ℤ) (x : AbstractValue)
+    (at : Option Place) →
+    leads_to program.insns m.slot (m.slot + 1) ≡ true → Contained state m → IsWellFormedState state
+    → SoundMachine program m → is_ctx x ≡ false → PlaceIs program.sizes size offset x at →
     StepFlows program m.slot (ahead_outflow (m.slot + 1) (with_store state size offset x)) (stores_at m size n at)
 stores-flow program m state size n offset (known.Frame q) (Some (InFrame p)) leads c spans sound own is =
-    subst (λ (z : ℤ). GoesBy program m.slot (ahead_outflow (m.slot + 1) (with_written state size z)) (with_frame (written_at m.frame p size n) (advanced 1 m))) (sym is.0)
-    (frame-store program m state size n p leads c spans sound is.1 (nat_le (p + size) 512) (let inside : p + size ≤ 512 = is.1 in grind (arith, nat_tests)))
-stores-flow program m state size n offset (known.Area map range) (Some (InMap element part)) leads c spans sound own is =
+    subst (λ (z : ℤ). GoesBy program m.slot (ahead_outflow (m.slot + 1) (with_written state size z))
+    (with_frame (written_at m.frame p size n) (advanced 1 m))) (sym is.0)
+    (frame-store program m state size n p leads c spans sound is.1 (nat_le (p + size) 512) (let inside : p + size
+    ≤ 512 = is.1 in grind (arith, nat_tests)))
+stores-flow program m state size n offset (known.Area map range) (Some (InMap element part)) leads c spans sound own
+    is =
     (is.0, λ word w. map-store program m state n element word part leads c)
 stores-flow program m state size n offset (known.Ctx q) at leads c spans sound own is = absurd cc
 stores-flow program m state size n offset x at leads c spans sound own is = absurd is
 
 -- of a number that is known
-stored-flow : (program : Program) (m : Machine) (state : State) (size : ℕ) (offset : ℤ) (x y : AbstractValue) (v : Value) (at : Option Place) →
-    leads_to program.insns m.slot (m.slot + 1) ≡ true → Contained state m → IsWellFormedState state → SoundMachine program m → is_ctx x ≡ false → PlaceIs program.sizes size offset x at →
+stored-flow : (program : Program) (m : Machine) (state : State) (size : ℕ) (offset : ℤ) (x y : AbstractValue)
+    (v : Value) (at : Option Place) →
+    leads_to program.insns m.slot (m.slot + 1) ≡ true → Contained state m → IsWellFormedState state
+    → SoundMachine program m → is_ctx x ≡ false → PlaceIs program.sizes size offset x at →
     is_number_value y ≡ true → ContainsValue y v →
     StepFlows program m.slot (ahead_outflow (m.slot + 1) (with_store state size offset x)) (stores m size v at)
-stored-flow program m state size offset x (known.Number a) (Word n) at leads c spans sound own is some d = stores-flow program m state size n offset x at leads c spans sound own is
+stored-flow program m state size offset x (known.Number a) (Word n) at leads c spans sound own is some d =
+    stores-flow program m state size n offset x at leads c spans sound own is
 stored-flow program m state size offset x (known.Number a) v at leads c spans sound own is some d = absurd d
 stored-flow program m state size offset x y v at leads c spans sound own is some d = absurd cc
 
 pub store_imm-flows : (program : Program) (m : Machine) (state : State) (size : Size) (dst : ℕ) (offset imm : ℤ) →
     KeepsRules program m.slot (StoreImm size dst offset imm) state → SoundMachine program m → Contained state m →
-    StepFlows program m.slot (flow program.sizes m.slot state (StoreImm size dst offset imm)) (insn_step program m (StoreImm size dst offset imm))
+    StepFlows program m.slot (flow program.sizes m.slot state (StoreImm size dst offset imm))
+    (insn_step program m (StoreImm size dst offset imm))
 unfolding flow known_behind
 store_imm-flows program m state size dst offset imm keeps sound c =
     let access : MemoryAccess = record { kind = Writes; base = dst; offset = offset; size = bytes_of size } in
-    let place_none = or_else-one (place_fault program.sizes access (known_register state dst)) (bytes_fault state access (known_register state dst)) keeps.access in
-    let bytes_none = or_else-two (place_fault program.sizes access (known_register state dst)) (bytes_fault state access (known_register state dst)) keeps.access in
-    stores-flow program m state (bytes_of size) (word_of imm) offset (known_register state dst) (place program (register m dst) offset (bytes_of size))
+    let place_none = or_else-one (place_fault program.sizes access (known_register state dst))
+    (bytes_fault state access (known_register state dst)) keeps.access in
+    let bytes_none = or_else-two (place_fault program.sizes access (known_register state dst))
+    (bytes_fault state access (known_register state dst)) keeps.access in
+    stores-flow program m state (bytes_of size) (word_of imm) offset (known_register state dst)
+    (place program (register m dst) offset (bytes_of size))
     (follows-on program.insns m.slot (StoreImm size dst offset imm) refl keeps.falls) c keeps.spans sound
     (test-fails (is_ctx (known_register state dst)) _ _ bytes_none)
-    (place-is program (known_register state dst) (register m dst) offset (bytes_of size) (register-span state dst keeps.spans) (register-known state m dst c)
+    (place-is program (known_register state dst) (register m dst) offset (bytes_of size)
+    (register-span state dst keeps.spans) (register-known state m dst c)
     (place-rules program.sizes access (known_register state dst) place_none))
 
 pub store-flows : (program : Program) (m : Machine) (state : State) (size : Size) (dst src : ℕ) (offset : ℤ) →
     KeepsRules program m.slot (StoreInsn size dst src offset) state → SoundMachine program m → Contained state m →
-    StepFlows program m.slot (flow program.sizes m.slot state (StoreInsn size dst src offset)) (insn_step program m (StoreInsn size dst src offset))
+    StepFlows program m.slot (flow program.sizes m.slot state (StoreInsn size dst src offset))
+    (insn_step program m (StoreInsn size dst src offset))
 unfolding flow known_behind
 store-flows program m state size dst src offset keeps sound c =
     let access : MemoryAccess = record { kind = Writes; base = dst; offset = offset; size = bytes_of size } in
-    let place_none = or_else-one (place_fault program.sizes access (known_register state dst)) (bytes_fault state access (known_register state dst)) keeps.access in
-    let bytes_none = or_else-two (place_fault program.sizes access (known_register state dst)) (bytes_fault state access (known_register state dst)) keeps.access in
-    stored-flow program m state (bytes_of size) offset (known_register state dst) (known_register state src) (register m src) (place program (register m dst) offset (bytes_of size))
+    let place_none = or_else-one (place_fault program.sizes access (known_register state dst))
+    (bytes_fault state access (known_register state dst)) keeps.access in
+    let bytes_none = or_else-two (place_fault program.sizes access (known_register state dst))
+    (bytes_fault state access (known_register state dst)) keeps.access in
+    stored-flow program m state (bytes_of size) offset (known_register state dst) (known_register state src)
+    (register m src) (place program (register m dst) offset (bytes_of size))
     (follows-on program.insns m.slot (StoreInsn size dst src offset) refl keeps.falls) c keeps.spans sound
     (test-fails (is_ctx (known_register state dst)) _ _ bytes_none)
-    (place-is program (known_register state dst) (register m dst) offset (bytes_of size) (register-span state dst keeps.spans) (register-known state m dst c)
+    (place-is program (known_register state dst) (register m dst) offset (bytes_of size)
+    (register-span state dst keeps.spans) (register-known state m dst c)
     (place-rules program.sizes access (known_register state dst) place_none))
     (not-not-true (is_number_value (known_register state src)) keeps.stored) (register-known state m src c)

@@ -4,11 +4,13 @@ use Rattle.std.specs.Prelude.{if◌then◌else◌}
 use Rattle.bpf_verify_model.specs.Rules.{or_else}
 
 -- where nothing was given, a test fails, and nothing was given later
-pub test-fails : {A : Type 0} (test : Bool) (a : A) (later : Option A) → (if test then Some a else later) ≡ None → test ≡ false
+pub test-fails : {A : Type 0} (test : Bool) (a : A) (later : Option A) → (if test then Some a else later) ≡ None
+    → test ≡ false
 test-fails true a later e = absurd cc
 test-fails false a later e = refl
 
-pub test-later : {A : Type 0} (test : Bool) (a : A) (later : Option A) → (if test then Some a else later) ≡ None → later ≡ None
+pub test-later : {A : Type 0} (test : Bool) (a : A) (later : Option A) → (if test then Some a else later) ≡ None
+    → later ≡ None
 test-later true a later e = absurd cc
 test-later false a later e = e
 

@@ -43,8 +43,10 @@ abbrev pub StepFlows : Program → ℕ → Outflow → StepOutcome → Type 0
 StepFlows program slot out NoStep = ⊥
 StepFlows program slot out (Next next) = GoesBy program slot out next
 StepFlows program slot out (Asks element request next) =
-    (element < sum program.sizes) × ((word : ℕ) → word < 2 ^ 64 → GoesBy program slot out (after_request request word next))
+    (element < sum program.sizes)
+    × ((word : ℕ) → word < 2 ^ 64 → GoesBy program slot out (after_request request word next))
 StepFlows program slot out (Loops call next) =
-    ((index : ℕ) → index < call.n → EntersBy program slot out (callback_entry call index)) × ((answer : ℕ) → answer < 2 ^ 64 → GoesBy program slot out (resumed next answer))
+    ((index : ℕ) → index < call.n → EntersBy program slot out (callback_entry call index))
+    × ((answer : ℕ) → answer < 2 ^ 64 → GoesBy program slot out (resumed next answer))
 StepFlows program slot out (Refuses answer next) = GoesBy program slot out next
 StepFlows program slot out (Exits ret) = Unit {0}

@@ -153,7 +153,8 @@ fn known_answer(sizes: &[u32], state: &State, helper: Option<Helper>) -> Abstrac
 
 /// Behind arithmetic.
 fn behind_alu(state: &mut State, width: Width, op: AluOp, dst: Reg, operand: Operand)
-    ensures { state.new ≡ with_known_result state.old dst (known_result width op (known_register state.old dst) (known_operand state.old operand)) }
+    ensures { state.new ≡ with_known_result state.old dst (known_result width op (known_register state.old dst)
+        (known_operand state.old operand)) }
 {
     let first = state.register(dst);
     let second = operand_value(state, operand);
@@ -162,7 +163,8 @@ fn behind_alu(state: &mut State, width: Width, op: AluOp, dst: Reg, operand: Ope
 
 /// Behind an operation on one number.
 fn behind_one(state: &mut State, operation: Operation, width: Width, dst: Reg, src: Reg)
-    ensures { state.new ≡ with_known_result state.old dst (known_of_number operation width (known_register state.old src)) }
+    ensures { state.new ≡ with_known_result state.old dst (known_of_number operation width
+        (known_register state.old src)) }
 {
     let value = state.register(src);
     with_known_result(state, dst, on_number(operation, width, value));

@@ -27,9 +27,11 @@ AreMarkWords-met xs ys a b = record {
   count = length-met_to bit_and xs ys 8 ∙ a.count;
   small = λ row.
       elim (cases_lt row 8) [
-        | inl within ↦ rw (get_or-met xs ys row a.count b.count within) (omega (arith, and_le_l (get_or xs row 0) (get_or ys row 0), a.small row))
+        | inl within ↦ rw (get_or-met xs ys row a.count b.count within)
+            (omega (arith, and_le_l (get_or xs row 0) (get_or ys row 0), a.small row))
         | inr past ↦
-            rw (get_or_past (met_to bit_and xs ys 8) row 0 (omega (arith, length-met_to bit_and xs ys 8, a.count))) (omega (arith, a.small row))
+            rw (get_or_past (met_to bit_and xs ys 8) row 0 (omega (arith, length-met_to bit_and xs ys 8, a.count)))
+            (omega (arith, a.small row))
       ];
 }
 
@@ -52,13 +54,19 @@ pub marks_in_words-met : (xs ys : List ℕ) → length xs ≡ 8 → length ys �
 marks_in_words-met xs ys m n =
     let both : Bool × Bool → Bool = λ (pair : Bool × Bool). pair.0 && pair.1 in
     let pairs : List (Bool × Bool) = zip (marks_in_words xs) (marks_in_words ys) in
-    let many : length pairs ≡ 512 = omega (arith, length-zip (marks_in_words xs) (marks_in_words ys), length-marks_in_words xs, length-marks_in_words ys) in
+    let many : length pairs ≡ 512 = omega (
+      arith,
+      length-zip (marks_in_words xs) (marks_in_words ys),
+      length-marks_in_words xs,
+      length-marks_in_words ys,
+    ) in
     ext_get_or false _ _ (length-marks_in_words (met_to bit_and xs ys 8) ∙ sym many ∙ sym (length-map pairs both))
     (λ byte h.
     let within : byte < 512 = omega (arith, length-marks_in_words (met_to bit_and xs ys 8)) in
     get_or-marks_in_words (met_to bit_and xs ys 8) byte within
     ∙ is_byte_marked-met xs ys byte m n within
     ∙ sym (get_or-map both pairs byte (false, false) false (omega arith)
-    ∙ ap both (get_or-zip (marks_in_words xs) (marks_in_words ys) byte (false, false) (omega (arith, length-marks_in_words xs)) (omega (arith, length-marks_in_words ys)))
+    ∙ ap both (get_or-zip (marks_in_words xs) (marks_in_words ys) byte (false, false)
+    (omega (arith, length-marks_in_words xs)) (omega (arith, length-marks_in_words ys)))
     ∙ ap (λ b. b && get_or (marks_in_words ys) byte false) (get_or-marks_in_words xs byte within)
     ∙ ap (λ b. is_byte_marked xs byte && b) (get_or-marks_in_words ys byte within)))

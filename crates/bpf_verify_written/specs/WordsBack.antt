@@ -15,9 +15,11 @@ pub length-marks_in_words : (words : List ℕ) → length (marks_in_words words)
 unfolding marks_in_words
 length-marks_in_words words = length-map-range_with_len (is_byte_marked words) 0 512
 
-pub get_or-marks_in_words : (words : List ℕ) (byte : ℕ) → byte < 512 → get_or (marks_in_words words) byte false ≡ is_byte_marked words byte
+pub get_or-marks_in_words : (words : List ℕ) (byte : ℕ) → byte < 512 → get_or (marks_in_words words) byte false
+    ≡ is_byte_marked words byte
 unfolding marks_in_words
-get_or-marks_in_words words byte h = get_or-map-range_with_len (is_byte_marked words) 0 512 byte byte false h (omega arith)
+get_or-marks_in_words words byte h = get_or-map-range_with_len (is_byte_marked words) 0 512 byte byte false h
+    (omega arith)
 
 -- a bit as a Bool and back
 bit_back : (bit : ℕ) → bit < 2 → cond (eqb bit 1) 1 0 ≡ bit
@@ -36,7 +38,8 @@ unfolding row_of
 length-row_of words row =
     omega (arith, length-take (64 * row + 64 - 64 * row) (drop (64 * row) (marks_in_words words)))
 
-get_or-row_of : (words : List ℕ) (row bit : ℕ) → row < 8 → bit < 64 → get_or (row_of words row) bit false ≡ eqb (bit_at (get_or words row 0) bit) 1
+get_or-row_of : (words : List ℕ) (row bit : ℕ) → row < 8 → bit < 64 → get_or (row_of words row) bit false
+    ≡ eqb (bit_at (get_or words row 0) bit) 1
 unfolding row_of
 get_or-row_of words row bit h k =
     let first : (64 * row + bit) / 64 ≡ row = omega arith in
@@ -47,7 +50,8 @@ get_or-row_of words row bit h k =
     ∙ ap (λ r. eqb (bit_at (get_or words r 0) ((64 * row + bit) % 64)) 1) first
     ∙ ap (λ b. eqb (bit_at (get_or words row 0) b) 1) second
 
-word_back : (words : List ℕ) (row : ℕ) → row < 8 → get_or words row 0 < 2 ^ 64 → mask_l (row_of words row) ≡ get_or words row 0
+word_back : (words : List ℕ) (row : ℕ) → row < 8 → get_or words row 0 < 2 ^ 64 → mask_l (row_of words row)
+    ≡ get_or words row 0
 word_back words row h small =
     let bytes = row_of words row in
     let below : mask_l bytes < 2 ^ 64 = omega (arith, mask_l-lt bytes, pow_mono (length-row_of words row)) in
@@ -57,7 +61,8 @@ word_back words row h small =
     ∙ ap (λ b. cond b 1 0) (get_or-row_of words row bit h k)
     ∙ bit_back (bit_at (get_or words row 0) bit) (bit_at-lt (get_or words row 0) bit))
 
-pub words_of_marks-marks_in_words : (words : List ℕ) → length words ≡ 8 → ((row : ℕ) → get_or words row 0 < 2 ^ 64) → words_of_marks (marks_in_words words) ≡ words
+pub words_of_marks-marks_in_words : (words : List ℕ) → length words ≡ 8 → ((row : ℕ) → get_or words row 0 < 2 ^ 64)
+    → words_of_marks (marks_in_words words) ≡ words
 unfolding words_of_marks row_of
 words_of_marks-marks_in_words words count small =
     let rows : ℕ → ℕ = λ (row : ℕ). mask_l (slice_range (marks_in_words words) (64 * row) (64 * row + 64)) in

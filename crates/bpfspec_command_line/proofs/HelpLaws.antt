@@ -6,7 +6,8 @@ use Rattle.clap.specs.declared.error.kind.ErrorKind.TheVariants.{DisplayHelp, Di
 use Rattle.bpfspec_command_line.specs.Help.{Shows}
 
 -- of the kinds that an error may have, where it shows help or the version
-pub asked : (kinds : Kinds) (kind : ErrorKind) → (kind ≡ OutOfMemory) ⊎ IsAmong kind kinds → Shows kind → IsAmong DisplayHelp kinds ⊎ IsAmong DisplayVersion kinds
+pub asked : (kinds : Kinds) (kind : ErrorKind) → (kind ≡ OutOfMemory) ⊎ IsAmong kind kinds → Shows kind
+    → IsAmong DisplayHelp kinds ⊎ IsAmong DisplayVersion kinds
 asked kinds kind (inl out) (inl help) = absurd cc
 asked kinds kind (inl out) (inr version) = absurd cc
 asked kinds kind (inr among) (inl help) = inl (subst (λ k. IsAmong k kinds) help among)

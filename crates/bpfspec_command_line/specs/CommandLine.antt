@@ -62,19 +62,24 @@ abbrev pub order_app : App
 order_app = with_rule (with_rule (new_app (codes "order")) hex_rule) arg_rule
 
 abbrev pub run_app : App
-run_app = with_rule (with_rule (with_rule (with_rule (with_rule (new_app (codes "run")) hex_rule) arg_rule) workers_rule) blocks_rule) test_rule
+run_app = with_rule (with_rule (with_rule (with_rule (with_rule (new_app (codes "run")) hex_rule) arg_rule)
+    workers_rule) blocks_rule) test_rule
 
 abbrev pub replay_app : App
 replay_app = with_rule (with_rule (with_rule (new_app (codes "replay")) hex_rule) arg_rule) test_rule
 
 -- the program without its subcommands, of which one is wanted; it has a version
 abbrev pub top_app : App
-top_app = record { top = record (new_app (codes "bpfspec")).top { has_version = true; subcommand_required = true }; subs = [] }
+top_app = record {
+  top = record (new_app (codes "bpfspec")).top { has_version = true; subcommand_required = true };
+  subs = [];
+}
 
 -- the program's command line
 abbrev pub bpfspec_app : App
 bpfspec_app =
-    with_subcommand (with_subcommand (with_subcommand (with_subcommand (with_subcommand (with_subcommand top_app verify_app.top) order_app.top)
+    with_subcommand (with_subcommand
+    (with_subcommand (with_subcommand (with_subcommand (with_subcommand top_app verify_app.top) order_app.top)
     run_app.top) replay_app.top) (new_app (codes "asm")).top) (new_app (codes "disasm")).top
 
 -- whether the arguments say hex: by the flag --hex
@@ -112,7 +117,8 @@ pub record IsPlanOf (rows : List Row) (plan : Plan) : Type 0 where
 abbrev pub Names : Text → List Row → Mode → Type 0
 Names name rows (Verify form) = (name ≡ codes "verify") × IsForm rows form
 Names name rows (Order form argument) = (name ≡ codes "order") × IsForm rows form × IsArgument rows argument
-Names name rows (Replay form argument test) = (name ≡ codes "replay") × IsForm rows form × IsArgument rows argument × IsTest rows test
+Names name rows (Replay form argument test) = (name ≡ codes "replay") × IsForm rows form × IsArgument rows argument
+    × IsTest rows test
 Names name rows Asm = name ≡ codes "asm"
 Names name rows Disasm = name ≡ codes "disasm"
 

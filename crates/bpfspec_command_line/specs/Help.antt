@@ -19,4 +19,5 @@ Shows kind = (kind ≡ DisplayHelp) ⊎ (kind ≡ DisplayVersion)
 
 -- the words ask for help or for the version
 abbrev pub AsksForHelp : List Text → Type 0
-AsksForHelp words = IsAmong DisplayHelp (fault_of bpfspec_app words) ⊎ IsAmong DisplayVersion (fault_of bpfspec_app words)
+AsksForHelp words = IsAmong DisplayHelp (fault_of bpfspec_app words) ⊎ IsAmong DisplayVersion
+    (fault_of bpfspec_app words)

@@ -61,7 +61,8 @@ fn job_of(matches: &ArgMatches<'_>) -> Option<Job>
 
 /// Reads the words of a command line, the program's name first.
 ///
-/// It fails with `Help` where they ask for help or the version (`--help`, `-h`, `help`, `--version`, `-V`), and with the
+/// It fails with `Help` where they ask for help or the version (`--help`, `-h`, `help`, `--version`, `-V`), and with
+/// the
 /// text that they ask for; with `Usage` where they aren't `verify [--hex]`, `order [--hex] [--arg N]`,
 /// `run [--hex] [--arg N] [--workers W] [--blocks B] [--test flow|lrpd]`,
 /// `replay [--hex] [--arg N] [--test flow|lrpd]`, N from 0 to 18446744073709551615, W from 1 to 16, B from

@@ -7,7 +7,8 @@ use Rattle.bpfspec_output.specs.NumberedLines.{numbered_lines}
 -- the line of a function, which has this number: where it starts, and the most instructions that it takes
 abbrev pub function_line : ℕ → Function → List ℕ
 function_line number function =
-    codes "function " ++ decimal number ++ codes " at " ++ decimal function.start ++ codes " count " ++ decimal function.count ++ codes "\n"
+    codes "function " ++ decimal number ++ codes " at " ++ decimal function.start ++ codes " count "
+    ++ decimal function.count ++ codes "\n"
 
 -- that it is accepted, and the lines of its functions, main first
 abbrev pub accepted_text : List Function → List ℕ

@@ -33,8 +33,10 @@ schedule_fault_text (schedules.NotEnded events) = codes "E3 at event " ++ decima
 
 -- a refusal without what all have in common
 abbrev pub what_is_refused : Refusal → List ℕ
-what_is_refused (refusals.Text fault section line) = codes "A" ++ decimal (text_fault_number fault) ++ codes " at " ++ section_name section ++ codes " line " ++ decimal line
-what_is_refused (refusals.Codec fault slot) = codes "I" ++ decimal (codec_fault_number fault) ++ codes " at slot " ++ decimal slot
+what_is_refused (refusals.Text fault section line) = codes "A" ++ decimal (text_fault_number fault) ++ codes " at "
+    ++ section_name section ++ codes " line " ++ decimal line
+what_is_refused (refusals.Codec fault slot) = codes "I" ++ decimal (codec_fault_number fault) ++ codes " at slot "
+    ++ decimal slot
 what_is_refused (refusals.Rule rule slot) = codes "V" ++ decimal (rule_number rule) ++ codes " at slot " ++ decimal slot
 what_is_refused refusals.Sizes = codes "P1"
 what_is_refused refusals.Plan = codes "P2"

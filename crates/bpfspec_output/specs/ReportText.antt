@@ -23,7 +23,8 @@ verdict_text InOrder = codes "in order"
 -- the line of a loop call, which has this number
 abbrev pub loop_line : ℕ → LoopReport → List ℕ
 loop_line number told =
-    codes "loop " ++ decimal number ++ codes " at " ++ decimal told.slot ++ codes ": answer " ++ signed_decimal told.answer ++ codes ", "
+    codes "loop " ++ decimal number ++ codes " at " ++ decimal told.slot ++ codes ": answer "
+    ++ signed_decimal told.answer ++ codes ", "
     ++ verdict_text told.verdict ++ codes "\n"
 
 -- the line of a return value
@@ -32,7 +33,8 @@ return_line ret = codes "return " ++ decimal ret ++ codes "\n"
 
 -- the return value, the loop calls, and the maps of these sizes
 abbrev pub report_text : List ℕ → Reported → List ℕ
-report_text sizes told = return_line told.ret ++ numbered_lines loop_line 0 told.loops ++ maps_spelling (values_of sizes told.words)
+report_text sizes told = return_line told.ret ++ numbered_lines loop_line 0 told.loops
+    ++ maps_spelling (values_of sizes told.words)
 
 -- the line of a loop call, which has this number, and the maps of these sizes after it
 abbrev pub replay_text : List ℕ → ℕ → LoopReport → List ℕ → List ℕ

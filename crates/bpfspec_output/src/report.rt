@@ -59,7 +59,8 @@ fn values_of(alloc: Global, maps: &Maps) -> Result<Vec<Vec<u64>>, AllocError>
 
 /// Adds the maps.
 fn print_values(alloc: Global, out: &mut String, maps: &Maps) -> Result<(), AllocError>
-    ensures { OnOk result (string_bytes out.new ≡ string_bytes out.old ++ maps_spelling (values_of maps.now.sizes maps.now.words)) }
+    ensures { OnOk result (string_bytes out.new ≡ string_bytes out.old
+        ++ maps_spelling (values_of maps.now.sizes maps.now.words)) }
 {
     let values = values_of(alloc, maps)?;
     out.push_str(&print_maps(alloc, &values)?)

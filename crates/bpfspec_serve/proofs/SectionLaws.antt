@@ -15,39 +15,48 @@ use Rattle.bpfspec_serve.specs.Sections.{whole_lines, is_mark, before_mark, behi
 next_of : (k : ℕ) → 1 + k ≡ suc k
 next_of k = omega arith
 
-line_step : (t : Bool) (b : ℕ) (bs : List ℕ) (k : ℕ) → cond (not t) (1 + k) 0 < suc (length bs) → (k < length bs → whole_lines bs ≡ take (suc k) bs ∷ whole_lines (drop (suc k) bs)) →
-    cond t ((b ∷ []) ∷ whole_lines bs) (with_front b (whole_lines bs)) ≡ take (suc (cond (not t) (1 + k) 0)) (b ∷ bs) ∷ whole_lines (drop (suc (cond (not t) (1 + k) 0)) (b ∷ bs))
+line_step : (t : Bool) (b : ℕ) (bs : List ℕ) (k : ℕ) → cond (not t) (1 + k) 0 < suc (length bs)
+    → (k < length bs → whole_lines bs ≡ take (suc k) bs ∷ whole_lines (drop (suc k) bs)) →
+    cond t ((b ∷ []) ∷ whole_lines bs) (with_front b (whole_lines bs)) ≡ take (suc (cond (not t) (1 + k) 0)) (b ∷ bs)
+    ∷ whole_lines (drop (suc (cond (not t) (1 + k) 0)) (b ∷ bs))
 line_step true b bs k lt shorter = refl
 line_step false b bs k lt shorter = rw (next_of k) (ap (with_front b) (shorter (omega arith)))
 
 -- a text with a newline in it
 newline : (text : List ℕ) → position_or_len (λ b. b == 10) text < length text →
-    whole_lines text ≡ take (suc (position_or_len (λ b. b == 10) text)) text ∷ whole_lines (drop (suc (position_or_len (λ b. b == 10) text)) text)
+    whole_lines text ≡ take (suc (position_or_len (λ b. b == 10) text)) text
+    ∷ whole_lines (drop (suc (position_or_len (λ b. b == 10) text)) text)
 newline [] lt = absurd (omega arith)
 newline (b ∷ bs) lt = line_step (b == 10) b bs (position_or_len (λ c. c == 10) bs) lt (newline bs)
 
-pub line_found : (text : List ℕ) (n : ℕ) → Some n ≡ position (λ b. b == 10) text → whole_lines text ≡ take (n + 1) text ∷ whole_lines (drop (n + 1) text)
+pub line_found : (text : List ℕ) (n : ℕ) → Some n ≡ position (λ b. b == 10) text → whole_lines text ≡ take (n + 1) text
+    ∷ whole_lines (drop (n + 1) text)
 line_found text n e =
     let f = position_found (λ b. b == 10) text n e in
     let inside : position_or_len (λ b. b == 10) text < length text = omega (arith, f.0, f.1) in
     let next : n + 1 ≡ suc n = omega arith in
     rw next (rw f.0 at (newline text inside))
 
-last_step : (t : Bool) (b : ℕ) (bs : List ℕ) (k : ℕ) → suc (length bs) ≤ cond (not t) (1 + k) 0 → (length bs ≤ k → with_front b (whole_lines bs) ≡ (b ∷ bs) ∷ []) →
+last_step : (t : Bool) (b : ℕ) (bs : List ℕ) (k : ℕ) → suc (length bs) ≤ cond (not t) (1 + k) 0
+    → (length bs ≤ k → with_front b (whole_lines bs) ≡ (b ∷ bs) ∷ []) →
     cond t ((b ∷ []) ∷ whole_lines bs) (with_front b (whole_lines bs)) ≡ (b ∷ bs) ∷ []
 last_step true b bs k le whole = absurd (omega arith)
 last_step false b bs k le whole = whole (omega arith)
 
-last_line : (b : ℕ) (bs : List ℕ) → length bs ≤ position_or_len (λ c. c == 10) bs → with_front b (whole_lines bs) ≡ (b ∷ bs) ∷ []
+last_line : (b : ℕ) (bs : List ℕ) → length bs ≤ position_or_len (λ c. c == 10) bs → with_front b (whole_lines bs)
+    ≡ (b ∷ bs) ∷ []
 last_line b [] le = refl
-last_line b (c ∷ cs) le = ap (with_front b) (last_step (c == 10) c cs (position_or_len (λ d. d == 10) cs) le (last_line c cs))
+last_line b (c ∷ cs) le = ap (with_front b) (last_step (c == 10) c cs (position_or_len (λ d. d == 10) cs) le
+    (last_line c cs))
 
-whole_last : (text : List ℕ) → 0 < length text → length text ≤ position_or_len (λ b. b == 10) text → whole_lines text ≡ text ∷ []
+whole_last : (text : List ℕ) → 0 < length text → length text ≤ position_or_len (λ b. b == 10) text
+    → whole_lines text ≡ text ∷ []
 whole_last [] some le = absurd (omega arith)
 whole_last (b ∷ bs) some le = last_step (b == 10) b bs (position_or_len (λ c. c == 10) bs) le (last_line b bs)
 
 -- a text with no newline in it
-pub line_missing : (text : List ℕ) → 0 < length text → None ≡ position (λ b. b == 10) text → whole_lines text ≡ take (length text) text ∷ whole_lines (drop (length text) text)
+pub line_missing : (text : List ℕ) → 0 < length text → None ≡ position (λ b. b == 10) text
+    → whole_lines text ≡ take (length text) text ∷ whole_lines (drop (length text) text)
 line_missing text some e =
     let none : drop (length text) text ≡ [] = drop_of_length-le text (omega arith) in
     rw (none, take-length text) (whole_last text some (position_missing (λ b. b == 10) text e))
@@ -56,7 +65,8 @@ concat-front : (b : ℕ) (lines : List (List ℕ)) → concat (with_front b line
 concat-front b [] = refl
 concat-front b (line ∷ lines) = refl
 
-concat-byte : (newline : Bool) (b : ℕ) (bs : List ℕ) → concat (whole_lines bs) ≡ bs → concat (if newline then (b ∷ []) ∷ whole_lines bs else with_front b (whole_lines bs)) ≡ b ∷ bs
+concat-byte : (newline : Bool) (b : ℕ) (bs : List ℕ) → concat (whole_lines bs) ≡ bs
+    → concat (if newline then (b ∷ []) ∷ whole_lines bs else with_front b (whole_lines bs)) ≡ b ∷ bs
 concat-byte true b bs rest = ap (λ (ls : List ℕ). b ∷ ls) rest
 concat-byte false b bs rest = concat-front b (whole_lines bs) ∙ ap (λ (ls : List ℕ). b ∷ ls) rest
 
@@ -69,18 +79,27 @@ concat-whole_lines (b ∷ bs) = concat-byte (b == 10) b bs (concat-whole_lines b
 pub text_of_lines : (text : List ℕ) (lines : List (List ℕ)) → whole_lines text ≡ lines → text ≡ concat lines
 text_of_lines text lines same = sym (concat-whole_lines text) ∙ ap concat same
 
-unmarked : (line : List ℕ) (lines : List (List ℕ)) → is_mark line ≡ false → (before_mark (line ∷ lines) ≡ line ++ before_mark lines) × (behind_mark (line ∷ lines) ≡ behind_mark lines)
-unmarked line lines other = (ap (λ (b : Bool). if b then [] else line ++ before_mark lines) other, ap (λ (b : Bool). if b then lines else behind_mark lines) other)
+unmarked : (line : List ℕ) (lines : List (List ℕ)) → is_mark line ≡ false
+    → (before_mark (line ∷ lines) ≡ line ++ before_mark lines) × (behind_mark (line ∷ lines) ≡ behind_mark lines)
+unmarked line lines other = (
+  ap (λ (b : Bool). if b then [] else line ++ before_mark lines) other,
+  ap (λ (b : Bool). if b then lines else behind_mark lines) other,
+)
 
-marked : (line : List ℕ) (lines : List (List ℕ)) → is_mark line ≡ true → (before_mark (line ∷ lines) ≡ []) × (behind_mark (line ∷ lines) ≡ lines)
-marked line lines mark = (ap (λ (b : Bool). if b then [] else line ++ before_mark lines) mark, ap (λ (b : Bool). if b then lines else behind_mark lines) mark)
+marked : (line : List ℕ) (lines : List (List ℕ)) → is_mark line ≡ true → (before_mark (line ∷ lines) ≡ [])
+    × (behind_mark (line ∷ lines) ≡ lines)
+marked line lines mark = (
+  ap (λ (b : Bool). if b then [] else line ++ before_mark lines) mark,
+  ap (λ (b : Bool). if b then lines else behind_mark lines) mark,
+)
 
 -- what is left after a place in a text
 pub left_behind : (text : List ℕ) (at : ℕ) → take (length text - at) (drop at text) ≡ drop at text
 left_behind text at = rw (← (length-drop at text)) (take-length (drop at text))
 
 -- the section goes on over a line that is no mark
-pub section_goes_on : (text rest : List ℕ) (at n : ℕ) → rest ≡ drop at text → whole_lines rest ≡ take n rest ∷ whole_lines (drop n rest) → is_mark (take n rest) ≡ false
+pub section_goes_on : (text rest : List ℕ) (at n : ℕ) → rest ≡ drop at text → whole_lines rest ≡ take n rest
+    ∷ whole_lines (drop n rest) → is_mark (take n rest) ≡ false
     → before_mark (whole_lines text) ≡ take at text ++ before_mark (whole_lines (drop at text))
     → before_mark (whole_lines text) ≡ take (at + n) text ++ before_mark (whole_lines (drop (at + n) text))
 section_goes_on text rest at n is_rest line other so_far =
@@ -94,7 +113,8 @@ section_goes_on text rest at n is_rest line other so_far =
     ∙ ap (λ (r : List ℕ). take (at + n) text ++ before_mark (whole_lines r)) (drop-drop n at text)
 
 -- and so does what comes after it
-pub rest_goes_on : (text rest : List ℕ) (at n : ℕ) → rest ≡ drop at text → whole_lines rest ≡ take n rest ∷ whole_lines (drop n rest) → is_mark (take n rest) ≡ false
+pub rest_goes_on : (text rest : List ℕ) (at n : ℕ) → rest ≡ drop at text → whole_lines rest ≡ take n rest
+    ∷ whole_lines (drop n rest) → is_mark (take n rest) ≡ false
     → behind_mark (whole_lines text) ≡ behind_mark (whole_lines (drop at text))
     → behind_mark (whole_lines text) ≡ behind_mark (whole_lines (drop (at + n) text))
 rest_goes_on text rest at n is_rest line other so_far =
@@ -106,8 +126,10 @@ rest_goes_on text rest at n is_rest line other so_far =
     ∙ ap (λ (r : List ℕ). behind_mark (whole_lines r)) (drop-drop n at text)
 
 -- the section ends before a mark
-pub section_ends : (text rest : List ℕ) (at n : ℕ) → rest ≡ drop at text → whole_lines rest ≡ take n rest ∷ whole_lines (drop n rest) → is_mark (take n rest) ≡ true
-    → before_mark (whole_lines text) ≡ take at text ++ before_mark (whole_lines (drop at text)) → before_mark (whole_lines text) ≡ take at text
+pub section_ends : (text rest : List ℕ) (at n : ℕ) → rest ≡ drop at text → whole_lines rest ≡ take n rest
+    ∷ whole_lines (drop n rest) → is_mark (take n rest) ≡ true
+    → before_mark (whole_lines text) ≡ take at text ++ before_mark (whole_lines (drop at text))
+    → before_mark (whole_lines text) ≡ take at text
 section_ends text rest at n is_rest line mark so_far =
     so_far
     ∙ ap (λ (r : List ℕ). take at text ++ before_mark (whole_lines r)) (sym is_rest)
@@ -116,8 +138,10 @@ section_ends text rest at n is_rest line mark so_far =
     ∙ append-nil (take at text)
 
 -- and what comes after it is the rest
-pub rest_begins : (text rest : List ℕ) (at n : ℕ) → rest ≡ drop at text → whole_lines rest ≡ take n rest ∷ whole_lines (drop n rest) → is_mark (take n rest) ≡ true
-    → behind_mark (whole_lines text) ≡ behind_mark (whole_lines (drop at text)) → behind_mark (whole_lines text) ≡ whole_lines (drop (at + n) text)
+pub rest_begins : (text rest : List ℕ) (at n : ℕ) → rest ≡ drop at text → whole_lines rest ≡ take n rest
+    ∷ whole_lines (drop n rest) → is_mark (take n rest) ≡ true
+    → behind_mark (whole_lines text) ≡ behind_mark (whole_lines (drop at text)) → behind_mark (whole_lines text)
+    ≡ whole_lines (drop (at + n) text)
 rest_begins text rest at n is_rest line mark so_far =
     so_far
     ∙ ap (λ (r : List ℕ). behind_mark (whole_lines r)) (sym is_rest)
@@ -127,7 +151,8 @@ rest_begins text rest at n is_rest line mark so_far =
     ∙ ap whole_lines (drop-drop n at text)
 
 -- a line may be cut off where it ends
-pub line_boundary : (text rest : List ℕ) (at n : ℕ) → IsUtf8 text → rest ≡ drop at text → at ≤ length text → 0 < n → n ≤ length rest
+pub line_boundary : (text rest : List ℕ) (at n : ℕ) → IsUtf8 text → rest ≡ drop at text → at ≤ length text → 0 < n
+    → n ≤ length rest
     → (n < length rest → get_or rest (n - 1) 0 ≡ 10) → IsCharBoundary text (at + n)
 line_boundary text rest at n utf8 is_rest within some inside ends =
     let long : length rest ≡ length text - at = ap length is_rest ∙ length-drop at text in
@@ -137,7 +162,8 @@ line_boundary text rest at n utf8 is_rest within some inside ends =
       λ (less : at + n < length text).
           let shorter : n < length rest = omega (arith, long) in
           let before : at + (n - 1) < length text = omega arith in
-          let read : get_or text (at + (n - 1)) 0 ≡ 10 = sym (get_or-drop at text (n - 1) 0) ∙ ap (λ (r : List ℕ). get_or r (n - 1) 0) (sym is_rest) ∙ ends shorter in
+          let read : get_or text (at + (n - 1)) 0 ≡ 10 = sym (get_or-drop at text (n - 1) 0)
+          ∙ ap (λ (r : List ℕ). get_or r (n - 1) 0) (sym is_rest) ∙ ends shorter in
           let ascii : get_or text (at + (n - 1)) 0 < 128 = omega (arith, read) in
           (subst (IsCharBoundary text) next (IsCharBoundary-after_ascii text (at + (n - 1)) utf8 before ascii)).1 less,
     )

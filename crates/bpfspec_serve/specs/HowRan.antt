@@ -14,11 +14,16 @@ use Rattle.bpfspec_output.specs.Refusals.{memory_line}
 
 -- the words of a command line ask for a job, by which an input is served; or for help or the version, whose text is
 -- written; or there is no memory for them; or they ask for nothing, and nothing is written to the output
-pub data HowRan (Is_answer : Job → Answer → Type 0) (end : ProgramEnd) (reads_failed writes_failed : ℕ → Type 0) (before after : Option (List ℕ)) : Type 0 where
-  Serves : (words : List (List ℕ)) (job : Job) (result : Served) → AsksForJob (subcommand_of bpfspec_app words) job → end ≡ ends.Served result
-      → HowServed (Is_answer job) result reads_failed writes_failed before after → HowRan Is_answer end reads_failed writes_failed before after
+pub data HowRan (Is_answer : Job → Answer → Type 0) (end : ProgramEnd) (reads_failed writes_failed : ℕ → Type 0)
+    (before after : Option (List ℕ)) : Type 0 where
+  Serves : (words : List (List ℕ)) (job : Job) (result : Served) → AsksForJob (subcommand_of bpfspec_app words) job
+      → end ≡ ends.Served result
+      → HowServed (Is_answer job) result reads_failed writes_failed before after
+      → HowRan Is_answer end reads_failed writes_failed before after
   Helps : (words : List (List ℕ)) (text : List ℕ) (result : Served) → AsksForHelp words → end ≡ ends.Served result
-      → HowWritten text served.Done result writes_failed before after → HowRan Is_answer end reads_failed writes_failed before after
+      → HowWritten text served.Done result writes_failed before after → HowRan Is_answer end reads_failed writes_failed
+      before after
   No_memory : (result : Served) → end ≡ ends.Served result
-      → HowWritten memory_line served.Memory result writes_failed before after → HowRan Is_answer end reads_failed writes_failed before after
+      → HowWritten memory_line served.Memory result writes_failed before after
+      → HowRan Is_answer end reads_failed writes_failed before after
   No_job : end ≡ ends.Usage → before ≡ after → HowRan Is_answer end reads_failed writes_failed before after

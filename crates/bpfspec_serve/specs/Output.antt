@@ -125,7 +125,8 @@ verified (Ok program) = Ok (accepted_text (functions_of program.insns))
 -- values as the start words of maps of these sizes
 abbrev pub fitting : List ℕ → Result (List (List ℕ)) AnswerError → TextOutcome
 fitting sizes (Err error) = Err error
-fitting sizes (Ok values) = if pointwise nat_eq (lengths values) sizes then Ok (concat values) else refused refusals.Sizes
+fitting sizes (Ok values) = if pointwise nat_eq (lengths values) sizes then Ok (concat values)
+    else refused refusals.Sizes
 
 -- the words that maps start with: without a section all are 0
 abbrev pub maps_start_words : List ℕ → List ℕ → TextOutcome
@@ -134,20 +135,24 @@ maps_start_words sizes (b ∷ bs) = fitting sizes (in_section sections.Maps (map
 
 -- what is reported of a program is printed
 abbrev pub IsPrinted : Program → BoundedResult Reported → TextOutcome → Type 0
-IsPrinted program reported outcome = (told : Reported) × (reported ≡ Ended told) × (outcome ≡ Ok (report_text program.sizes told))
+IsPrinted program reported outcome = (told : Reported) × (reported ≡ Ended told)
+    × (outcome ≡ Ok (report_text program.sizes told))
 
 -- a program runs in order from its start words, at most 4,096 instructions up to each turn of main and in each
 -- iteration
 abbrev pub PrintsReportInOrder : Program → ℕ → TextOutcome → TextOutcome → Type 0
 PrintsReportInOrder program argument (Err error) outcome = outcome ≡ Err error
-PrintsReportInOrder program argument (Ok words) outcome = IsPrinted program (report_in_order program 4096 argument words) outcome
+PrintsReportInOrder program argument (Ok words) outcome =
+    IsPrinted program (report_in_order program 4096 argument words) outcome
 
 -- an accepted program runs in order on the maps of a section
 abbrev pub OfOrder : Result Program AnswerError → ℕ → List ℕ → TextOutcome → Type 0
 OfOrder (Err error) argument maps outcome = outcome ≡ Err error
-OfOrder (Ok program) argument maps outcome = PrintsReportInOrder program argument (maps_start_words program.sizes maps) outcome
+OfOrder (Ok program) argument maps outcome = PrintsReportInOrder program argument (maps_start_words program.sizes maps)
+    outcome
 
--- a program runs from its start words, its loops by a plan: what is told of it is the report of the program in order, with
+-- a program runs from its start words, its loops by a plan: what is told of it is the report of the program in order,
+-- with
 -- the verdicts of the plan's test, and nothing else of the plan occurs in it; one outside its limits is refused
 abbrev pub PrintsReportByPlan : Program → ℕ → Plan → TextOutcome → TextOutcome → Type 0
 PrintsReportByPlan program argument plan (Err error) outcome = outcome ≡ Err error
@@ -158,7 +163,8 @@ PrintsReportByPlan program argument plan (Ok words) outcome =
 -- an accepted program runs by a plan on the maps of a section
 abbrev pub OfRun : Result Program AnswerError → ℕ → Plan → List ℕ → TextOutcome → Type 0
 OfRun (Err error) argument plan maps outcome = outcome ≡ Err error
-OfRun (Ok program) argument plan maps outcome = PrintsReportByPlan program argument plan (maps_start_words program.sizes maps) outcome
+OfRun (Ok program) argument plan maps outcome =
+    PrintsReportByPlan program argument plan (maps_start_words program.sizes maps) outcome
 
 -- the refusal of a replay
 abbrev pub replay_refusal : ReplayRefusal → Refusal
@@ -171,19 +177,23 @@ abbrev pub replay_outcome : List ℕ → Result LoopReplay ReplayRefusal → Tex
 replay_outcome sizes (Ok loop) = Ok (replay_text sizes loop.number loop.told loop.words)
 replay_outcome sizes (Err refusal) = refused (replay_refusal refusal)
 
--- a program runs in order from its start words up to its first valid loop call, which is replayed with bounds and events,
+-- a program runs in order from its start words up to its first valid loop call, which is replayed with bounds and
+-- events,
 -- and what comes of it is printed
-abbrev pub ReplaysTo : Program → ℕ → Test → TextOutcome → Result (List ℕ × List Event) AnswerError → TextOutcome → Type 0
+abbrev pub ReplaysTo : Program → ℕ → Test → TextOutcome → Result (List ℕ × List Event) AnswerError → TextOutcome
+    → Type 0
 ReplaysTo program argument test (Err error) schedule outcome = outcome ≡ Err error
 ReplaysTo program argument test (Ok words) (Err error) outcome = outcome ≡ Err error
 ReplaysTo program argument test (Ok words) (Ok schedule) outcome =
-    (comes : Result LoopReplay ReplayRefusal) × ComesTo test program argument words schedule.0 schedule.1 comes × (outcome ≡ replay_outcome program.sizes comes)
+    (comes : Result LoopReplay ReplayRefusal) × ComesTo test program argument words schedule.0 schedule.1 comes
+    × (outcome ≡ replay_outcome program.sizes comes)
 
 -- an accepted program is replayed on the maps of a section with the events of another
 abbrev pub OfReplay : Result Program AnswerError → ℕ → Test → (maps events : List ℕ) → TextOutcome → Type 0
 OfReplay (Err error) argument test maps events outcome = outcome ≡ Err error
 OfReplay (Ok program) argument test maps events outcome =
-    ReplaysTo program argument test (maps_start_words program.sizes maps) (in_section sections.Events (events_text events)) outcome
+    ReplaysTo program argument test (maps_start_words program.sizes maps)
+    (in_section sections.Events (events_text events)) outcome
 
 -- an input is at most 3,145,728 bytes of UTF-8
 abbrev pub readable : List ℕ → TextOutcome
@@ -193,9 +203,11 @@ readable input =
 
 -- what comes of an input in a mode
 abbrev pub InMode : Mode → List ℕ → TextOutcome → Type 0
-InMode (Order form argument) input outcome = OfOrder (accepted (unit_program form (unit_section input))) argument (maps_section input) outcome
+InMode (Order form argument) input outcome = OfOrder (accepted (unit_program form (unit_section input))) argument
+    (maps_section input) outcome
 InMode (Replay form argument test) input outcome =
-    OfReplay (accepted (unit_program form (unit_section input))) argument test (maps_section input) (events_section input) outcome
+    OfReplay (accepted (unit_program form (unit_section input))) argument test (maps_section input)
+    (events_section input) outcome
 InMode (Verify form) input outcome = outcome ≡ verified (accepted (unit_program form (unit_section input)))
 InMode Asm input outcome = outcome ≡ written Hex (unit_program Assembler (unit_section input))
 InMode Disasm input outcome = outcome ≡ written Assembler (unit_program Hex (unit_section input))
@@ -204,7 +216,8 @@ InMode Disasm input outcome = outcome ≡ written Assembler (unit_program Hex (u
 abbrev pub OfReadable : Job → TextOutcome → TextOutcome → Type 0
 OfReadable job (Err error) outcome = outcome ≡ Err error
 OfReadable (Serve mode) (Ok input) outcome = InMode mode input outcome
-OfReadable (Run form argument plan) (Ok input) outcome = OfRun (accepted (unit_program form (unit_section input))) argument plan (maps_section input) outcome
+OfReadable (Run form argument plan) (Ok input) outcome = OfRun (accepted (unit_program form (unit_section input)))
+    argument plan (maps_section input) outcome
 
 -- what comes of an input
 abbrev pub OfInput : Job → List ℕ → TextOutcome → Type 0
@@ -233,7 +246,8 @@ pub record Answers (job : Job) (input : List ℕ) (answer : Answer) : Type 0 whe
   pub told : answer ≡ answer_of outcome
 
 -- what a function returns, seen by view, is as wanted, or memory ran out
-abbrev pub SatisfiesUnlessMemory : {X Y : Type 0} → (X → Y) → (Result Y AnswerError → Type 0) → Result X AnswerError → Type 0
+abbrev pub SatisfiesUnlessMemory : {X Y : Type 0} → (X → Y) → (Result Y AnswerError → Type 0) → Result X AnswerError
+    → Type 0
 SatisfiesUnlessMemory view wanted (Ok x) = wanted (Ok (view x))
 SatisfiesUnlessMemory view wanted (Err (errors.Refused refusal)) = wanted (refused refusal)
 SatisfiesUnlessMemory view wanted (Err errors.Memory) = Unit {0}

@@ -65,7 +65,8 @@ fn run_on<R: Threads + Sync, G: Gate>(
     gate: &G,
 ) -> Result<String, AnswerError>
     requires { maps.sizes ≡ program.now.sizes }
-    ensures { SatisfiesUnlessMemory string_bytes (PrintsReportByPlan program.now argument plan.now (Ok maps.words)) result }
+    ensures { SatisfiesUnlessMemory string_bytes (PrintsReportByPlan program.now argument plan.now (Ok maps.words))
+        result }
 {
     let mut maps = maps;
     match run(rt, alloc, program, &mut maps, argument, plan, gate) {
@@ -117,7 +118,8 @@ fn replay_on(
     test: Test,
 ) -> Result<String, AnswerError>
     requires sizes { maps.sizes ≡ program.now.sizes }
-    ensures { SatisfiesUnlessMemory string_bytes (ReplaysTo program.now argument test (Ok maps.words) (Ok (schedule.0.items, schedule.1.items))) result }
+    ensures { SatisfiesUnlessMemory string_bytes (ReplaysTo program.now argument test (Ok maps.words)
+        (Ok (schedule.0.items, schedule.1.items))) result }
 {
     let (bounds, events) = schedule;
     match replay(alloc, program, maps, argument, bounds, &events, test) {
@@ -166,7 +168,8 @@ fn translate(
     to: UnitForm,
     input: &str,
 ) -> Result<String, AnswerError>
-    ensures { SatisfiesUnlessMemory string_bytes (λ outcome. outcome ≡ written to (unit_program from (unit_section input.now))) result }
+    ensures { SatisfiesUnlessMemory string_bytes (λ outcome. outcome ≡ written to
+        (unit_program from (unit_section input.now))) result }
 {
     let unit = read_unit(alloc, from, part(input).section)?;
     write_unit(alloc, to, &unit)
@@ -197,7 +200,8 @@ fn functions_of(alloc: Global, program: &Verified) -> Result<Vec<Function>, Allo
 
 /// What is told of an accepted program.
 fn judge(alloc: Global, form: UnitForm, input: &str) -> Result<String, AnswerError>
-    ensures { SatisfiesUnlessMemory string_bytes (λ outcome. outcome ≡ verified (accepted (unit_program form (unit_section input.now)))) result }
+    ensures { SatisfiesUnlessMemory string_bytes (λ outcome. outcome
+        ≡ verified (accepted (unit_program form (unit_section input.now)))) result }
 {
     let program = accept(alloc, form, part(input).section)?;
     Ok(print_accepted(alloc, &functions_of(alloc, &program)?)?)

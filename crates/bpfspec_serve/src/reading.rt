@@ -106,7 +106,8 @@ pub fn read_unit(alloc: Global, form: UnitForm, section: &str) -> Result<Unit, A
 
 /// The accepted program of a section.
 pub fn accept(alloc: Global, form: UnitForm, section: &str) -> Result<Verified, AnswerError>
-    ensures { SatisfiesUnlessMemory (λ program. program) (λ outcome. outcome ≡ accepted (unit_program form section.now)) result }
+    ensures { SatisfiesUnlessMemory (λ program. program) (λ outcome. outcome ≡ accepted (unit_program form section.now))
+        result }
 {
     let unit = read_unit(alloc, form, section)?;
     match verify(alloc, unit) {
@@ -131,7 +132,8 @@ fn zero_maps(alloc: Global, program: &Verified) -> Result<Maps, AnswerError>
 
 /// Maps of a program that have these values.
 fn maps_of(alloc: Global, program: &Verified, values: &[Vec<u64>]) -> Result<Maps, AnswerError>
-    ensures words { SatisfiesUnlessMemory (λ maps. maps.words) (λ outcome. outcome ≡ fitting program.now.sizes (Ok (lists values.now))) result }
+    ensures words { SatisfiesUnlessMemory (λ maps. maps.words) (λ outcome. outcome ≡ fitting program.now.sizes
+        (Ok (lists values.now))) result }
     ensures sizes { IfOk result (λ maps. maps.sizes ≡ program.now.sizes) }
 {
     let sizes = program.sizes();
@@ -148,7 +150,8 @@ fn maps_of(alloc: Global, program: &Verified, values: &[Vec<u64>]) -> Result<Map
 
 /// The maps that a program starts with.
 pub fn start_maps(alloc: Global, program: &Verified, section: &str) -> Result<Maps, AnswerError>
-    ensures words { SatisfiesUnlessMemory (λ maps. maps.words) (λ outcome. outcome ≡ maps_start_words program.now.sizes section.now) result }
+    ensures words { SatisfiesUnlessMemory (λ maps. maps.words) (λ outcome. outcome ≡ maps_start_words program.now.sizes
+        section.now) result }
     ensures sizes { IfOk result (λ maps. maps.sizes ≡ program.now.sizes) }
 {
     if section.is_empty() {
@@ -162,7 +165,8 @@ pub fn start_maps(alloc: Global, program: &Verified, section: &str) -> Result<Ma
 
 /// The bounds and events of a section.
 pub fn read_events(alloc: Global, section: &str) -> Result<(Vec<u32>, Vec<Event>), AnswerError>
-    ensures { SatisfiesUnlessMemory (λ x. (x.0.items, x.1.items)) (λ outcome. outcome ≡ in_section Section.Events (events_text section.now)) result }
+    ensures { SatisfiesUnlessMemory (λ x. (x.0.items, x.1.items)) (λ outcome. outcome ≡ in_section Section.Events
+        (events_text section.now)) result }
 {
     match parse_events(alloc, section) {
         Ok(schedule) => Ok(schedule),

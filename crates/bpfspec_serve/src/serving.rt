@@ -84,7 +84,8 @@ pub(crate) fn write<W: Sink>(sink: &mut W, text: &[u8], wanted: Served) -> Serve
 /// Writes what came of an input, or that memory ran out.
 fn tell<W: Sink>(alloc: Global, outcome: Result<String, AnswerError>, sink: &mut W) -> Served
     requires { W.failed sink.old < 2 ^ 64 - 1 }
-    ensures { HowServed (AnswerTells string_bytes outcome) result (λ n. n ≡ 0) (λ n. W.failed sink.new ≡ W.failed sink.old + n)
+    ensures { HowServed (AnswerTells string_bytes outcome) result (λ n. n ≡ 0) (λ n. W.failed sink.new
+        ≡ W.failed sink.old + n)
         (W.taken sink.old) (W.taken sink.new) }
 {
     match answer_to(alloc, outcome) {

@@ -18,11 +18,13 @@ appends_next a b c bs i n first second =
     subst (Appends a c) (sym joined) (Appends-trans a b c _ _ first second)
 
 -- bytes that were read, and more that were read after them
-consumes_after : (a b c : Option (List ℕ)) (read more : List ℕ) → Keeps a (prepend_known read b) → Consumes b c more → Consumes a c (read ++ more)
+consumes_after : (a b c : Option (List ℕ)) (read more : List ℕ) → Keeps a (prepend_known read b) → Consumes b c more
+    → Consumes a c (read ++ more)
 consumes_after None b c read more kept next = tt
 consumes_after (Some x) None c read more kept next = absurd kept
 consumes_after (Some x) (Some y) None read more kept next = absurd next
-consumes_after (Some x) (Some y) (Some z) read more kept next = sym kept ∙ ap (λ l. read ++ l) next ∙ sym (append_assoc read more z)
+consumes_after (Some x) (Some y) (Some z) read more kept next = sym kept ∙ ap (λ l. read ++ l) next
+    ∙ sym (append_assoc read more z)
 
 -- n bytes that were read, and more that were read after them, up to the limit
 pub consumes_at_most : (a b c : Option (List ℕ)) (read : List ℕ) (n limit : ℕ) → n ≡ length read → n ≤ limit

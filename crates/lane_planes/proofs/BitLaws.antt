@@ -24,13 +24,15 @@ lt_pow a j k below =
 
 -- a comparison of two vectors as bits
 pub compared : (n : ℕ) (p q : ℕ → ℕ) (xs ys : List ℕ) → n ≤ 64 → HasLanes n p xs → HasLanes n q ys →
-    HasBits n (λ k. ltb (p k) (q k)) (mask_l (map (top 31) (zip2 (λ a b. cond (ltb a b) (2 ^ 32 - 1) 0) xs ys)) % 2 ^ 64)
+    HasBits n (λ k. ltb (p k) (q k)) (mask_l (map (top 31) (zip2 (λ a b. cond (ltb a b) (2 ^ 32 - 1) 0) xs ys)) % 2 ^
+    64)
 compared n p q xs ys few in_xs in_ys =
     let many_x : length xs ≡ n = in_xs.count in
     let many_y : length ys ≡ n = in_ys.count in
     let many : length (zip2 ltb xs ys) ≡ n = length-zip2 ltb xs ys (many_x ∙ sym many_y) ∙ many_x in
     let fits : length (zip2 ltb xs ys) ≤ 64 = omega arith in
-    let is : mask_l (map (top 31) (zip2 (λ a b. cond (ltb a b) (2 ^ 32 - 1) 0) xs ys)) % 2 ^ 64 ≡ mask_l (zip2 ltb xs ys) =
+    let is : mask_l (map (top 31) (zip2 (λ a b. cond (ltb a b) (2 ^ 32 - 1) 0) xs ys)) % 2 ^ 64
+    ≡ mask_l (zip2 ltb xs ys) =
     ap (λ bs. mask_l bs % 2 ^ 64) (tops_compared w32 ltb xs ys) ∙ mask_l-mod (zip2 ltb xs ys) 64 fits in
     subst (λ word. HasBits n (λ k. ltb (p k) (q k)) word) (sym is) (record {
       below = subst (λ m. mask_l (zip2 ltb xs ys) < 2 ^ m) many (mask_l-lt (zip2 ltb xs ys));
@@ -45,23 +47,28 @@ compared n p q xs ys few in_xs in_ys =
     })
 
 -- more bits above those of a word
-pub bits_joined : (test : ℕ → Bool) (at n word more : ℕ) → at + n ≤ 64 → HasBits at test word → HasBits n (λ k. test (at + k)) more → HasBits (at + n) test (bit_or word (more * 2 ^ at % 2 ^ 64))
+pub bits_joined : (test : ℕ → Bool) (at n word more : ℕ) → at + n ≤ 64 → HasBits at test word
+    → HasBits n (λ k. test (at + k)) more → HasBits (at + n) test (bit_or word (more * 2 ^ at % 2 ^ 64))
 bits_joined test at n word more room low high =
     let swap : n + at ≡ at + n = omega arith in
     let fits : n + at ≤ 64 = omega arith in
     let whole : more * 2 ^ at % 2 ^ 64 ≡ more * 2 ^ at = shl_whole more n at 64 high.below fits in
-    let sum : bit_or word (more * 2 ^ at) ≡ more * 2 ^ at + word = or_comm word (more * 2 ^ at) ∙ or_shifted more at word low.below in
+    let sum : bit_or word (more * 2 ^ at) ≡ more * 2 ^ at + word = or_comm word (more * 2 ^ at)
+    ∙ or_shifted more at word low.below in
     let low_below : word < 2 ^ (at + n) = lt_pow word at n low.below in
-    let high_below : more * 2 ^ at < 2 ^ (at + n) = subst (λ m. more * 2 ^ at < 2 ^ m) swap (shl_below more n at high.below) in
+    let high_below : more * 2 ^ at < 2 ^ (at + n) =
+    subst (λ m. more * 2 ^ at < 2 ^ m) swap (shl_below more n at high.below) in
     subst (λ m. HasBits (at + n) test (bit_or word m)) (sym whole) (record {
       below = or_lt (at + n) word (more * 2 ^ at) low_below high_below;
       each = λ k small.
           ⊎_elim
-          (λ (earlier : k < at). ap (λ m. bit_at m k == 1) sum ∙ ap (λ b. b == 1) (bit_at_cat_low more at word k earlier) ∙ low.each k earlier)
+          (λ (earlier : k < at). ap (λ m. bit_at m k == 1) sum
+          ∙ ap (λ b. b == 1) (bit_at_cat_low more at word k earlier) ∙ low.each k earlier)
           (λ (later : at ≤ k).
           let within : k - at < n = omega arith in
           let there : at + (k - at) ≡ k = omega arith in
-          ap (λ m. bit_at m k == 1) sum ∙ ap (λ b. b == 1) (bit_at_cat_high more at word k low.below later) ∙ high.each (k - at) within ∙ ap test there)
+          ap (λ m. bit_at m k == 1) sum ∙ ap (λ b. b == 1) (bit_at_cat_high more at word k low.below later)
+          ∙ high.each (k - at) within ∙ ap test there)
           (cases_lt k at);
     })
 

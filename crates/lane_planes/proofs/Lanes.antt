@@ -9,7 +9,8 @@ use Rattle.std.proofs.lemmas.Simd.{length-zip2, length-chunk, get_or-chunk, get_
 pub loaded : (at n : ℕ) (xs : List ℕ) → at + n ≤ length xs → HasLanes n (λ k. get_or xs (at + k) 0) (chunk at n xs)
 loaded at n xs room = record { count = length-chunk at n xs room; each = λ k small. get_or-chunk at n xs k 0 small }
 
-pub combined : (f : ℕ → ℕ → ℕ) (n : ℕ) (p q : ℕ → ℕ) (xs ys : List ℕ) → HasLanes n p xs → HasLanes n q ys → HasLanes n (λ k. f (p k) (q k)) (zip2 f xs ys)
+pub combined : (f : ℕ → ℕ → ℕ) (n : ℕ) (p q : ℕ → ℕ) (xs ys : List ℕ) → HasLanes n p xs → HasLanes n q ys
+    → HasLanes n (λ k. f (p k) (q k)) (zip2 f xs ys)
 combined f n p q xs ys in_xs in_ys = record {
   count = length-zip2 f xs ys (in_xs.count ∙ sym in_ys.count) ∙ in_xs.count;
   each = λ k small.
@@ -25,11 +26,13 @@ combined f n p q xs ys in_xs in_ys = record {
 pub turned : (f : ℕ → ℕ) (n : ℕ) (p : ℕ → ℕ) (xs : List ℕ) → HasLanes n p xs → HasLanes n (λ k. f (p k)) (map f xs)
 turned f n p xs in_xs = record {
   count = length-map xs f ∙ in_xs.count;
-  each = λ k small. let many : length xs ≡ n = in_xs.count in let within : k < length xs = omega arith in get_or-map f xs k 0 0 within ∙ ap f (in_xs.each k small);
+  each = λ k small. let many : length xs ≡ n = in_xs.count in let within : k < length xs = omega arith in
+      get_or-map f xs k 0 0 within ∙ ap f (in_xs.each k small);
 }
 
 -- of two vectors the lane of the one where a test holds, and of the other where it doesn't
-selected : (t : ℕ → ℕ → Bool) (n : ℕ) (p q u v : ℕ → ℕ) (xs ys us vs : List ℕ) → HasLanes n p xs → HasLanes n q ys → HasLanes n u us → HasLanes n v vs →
+selected : (t : ℕ → ℕ → Bool) (n : ℕ) (p q u v : ℕ → ℕ) (xs ys us vs : List ℕ) → HasLanes n p xs → HasLanes n q ys
+    → HasLanes n u us → HasLanes n v vs →
     HasLanes n (λ k. cond (t (p k) (q k)) (u k) (v k)) (sel_l (zip2 t xs ys) us vs)
 selected t n p q u v xs ys us vs in_xs in_ys in_us in_vs =
     let many_x : length xs ≡ n = in_xs.count in
@@ -46,7 +49,8 @@ selected t n p q u v xs ys us vs in_xs in_ys in_us in_vs =
           let small_v : k < length vs = omega arith in
           let small_t : k < length (zip2 t xs ys) = omega arith in
           let tested : get_or (zip2 t xs ys) k false ≡ t (p k) (q k) =
-          get_or-zip2 t xs ys k 0 0 false small_x small_y ∙ ap (λ x. t x (get_or ys k 0)) (in_xs.each k small) ∙ ap (t (p k)) (in_ys.each k small) in
+          get_or-zip2 t xs ys k 0 0 false small_x small_y ∙ ap (λ x. t x (get_or ys k 0)) (in_xs.each k small)
+          ∙ ap (t (p k)) (in_ys.each k small) in
           get_or-sel_l (zip2 t xs ys) us vs k 0 small_t small_u small_v
           ∙ ap (λ b. cond b (get_or us k 0) (get_or vs k 0)) tested
           ∙ ap (λ x. cond (t (p k) (q k)) x (get_or vs k 0)) (in_us.each k small)
@@ -86,7 +90,10 @@ one_less a fits =
 
 -- a subtraction of one that stops at zero
 pub less_one : (n : ℕ) (p : ℕ → ℕ) (ys : List ℕ) → ((k : ℕ) → p k < 2 ^ 32) → HasLanes n p ys →
-    HasLanes n (λ k. p k - 1) (zip2 (λ a b. (a + (2 ^ 32 - b)) % 2 ^ 32) (sel_l (map (top 31) (zip2 (λ a b. cond (ltb a b) (2 ^ 32 - 1) 0) ys (replicate n 1))) (replicate n 1) ys) (replicate n 1))
+    HasLanes n (λ k. p k - 1) (zip2 (λ a b. (a + (2 ^ 32 - b)) % 2 ^ 32)
+    (sel_l (map (top 31) (zip2 (λ a b. cond (ltb a b) (2 ^ 32 - 1) 0) ys (replicate n 1))) (replicate n 1) ys)
+    (replicate n 1))
 less_one n p ys fits in_ys =
     same_lanes n _ _ _ (λ k. one_less (p k) (fits k))
-    (combined (λ a b. (a + (2 ^ 32 - b)) % 2 ^ 32) n _ _ _ _ (greater n p (λ k. 1) ys (replicate n 1) in_ys (ones n)) (ones n))
+    (combined (λ a b. (a + (2 ^ 32 - b)) % 2 ^ 32) n _ _ _ _ (greater n p (λ k. 1) ys (replicate n 1) in_ys (ones n))
+    (ones n))

@@ -18,70 +18,101 @@ use Rattle.lane_planes.proofs.BitMeaning.{bit, bit-and, bit-or}
 pub word_within : (e elements : ℕ) → e < elements → e / 64 < words_for elements
 word_within e elements within = omega arith
 
-pub ored_at : (at upto : ℕ) (mine theirs joined : List ℕ) (e : ℕ) (p q : Bool) → at ≤ e / 64 → e / 64 < upto → Ored at upto mine theirs joined → bit_of mine e ≡ p → bit_of theirs e ≡ q → bit_of joined e ≡ (p || q)
+pub ored_at : (at upto : ℕ) (mine theirs joined : List ℕ) (e : ℕ) (p q : Bool) → at ≤ e / 64 → e / 64 < upto
+    → Ored at upto mine theirs joined → bit_of mine e ≡ p → bit_of theirs e ≡ q → bit_of joined e ≡ (p || q)
 ored_at at upto mine theirs joined e p q late within ored is_p is_q =
     ap (λ word. bit word (e % 64)) (ored.written (e / 64) late within)
     ∙ bit-or (slice_index mine (e / 64)) (slice_index theirs (e / 64)) (e % 64)
     ∙ ap (λ b. b || bit_of theirs e) is_p ∙ ap (λ b. p || b) is_q
 
-pub two_at : (at upto : ℕ) (mine theirs written also joined : List ℕ) (e : ℕ) (p q r s : Bool) → at ≤ e / 64 → e / 64 < upto → WrittenByTwo at upto mine theirs written also joined →
-    bit_of mine e ≡ p → bit_of theirs e ≡ q → bit_of written e ≡ r → bit_of also e ≡ s → bit_of joined e ≡ ((p || q) || (r && s))
+pub two_at : (at upto : ℕ) (mine theirs written also joined : List ℕ) (e : ℕ) (p q r s : Bool) → at ≤ e / 64
+    → e / 64 < upto → WrittenByTwo at upto mine theirs written also joined →
+    bit_of mine e ≡ p → bit_of theirs e ≡ q → bit_of written e ≡ r → bit_of also e ≡ s
+    → bit_of joined e ≡ ((p || q) || (r && s))
 two_at at upto mine theirs written also joined e p q r s late within two is_p is_q is_r is_s =
     let i = e / 64 in
     let k = e % 64 in
     ap (λ word. bit word k) (two.written i late within)
-    ∙ bit-or (bit_or (slice_index mine i) (slice_index theirs i)) (bit_and (slice_index written i) (slice_index also i)) k
-    ∙ ap (λ b. b || bit (bit_and (slice_index written i) (slice_index also i)) k) (bit-or (slice_index mine i) (slice_index theirs i) k ∙ ap (λ b. b || bit_of theirs e) is_p ∙ ap (λ b. p || b) is_q)
-    ∙ ap (λ b. (p || q) || b) (bit-and (slice_index written i) (slice_index also i) k ∙ ap (λ b. b && bit_of also e) is_r ∙ ap (λ b. r && b) is_s)
+    ∙ bit-or (bit_or (slice_index mine i) (slice_index theirs i)) (bit_and (slice_index written i) (slice_index also i))
+    k
+    ∙ ap (λ b. b || bit (bit_and (slice_index written i) (slice_index also i)) k)
+    (bit-or (slice_index mine i) (slice_index theirs i) k ∙ ap (λ b. b || bit_of theirs e) is_p
+    ∙ ap (λ b. p || b) is_q)
+    ∙ ap (λ b. (p || q) || b) (bit-and (slice_index written i) (slice_index also i) k
+    ∙ ap (λ b. b && bit_of also e) is_r ∙ ap (λ b. r && b) is_s)
 
-tested_at : (elements e : ℕ) (mine theirs joined : Tested) (a b : Marks) → e < elements → AreTested elements mine → MergedTested 0 (words_for elements) mine theirs joined →
-    FirstsFit mine → FirstsFit theirs → TestedStandAt mine e a → TestedStandAt theirs e b → TestedStandAt joined e (merged a b)
+tested_at : (elements e : ℕ) (mine theirs joined : Tested) (a b : Marks) → e < elements → AreTested elements mine
+    → MergedTested 0 (words_for elements) mine theirs joined →
+    FirstsFit mine → FirstsFit theirs → TestedStandAt mine e a → TestedStandAt theirs e b
+    → TestedStandAt joined e (merged a b)
 tested_at elements e (Lrpd mine) (Lrpd theirs) (Lrpd joined) a b below whole words fit_a fit_b at_a at_b =
     let low : 0 ≤ e / 64 = omega arith in
     let word = word_within e elements below in
     let many = words_for elements in
     record {
-      written = ored_at 0 many mine.written.items theirs.written.items joined.written.items e _ _ low word words.written at_a.written at_b.written;
-      written_by_two = two_at 0 many mine.written_by_two.items theirs.written_by_two.items mine.written.items theirs.written.items joined.written_by_two.items e _ _ _ _ low word words.written_by_two at_a.written_by_two
+      written = ored_at 0 many mine.written.items theirs.written.items joined.written.items e _ _ low word words.written
+          at_a.written at_b.written;
+      written_by_two = two_at 0 many mine.written_by_two.items theirs.written_by_two.items mine.written.items
+          theirs.written.items joined.written_by_two.items e _ _ _ _ low word words.written_by_two at_a.written_by_two
           at_b.written_by_two at_a.written at_b.written;
-      read_only = ored_at 0 many mine.read_only.items theirs.read_only.items joined.read_only.items e _ _ low word words.read_only at_a.read_only at_b.read_only;
-      read_and_written = ored_at 0 many mine.read_and_written.items theirs.read_and_written.items joined.read_and_written.items e _ _ low word words.read_and_written at_a.read_and_written at_b.read_and_written;
+      read_only = ored_at 0 many mine.read_only.items theirs.read_only.items joined.read_only.items e _ _ low word
+          words.read_only at_a.read_only at_b.read_only;
+      read_and_written = ored_at 0 many mine.read_and_written.items theirs.read_and_written.items
+          joined.read_and_written.items e _ _ low word words.read_and_written at_a.read_and_written
+          at_b.read_and_written;
     }
 tested_at elements e (Flow mine) (Flow theirs) (Flow joined) a b below whole words fit_a fit_b at_a at_b =
     let in_first : e < min (64 * words_for elements) (length mine.first.items) = let n = whole.first in omega arith in
     let in_last : e < min (64 * words_for elements) (length mine.last.items) = let n = whole.last in omega arith in
     record {
-      first = words.first.written e (omega arith) in_first ∙ ap (λ n. min n (slice_index theirs.first.items e)) at_a.first ∙ ap (min (first_number a.first)) at_b.first
+      first = words.first.written e (omega arith) in_first ∙ ap (λ n. min n (slice_index theirs.first.items e))
+          at_a.first ∙ ap (min (first_number a.first)) at_b.first
           ∙ sym (first_is_number.lesser_is a.first b.first
-          (subst (λ n. n ≤ 4294967295) at_a.first (fit_a mine refl e)) (subst (λ n. n ≤ 4294967295) at_b.first (fit_b theirs refl e)));
-      last = words.last.written e (omega arith) in_last ∙ ap (λ n. max n (slice_index theirs.last.items e)) at_a.last ∙ ap (max a.last) at_b.last;
+          (subst (λ n. n ≤ 4294967295) at_a.first (fit_a mine refl e)) (subst (λ n. n ≤ 4294967295) at_b.first
+          (fit_b theirs refl e)));
+      last = words.last.written e (omega arith) in_last ∙ ap (λ n. max n (slice_index theirs.last.items e)) at_a.last
+          ∙ ap (max a.last) at_b.last;
     }
 tested_at elements e (Lrpd mine) (Flow theirs) joined a b below whole words fit_a fit_b at_a at_b = absurd words
 tested_at elements e (Flow mine) (Lrpd theirs) joined a b below whole words fit_a fit_b at_a at_b = absurd words
 tested_at elements e (Lrpd mine) (Lrpd theirs) (Flow joined) a b below whole words fit_a fit_b at_a at_b = absurd words
 tested_at elements e (Flow mine) (Flow theirs) (Lrpd joined) a b below whole words fit_a fit_b at_a at_b = absurd words
 
-by_at : (op : Op) (mine theirs joined : Planes) → MergedPlanes mine theirs joined → (e : ℕ) (a b : Marks) → e < mine.elements → StandAt mine e a → StandAt theirs e b →
+by_at : (op : Op) (mine theirs joined : Planes) → MergedPlanes mine theirs joined → (e : ℕ) (a b : Marks)
+    → e < mine.elements → StandAt mine e a → StandAt theirs e b →
     bit_of (plane_by joined.operators op) e ≡ (a.by op || b.by op)
 by_at op mine theirs joined words e a b below at_a at_b =
     let low : 0 ≤ e / 64 = omega arith in
     let many = words_for mine.elements in
-    let ored : (o : Op) → Ored 0 many (plane_by mine.operators o) (plane_by theirs.operators o) (plane_by joined.operators o) =
-    elim [ Add ↦ words.operators.add | Or ↦ words.operators.or | And ↦ words.operators.and | Xor ↦ words.operators.xor | AddH ↦ words.operators.addh ] in
-    ored_at 0 many (plane_by mine.operators op) (plane_by theirs.operators op) (plane_by joined.operators op) e _ _ low (word_within e mine.elements below) (ored op) (at_a.by op) (at_b.by op)
+    let ored : (o : Op) → Ored 0 many (plane_by mine.operators o) (plane_by theirs.operators o)
+    (plane_by joined.operators o) =
+    elim [
+      | Add ↦ words.operators.add
+      | Or ↦ words.operators.or
+      | And ↦ words.operators.and
+      | Xor ↦ words.operators.xor
+      | AddH ↦ words.operators.addh
+    ] in
+    ored_at 0 many (plane_by mine.operators op) (plane_by theirs.operators op) (plane_by joined.operators op) e _ _ low
+    (word_within e mine.elements below) (ored op) (at_a.by op) (at_b.by op)
 
-pub merged_at : (mine theirs joined : Planes) → ArePlanes mine → MergedPlanes mine theirs joined → FirstsFit mine.tested → FirstsFit theirs.tested →
+pub merged_at : (mine theirs joined : Planes) → ArePlanes mine → MergedPlanes mine theirs joined → FirstsFit mine.tested
+    → FirstsFit theirs.tested →
     (e : ℕ) (a b : Marks) → e < mine.elements → StandAt mine e a → StandAt theirs e b → StandAt joined e (merged a b)
 merged_at mine theirs joined whole words fit_a fit_b e a b below at_a at_b =
     let low : 0 ≤ e / 64 = omega arith in
     record {
-      plain = ored_at 0 (words_for mine.elements) mine.plain.items theirs.plain.items joined.plain.items e _ _ low (word_within e mine.elements below) words.plain at_a.plain at_b.plain;
+      plain = ored_at 0 (words_for mine.elements) mine.plain.items theirs.plain.items joined.plain.items e _ _ low
+          (word_within e mine.elements below) words.plain at_a.plain at_b.plain;
       by = λ op. by_at op mine theirs joined words e a b below at_a at_b;
-      tested = tested_at mine.elements e mine.tested theirs.tested joined.tested a b below whole.tested words.tested fit_a fit_b at_a.tested at_b.tested;
+      tested = tested_at mine.elements e mine.tested theirs.tested joined.tested a b below whole.tested words.tested
+          fit_a fit_b at_a.tested at_b.tested;
     }
 
 -- planes of two sets of iterations stand for both
-pub joined_stand : (mine theirs joined : Planes) → mine.elements ≡ theirs.elements → KeepsShape mine joined → ((e : ℕ) (a b : Marks) → e < mine.elements → StandAt mine e a → StandAt theirs e b → StandAt joined e (merged a b)) →
+pub joined_stand : (mine theirs joined : Planes) → mine.elements ≡ theirs.elements → KeepsShape mine joined
+    → ((e : ℕ) (a b : Marks) → e < mine.elements → StandAt mine e a → StandAt theirs e b
+    → StandAt joined e (merged a b)) →
     (xs ys : ℕ → List Visit) → StandFor mine xs → StandFor theirs ys → StandFor joined (joined_visits xs ys)
 joined_stand mine theirs joined same shape each xs ys for_mine for_theirs = record {
   whole = shape.whole;

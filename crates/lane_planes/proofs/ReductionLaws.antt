@@ -38,12 +38,14 @@ two_bit (word ∷ rest) k =
 abbrev stays : Bool → List Bool → Bool
 stays plain by = (plain || two_of by) || not (some_of by)
 
-cleared_bit : (word plain : ℕ) (by : List ℕ) (k : ℕ) → k < 64 → in_some by < 2 ^ 64 → bit (without_reductions word plain by) k ≡ (bit word k && stays (bit plain k) (at k by))
+cleared_bit : (word plain : ℕ) (by : List ℕ) (k : ℕ) → k < 64 → in_some by < 2 ^ 64
+    → bit (without_reductions word plain by) k ≡ (bit word k && stays (bit plain k) (at k by))
 cleared_bit word plain by k small fits =
     bit-and word (bit_or (bit_or plain (in_two by)) (bit_not w64 (in_some by))) k
     ∙ ap (λ b. bit word k && b)
     (bit-or (bit_or plain (in_two by)) (bit_not w64 (in_some by)) k
-    ∙ ap (λ b. b || bit (bit_not w64 (in_some by)) k) (bit-or plain (in_two by) k ∙ ap (λ b. bit plain k || b) (two_bit by k))
+    ∙ ap (λ b. b || bit (bit_not w64 (in_some by)) k) (bit-or plain (in_two by) k
+    ∙ ap (λ b. bit plain k || b) (two_bit by k))
     ∙ ap (λ b. (bit plain k || two_of (at k by)) || b) (bit-not (in_some by) k fits small ∙ ap not (some_bit by k)))
 
 -- a flag for each operator
@@ -54,7 +56,8 @@ chosen add or and xor addh And = and
 chosen add or and xor addh Xor = xor
 chosen add or and xor addh AddH = addh
 
-table : (plain add or and xor addh : Bool) → stays plain (addh ∷ xor ∷ and ∷ or ∷ add ∷ []) ≡ not (not plain && (count_by (chosen add or and xor addh) operators == 1))
+table : (plain add or and xor addh : Bool) → stays plain (addh ∷ xor ∷ and ∷ or ∷ add ∷ [])
+    ≡ not (not plain && (count_by (chosen add or and xor addh) operators == 1))
 table true add or and xor addh = refl
 table false true true true true true = refl
 table false true true true true false = refl
@@ -89,13 +92,17 @@ table false false false false true false = refl
 table false false false false false true = refl
 table false false false false false false = refl
 
-stays_is : (plain : Bool) (by : Op → Bool) → stays plain (by AddH ∷ by Xor ∷ by And ∷ by Or ∷ by Add ∷ []) ≡ not (not plain && (count_by by operators == 1))
+stays_is : (plain : Bool) (by : Op → Bool) → stays plain (by AddH ∷ by Xor ∷ by And ∷ by Or ∷ by Add ∷ [])
+    ≡ not (not plain && (count_by by operators == 1))
 stays_is plain by = table plain (by Add) (by Or) (by And) (by Xor) (by AddH)
 
 -- of an element with these marks
-pub marked_bit : (word plain addh xor and or add : ℕ) (k : ℕ) (marks : Marks) → k < 64 → in_some (addh ∷ xor ∷ and ∷ or ∷ add ∷ []) < 2 ^ 64 →
-    bit plain k ≡ marks.plain → bit addh k ≡ marks.by AddH → bit xor k ≡ marks.by Xor → bit and k ≡ marks.by And → bit or k ≡ marks.by Or → bit add k ≡ marks.by Add →
-    bit (without_reductions word plain (addh ∷ xor ∷ and ∷ or ∷ add ∷ [])) k ≡ (bit word k && not (marked_reduction marks))
+pub marked_bit : (word plain addh xor and or add : ℕ) (k : ℕ) (marks : Marks) → k < 64
+    → in_some (addh ∷ xor ∷ and ∷ or ∷ add ∷ []) < 2 ^ 64 →
+    bit plain k ≡ marks.plain → bit addh k ≡ marks.by AddH → bit xor k ≡ marks.by Xor → bit and k ≡ marks.by And
+    → bit or k ≡ marks.by Or → bit add k ≡ marks.by Add →
+    bit (without_reductions word plain (addh ∷ xor ∷ and ∷ or ∷ add ∷ [])) k
+    ≡ (bit word k && not (marked_reduction marks))
 marked_bit word plain addh xor and or add k marks small fits is_plain is_addh is_xor is_and is_or is_add =
     cleared_bit word plain (addh ∷ xor ∷ and ∷ or ∷ add ∷ []) k small fits
     ∙ ap (λ b. bit word k && b)
@@ -108,5 +115,7 @@ marked_bit word plain addh xor and or add k marks small fits is_plain is_addh is
     ∙ stays_is marks.plain marks.by)
 
 -- a bit that isn't set stays so
-pub clear_bit : (word plain : ℕ) (by : List ℕ) (k : ℕ) → k < 64 → bit word k ≡ false → bit (without_reductions word plain by) k ≡ false
-clear_bit word plain by k small clear = bit-and word (bit_or (bit_or plain (in_two by)) (bit_not w64 (in_some by))) k ∙ ap (λ b. b && bit (bit_or (bit_or plain (in_two by)) (bit_not w64 (in_some by))) k) clear
+pub clear_bit : (word plain : ℕ) (by : List ℕ) (k : ℕ) → k < 64 → bit word k ≡ false
+    → bit (without_reductions word plain by) k ≡ false
+clear_bit word plain by k small clear = bit-and word (bit_or (bit_or plain (in_two by)) (bit_not w64 (in_some by))) k
+    ∙ ap (λ b. b && bit (bit_or (bit_or plain (in_two by)) (bit_not w64 (in_some by))) k) clear

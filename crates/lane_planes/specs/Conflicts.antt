@@ -40,7 +40,8 @@ TestedFit (Flow planes) many = FlowFit planes many
 -- a word without the reduction-only elements of these planes
 abbrev pub cleared_word : Planes → (word i : ℕ) → ℕ
 cleared_word planes word i = without_reductions word (slice_index planes.plain.items i)
-    (slice_index planes.operators.addh.items i ∷ slice_index planes.operators.xor.items i ∷ slice_index planes.operators.and.items i
+    (slice_index planes.operators.addh.items i ∷ slice_index planes.operators.xor.items i
+    ∷ slice_index planes.operators.and.items i
     ∷ slice_index planes.operators.or.items i ∷ slice_index planes.operators.add.items i ∷ [])
 
 -- the plane of conflicts: where the test fails, without the elements that are reduction-only
@@ -55,5 +56,6 @@ LastsFit tested = (planes : FlowPlanes) → tested ≡ Flow planes → (e : ℕ)
 
 abbrev pub OperatorWordsFit : Planes → (many : ℕ) → Type 0
 OperatorWordsFit planes many = (i : ℕ) → i < many →
-    in_some (slice_index planes.operators.addh.items i ∷ slice_index planes.operators.xor.items i ∷ slice_index planes.operators.and.items i
+    in_some (slice_index planes.operators.addh.items i ∷ slice_index planes.operators.xor.items i
+    ∷ slice_index planes.operators.and.items i
     ∷ slice_index planes.operators.or.items i ∷ slice_index planes.operators.add.items i ∷ []) < 2 ^ 64

@@ -1,4 +1,5 @@
--- What planes are after others were merged into them, word by word. A page is 64 elements: it has one word of each plane of
+-- What planes are after others were merged into them, word by word. A page is 64 elements: it has one word of each
+-- plane of
 -- bits, and up to 64 of the numbers.
 use Rattle.std.specs.Prelude.{◌≡◌, ℕ, ◌*◌, ◌^◌, ◌<◌, ◌≤◌, min, max, List, ◌++◌, length, slice_index, bit_and, bit_or}
 use Rattle.array_maps.specs.declared.access.Op.{Op}
@@ -19,14 +20,17 @@ Ored at upto mine theirs joined = Writes (λ i. bit_or (slice_index mine i) (sli
 -- two iterations write where two of one set do, or one of each
 abbrev pub WrittenByTwo : (at upto : ℕ) (mine theirs written also_written joined : List ℕ) → Type 0
 WrittenByTwo at upto mine theirs written also_written joined =
-    Writes (λ i. bit_or (bit_or (slice_index mine i) (slice_index theirs i)) (bit_and (slice_index written i) (slice_index also_written i))) at upto mine joined
+    Writes (λ i. bit_or (bit_or (slice_index mine i) (slice_index theirs i)) (bit_and (slice_index written i)
+    (slice_index also_written i))) at upto mine joined
 
 -- each number is the lesser, or the greater, of two
 abbrev pub Lesser : (at upto : ℕ) (mine theirs joined : List ℕ) → Type 0
-Lesser at upto mine theirs joined = Writes (λ i. min (slice_index mine i) (slice_index theirs i)) (64 * at) (min (64 * upto) (length mine)) mine joined
+Lesser at upto mine theirs joined = Writes (λ i. min (slice_index mine i) (slice_index theirs i)) (64 * at)
+    (min (64 * upto) (length mine)) mine joined
 
 abbrev pub Greater : (at upto : ℕ) (mine theirs joined : List ℕ) → Type 0
-Greater at upto mine theirs joined = Writes (λ i. max (slice_index mine i) (slice_index theirs i)) (64 * at) (min (64 * upto) (length mine)) mine joined
+Greater at upto mine theirs joined = Writes (λ i. max (slice_index mine i) (slice_index theirs i)) (64 * at)
+    (min (64 * upto) (length mine)) mine joined
 
 -- planes of one length each, so that they can be merged
 pub record SameLrpd (mine theirs : LrpdPlanes) : Type 0 where
@@ -78,7 +82,8 @@ TestedReach (Flow planes) at upto = FlowReach planes at upto
 
 -- first writers are numbers of 32 bits
 abbrev pub FirstsFit : Tested → Type 0
-FirstsFit tested = (planes : FlowPlanes) → tested ≡ Flow planes → (e : ℕ) → slice_index planes.first.items e ≤ 4294967295
+FirstsFit tested = (planes : FlowPlanes) → tested ≡ Flow planes → (e : ℕ) → slice_index planes.first.items e
+    ≤ 4294967295
 
 -- and words have 64 bits
 pub record LrpdWordsFit (planes : LrpdPlanes) : Type 0 where
@@ -101,9 +106,11 @@ pub record MergedOperators (at upto : ℕ) (mine theirs joined : OperatorPlanes)
 -- the planes of one test
 pub record MergedLrpd (at upto : ℕ) (mine theirs joined : LrpdPlanes) : Type 0 where
   pub written : Ored at upto mine.written.items theirs.written.items joined.written.items
-  pub written_by_two : WrittenByTwo at upto mine.written_by_two.items theirs.written_by_two.items mine.written.items theirs.written.items joined.written_by_two.items
+  pub written_by_two : WrittenByTwo at upto mine.written_by_two.items theirs.written_by_two.items mine.written.items
+      theirs.written.items joined.written_by_two.items
   pub read_only : Ored at upto mine.read_only.items theirs.read_only.items joined.read_only.items
-  pub read_and_written : Ored at upto mine.read_and_written.items theirs.read_and_written.items joined.read_and_written.items
+  pub read_and_written : Ored at upto mine.read_and_written.items theirs.read_and_written.items
+      joined.read_and_written.items
 
 pub record MergedFlow (at upto : ℕ) (mine theirs joined : FlowPlanes) : Type 0 where
   pub first : Lesser at upto mine.first.items theirs.first.items joined.first.items

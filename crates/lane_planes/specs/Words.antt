@@ -28,4 +28,5 @@ stands_at first last e = nat_lt (slice_index first e) (slice_index last e - 1)
 -- the words of a plane that says of each element whether it stands so, and is zero past the end
 pub record FlowWords (many : ℕ) (first last words : List ℕ) : Type 0 where
   pub count : length words ≡ many
-  pub each : (i : ℕ) → i < many → HasBits (min (length first - 64 * i) 64) (λ k. stands_at first last (64 * i + k)) (slice_index words i)
+  pub each : (i : ℕ) → i < many → HasBits (min (length first - 64 * i) 64) (λ k. stands_at first last (64 * i + k))
+      (slice_index words i)

@@ -52,7 +52,8 @@ pub(crate) fn written_by_two_into<const N: usize>(
     requires same_also { length into.old ≡ length also_written.now }
     requires order { first ≤ past }
     requires room { past ≤ length into.old }
-    ensures { Writes (λ i. bit_or (bit_or (slice_index into.old i) (slice_index from.now i)) (bit_and (slice_index written.now i) (slice_index also_written.now i))) first past into.old into.new }
+    ensures { Writes (λ i. bit_or (bit_or (slice_index into.old i) (slice_index from.now i))
+        (bit_and (slice_index written.now i) (slice_index also_written.now i))) first past into.old into.new }
 {
     let mut at = first;
     while at + N <= past {
@@ -77,7 +78,8 @@ fn written_by_two_at<const N: usize>(
     requires same_written { length into.old ≡ length written.now }
     requires same_also { length into.old ≡ length also_written.now }
     requires room { at + N ≤ length into.old }
-    ensures { Writes (λ i. bit_or (bit_or (slice_index into.old i) (slice_index from.now i)) (bit_and (slice_index written.now i) (slice_index also_written.now i))) at (at + N) into.old into.new }
+    ensures { Writes (λ i. bit_or (bit_or (slice_index into.old i) (slice_index from.now i))
+        (bit_and (slice_index written.now i) (slice_index also_written.now i))) at (at + N) into.old into.new }
 {
     let mine = words_at::<N>(into, at);
     let theirs = words_at::<N>(from, at);

@@ -20,7 +20,9 @@ pub(crate) fn lrpd_into<const N: usize>(
     requires same_written { length into.old ≡ length written.now }
     requires same_both { length into.old ≡ length read_and_written.now }
     requires same_two { length into.old ≡ length written_by_two.now }
-    ensures { Writes (λ i. bit_or (bit_and (slice_index read_only.now i) (slice_index written.now i)) (bit_and (slice_index read_and_written.now i) (slice_index written_by_two.now i))) 0 (length into.old) into.old into.new }
+    ensures { Writes (λ i. bit_or (bit_and (slice_index read_only.now i) (slice_index written.now i))
+        (bit_and (slice_index read_and_written.now i) (slice_index written_by_two.now i))) 0 (length into.old) into.old
+        into.new }
 {
     let mut at = 0;
     while at + N <= into.len() {
@@ -61,7 +63,8 @@ fn lrpd_at<const N: usize>(
     requires same_both { length into.old ≡ length read_and_written.now }
     requires same_two { length into.old ≡ length written_by_two.now }
     requires room { at + N ≤ length into.old }
-    ensures { Writes (λ i. bit_or (bit_and (slice_index read_only.now i) (slice_index written.now i)) (bit_and (slice_index read_and_written.now i) (slice_index written_by_two.now i))) at (at + N) into.old into.new }
+    ensures { Writes (λ i. bit_or (bit_and (slice_index read_only.now i) (slice_index written.now i))
+        (bit_and (slice_index read_and_written.now i) (slice_index written_by_two.now i))) at (at + N) into.old into.new }
 {
     let reader = words_at::<N>(read_only, at);
     let writer = words_at::<N>(written, at);
@@ -90,8 +93,13 @@ pub(crate) fn clear_reductions<const N: usize>(into: &mut [u64], planes: Reducti
     requires same_and { length into.old ≡ length planes.and.now }
     requires same_xor { length into.old ≡ length planes.xor.now }
     requires same_addh { length into.old ≡ length planes.addh.now }
-    ensures words { Writes (λ i. without_reductions (slice_index into.old i) (slice_index planes.entry.plain.now i) (slice_index planes.entry.addh.now i ∷ slice_index planes.entry.xor.now i ∷ slice_index planes.entry.and.now i ∷ slice_index planes.entry.or.now i ∷ slice_index planes.entry.add.now i ∷ [])) 0 (length into.old) into.old into.new }
-    ensures fit { (i : ℕ) → i < length into.old → in_some (slice_index planes.entry.addh.now i ∷ slice_index planes.entry.xor.now i ∷ slice_index planes.entry.and.now i ∷ slice_index planes.entry.or.now i ∷ slice_index planes.entry.add.now i ∷ []) < 2 ^ 64 }
+    ensures words { Writes (λ i. without_reductions (slice_index into.old i) (slice_index planes.entry.plain.now i)
+        (slice_index planes.entry.addh.now i ∷ slice_index planes.entry.xor.now i ∷ slice_index planes.entry.and.now i
+        ∷ slice_index planes.entry.or.now i ∷ slice_index planes.entry.add.now i ∷ [])) 0 (length into.old) into.old
+        into.new }
+    ensures fit { (i : ℕ) → i < length into.old → in_some (slice_index planes.entry.addh.now i
+        ∷ slice_index planes.entry.xor.now i ∷ slice_index planes.entry.and.now i ∷ slice_index planes.entry.or.now i
+        ∷ slice_index planes.entry.add.now i ∷ []) < 2 ^ 64 }
 {
     let mut at = 0;
     while at + N <= into.len() {
@@ -113,8 +121,12 @@ fn clear_reductions_at<const N: usize>(into: &mut [u64], planes: ReductionPlanes
     requires same_xor { length into.old ≡ length planes.xor.now }
     requires same_addh { length into.old ≡ length planes.addh.now }
     requires room { at + N ≤ length into.old }
-    ensures words { Writes (λ i. without_reductions (slice_index into.old i) (slice_index planes.entry.plain.now i) (slice_index planes.entry.addh.now i ∷ slice_index planes.entry.xor.now i ∷ slice_index planes.entry.and.now i ∷ slice_index planes.entry.or.now i ∷ slice_index planes.entry.add.now i ∷ [])) at (at + N) into.old into.new }
-    ensures fit { (i : ℕ) → in_some (slice_index planes.entry.addh.now i ∷ slice_index planes.entry.xor.now i ∷ slice_index planes.entry.and.now i ∷ slice_index planes.entry.or.now i ∷ slice_index planes.entry.add.now i ∷ []) < 2 ^ 64 }
+    ensures words { Writes (λ i. without_reductions (slice_index into.old i) (slice_index planes.entry.plain.now i)
+        (slice_index planes.entry.addh.now i ∷ slice_index planes.entry.xor.now i ∷ slice_index planes.entry.and.now i
+        ∷ slice_index planes.entry.or.now i ∷ slice_index planes.entry.add.now i ∷ [])) at (at + N) into.old into.new }
+    ensures fit { (i : ℕ) → in_some (slice_index planes.entry.addh.now i ∷ slice_index planes.entry.xor.now i
+        ∷ slice_index planes.entry.and.now i ∷ slice_index planes.entry.or.now i ∷ slice_index planes.entry.add.now i
+        ∷ []) < 2 ^ 64 }
 {
     let here = words_at::<N>(into, at);
     let plain = words_at::<N>(planes.plain, at);

@@ -22,7 +22,8 @@ pub(crate) fn keep_into<const N: usize>(
     requires start { 64 * first ≤ length into.old }
     requires order { first ≤ past }
     requires room { past ≤ (length into.old + 63) / 64 }
-    ensures { Writes (λ i. kept_of kept (slice_index into.old i) (slice_index from.now i)) (64 * first) (min (64 * past) (length into.old)) into.old into.new }
+    ensures { Writes (λ i. kept_of kept (slice_index into.old i) (slice_index from.now i)) (64 * first)
+        (min (64 * past) (length into.old)) into.old into.new }
 {
     let end = (64 * past).min(into.len());
     let mut at = 64 * first;

@@ -18,9 +18,12 @@ pub fn conflicts<const N: usize>(planes: &Planes, into: &mut [u64])
     requires whole { ArePlanes planes.now }
     requires words { length into.old ≡ words_for planes.now.elements }
     ensures words { ConflictWords planes.now into.new }
-    ensures marks { (e : ℕ) (marks : Marks) → e < planes.now.elements → StandAt planes.now e marks → bit_of into.new e ≡ marked_conflict (test_of planes.now.tested) marks }
+    ensures marks { (e : ℕ) (marks : Marks) → e < planes.now.elements → StandAt planes.now e marks
+        → bit_of into.new e ≡ marked_conflict (test_of planes.now.tested) marks }
     ensures plane { IsBitPlane planes.now.elements into.new }
-    ensures elements { (visits : ℕ → List Visit) → StandFor planes.now visits → elements_in_plane into.new ≡ filter (λ e. marked_conflict (test_of planes.now.tested) (marks_of (visits e))) (range_with_len 0 planes.now.elements) }
+    ensures elements { (visits : ℕ → List Visit) → StandFor planes.now visits → elements_in_plane into.new
+        ≡ filter (λ e. marked_conflict (test_of planes.now.tested) (marks_of (visits e)))
+        (range_with_len 0 planes.now.elements) }
 {
     failing_into::<N>(&planes.tested, into);
     leave_conflicts::<N>(planes, into);
@@ -34,9 +37,12 @@ pub(crate) fn leave_conflicts<const N: usize>(planes: &Planes, into: &mut [u64])
     requires failing { FailingWords planes.now.tested (length into.old) into.old }
     requires fit { LastsFit planes.now.tested }
     ensures words { ConflictWords planes.now into.new }
-    ensures marks { (e : ℕ) (marks : Marks) → e < planes.now.elements → StandAt planes.now e marks → bit_of into.new e ≡ marked_conflict (test_of planes.now.tested) marks }
+    ensures marks { (e : ℕ) (marks : Marks) → e < planes.now.elements → StandAt planes.now e marks
+        → bit_of into.new e ≡ marked_conflict (test_of planes.now.tested) marks }
     ensures plane { IsBitPlane planes.now.elements into.new }
-    ensures elements { (visits : ℕ → List Visit) → StandFor planes.now visits → elements_in_plane into.new ≡ filter (λ e. marked_conflict (test_of planes.now.tested) (marks_of (visits e))) (range_with_len 0 planes.now.elements) }
+    ensures elements { (visits : ℕ → List Visit) → StandFor planes.now visits → elements_in_plane into.new
+        ≡ filter (λ e. marked_conflict (test_of planes.now.tested) (marks_of (visits e)))
+        (range_with_len 0 planes.now.elements) }
 {
     let reductions = reduction_planes(planes);
     clear_reductions::<N>(into, reductions);

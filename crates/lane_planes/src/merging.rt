@@ -22,8 +22,10 @@ pub fn merge<const N: usize>(into: &mut Planes, from: &Planes)
     requires test { test_of into.old.tested ≡ test_of from.now.tested }
     ensures words { MergedPlanes into.old from.now into.new }
     ensures shape { KeepsShape into.old into.new }
-    ensures marks { (e : ℕ) (a b : Marks) → e < into.old.elements → StandAt into.old e a → StandAt from.now e b → StandAt into.new e (merged a b) }
-    ensures visits { (mine theirs : ℕ → List Visit) → StandFor into.old mine → StandFor from.now theirs → StandFor into.new (joined_visits mine theirs) }
+    ensures marks { (e : ℕ) (a b : Marks) → e < into.old.elements → StandAt into.old e a → StandAt from.now e b
+        → StandAt into.new e (merged a b) }
+    ensures visits { (mine theirs : ℕ → List Visit) → StandFor into.old mine → StandFor from.now theirs
+        → StandFor into.new (joined_visits mine theirs) }
 {
     are_firsts(&into.tested);
     are_firsts(&from.tested);

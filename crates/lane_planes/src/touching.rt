@@ -28,8 +28,10 @@ pub fn merge_touched<const N: usize>(into: &mut Planes, from: &Planes)
     requires test { test_of into.old.tested ≡ test_of from.now.tested }
     ensures words { MergedPlanes into.old from.now into.new }
     ensures shape { KeepsShape into.old into.new }
-    ensures marks { (e : ℕ) (a b : Marks) → e < into.old.elements → StandAt into.old e a → StandAt from.now e b → StandAt into.new e (merged a b) }
-    ensures visits { (mine theirs : ℕ → List Visit) → StandFor into.old mine → StandFor from.now theirs → StandFor into.new (joined_visits mine theirs) }
+    ensures marks { (e : ℕ) (a b : Marks) → e < into.old.elements → StandAt into.old e a → StandAt from.now e b
+        → StandAt into.new e (merged a b) }
+    ensures visits { (mine theirs : ℕ → List Visit) → StandFor into.old mine → StandFor from.now theirs
+        → StandFor into.new (joined_visits mine theirs) }
 {
     are_firsts(&into.tested);
     are_firsts(&from.tested);
@@ -53,9 +55,12 @@ pub fn conflicts_touched<const N: usize>(planes: &Planes, into: &mut [u64])
     requires stand { StandForSome planes.now }
     requires words { length into.old ≡ words_for planes.now.elements }
     ensures words { ConflictWords planes.now into.new }
-    ensures marks { (e : ℕ) (marks : Marks) → e < planes.now.elements → StandAt planes.now e marks → bit_of into.new e ≡ marked_conflict (test_of planes.now.tested) marks }
+    ensures marks { (e : ℕ) (marks : Marks) → e < planes.now.elements → StandAt planes.now e marks
+        → bit_of into.new e ≡ marked_conflict (test_of planes.now.tested) marks }
     ensures plane { IsBitPlane planes.now.elements into.new }
-    ensures elements { (visits : ℕ → List Visit) → StandFor planes.now visits → elements_in_plane into.new ≡ filter (λ e. marked_conflict (test_of planes.now.tested) (marks_of (visits e))) (range_with_len 0 planes.now.elements) }
+    ensures elements { (visits : ℕ → List Visit) → StandFor planes.now visits → elements_in_plane into.new
+        ≡ filter (λ e. marked_conflict (test_of planes.now.tested) (marks_of (visits e)))
+        (range_with_len 0 planes.now.elements) }
 {
     match &planes.tested {
         Tested::Lrpd(_) => failing_into::<N>(&planes.tested, into),
@@ -86,7 +91,8 @@ fn touched_word<const N: usize>(planes: &Planes, flow: &FlowPlanes, page: usize)
     requires stand { StandForSome planes.now }
     requires tested { planes.now.tested ≡ Flow flow.now }
     requires within { page < words_for planes.now.elements }
-    ensures { HasBits (min (length flow.now.first.items - 64 * page) 64) (λ k. stands_at flow.now.first.items flow.now.last.items (64 * page + k)) result }
+    ensures { HasBits (min (length flow.now.first.items - 64 * page) 64) (λ k. stands_at flow.now.first.items
+        flow.now.last.items (64 * page + k)) result }
 {
     if is_touched(planes, page) {
         let from = 64 * page;

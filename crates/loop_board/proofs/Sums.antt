@@ -18,7 +18,8 @@ module _ {A : Type 0} where
   total-push f xs x = let r = total-append f xs (x ∷ []) in omega arith
 
   -- the sum after a write at i
-  pub total-set : (f : A → ℕ) (xs : List A) (i : ℕ) (x y : A) → get_elem? xs i ≡ some x → total f (set xs i y) + f x ≡ total f xs + f y
+  pub total-set : (f : A → ℕ) (xs : List A) (i : ℕ) (x y : A) → get_elem? xs i ≡ some x → total f (set xs i y) + f x
+      ≡ total f xs + f y
   total-set f [] i x y e = absurd (some-ne-none x (sym e))
   total-set f (z ∷ zs) zero x y e = let is : f z ≡ f x = ap f (some-injective z x e) in omega arith
   total-set f (z ∷ zs) (suc i) x y e = let r = total-set f zs i x y e in omega arith
@@ -30,9 +31,11 @@ module _ {A : Type 0} where
   le_total f (z ∷ zs) (suc i) x e = let r = le_total f zs i x e in omega arith
 
   -- a sum of what is less element by element is less
-  pub total_le : (f g : A → ℕ) (xs : List A) → ((i : ℕ) (x : A) → get_elem? xs i ≡ some x → f x ≤ g x) → total f xs ≤ total g xs
+  pub total_le : (f g : A → ℕ) (xs : List A) → ((i : ℕ) (x : A) → get_elem? xs i ≡ some x → f x ≤ g x)
+      → total f xs ≤ total g xs
   total_le f g [] below = omega arith
-  total_le f g (x ∷ xs) below = let here = below 0 x refl in let r = total_le f g xs (λ i y e. below (suc i) y e) in omega arith
+  total_le f g (x ∷ xs) below = let here = below 0 x refl in let r = total_le f g xs (λ i y e. below (suc i) y e) in
+      omega arith
 
 -- how often x stands in two lists, one after the other
 pub times-append : (x : ℕ) (xs ys : List ℕ) → times x (xs ++ ys) ≡ times x xs + times x ys
@@ -71,9 +74,11 @@ once_below-below x n h = grind (arith, nat_tests)
 
 module _ {A : Type 0} where
   -- two functions that agree on each element have one sum
-  pub total-same : (f g : A → ℕ) (xs : List A) → ((k : ℕ) (d : A) → k < length xs → f (slice_index_or xs k d) ≡ g (slice_index_or xs k d)) → total f xs ≡ total g xs
+  pub total-same : (f g : A → ℕ) (xs : List A) → ((k : ℕ) (d : A) → k < length xs → f (slice_index_or xs k d)
+      ≡ g (slice_index_or xs k d)) → total f xs ≡ total g xs
   total-same f g [] same = refl
-  total-same f g (x ∷ xs) same = let here = same 0 x (omega arith) in let r = total-same f g xs (λ k d below. same (suc k) d (omega arith)) in omega arith
+  total-same f g (x ∷ xs) same = let here = same 0 x (omega arith) in let r =
+      total-same f g xs (λ k d below. same (suc k) d (omega arith)) in omega arith
 
   -- the sum of two functions is the sum of their sums
   pub total-sum : (f g : A → ℕ) (xs : List A) → total (λ x. f x + g x) xs ≡ total f xs + total g xs
@@ -86,9 +91,11 @@ module _ {A : Type 0} where
   total-one (x ∷ xs) = let r = total-one xs in omega arith
 
   -- where each element counts 0, so do all
-  pub total-zero : (f : A → ℕ) (xs : List A) → ((k : ℕ) (d : A) → k < length xs → f (slice_index_or xs k d) ≡ 0) → total f xs ≡ 0
+  pub total-zero : (f : A → ℕ) (xs : List A) → ((k : ℕ) (d : A) → k < length xs → f (slice_index_or xs k d) ≡ 0)
+      → total f xs ≡ 0
   total-zero f [] none = refl
-  total-zero f (x ∷ xs) none = let here = none 0 x (omega arith) in let r = total-zero f xs (λ k d below. none (suc k) d (omega arith)) in omega arith
+  total-zero f (x ∷ xs) none = let here = none 0 x (omega arith) in let r =
+      total-zero f xs (λ k d below. none (suc k) d (omega arith)) in omega arith
 
   -- n copies of x count n times as much
   pub total-replicate : (f : A → ℕ) (n : ℕ) (x : A) → total f (replicate n x) ≡ n * f x
@@ -96,10 +103,12 @@ module _ {A : Type 0} where
   total-replicate f (suc n) x = let r = total-replicate f n x in omega arith
 
   -- where the sum isn't 0, some element isn't
-  pub some_in_total : (f : A → ℕ) (xs : List A) → 0 < total f xs → (k : ℕ) × (k < length xs) × ((d : A) → 0 < f (slice_index_or xs k d))
+  pub some_in_total : (f : A → ℕ) (xs : List A) → 0 < total f xs → (k : ℕ) × (k < length xs)
+      × ((d : A) → 0 < f (slice_index_or xs k d))
   some_in_total f [] more = absurd (omega arith)
   some_in_total f (x ∷ xs) more =
-      ⊎_elim (λ (none_here : f x < 1). let r = some_in_total f xs (omega arith) in let below = r.1 in (suc r.0, (omega arith), r.2)) (λ (here : 1 ≤ f x). (0, (omega arith), (λ d. omega arith))) (cases_lt (f x) 1)
+      ⊎_elim (λ (none_here : f x < 1). let r = some_in_total f xs (omega arith) in let below = r.1 in
+      (suc r.0, (omega arith), r.2)) (λ (here : 1 ≤ f x). (0, (omega arith), (λ d. omega arith))) (cases_lt (f x) 1)
 
   -- one element is at most the sum
   pub one_in_total : (f : A → ℕ) (xs : List A) (k : ℕ) (d : A) → k < length xs → f (slice_index_or xs k d) ≤ total f xs
@@ -108,16 +117,19 @@ module _ {A : Type 0} where
   one_in_total f (x ∷ xs) (suc k) d below = let r = one_in_total f xs k d (omega arith) in omega arith
 
   -- two elements at two places are at most the sum
-  pub two_in_total : (f : A → ℕ) (xs : List A) (j k : ℕ) (d : A) → j < k → k < length xs → f (slice_index_or xs j d) + f (slice_index_or xs k d) ≤ total f xs
+  pub two_in_total : (f : A → ℕ) (xs : List A) (j k : ℕ) (d : A) → j < k → k < length xs → f (slice_index_or xs j d)
+      + f (slice_index_or xs k d) ≤ total f xs
   two_in_total f [] j k d before below = absurd (omega arith)
   two_in_total f (x ∷ xs) j zero d before below = absurd (omega arith)
   two_in_total f (x ∷ xs) zero (suc k) d before below = let r = one_in_total f xs k d (omega arith) in omega arith
-  two_in_total f (x ∷ xs) (suc j) (suc k) d before below = let r = two_in_total f xs j k d (omega arith) (omega arith) in omega arith
+  two_in_total f (x ∷ xs) (suc j) (suc k) d before below = let r = two_in_total f xs j k d (omega arith) (omega arith)
+      in omega arith
 
   -- how often x stands in the joined lists
   pub times-flat_map : (x : ℕ) (g : A → List ℕ) (xs : List A) → times x (flat_map g xs) ≡ total (λ y. times x (g y)) xs
   times-flat_map x g [] = refl
-  times-flat_map x g (y ∷ ys) = let r = times-flat_map x g ys in let a = times-append x (g y) (flat_map g ys) in omega arith
+  times-flat_map x g (y ∷ ys) = let r = times-flat_map x g ys in let a = times-append x (g y) (flat_map g ys) in
+      omega arith
 
 module _ {A B : Type 0} where
   -- the sum over mapped elements
@@ -126,8 +138,11 @@ module _ {A B : Type 0} where
   total-map f g (x ∷ xs) = let r = total-map f g xs in omega arith
 
   -- two lists that agree place by place have one sum
-  pub total-zip : (f : A → ℕ) (g : B → ℕ) (xs : List A) (ys : List B) → length xs ≡ length ys → ((k : ℕ) (c : A) (d : B) → k < length xs → f (slice_index_or xs k c) ≡ g (slice_index_or ys k d)) → total f xs ≡ total g ys
+  pub total-zip : (f : A → ℕ) (g : B → ℕ) (xs : List A) (ys : List B) → length xs ≡ length ys
+      → ((k : ℕ) (c : A) (d : B) → k < length xs → f (slice_index_or xs k c) ≡ g (slice_index_or ys k d))
+      → total f xs ≡ total g ys
   total-zip f g [] [] long same = refl
   total-zip f g [] (y ∷ ys) long same = absurd (omega arith)
   total-zip f g (x ∷ xs) [] long same = absurd (omega arith)
-  total-zip f g (x ∷ xs) (y ∷ ys) long same = let here = same 0 x y (omega arith) in let r = total-zip f g xs ys (omega arith) (λ k c d below. same (suc k) c d (omega arith)) in omega arith
+  total-zip f g (x ∷ xs) (y ∷ ys) long same = let here = same 0 x y (omega arith) in let r =
+      total-zip f g xs ys (omega arith) (λ k c d below. same (suc k) c d (omega arith)) in omega arith

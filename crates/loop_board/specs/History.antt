@@ -3,7 +3,8 @@ use Rattle.std.specs.Prelude.{◌≡◌, ℕ, ◌<◌, ◌≤◌, ◌⊎◌, min
 use Rattle.std.specs.List.{list_any}
 use Rattle.loop_board.specs.Sums.{total, times, once_below}
 
--- one seat's history: the block numbers that it drew and whether it found none, the indices that it posted, and the answers of its looks
+-- one seat's history: the block numbers that it drew and whether it found none, the indices that it posted, and the
+-- answers of its looks
 pub record History : Type 0 where
   pub draws : List ℕ
   pub found_none : Bool
@@ -52,7 +53,8 @@ abbrev pub least_post : List History → ℕ
 least_post [] = no_post
 least_post (h ∷ hs) = min (least_index_in h.posts) (least_post hs)
 
--- the seats drew the blocks below `claimed`, each once; that is every block where a seat found none; and each look answered 4,294,967,295 or an index that some seat posted
+-- the seats drew the blocks below `claimed`, each once; that is every block where a seat found none; and each look
+-- answered 4,294,967,295 or an index that some seat posted
 pub record Legal (blocks claimed : ℕ) (hs : List History) : Type 0 where
   pub within : claimed ≤ blocks
   pub each_once : (x : ℕ) → times_drawn x hs ≡ once_below x claimed

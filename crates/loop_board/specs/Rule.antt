@@ -17,7 +17,14 @@ opening_view e parts = record { extent = e; parts = parts; nones = 0; draws = []
 
 -- what a seat leaves after that another took in: it holds nothing
 abbrev pub spent_view : SeatView
-spent_view = record { extent = record { blocks = 0; workers = 0 }; parts = 0; nones = 0; draws = []; posts = []; looks = [] }
+spent_view = record {
+  extent = record { blocks = 0; workers = 0 };
+  parts = 0;
+  nones = 0;
+  draws = [];
+  posts = [];
+  looks = [];
+}
 
 -- how many parts these views have together
 abbrev pub parts_of : List SeatView → ℕ
@@ -101,7 +108,15 @@ less_a_part v = record v { parts = v.parts - 1 }
 
 -- what two seats know, as one
 abbrev pub together : SeatView → SeatView → SeatView
-together v w = record { extent = v.extent; parts = v.parts + w.parts; nones = v.nones + w.nones; draws = v.draws ++ w.draws; posts = v.posts ++ w.posts; looks = v.looks ++ w.looks }
+together v w = record {
+  extent = v.extent;
+  parts = v.parts + w.parts;
+  nones = v.nones + w.nones;
+  draws = v.draws
+      ++ w.draws;
+  posts = v.posts ++ w.posts;
+  looks = v.looks ++ w.looks;
+}
 
 -- what contracts see of a board of this table and extent
 abbrev pub board_id_of : TableId → Extent → BoardId
@@ -109,7 +124,15 @@ board_id_of t e = record { table = t; blocks = e.blocks; workers = e.workers }
 
 -- what contracts see of a seat of this table, whose view this is
 abbrev pub seat_record : TableId → SeatView → Bool → SeatRecord
-seat_record t v drained = record { board = board_id_of t v.extent; history = record { draws = v.draws; found_none = drained; posts = v.posts; looks = v.looks } }
+seat_record t v drained = record {
+  board = board_id_of t v.extent;
+  history = record {
+    draws = v.draws;
+    found_none = drained;
+    posts = v.posts;
+    looks = v.looks;
+  };
+}
 
 -- the seat of a worker has one part, and found none once at most
 pub record IsWorkers (v : SeatView) (drained : Bool) : Type 0 where

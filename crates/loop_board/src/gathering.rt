@@ -29,7 +29,8 @@ pub(crate) fn join(words: &BoardWords, mut seats: Vec<BoardSeat>) -> TableSeat
 
 /// The number of blocks drawn and the least index posted, once one seat has every part.
 pub(crate) fn close(table: BoardTable, blocks: u32, whole: TableSeat) -> (u32, u32)
-    requires table { (whole.table_id ≡ table.shared.table_id) × (table.shared.table_id.words ≡ 2) × (table.shared.table_id.slots ≡ 0) }
+    requires table { (whole.table_id ≡ table.shared.table_id) × (table.shared.table_id.words ≡ 2)
+        × (table.shared.table_id.slots ≡ 0) }
     requires whole { table.shared.key.workers ≤ whole.me.0.parts }
     requires blocks { blocks ≡ table.shared.key.blocks }
     requires some { 0 < table.shared.key.workers }

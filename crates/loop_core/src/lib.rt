@@ -1,8 +1,9 @@
 //! Loops of accepted programs: split into blocks, run block by block on the start maps, gathered, replayed from a list
-//! of events, and run in order. The crates below, of which all calls are offered here, have the definitions and the code.
+//! of events, and run in order. The crates below, of which all calls are offered here, have the definitions and the
+//! code.
 //!
 //! ```text
-//! let split = Split::of(vec![in alloc; 0, 4, 8]?, call.n())?;             // a loop of 8 iterations that adds its index
+//! let split = Split::of(vec![in alloc; 0, 4, 8]?, call.n())?; // a loop of 8 iterations that adds its index
 //! let first = run_block(alloc, &program, &call, &maps, &split, 0, &NoGate, Test::Flow)?;
 //! let second = run_block(alloc, &program, &call, &maps, &split, 1, &NoGate, Test::Flow)?;
 //! let blocks = vec![in alloc; first, second]?;

@@ -20,33 +20,43 @@ use Rattle.loop_core_batch.proofs.SiteLaws.{sites_tell}
 use Rattle.loop_core_batch.proofs.Swapping.{Swap, apart_swap, first_keeps, second_keeps, reduces_swap}
 
 -- an access that may change places with each of a list goes after them
-past_all : (a : Access) (others : List Access) → AllByRecursion (Swap a) others → (words : List ℕ) → words_after_all others (words_after a words) ≡ words_after a (words_after_all others words)
+past_all : (a : Access) (others : List Access) → AllByRecursion (Swap a) others → (words : List ℕ)
+    → words_after_all others (words_after a words) ≡ words_after a (words_after_all others words)
 past_all a [] all words = refl
-past_all a (other ∷ others) all words = ap (words_after_all others) (sym (all.0 words)) ∙ past_all a others all.1 (words_after other words)
+past_all a (other ∷ others) all words = ap (words_after_all others) (sym (all.0 words))
+    ∙ past_all a others all.1 (words_after other words)
 
 -- so of a lane's accesses
-swap_each : (a : Access) (log : Log) (lane : ℕ) → AllByRecursion (λ (at : ℕ → Access). Swap a (at lane)) log → AllByRecursion (Swap a) (of_lane log lane)
+swap_each : (a : Access) (log : Log) (lane : ℕ) → AllByRecursion (λ (at : ℕ → Access). Swap a (at lane)) log
+    → AllByRecursion (Swap a) (of_lane log lane)
 swap_each a [] lane all = tt
 swap_each a (at ∷ log) lane all = (all.0, swap_each a log lane all.1)
 
-past_lanes : (a : Access) (log : Log) (lanes : ℕ) → ((lane : ℕ) → lane < lanes → AllByRecursion (λ (at : ℕ → Access). Swap a (at lane)) log) → (words : List ℕ) →
-    words_after_lanes (of_lane log) lanes (words_after a words) ≡ words_after a (words_after_lanes (of_lane log) lanes words)
+past_lanes : (a : Access) (log : Log) (lanes : ℕ)
+    → ((lane : ℕ) → lane < lanes → AllByRecursion (λ (at : ℕ → Access). Swap a (at lane)) log) → (words : List ℕ) →
+    words_after_lanes (of_lane log) lanes (words_after a words) ≡ words_after a (words_after_lanes (of_lane log) lanes
+    words)
 past_lanes a log zero each words = refl
 past_lanes a log (suc lanes) each words =
     ap (words_after_all (of_lane log lanes)) (past_lanes a log lanes (λ lane within. each lane (omega arith)) words)
-    ∙ past_all a (of_lane log lanes) (swap_each a log lanes (each lanes (omega arith))) (words_after_lanes (of_lane log) lanes words)
+    ∙ past_all a (of_lane log lanes) (swap_each a log lanes (each lanes (omega arith))) (words_after_lanes (of_lane log)
+    lanes words)
 
 -- each later lane's access at a site may change places with earlier lanes' at the sites after it
 abbrev pub GoesFirst : (ℕ → Access) → Log → ℕ → Type 0
-GoesFirst at log lanes = (later earlier : ℕ) → earlier < later → later < lanes → AllByRecursion (λ (other : ℕ → Access). Swap (at later) (other earlier)) log
+GoesFirst at log lanes = (later earlier : ℕ) → earlier < later → later < lanes
+    → AllByRecursion (λ (other : ℕ → Access). Swap (at later) (other earlier)) log
 
 first_site : (at : ℕ → Access) (log : Log) (lanes : ℕ) → GoesFirst at log lanes → (words : List ℕ) →
-    words_after_lanes (of_lane log) lanes (words_after_site at lanes words) ≡ words_after_lanes (of_lane (at ∷ log)) lanes words
+    words_after_lanes (of_lane log) lanes (words_after_site at lanes words) ≡ words_after_lanes (of_lane (at ∷ log))
+    lanes words
 first_site at log zero first words = refl
 first_site at log (suc lanes) first words =
     ap (words_after_all (of_lane log lanes)) (
-    past_lanes (at lanes) log lanes (λ lane within. first lanes lane within (omega arith)) (words_after_site at lanes words)
-    ∙ ap (words_after (at lanes)) (first_site at log lanes (λ later earlier order within. first later earlier order (omega arith)) words)
+    past_lanes (at lanes) log lanes (λ lane within. first lanes lane within (omega arith))
+    (words_after_site at lanes words)
+    ∙ ap (words_after (at lanes)) (first_site at log lanes (λ later earlier order within. first later earlier order
+    (omega arith)) words)
     )
 
 -- no site, no access
@@ -59,9 +69,11 @@ abbrev pub EachGoesFirst : Log → ℕ → Type 0
 EachGoesFirst [] lanes = Unit {0}
 EachGoesFirst (at ∷ log) lanes = GoesFirst at log lanes × EachGoesFirst log lanes
 
-site_by_site : (log : Log) (lanes : ℕ) → EachGoesFirst log lanes → (words : List ℕ) → words_after_sites log lanes words ≡ words_after_lanes (of_lane log) lanes words
+site_by_site : (log : Log) (lanes : ℕ) → EachGoesFirst log lanes → (words : List ℕ) → words_after_sites log lanes words
+    ≡ words_after_lanes (of_lane log) lanes words
 site_by_site [] lanes each words = nothing_left lanes words
-site_by_site (at ∷ log) lanes each words = site_by_site log lanes each.1 (words_after_site at lanes words) ∙ first_site at log lanes each.0 words
+site_by_site (at ∷ log) lanes each words = site_by_site log lanes each.1 (words_after_site at lanes words)
+    ∙ first_site at log lanes each.0 words
 
 -- what leaves no word by its kind writes nothing
 kind_writes_nothing : (action : Action) → kind_leaves (kind_of action) ≡ false → is_write action ≡ false
@@ -71,25 +83,34 @@ kind_writes_nothing (ReadWrite saw left) h = absurd (cc)
 kind_writes_nothing (Reduce op operand) h = absurd (cc)
 
 -- two reduces by one operator
-one_operator_swap : OperatorsAssociate → (a b : Action) (d e : ℕ) → by_one_operator (kind_of a) (kind_of b) ≡ true → Swap (record { element = d; action = a }) (record { element = e; action = b })
+one_operator_swap : OperatorsAssociate → (a b : Action) (d e : ℕ) → by_one_operator (kind_of a) (kind_of b) ≡ true
+    → Swap (record { element = d; action = a }) (record { element = e; action = b })
 one_operator_swap laws (Reduce op x) (Reduce other y) d e h =
-    subst (λ (o : Op). Swap (record { element = d; action = Reduce op x }) (record { element = e; action = Reduce o y })) (same_op op other h) (reduces_swap laws op d e x y)
+    subst (λ (o : Op). Swap (record { element = d; action = Reduce op x })
+    (record { element = e; action = Reduce o y })) (same_op op other h) (reduces_swap laws op d e x y)
 one_operator_swap laws _ _ d e h = absurd (cc)
 
 module _ (laws : OperatorsAssociate) (lanes : ℕ) where
-  -- accesses at sites that commute may change places, the later lane's at the first with the earlier lane's at the second
-  sites_swap : (first second : Site) (a b : Access) (later earlier : ℕ) → Commute lanes first second → earlier < later → later < lanes →
+  -- accesses at sites that commute may change places, the later lane's at the first with the earlier lane's at the
+  -- second
+  sites_swap : (first second : Site) (a b : Access) (later earlier : ℕ) → Commute lanes first second → earlier < later
+      → later < lanes →
       IsAtSite first later a → IsAtSite second earlier b → Swap a b
-  sites_swap first second a b later earlier commute order within at_first at_second = go (kind_leaves first.kind) (kind_leaves second.kind) (by_one_operator first.kind second.kind) refl refl refl
+  sites_swap first second a b later earlier commute order within at_first at_second =
+      go (kind_leaves first.kind) (kind_leaves second.kind) (by_one_operator first.kind second.kind) refl refl refl
     where
-      go : (one two alike : Bool) → kind_leaves first.kind ≡ one → kind_leaves second.kind ≡ two → by_one_operator first.kind second.kind ≡ alike → Swap a b
+      go : (one two alike : Bool) → kind_leaves first.kind ≡ one → kind_leaves second.kind ≡ two
+          → by_one_operator first.kind second.kind ≡ alike → Swap a b
       go false two alike one_is two_is alike_is =
-          first_keeps a b (kind_writes_nothing a.action (subst (λ (kind : Kind). kind_leaves kind ≡ false) (sym at_first.kind) one_is))
+          first_keeps a b (kind_writes_nothing a.action (subst (λ (kind : Kind). kind_leaves kind ≡ false)
+          (sym at_first.kind) one_is))
       go true false alike one_is two_is alike_is =
-          second_keeps a b (kind_writes_nothing b.action (subst (λ (kind : Kind). kind_leaves kind ≡ false) (sym at_second.kind) two_is))
+          second_keeps a b (kind_writes_nothing b.action (subst (λ (kind : Kind). kind_leaves kind ≡ false)
+          (sym at_second.kind) two_is))
       go true true true one_is two_is alike_is =
           one_operator_swap laws a.action b.action a.element b.element
-          (ap (by_one_operator (kind_of a.action)) at_second.kind ∙ ap (λ (kind : Kind). by_one_operator kind second.kind) at_first.kind ∙ alike_is)
+          (ap (by_one_operator (kind_of a.action)) at_second.kind
+          ∙ ap (λ (kind : Kind). by_one_operator kind second.kind) at_first.kind ∙ alike_is)
       go true true false one_is two_is alike_is =
           apart_swap a b (λ same. commute one_is two_is alike_is (record {
             earlier = earlier;
@@ -102,30 +123,36 @@ module _ (laws : OperatorsAssociate) (lanes : ℕ) where
           }))
 
   -- so a site that commutes with those after it goes first
-  goes_first : (site : Site) (at : ℕ → Access) → ((lane : ℕ) → lane < lanes → IsAtSite site lane (at lane)) → (sites : List Site) (log : Log) → IsLogOf lanes sites log →
+  goes_first : (site : Site) (at : ℕ → Access) → ((lane : ℕ) → lane < lanes → IsAtSite site lane (at lane))
+      → (sites : List Site) (log : Log) → IsLogOf lanes sites log →
       AllByRecursion (Commute lanes site) sites → GoesFirst at log lanes
   goes_first site at told [] [] tells all later earlier order within = tt
   goes_first site at told [] (other ∷ log) tells all later earlier order within = absurd tells
   goes_first site at told (other ∷ sites) [] tells all later earlier order within = absurd tells
   goes_first site at told (other ∷ sites) (by ∷ log) tells all later earlier order within = (
-    sites_swap site other (at later) (by earlier) later earlier all.0 order within (told later within) (tells.0 earlier (omega arith)),
+    sites_swap site other (at later) (by earlier) later earlier all.0 order within (told later within)
+        (tells.0 earlier (omega arith)),
     goes_first site at told sites log tells.1 all.1 later earlier order within,
   )
 
-  each_goes_first : (sites : List Site) (log : Log) → IsLogOf lanes sites log → AllPairs (Commute lanes) sites → EachGoesFirst log lanes
+  each_goes_first : (sites : List Site) (log : Log) → IsLogOf lanes sites log → AllPairs (Commute lanes) sites
+      → EachGoesFirst log lanes
   each_goes_first [] [] tells all = tt
   each_goes_first [] (at ∷ log) tells all = absurd tells
   each_goes_first (site ∷ sites) [] tells all = absurd tells
   each_goes_first (site ∷ sites) (at ∷ log) tells all = (
-    goes_first site at tells.0 sites log tells.1 (recursion_from_All (Commute lanes site) sites (λ k d inside. all 0 (suc k) d (omega arith) (omega arith))),
+    goes_first site at tells.0 sites log tells.1 (recursion_from_All (Commute lanes site) sites
+        (λ k d inside. all 0 (suc k) d (omega arith) (omega arith))),
     each_goes_first sites log tells.1 (λ i j d order inside. all (suc i) (suc j) d (omega arith) (omega arith)),
   )
 
 pub sites_apply : OperatorsAssociate → SitesApply
-sites_apply laws lanes sites log tells commute words = site_by_site log lanes (each_goes_first laws lanes sites log tells commute) words
+sites_apply laws lanes sites log tells commute words =
+    site_by_site log lanes (each_goes_first laws lanes sites log tells commute) words
 
 -- so a loop by sites
 pub loop_by_sites : OperatorsAssociate → LoopBySites
 loop_by_sites laws program bound call first lanes left words sites log goes_on told unseen commute =
-    loop_by_batch program bound call first lanes left words (of_lane log) goes_on (sites_tell lanes sites log told unseen)
+    loop_by_batch program bound call first lanes left words (of_lane log) goes_on (sites_tell lanes sites log told
+    unseen)
     ∙ ap (loop_from program bound call left (first + lanes)) (sym (sites_apply laws lanes sites log told commute words))

@@ -34,18 +34,52 @@ NotRuns (Between low high) later = Unit {0}
 
 -- the elements that earlier lanes may access by the first and those that later ones may by the second overlap
 abbrev pub Overlap : Elements → Elements → ℕ → Type 0
-Overlap first second lanes = max (least_of first 0) (least_of second 1) ≤ min (greatest_of first (lanes - 2)) (greatest_of second (lanes - 1))
+Overlap first second lanes = max (least_of first 0) (least_of second 1) ≤ min (greatest_of first (lanes - 2))
+    (greatest_of second (lanes - 1))
 
-pub overlap_meets : (first second : Elements) (lanes : ℕ) → 2 ≤ lanes → NotRuns first second → Overlap first second lanes → MayMeet first second lanes
+pub overlap_meets : (first second : Elements) (lanes : ℕ) → 2 ≤ lanes → NotRuns first second
+    → Overlap first second lanes → MayMeet first second lanes
 overlap_meets (Run base) (Run other) lanes many not overlap = absurd not
 overlap_meets (One only) (One other) lanes many not overlap =
-    record { earlier = 0; later = 1; element = only; in_order = omega arith; within = omega arith; by_first = refl; by_second = omega (arith, overlap) }
+    record {
+      earlier = 0;
+      later = 1;
+      element = only;
+      in_order = omega arith;
+      within = omega arith;
+      by_first = refl;
+      by_second = omega (arith, overlap);
+    }
 overlap_meets (One only) (Run base) lanes many not overlap =
-    record { earlier = 0; later = only - base; element = only; in_order = omega (arith, overlap); within = omega (arith, overlap); by_first = refl; by_second = omega (arith, overlap) }
+    record {
+      earlier = 0;
+      later = only - base;
+      element = only;
+      in_order = omega (arith, overlap);
+      within = omega (arith, overlap);
+      by_first = refl;
+      by_second = omega (arith, overlap);
+    }
 overlap_meets (One only) (Between low high) lanes many not overlap =
-    record { earlier = 0; later = 1; element = only; in_order = omega arith; within = omega arith; by_first = refl; by_second = (omega (arith, overlap), omega (arith, overlap)) }
+    record {
+      earlier = 0;
+      later = 1;
+      element = only;
+      in_order = omega arith;
+      within = omega arith;
+      by_first = refl;
+      by_second = (omega (arith, overlap), omega (arith, overlap));
+    }
 overlap_meets (Run base) (One only) lanes many not overlap =
-    record { earlier = only - base; later = lanes - 1; element = only; in_order = omega (arith, overlap); within = omega arith; by_first = omega (arith, overlap); by_second = refl }
+    record {
+      earlier = only - base;
+      later = lanes - 1;
+      element = only;
+      in_order = omega (arith, overlap);
+      within = omega arith;
+      by_first = omega (arith, overlap);
+      by_second = refl;
+    }
 overlap_meets (Run base) (Between low high) lanes many not overlap =
     record {
       earlier = max base low - base;
@@ -57,7 +91,15 @@ overlap_meets (Run base) (Between low high) lanes many not overlap =
       by_second = (omega arith, omega (arith, overlap));
     }
 overlap_meets (Between low high) (One only) lanes many not overlap =
-    record { earlier = 0; later = 1; element = only; in_order = omega arith; within = omega arith; by_first = (omega (arith, overlap), omega (arith, overlap)); by_second = refl }
+    record {
+      earlier = 0;
+      later = 1;
+      element = only;
+      in_order = omega arith;
+      within = omega arith;
+      by_first = (omega (arith, overlap), omega (arith, overlap));
+      by_second = refl;
+    }
 overlap_meets (Between low high) (Run base) lanes many not overlap =
     record {
       earlier = 0;
@@ -80,12 +122,14 @@ overlap_meets (Between low high) (Between other_low other_high) lanes many not o
     }
 
 -- an element that a lane may access lies within the bounds of lanes around it
-above_least : (elements : Elements) (from lane element : ℕ) → from ≤ lane → MayAccess elements lane element → least_of elements from ≤ element
+above_least : (elements : Elements) (from lane element : ℕ) → from ≤ lane → MayAccess elements lane element
+    → least_of elements from ≤ element
 above_least (One only) from lane element within at = omega (arith, at)
 above_least (Run base) from lane element within at = omega (arith, at)
 above_least (Between low high) from lane element within at = at.0
 
-below_greatest : (elements : Elements) (upto lane element : ℕ) → lane ≤ upto → MayAccess elements lane element → element ≤ greatest_of elements upto
+below_greatest : (elements : Elements) (upto lane element : ℕ) → lane ≤ upto → MayAccess elements lane element
+    → element ≤ greatest_of elements upto
 below_greatest (One only) upto lane element within at = omega (arith, at)
 below_greatest (Run base) upto lane element within at = omega (arith, at)
 below_greatest (Between low high) upto lane element within at = at.1
@@ -93,10 +137,14 @@ below_greatest (Between low high) upto lane element within at = at.1
 pub meets_overlap : (first second : Elements) (lanes : ℕ) → MayMeet first second lanes → Overlap first second lanes
 meets_overlap first second lanes meet =
     let order = meet.in_order in let within = meet.within in
-    let a : least_of first 0 ≤ meet.element = above_least first 0 meet.earlier meet.element (omega arith) meet.by_first in
-    let b : least_of second 1 ≤ meet.element = above_least second 1 meet.later meet.element (omega arith) meet.by_second in
-    let c : meet.element ≤ greatest_of first (lanes - 2) = below_greatest first (lanes - 2) meet.earlier meet.element (omega arith) meet.by_first in
-    let d : meet.element ≤ greatest_of second (lanes - 1) = below_greatest second (lanes - 1) meet.later meet.element (omega arith) meet.by_second in
+    let a : least_of first 0 ≤ meet.element = above_least first 0 meet.earlier meet.element (omega arith) meet.by_first
+    in
+    let b : least_of second 1 ≤ meet.element = above_least second 1 meet.later meet.element (omega arith) meet.by_second
+    in
+    let c : meet.element ≤ greatest_of first (lanes - 2) = below_greatest first (lanes - 2) meet.earlier meet.element
+    (omega arith) meet.by_first in
+    let d : meet.element ≤ greatest_of second (lanes - 1) = below_greatest second (lanes - 1) meet.later meet.element
+    (omega arith) meet.by_second in
     omega arith
 
 -- what the test answers of two runs
@@ -110,7 +158,8 @@ runs_answer self later base other lanes first second behind =
 
 -- and of others
 pub others_answer : (self later : Elements) (lanes a b c d low high : ℕ) → 2 ≤ lanes → NotRuns self later →
-    a ≡ least_of self 0 → b ≡ least_of later 1 → low ≡ max a b → c ≡ greatest_of self (lanes - 2) → d ≡ greatest_of later (lanes - 1) → high ≡ min c d →
+    a ≡ least_of self 0 → b ≡ least_of later 1 → low ≡ max a b → c ≡ greatest_of self (lanes - 2)
+    → d ≡ greatest_of later (lanes - 1) → high ≡ min c d →
     IsTrue (nat_le low high) ↔ MayMeet self later lanes
 others_answer self later lanes a b c d low high many not a_is b_is low_is c_is d_is high_is = (
   λ overlap. overlap_meets self later lanes many not (let le = leb-true low high overlap in omega arith),
@@ -118,7 +167,8 @@ others_answer self later lanes a b c d low high many not a_is b_is low_is c_is d
 )
 
 -- two of which one is no run
-either_is_no_run : (self later : Elements) → ((base other : ℕ) → self ≡ Run base → later ≡ Run other → ⊥) → NotRuns self later
+either_is_no_run : (self later : Elements) → ((base other : ℕ) → self ≡ Run base → later ≡ Run other → ⊥)
+    → NotRuns self later
 either_is_no_run (Run base) (Run other) never = never base other refl refl
 either_is_no_run (Run base) (One only) never = tt
 either_is_no_run (Run base) (Between low high) never = tt

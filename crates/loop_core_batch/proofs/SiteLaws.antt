@@ -24,18 +24,21 @@ pick P Q (site ∷ sites) all (inl here) = (site, All-head P site sites all, her
 pick P Q (site ∷ sites) all (inr later) = pick P Q sites (All-tail P site sites all) later
 
 -- an action of a lane at an element is at a site whose kind passes, and which may be at the element
-module _ (test : Action → Bool) (passes : Kind → Bool) (agrees : (action : Action) → test action ≡ true → passes (kind_of action) ≡ true)
+module _ (test : Action → Bool) (passes : Kind → Bool) (agrees : (action : Action) → test action ≡ true
+    → passes (kind_of action) ≡ true)
     (lanes lane element : ℕ) (within : lane < lanes) where
   abbrev pub Here : Site → Type 0
   Here site = (passes site.kind ≡ true) × MayAccess site.elements lane element
 
-  pub site_of : (sites : List Site) (log : Log) → IsLogOf lanes sites log → list_any test (actions_at element (of_lane log lane)) ≡ true → AnySite Here sites
+  pub site_of : (sites : List Site) (log : Log) → IsLogOf lanes sites log
+      → list_any test (actions_at element (of_lane log lane)) ≡ true → AnySite Here sites
   site_of [] [] told hit = absurd (cc)
   site_of [] (at ∷ log) told hit = absurd told
   site_of (site ∷ sites) [] told hit = absurd told
   site_of (site ∷ sites) (at ∷ log) told hit = go ((at lane).element == element) refl (site_of sites log told.1) hit
     where
-      at_head : (b : Bool) → test (at lane).action ≡ b → (at lane).element ≡ element → (list_any test (actions_at element (of_lane log lane)) ≡ true → AnySite Here sites) →
+      at_head : (b : Bool) → test (at lane).action ≡ b → (at lane).element ≡ element
+          → (list_any test (actions_at element (of_lane log lane)) ≡ true → AnySite Here sites) →
           (b || list_any test (actions_at element (of_lane log lane))) ≡ true → AnySite Here (site ∷ sites)
       at_head true hits same later h =
           let is = told.0 lane within in
@@ -45,8 +48,10 @@ module _ (test : Action → Bool) (passes : Kind → Bool) (agrees : (action : A
           )
       at_head false misses same later h = inr (later h)
 
-      go : (here : Bool) → ((at lane).element == element) ≡ here → (list_any test (actions_at element (of_lane log lane)) ≡ true → AnySite Here sites) →
-          list_any test (if here then (at lane).action ∷ actions_at element (of_lane log lane) else actions_at element (of_lane log lane)) ≡ true →
+      go : (here : Bool) → ((at lane).element == element) ≡ here
+          → (list_any test (actions_at element (of_lane log lane)) ≡ true → AnySite Here sites) →
+          list_any test (if here then (at lane).action ∷ actions_at element (of_lane log lane)
+          else actions_at element (of_lane log lane)) ≡ true →
           AnySite Here (site ∷ sites)
       go false other later h = inr (later h)
       go true same later h = at_head (test (at lane).action) refl (eqb-true (at lane).element element same) later h
@@ -72,12 +77,24 @@ pub sites_tell : SitesTell
 sites_tell lanes sites log told unseen element earlier later in_order within written =
     go (sees (actions_at element (of_lane log later))) refl
   where
-    go : (b : Bool) → sees (actions_at element (of_lane log later)) ≡ b → sees (actions_at element (of_lane log later)) ≡ false
+    go : (b : Bool) → sees (actions_at element (of_lane log later)) ≡ b → sees (actions_at element (of_lane log later))
+        ≡ false
     go false none = none
     go true seen =
-        let writer = pick (λ (writer : Site). All (λ (reader : Site). Unseen lanes writer reader) sites) (Here is_write kind_leaves leaves_agrees lanes earlier element (omega arith)) sites unseen
+        let writer = pick (λ (writer : Site). All (λ (reader : Site). Unseen lanes writer reader) sites)
+        (Here is_write kind_leaves leaves_agrees lanes earlier element (omega arith)) sites unseen
         (site_of is_write kind_leaves leaves_agrees lanes earlier element (omega arith) sites log told written) in
-        let reader = pick (λ (reader : Site). Unseen lanes writer.0 reader) (Here reads kind_sees (λ action h. h) lanes later element within) sites writer.1
-        (site_of reads kind_sees (λ action h. h) lanes later element within sites log told (sees_reads (actions_at element (of_lane log later)) seen)) in
+        let reader = pick (λ (reader : Site). Unseen lanes writer.0 reader) (Here reads kind_sees (λ action h. h) lanes
+        later element within) sites writer.1
+        (site_of reads kind_sees (λ action h. h) lanes later element within sites log told
+        (sees_reads (actions_at element (of_lane log later)) seen)) in
         absurd (reader.1 writer.2.0 reader.2.0
-        (record { earlier = earlier; later = later; element = element; in_order = in_order; within = within; by_first = writer.2.1; by_second = reader.2.1 }))
+        (record {
+          earlier = earlier;
+          later = later;
+          element = element;
+          in_order = in_order;
+          within = within;
+          by_first = writer.2.1;
+          by_second = reader.2.1;
+        }))

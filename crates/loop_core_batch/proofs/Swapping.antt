@@ -24,13 +24,15 @@ abbrev changed_at : (ℕ → ℕ) → ℕ → List ℕ → List ℕ
 changed_at change e words = set words e (change (get_or words e 0))
 
 -- two changes at one place, which commute
-same_place : (f g : ℕ → ℕ) → ((word : ℕ) → f (g word) ≡ g (f word)) → (words : List ℕ) (e : ℕ) → changed_at f e (changed_at g e words) ≡ changed_at g e (changed_at f e words)
+same_place : (f g : ℕ → ℕ) → ((word : ℕ) → f (g word) ≡ g (f word)) → (words : List ℕ) (e : ℕ)
+    → changed_at f e (changed_at g e words) ≡ changed_at g e (changed_at f e words)
 same_place f g comm [] e = refl
 same_place f g comm (word ∷ words) zero = ap (λ (w : ℕ). w ∷ words) (comm word)
 same_place f g comm (word ∷ words) (suc e) = ap (λ (ws : List ℕ). word ∷ ws) (same_place f g comm words e)
 
 -- two changes at different places
-other_place : (f g : ℕ → ℕ) (words : List ℕ) (d e : ℕ) → d ≢ e → changed_at f d (changed_at g e words) ≡ changed_at g e (changed_at f d words)
+other_place : (f g : ℕ → ℕ) (words : List ℕ) (d e : ℕ) → d ≢ e → changed_at f d (changed_at g e words) ≡ changed_at g e
+    (changed_at f d words)
 other_place f g words d e apart =
     let x : ℕ = f (get_or words d 0) in
     let y : ℕ = g (get_or words e 0) in
@@ -50,7 +52,8 @@ unwritten (ReadWrite saw left) word h = absurd (cc)
 unwritten (Reduce op operand) word h = absurd (cc)
 
 keeps : (a : Access) → is_write a.action ≡ false → (words : List ℕ) → words_after a words ≡ words
-keeps a h words = ap (set words a.element) (unwritten a.action (get_or words a.element 0) h) ∙ set-get_or words a.element 0
+keeps a h words = ap (set words a.element) (unwritten a.action (get_or words a.element 0) h)
+    ∙ set-get_or words a.element 0
 
 pub first_keeps : (a b : Access) → is_write a.action ≡ false → Swap a b
 first_keeps a b h words = keeps a h (words_after b words) ∙ sym (ap (words_after b) (keeps a h words))
@@ -69,23 +72,31 @@ combined_comm AddH a b =
     ap (λ (low : ℕ). of_halves low (half_of High a + half_of High b)) (add_comm (half_of Low a) (half_of Low b))
     ∙ ap (λ (high : ℕ). of_halves (half_of Low b + half_of Low a) high) (add_comm (half_of High a) (half_of High b))
 
-in_either_order : OperatorsAssociate → (op : Op) (word x y : ℕ) → combined op (combined op word x) y ≡ combined op (combined op word y) x
-in_either_order laws op word x y = laws.each op word x y ∙ ap (combined op word) (combined_comm op x y) ∙ sym (laws.each op word y x)
+in_either_order : OperatorsAssociate → (op : Op) (word x y : ℕ) → combined op (combined op word x) y ≡ combined op
+    (combined op word y) x
+in_either_order laws op word x y = laws.each op word x y ∙ ap (combined op word) (combined_comm op x y)
+    ∙ sym (laws.each op word y x)
 
-pub reduces_swap : OperatorsAssociate → (op : Op) (d e x y : ℕ) → Swap (record { element = d; action = Reduce op x }) (record { element = e; action = Reduce op y })
+pub reduces_swap : OperatorsAssociate → (op : Op) (d e x y : ℕ) → Swap (record { element = d; action = Reduce op x })
+    (record { element = e; action = Reduce op y })
 reduces_swap laws op d e x y words = go (d == e) refl
   where
     go : (same : Bool) → (d == e) ≡ same →
         changed_at (λ (word : ℕ). combined op word x) d (changed_at (λ (word : ℕ). combined op word y) e words)
         ≡ changed_at (λ (word : ℕ). combined op word y) e (changed_at (λ (word : ℕ). combined op word x) d words)
-    go false other = other_place (λ (word : ℕ). combined op word x) (λ (word : ℕ). combined op word y) words d e (eqb-false d e other)
+    go false other = other_place (λ (word : ℕ). combined op word x) (λ (word : ℕ). combined op word y) words d e
+        (eqb-false d e other)
     go true same =
-        subst (λ (k : ℕ). changed_at (λ (word : ℕ). combined op word x) d (changed_at (λ (word : ℕ). combined op word y) k words)
-        ≡ changed_at (λ (word : ℕ). combined op word y) k (changed_at (λ (word : ℕ). combined op word x) d words)) (eqb-true d e same)
-        (same_place (λ (word : ℕ). combined op word x) (λ (word : ℕ). combined op word y) (λ word. in_either_order laws op word y x) words d)
+        subst (λ (k : ℕ). changed_at (λ (word : ℕ). combined op word x) d (changed_at (λ (word : ℕ). combined op word y)
+        k words)
+        ≡ changed_at (λ (word : ℕ). combined op word y) k (changed_at (λ (word : ℕ). combined op word x) d words))
+        (eqb-true d e same)
+        (same_place (λ (word : ℕ). combined op word x) (λ (word : ℕ). combined op word y)
+        (λ word. in_either_order laws op word y x) words d)
 
 -- two changes at one place, at once
-at_once : (f g both : ℕ → ℕ) → ((word : ℕ) → f (g word) ≡ both word) → (words : List ℕ) (e : ℕ) → changed_at f e (changed_at g e words) ≡ changed_at both e words
+at_once : (f g both : ℕ → ℕ) → ((word : ℕ) → f (g word) ≡ both word) → (words : List ℕ) (e : ℕ)
+    → changed_at f e (changed_at g e words) ≡ changed_at both e words
 at_once f g both same [] e = refl
 at_once f g both same (word ∷ words) zero = ap (λ (w : ℕ). w ∷ words) (same word)
 at_once f g both same (word ∷ words) (suc e) = ap (λ (ws : List ℕ). word ∷ ws) (at_once f g both same words e)
@@ -96,6 +107,8 @@ sums_at_once laws op element operands zero words = refl
 sums_at_once laws op element operands (suc last) words =
     let so_far : ℕ = combined_to op operands last in
     let next : ℕ = operands (suc last) in
-    ap (words_after (record { element = element; action = Reduce op next })) (sums_at_once laws op element operands last words)
-    ∙ at_once (λ (word : ℕ). combined op word next) (λ (word : ℕ). combined op word so_far) (λ (word : ℕ). combined op word (combined op so_far next))
+    ap (words_after (record { element = element; action = Reduce op next })) (sums_at_once laws op element operands last
+    words)
+    ∙ at_once (λ (word : ℕ). combined op word next) (λ (word : ℕ). combined op word so_far)
+    (λ (word : ℕ). combined op word (combined op so_far next))
     (λ word. laws.each op word so_far next) words element

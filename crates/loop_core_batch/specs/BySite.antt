@@ -26,10 +26,12 @@ by_one_operator (Reduce op) (Reduce other) = is_same op other
 by_one_operator _ _ = false
 
 -- of two sites, one after the other, the first may be applied for all lanes before the second is for any: one of them
--- writes nothing, or both reduce by one operator, or no lane may write at the second an element that a later one may write
+-- writes nothing, or both reduce by one operator, or no lane may write at the second an element that a later one may
+-- write
 -- at the first
 abbrev pub Commute : (lanes : ℕ) (first second : Site) → Type 0
-Commute lanes first second = kind_leaves first.kind ≡ true → kind_leaves second.kind ≡ true → by_one_operator first.kind second.kind ≡ false →
+Commute lanes first second = kind_leaves first.kind ≡ true → kind_leaves second.kind ≡ true
+    → by_one_operator first.kind second.kind ≡ false →
     ¬ (MayMeet second.elements first.elements lanes)
 
 -- each two sites commute, the earlier as the first
@@ -38,7 +40,8 @@ AllCommute lanes sites = AllPairs (Commute lanes) sites
 
 -- where all sites commute, a batch leaves the same site by site as lane by lane
 abbrev pub SitesApply : Type 0
-SitesApply = (lanes : ℕ) (sites : List Site) (log : Log) → IsLogOf lanes sites log → AllCommute lanes sites → (words : List ℕ) →
+SitesApply = (lanes : ℕ) (sites : List Site) (log : Log) → IsLogOf lanes sites log → AllCommute lanes sites
+    → (words : List ℕ) →
     words_after_sites log lanes words ≡ words_after_lanes (of_lane log) lanes words
 
 -- the operands of lanes up to a last one, combined by an operator, beginning with lane 0's

@@ -6,7 +6,8 @@ use Rattle.array_maps.specs.declared.access.Op.{Op}
 use Rattle.array_maps.specs.Accesses.{Action, Read, Write, ReadWrite, Reduce, Access, actions_at, words_after_all}
 use Rattle.loop_core_model.specs.Actions.{writes, reduces_by}
 
--- a lane's actions at one element see the word from before them: one of them reads it, or reads and writes it, before any
+-- a lane's actions at one element see the word from before them: one of them reads it, or reads and writes it, before
+-- any
 -- plain write. A reduce doesn't see it, nor does it hide it from a read after it
 abbrev pub sees : List Action → Bool
 sees [] = false
@@ -28,4 +29,5 @@ words_after_lanes accesses (suc lanes) words = words_after_all (accesses lanes) 
 -- lanes that only reduce, all by one operator, see nothing
 abbrev pub SumsSeeNothing : Type 0
 SumsSeeNothing = (op : Op) (accesses : ℕ → List Access) (lanes : ℕ) →
-    ((lane : ℕ) → lane < lanes → AllByRecursion (λ (access : Access). reduces_by op access.action ≡ true) (accesses lane)) → NoneSees accesses lanes
+    ((lane : ℕ) → lane < lanes → AllByRecursion (λ (access : Access). reduces_by op access.action ≡ true)
+    (accesses lane)) → NoneSees accesses lanes

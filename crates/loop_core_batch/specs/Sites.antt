@@ -18,7 +18,8 @@ Log = List (ℕ → Access)
 abbrev pub of_lane : Log → ℕ → List Access
 of_lane log lane = map (λ (site : ℕ → Access). site lane) log
 
--- a lane may access the element: all lanes the same, each the one that is its number after the base, or each any from the
+-- a lane may access the element: all lanes the same, each the one that is its number after the base, or each any from
+-- the
 -- low one to the high one
 abbrev pub MayAccess : Elements → (lane element : ℕ) → Type 0
 MayAccess (One only) lane element = element ≡ only
@@ -71,7 +72,8 @@ kind_leaves (Reduce op) = true
 
 -- no lane may see at one site an element that an earlier one may write at the other
 abbrev pub Unseen : (lanes : ℕ) (writer reader : Site) → Type 0
-Unseen lanes writer reader = kind_leaves writer.kind ≡ true → kind_sees reader.kind ≡ true → ¬ (MayMeet writer.elements reader.elements lanes)
+Unseen lanes writer reader = kind_leaves writer.kind ≡ true → kind_sees reader.kind ≡ true
+    → ¬ (MayMeet writer.elements reader.elements lanes)
 
 -- no site's writes may be seen at any of them, the site itself among them
 abbrev pub AllUnseen : (lanes : ℕ) → List Site → Type 0
@@ -84,8 +86,10 @@ pub record IsAtSite (site : Site) (lane : ℕ) (access : Access) : Type 0 where
 
 -- the sites tell of each access of n lanes
 abbrev pub IsLogOf : (lanes : ℕ) → List Site → Log → Type 0
-IsLogOf lanes sites log = AllZip (λ site (at : ℕ → Access). (lane : ℕ) → lane < lanes → IsAtSite site lane (at lane)) sites log
+IsLogOf lanes sites log = AllZip (λ site (at : ℕ → Access). (lane : ℕ) → lane < lanes → IsAtSite site lane (at lane))
+    sites log
 
 -- where no site's writes may be seen, no lane sees an element that an earlier one writes
 abbrev pub SitesTell : Type 0
-SitesTell = (lanes : ℕ) (sites : List Site) (log : Log) → IsLogOf lanes sites log → AllUnseen lanes sites → NoneSees (of_lane log) lanes
+SitesTell = (lanes : ℕ) (sites : List Site) (log : Log) → IsLogOf lanes sites log → AllUnseen lanes sites
+    → NoneSees (of_lane log) lanes

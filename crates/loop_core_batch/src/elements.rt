@@ -20,7 +20,8 @@ impl Elements {
     pub fn around(row: &[u32]) -> Option<Elements>
         ensures empty { IsNone result ↔ (row.now ≡ []) }
         ensures around { IfSome result (IsAround row.now) }
-        ensures lanes { IfSome result (λ elements. (lane : ℕ) → lane < length row.now → MayAccess elements lane (slice_index row.now lane)) }
+        ensures lanes { IfSome result (λ elements. (lane : ℕ) → lane < length row.now
+            → MayAccess elements lane (slice_index row.now lane)) }
     {
         let low = row.iter().copied().min()?;
         let high = row.iter().copied().max()?;

@@ -18,8 +18,8 @@ ghost use Rattle.loop_core_batch.specs.LoopByBatch.{LoopByBatch, LoopBySites};
 ghost use Rattle.loop_core_batch.specs.Sites.{SitesTell};
 
 pub use elements::Elements;
-use loop_core_model::law_of_operators;
 pub use loop_core_model::Access;
+use loop_core_model::law_of_operators;
 pub use site::{Site, all_commute, none_sees};
 
 /// The law of batches: where iterations go on that ran on the words from before them, and none sees an

@@ -17,35 +17,43 @@ use Rattle.loop_core_block.specs.declared.runner.Runner.{Runner}
 use Rattle.loop_core_block.specs.Runs.{start_words, RunnerHasRun, RanOneMore}
 
 -- accesses don't end the iteration under way
-pub still_under_way : (old new : Private) (more : List Access) → Effects AccessEffect old more new → (copy_of new).under_way ≡ (copy_of old).under_way
+pub still_under_way : (old new : Private) (more : List Access) → Effects AccessEffect old more new
+    → (copy_of new).under_way ≡ (copy_of old).under_way
 still_under_way old new [] same = ap (λ (p : Private). (copy_of p).under_way) same
 still_under_way old new (access ∷ more) effects = still_under_way effects.0 new more effects.2 ∙ effects.1.under_way
 
 -- the accesses of one iteration more
-accesses_more : (ran : List Iterated) (it : Iterated) → accesses_of_each (ran ++ it ∷ []) ≡ accesses_of_each ran ++ it.accesses ∷ []
+accesses_more : (ran : List Iterated) (it : Iterated) → accesses_of_each (ran ++ it ∷ []) ≡ accesses_of_each ran
+    ++ it.accesses ∷ []
 accesses_more ran it = map-append (λ (i : Iterated). i.accesses) ran (it ∷ [])
 
 -- an iteration that was begun, run and ended
 module _ (law : AccessesFollow) (old new : Runner) (index : ℕ) (begun run : Private) (ret steps : ℕ)
     (begins : IsBegun (copy_of old.copy) old.most (copy_of begun))
-    (within : (runs : List (List Access)) → CopyRecords (copy_of old.copy) runs → CopyRecordsWithin (copy_of begun) runs [])
-    (ran : RanCallback (λ (copy : Private). (copy_of copy).words) AccessEffect old.callback.program old.callback.call index begun ret steps run)
+    (within : (runs : List (List Access)) → CopyRecords (copy_of old.copy) runs → CopyRecordsWithin (copy_of begun) runs
+    [])
+    (ran : RanCallback (λ (copy : Private). (copy_of copy).words) AccessEffect old.callback.program old.callback.call
+    index begun ret steps run)
     (callback : new.callback ≡ old.callback) (most : new.most ≡ old.most)
     (ended : IsEnded (copy_of run) (copy_of new.copy)) (shape : KeepsShape old.planes new.planes)
-    (planes : (first : ℕ) (runs : List (List Access)) (accesses : List Access) → index ≡ first + length runs → CopyRecordsWithin (copy_of run) runs accesses →
+    (planes : (first : ℕ) (runs : List (List Access)) (accesses : List Access) → index ≡ first + length runs
+    → CopyRecordsWithin (copy_of run) runs accesses →
     StandFor old.planes (visits_of first runs) → StandFor new.planes (visits_of first (runs ++ accesses ∷ [])))
-    (stands : (runs : List (List Access)) (accesses : List Access) → CopyRecordsWithin (copy_of run) runs accesses → CopyRecords (copy_of new.copy) (runs ++ accesses ∷ [])) where
+    (stands : (runs : List (List Access)) (accesses : List Access) → CopyRecordsWithin (copy_of run) runs accesses
+    → CopyRecords (copy_of new.copy) (runs ++ accesses ∷ [])) where
   same_start : start_words new ≡ start_words old
   same_start = ended.start ∙ law.start begun run ran.iterated.accesses ran.effects ∙ begins.start
 
   one_begun : (copy_of new.copy).begun ≡ (copy_of old.copy).begun + 1
   one_begun = ended.begun ∙ law.begun begun run ran.iterated.accesses ran.effects ∙ begins.begun
 
-  has_run : (first : ℕ) (before : List Iterated) → RunnerHasRun first index before old → RunnerHasRun first (index + 1) (before ++ ran.iterated ∷ []) new
+  has_run : (first : ℕ) (before : List Iterated) → RunnerHasRun first index before old
+      → RunnerHasRun first (index + 1) (before ++ ran.iterated ∷ []) new
   has_run first before has =
       let runs : List (List Access) = accesses_of_each before in
       let it = ran.iterated in
-      let here : CopyRecordsWithin (copy_of run) runs it.accesses = law.stands begun run runs [] it.accesses (within runs has.copy) ran.effects in
+      let here : CopyRecordsWithin (copy_of run) runs it.accesses =
+      law.stands begun run runs [] it.accesses (within runs has.copy) ran.effects in
       let many = length-map before (λ (i : Iterated). i.accesses) in
       let reached = has.reached in
       let was = has.begun in
@@ -55,9 +63,11 @@ module _ (law : AccessesFollow) (old new : Runner) (index : ℕ) (begun run : Pr
       record {
         reached = omega (arith, reached, long);
         begun = omega (arith, was, one, long);
-        copy = subst (λ (l : List (List Access)). CopyRecords (copy_of new.copy) l) (sym (accesses_more before it)) (stands runs it.accesses here);
+        copy = subst (λ (l : List (List Access)). CopyRecords (copy_of new.copy) l) (sym (accesses_more before it))
+            (stands runs it.accesses here);
         elements = shape.elements ∙ has.elements ∙ ap length (sym same_start);
-        planes = subst (λ (l : List (List Access)). StandFor new.planes (visits_of first l)) (sym (accesses_more before it))
+        planes = subst (λ (l : List (List Access)). StandFor new.planes (visits_of first l))
+            (sym (accesses_more before it))
             (planes first runs it.accesses there here has.planes);
       }
 

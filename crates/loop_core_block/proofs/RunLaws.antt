@@ -14,13 +14,16 @@ use Rattle.loop_core_block.specs.declared.runner.Runner.{Runner}
 use Rattle.loop_core_block.specs.Runs.{start_words, IsReady, IsSame, RunnerHasRun, RanOneMore, RanUpTo}
 
 -- the scan at an iteration that ended
-scan_next : (iterate : ℕ → BoundedResult Iterated) (past index : ℕ) → index < past → (it : Iterated) → iterate index ≡ Ended it → (b : Bool) → (it.ret == 1) ≡ b →
-    scan iterate (past - index) index ≡ (if b then Ended (it ∷ []) else in_front_of (scan iterate (past - (index + 1)) (index + 1)) it)
+scan_next : (iterate : ℕ → BoundedResult Iterated) (past index : ℕ) → index < past → (it : Iterated)
+    → iterate index ≡ Ended it → (b : Bool) → (it.ret == 1) ≡ b →
+    scan iterate (past - index) index ≡ (if b then Ended (it ∷ [])
+    else in_front_of (scan iterate (past - (index + 1)) (index + 1)) it)
 scan_next iterate past index below it told b is =
     let one : past - index ≡ suc (past - (index + 1)) = omega (arith, below) in
     ap (λ (left : ℕ). scan iterate left index) one
     ∙ ap (followed (up_to_break (scan iterate (past - (index + 1)) (index + 1)))) told
-    ∙ ap (λ (t : Bool). if t then Ended (it ∷ []) else in_front_of (scan iterate (past - (index + 1)) (index + 1)) it) is
+    ∙ ap (λ (t : Bool). if t then Ended (it ∷ []) else in_front_of (scan iterate (past - (index + 1)) (index + 1)) it)
+    is
 
 mapped_twice : (ran : List Iterated) (it : Iterated) (e : BoundedResult (List Iterated)) →
     mapped (λ others. ran ++ others) (in_front_of e it) ≡ mapped (λ others. (ran ++ it ∷ []) ++ others) e
@@ -29,19 +32,22 @@ mapped_twice ran it Unfinished = refl
 mapped_twice ran it (Ended others) = ap Ended (sym (append_assoc ran (it ∷ []) others))
 
 -- where iterations broke, one more included
-behind_one : (t : Bool) (first : ℕ) (rest more last : Option ℕ) → (if t then Some first else rest) ≡ None → (rest ≡ None → more ≡ last) →
+behind_one : (t : Bool) (first : ℕ) (rest more last : Option ℕ) → (if t then Some first else rest) ≡ None
+    → (rest ≡ None → more ≡ last) →
     (if t then Some first else more) ≡ last
 behind_one true first rest more last none goes = absurd cc
 behind_one false first rest more last none goes = goes none
 
-break_last : (first : ℕ) (ran : List Iterated) (it : Iterated) → break_from first ran ≡ None → (b : Bool) → (it.ret == 1) ≡ b →
+break_last : (first : ℕ) (ran : List Iterated) (it : Iterated) → break_from first ran ≡ None → (b : Bool)
+    → (it.ret == 1) ≡ b →
     break_from first (ran ++ it ∷ []) ≡ (if b then Some (first + length ran) else None)
 break_last first [] it going b is =
     let here : first ≡ first + 0 = omega arith in
     ap (λ (t : Bool). if t then Some first else None) is ∙ ap (λ (n : ℕ). if b then Some n else None) here
 break_last first (one ∷ ran) it going b is =
     let next : first + 1 + length ran ≡ first + suc (length ran) = omega arith in
-    behind_one (one.ret == 1) first (break_from (first + 1) ran) (break_from (first + 1) (ran ++ it ∷ [])) (if b then Some (first + suc (length ran)) else None) going
+    behind_one (one.ret == 1) first (break_from (first + 1) ran) (break_from (first + 1) (ran ++ it ∷ [])) (if b
+    then Some (first + suc (length ran)) else None) going
     (λ none. break_last (first + 1) ran it none b is ∙ ap (λ (n : ℕ). if b then Some n else None) next)
 
 -- a runner that is the same is as ready
@@ -79,7 +85,8 @@ pub record RunSoFar (first past : ℕ) (initial now : Runner) (index : ℕ) : Ty
   pub ran : List Iterated
   pub has_run : RunnerHasRun first index ran now
   pub going : break_from first ran ≡ None
-  pub rest : block_by initial first past ≡ mapped (λ others. ran ++ others) (scan (iterate_by initial) (past - index) index)
+  pub rest : block_by initial first past ≡ mapped (λ others. ran ++ others) (scan (iterate_by initial) (past - index)
+      index)
 
 mapped_none : (e : BoundedResult (List Iterated)) → e ≡ mapped (λ others. [] ++ others) e
 mapped_none Stuck = refl
@@ -106,16 +113,21 @@ module _ (first past : ℕ) (initial now : Runner) (index : ℕ) (so_far : RunSo
 
   module _ (here : index < past) (next : Runner) (broke : Bool) (one : RanOneMore index now next broke) where
     told : iterate_by initial index ≡ Ended one.iterated
-    told = ap (λ (c : CallbackOf). iteration c.program 4096 c.call index (start_words initial)) (sym so_far.same.callback)
-        ∙ ap (λ (words : List ℕ). iteration now.callback.program 4096 now.callback.call index words) (sym so_far.same.start)
+    told = ap (λ (c : CallbackOf). iteration c.program 4096 c.call index (start_words initial))
+        (sym so_far.same.callback)
+        ∙ ap (λ (words : List ℕ). iteration now.callback.program 4096 now.callback.call index words)
+        (sym so_far.same.start)
         ∙ one.told
 
     scanned : (b : Bool) → broke ≡ b → block_by initial first past
-        ≡ mapped (λ others. so_far.ran ++ others) (if b then Ended (one.iterated ∷ []) else in_front_of (scan (iterate_by initial) (past - (index + 1)) (index + 1)) one.iterated)
+        ≡ mapped (λ others. so_far.ran ++ others) (if b then Ended (one.iterated ∷ [])
+        else in_front_of (scan (iterate_by initial) (past - (index + 1)) (index + 1)) one.iterated)
     scanned b is = so_far.rest
-        ∙ ap (mapped (λ others. so_far.ran ++ others)) (scan_next (iterate_by initial) past index here one.iterated told b (sym one.broke_is ∙ is))
+        ∙ ap (mapped (λ others. so_far.ran ++ others)) (scan_next (iterate_by initial) past index here one.iterated told
+        b (sym one.broke_is ∙ is))
 
-    broken : (b : Bool) → broke ≡ b → break_from first (so_far.ran ++ one.iterated ∷ []) ≡ (if b then Some (first + length so_far.ran) else None)
+    broken : (b : Bool) → broke ≡ b → break_from first (so_far.ran ++ one.iterated ∷ []) ≡ (if b
+        then Some (first + length so_far.ran) else None)
     broken b is = break_last first so_far.ran one.iterated so_far.going b (sym one.broke_is ∙ is)
 
     -- after an iteration that doesn't break
@@ -125,7 +137,8 @@ module _ (first past : ℕ) (initial now : Runner) (index : ℕ) (so_far : RunSo
       ran = so_far.ran ++ one.iterated ∷ [];
       has_run = one.has_run first so_far.ran so_far.has_run;
       going = broken false is;
-      rest = scanned false is ∙ mapped_twice so_far.ran one.iterated (scan (iterate_by initial) (past - (index + 1)) (index + 1));
+      rest = scanned false is ∙ mapped_twice so_far.ran one.iterated (scan (iterate_by initial) (past - (index + 1))
+          (index + 1));
     }
 
     -- after one that does

@@ -3,7 +3,8 @@ use Rattle.std.specs.Prelude.{ℕ, Option}
 use Rattle.shadow_marks.specs.declared.planes.Planes.{Planes}
 use Rattle.private_copy.specs.Copies.{PrivateCopy}
 
--- its number in the split, its interval, the index at which it broke, the marks of its iterations, and the copy that they
+-- its number in the split, its interval, the index at which it broke, the marks of its iterations, and the copy that
+-- they
 -- used
 pub record BlockOf : Type 0 where
   pub number : ℕ

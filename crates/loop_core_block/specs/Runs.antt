@@ -45,7 +45,8 @@ pub record RanOneMore (index : ℕ) (old new : Runner) (broke : Bool) : Type 0 w
   pub iterated : Iterated
   pub told : iteration old.callback.program 4096 old.callback.call index (start_words old) ≡ Ended iterated
   pub broke_is : broke ≡ (iterated.ret == 1)
-  pub has_run : (first : ℕ) (ran : List Iterated) → RunnerHasRun first index ran old → RunnerHasRun first (index + 1) (ran ++ iterated ∷ []) new
+  pub has_run : (first : ℕ) (ran : List Iterated) → RunnerHasRun first index ran old
+      → RunnerHasRun first (index + 1) (ran ++ iterated ∷ []) new
 
 -- the block of an interval was run on the start words, where none was run before
 pub record RanUpTo (first past : ℕ) (old new : Runner) (broke : Option ℕ) : Type 0 where

@@ -5,4 +5,11 @@ use Rattle.loop_core_block.specs.Blocks.{BlockOf}
 
 -- the block
 abbrev pub shown : Block → BlockOf
-shown b = record { number = b.number; first = b.first; past = b.past; broke = b.broke; planes = b.planes; copy = copy_of b.copy }
+shown b = record {
+  number = b.number;
+  first = b.first;
+  past = b.past;
+  broke = b.broke;
+  planes = b.planes;
+  copy = copy_of b.copy;
+}

@@ -35,8 +35,10 @@ use Rattle.loop_core_gather.proofs.JoiningLaws.{visits_in, stands_in_planes}
 use Rattle.loop_core_gather.proofs.UntouchedLaws.{not_both, untouched}
 use Rattle.loop_core_gather.proofs.TellingLaws.{are_told, have_starts, within, answer_within, tells}
 
-module _ (test : Test) (program : Program) (call : LoopCall) (words : List ℕ) (bounds : List ℕ) (held : List Held) (summaries : List Summary)
-    (ran : All (λ b. RecordsRun test program call words (shown b)) held) (made : summaries ≡ map told_of (map shown held)) where
+module _ (test : Test) (program : Program) (call : LoopCall) (words : List ℕ) (bounds : List ℕ) (held : List Held)
+    (summaries : List Summary)
+    (ran : All (λ b. RecordsRun test program call words (shown b)) held) (made : summaries ≡ map told_of
+    (map shown held)) where
   abbrev blocks : List BlockOf
   blocks = map shown held
 
@@ -46,10 +48,12 @@ module _ (test : Test) (program : Program) (call : LoopCall) (words : List ℕ) 
   named : map summary_of (all_gathered program call words blocks) ≡ summaries
   named = are_told test program call words blocks all_ran ∙ sym made
 
-  pub faulty : (fault : GatherFault) → told_fault bounds summaries ≡ Some fault → gather_fault bounds (all_gathered program call words blocks) ≡ Some fault
+  pub faulty : (fault : GatherFault) → told_fault bounds summaries ≡ Some fault
+      → gather_fault bounds (all_gathered program call words blocks) ≡ Some fault
   faulty fault h = sym (same_fault bounds (all_gathered program call words blocks)) ∙ ap (told_fault bounds) named ∙ h
 
-  module _ (least : Option ℕ) (places : List ℕ) (split : split_fault bounds call.n ≡ None) (counts : Counts bounds summaries least places) where
+  module _ (least : Option ℕ) (places : List ℕ) (split : split_fault bounds call.n ≡ None)
+      (counts : Counts bounds summaries least places) where
     counted : BlocksCount bounds (all_gathered program call words blocks) least places
     counted =
         all_count bounds (all_gathered program call words blocks) least places
@@ -59,7 +63,8 @@ module _ (test : Test) (program : Program) (call : LoopCall) (words : List ℕ) 
     faultless = counted.faultless
 
     pub places_within : All (λ place. place < length held) places
-    places_within = subst (λ (n : ℕ). All (λ place. place < n) places) (length-map held shown) (within test program call words bounds blocks least places split all_ran counted)
+    places_within = subst (λ (n : ℕ). All (λ place. place < n) places) (length-map held shown)
+        (within test program call words bounds blocks least places split all_ran counted)
 
     -- the same of a list of the blocks and one of the places
     pub places_at : (now : List Held) (at : List ℕ) → now ≡ held → at ≡ places → All (λ place. place < length now) at
@@ -68,58 +73,102 @@ module _ (test : Test) (program : Program) (call : LoopCall) (words : List ℕ) 
         (subst (λ (n : ℕ). All (λ place. place < n) places) (ap length (sym same_blocks)) places_within)
 
     pub same_stand : (planes : Planes) (now : List Held) (at : List ℕ) → now ≡ held → at ≡ places →
-        ((each : BlockOf → ℕ → List Visit) → All (λ b. StandFor b.planes (each b)) (map shown now) → StandFor planes (visits_at each (chosen at (map shown now)))) →
-        (each : BlockOf → ℕ → List Visit) → All (λ b. StandFor b.planes (each b)) blocks → StandFor planes (visits_at each (chosen places blocks))
+        ((each : BlockOf → ℕ → List Visit) → All (λ b. StandFor b.planes (each b)) (map shown now)
+        → StandFor planes (visits_at each (chosen at (map shown now)))) →
+        (each : BlockOf → ℕ → List Visit) → All (λ b. StandFor b.planes (each b)) blocks
+        → StandFor planes (visits_at each (chosen places blocks))
     same_stand planes now at same_blocks same_places stand =
-        subst (λ (ps : List ℕ). (each : BlockOf → ℕ → List Visit) → All (λ b. StandFor b.planes (each b)) blocks → StandFor planes (visits_at each (chosen ps blocks))) same_places
-        (subst (λ (bs : List Held). (each : BlockOf → ℕ → List Visit) → All (λ b. StandFor b.planes (each b)) (map shown bs) → StandFor planes (visits_at each (chosen at (map shown bs)))) same_blocks stand)
+        subst (λ (ps : List ℕ). (each : BlockOf → ℕ → List Visit) → All (λ b. StandFor b.planes (each b)) blocks
+        → StandFor planes (visits_at each (chosen ps blocks))) same_places
+        (subst (λ (bs : List Held). (each : BlockOf → ℕ → List Visit) → All (λ b. StandFor b.planes (each b))
+        (map shown bs) → StandFor planes (visits_at each (chosen at (map shown bs)))) same_blocks stand)
 
     pub answer_fits : count_to call.n least ≤ call.n
     answer_fits = answer_within test program call words bounds blocks least places split all_ran counted
 
     -- of a block nothing is kept at an element of a page that isn't marked by its bit
-    tells_untouched : (touched : List ℕ) → length touched ≡ words_for (length words) → AreMarked blocks places (length places) touched → (e : ℕ) → e < length words →
+    tells_untouched : (touched : List ℕ) → length touched ≡ words_for (length words)
+        → AreMarked blocks places (length places) touched → (e : ℕ) → e < length words →
         TellsUntouched (slice_index touched (e / 64)) e blocks places
     tells_untouched touched pages marked e inside i b below at bit =
-        let ran_b : RecordsRun test program call words b = subst (RecordsRun test program call words) (get_or_from_slice_get blocks (slice_index places i) b b at) (all_ran (slice_index places i) b (slice_get_within blocks (slice_index places i) b at)) in
+        let ran_b : RecordsRun test program call words b =
+        subst (RecordsRun test program call words) (get_or_from_slice_get blocks (slice_index places i) b b at)
+        (all_ran (slice_index places i) b (slice_get_within blocks (slice_index places i) b at)) in
         by_page ran_b (has_page b.copy.pages (e / 64)) refl
       where
-        by_page : RecordsRun test program call words b → (has : Bool) → has_page b.copy.pages (e / 64) ≡ has → IsUntouchedElement e b
-        by_page ran_b true has = absurd (not_both (is_page_marked touched (e / 64) i) (marked i b (e / 64) below at has (omega (arith, inside, pages))) bit)
+        by_page : RecordsRun test program call words b → (has : Bool) → has_page b.copy.pages (e / 64) ≡ has
+            → IsUntouchedElement e b
+        by_page ran_b true has = absurd (not_both (is_page_marked touched (e / 64) i) (marked i b (e / 64) below at has
+            (omega (arith, inside, pages))) bit)
         by_page ran_b false has = untouched test program call words b e ran_b inside has
 
-    pub are_held : (planes : Planes) (start touched : List ℕ) (now : List Held) (at : List ℕ) → start ≡ words → length start ≤ 65536 → ArePlanes planes → planes.elements ≡ length start →
-        now ≡ held → at ≡ places → length touched ≡ words_for (length start) → AreMarked (map shown now) at (length at) touched → AreHeld (length start) blocks places planes touched
+    pub are_held : (planes : Planes) (start touched : List ℕ) (now : List Held) (at : List ℕ) → start ≡ words
+        → length start ≤ 65536 → ArePlanes planes → planes.elements ≡ length start →
+        now ≡ held → at ≡ places → length touched ≡ words_for (length start) → AreMarked (map shown now) at (length at)
+        touched → AreHeld (length start) blocks places planes touched
     are_held planes start touched now at same few whole count same_blocks same_places pages marked = record {
       few = few;
       within = within test program call words bounds blocks least places split all_ran counted;
-      starts = subst (λ (n : ℕ). All (λ b. length b.copy.start ≡ n) blocks) (ap length (sym same)) (have_starts test program call words blocks all_ran);
+      starts = subst (λ (n : ℕ). All (λ b. length b.copy.start ≡ n) blocks) (ap length (sym same))
+          (have_starts test program call words blocks all_ran);
       whole = whole;
       count = count;
       pages = pages;
       untouched = λ e inside.
           let long : length start ≡ length words = ap length same in
           tells_untouched touched (pages ∙ ap words_for long)
-          (subst (λ (ps : List ℕ). AreMarked blocks ps (length ps) touched) same_places (subst (λ (bs : List Held). AreMarked (map shown bs) at (length at) touched) same_blocks marked))
+          (subst (λ (ps : List ℕ). AreMarked blocks ps (length ps) touched) same_places
+          (subst (λ (bs : List Held). AreMarked (map shown bs) at (length at) touched) same_blocks marked))
           e (omega (arith, inside, long));
     }
 
-    pub all_tell : (planes : Planes) (plane : List ℕ) (v : Verdict) (n : ℕ) (start : List ℕ) → planes.elements ≡ length words → test_of planes.tested ≡ test →
-        ((each : BlockOf → ℕ → List Visit) → All (λ b. StandFor b.planes (each b)) blocks → StandFor planes (visits_at each (chosen places blocks))) →
+    pub all_tell : (planes : Planes) (plane : List ℕ) (v : Verdict) (n : ℕ) (start : List ℕ)
+        → planes.elements ≡ length words → test_of planes.tested ≡ test →
+        ((each : BlockOf → ℕ → List Visit) → All (λ b. StandFor b.planes (each b)) blocks
+        → StandFor planes (visits_at each (chosen places blocks))) →
         AreWords plane →
-        ((visits : ℕ → List Visit) → StandFor planes visits → elements_in_plane plane ≡ filter (λ e. marked_conflict (test_of planes.tested) (marks_of (visits e))) (range_with_len 0 planes.elements)) →
+        ((visits : ℕ → List Visit) → StandFor planes visits → elements_in_plane plane
+        ≡ filter (λ e. marked_conflict (test_of planes.tested) (marks_of (visits e)))
+        (range_with_len 0 planes.elements)) →
         v ≡ plane_verdict plane → n ≡ count_to call.n least → start ≡ words →
-        HasOutcome test program call words (record { verdict = v; answer = n; words = left_words planes (chosen places blocks) start })
+        HasOutcome test program call words (record {
+          verdict = v;
+          answer = n;
+          words = left_words planes (chosen places blocks) start;
+        })
     all_tell planes plane v n start count test_is stand fit conflicting verdict_is answer_is start_is =
         let each : BlockOf → ℕ → List Visit = visits_in program call words in
         let all : All (λ b. StandFor b.planes (each b)) blocks =
-        All-weaker (RecordsRun test program call words) (λ b. StandFor b.planes (visits_in program call words b)) (λ b one. stands_in_planes program call words test b one) blocks all_ran in
-        let stands : StandFor planes (visits_at (visits_in program call words) (chosen places blocks)) = stand (visits_in program call words) all in
-        let is : elements_in_plane plane ≡ filter (λ e. marked_conflict test (marks_of (visits_at (visits_in program call words) (chosen places blocks) e))) (range_with_len 0 (length words)) =
+        All-weaker (RecordsRun test program call words) (λ b. StandFor b.planes (visits_in program call words b))
+        (λ b one. stands_in_planes program call words test b one) blocks all_ran in
+        let stands : StandFor planes (visits_at (visits_in program call words) (chosen places blocks)) =
+        stand (visits_in program call words) all in
+        let is : elements_in_plane plane
+        ≡ filter (λ e. marked_conflict test
+        (marks_of (visits_at (visits_in program call words) (chosen places blocks) e)))
+        (range_with_len 0 (length words)) =
         conflicting (visits_at (visits_in program call words) (chosen places blocks)) stands
-        ∙ ap (λ (t : Test). filter (λ e. marked_conflict t (marks_of (visits_at (visits_in program call words) (chosen places blocks) e))) (range_with_len 0 planes.elements)) test_is
-        ∙ ap (λ (m : ℕ). filter (λ e. marked_conflict test (marks_of (visits_at (visits_in program call words) (chosen places blocks) e))) (range_with_len 0 m)) count in
-        let first = tells test program call words bounds blocks least places split all_ran counted planes count stands plane fit is in
-        subst (λ (ws : List ℕ). HasOutcome test program call words (let o : Outcome = record { verdict = v; answer = n; words = left_words planes (chosen places blocks) ws } in o)) (sym start_is)
-        (subst (λ (m : ℕ). HasOutcome test program call words (let o : Outcome = record { verdict = v; answer = m; words = left_words planes (chosen places blocks) words } in o)) (sym answer_is)
-        (subst (λ (u : Verdict). HasOutcome test program call words (let o : Outcome = record { verdict = u; answer = count_to call.n least; words = left_words planes (chosen places blocks) words } in o)) (sym verdict_is) first))
+        ∙ ap (λ (t : Test). filter
+        (λ e. marked_conflict t (marks_of (visits_at (visits_in program call words) (chosen places blocks) e)))
+        (range_with_len 0 planes.elements)) test_is
+        ∙ ap (λ (m : ℕ). filter (λ e. marked_conflict test
+        (marks_of (visits_at (visits_in program call words) (chosen places blocks) e))) (range_with_len 0 m)) count
+        in
+        let first = tells test program call words bounds blocks least places split all_ran counted planes count stands
+        plane fit is in
+        subst (λ (ws : List ℕ). HasOutcome test program call words (let o : Outcome = record {
+          verdict = v;
+          answer = n;
+          words = left_words planes (chosen places blocks) ws;
+        } in o)) (sym start_is)
+        (subst (λ (m : ℕ). HasOutcome test program call words (let o : Outcome = record {
+          verdict = v;
+          answer = m;
+          words = left_words planes (chosen places blocks) words;
+        } in o)) (sym answer_is)
+        (subst (λ (u : Verdict). HasOutcome test program call words (let o : Outcome = record {
+          verdict = u;
+          answer = count_to call.n least;
+          words = left_words planes (chosen places blocks) words;
+        } in o))
+        (sym verdict_is) first))

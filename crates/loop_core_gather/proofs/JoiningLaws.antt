@@ -70,36 +70,50 @@ module _ (program : Program) (call : LoopCall) (words : List ℕ) where
       let later : List (List (List Action)) = at_blocks e (map told blocks) in
       marks_merge.both (visits_in b e) (visits_at visits_in blocks e)
       ∙ ap (merged (marks_of (visits_in b e))) (marks_follow (index + length (told b).ran) e blocks f.1)
-      ∙ ap (λ (i : ℕ). merged (marks_of (numbered i (at_block e (told b)))) (marks_of_blocks (index + length (told b).ran) later)) f.0
-      ∙ ap (λ (n : ℕ). merged (marks_of (numbered index (at_block e (told b)))) (marks_of_blocks (index + n) later)) (sym (count_at e (told b)))
+      ∙ ap (λ (i : ℕ). merged (marks_of (numbered i (at_block e (told b))))
+      (marks_of_blocks (index + length (told b).ran) later)) f.0
+      ∙ ap (λ (n : ℕ). merged (marks_of (numbered index (at_block e (told b)))) (marks_of_blocks (index + n) later))
+      (sym (count_at e (told b)))
 
   -- a block that was run of its interval
-  pub was_run : (test : Test) (b : BlockOf) → RecordsRun test program call words b → block_run program 4096 call words b.first b.past ≡ Ended (told b).ran
+  pub was_run : (test : Test) (b : BlockOf) → RecordsRun test program call words b
+      → block_run program 4096 call words b.first b.past ≡ Ended (told b).ran
   was_run test b is = is.told ∙ ap (λ (e : BoundedResult (List Iterated)). Ended (iterations_of e)) (sym is.told)
 
   pub ran_is : (test : Test) (b : BlockOf) (is : RecordsRun test program call words b) → (told b).ran ≡ is.ran
   ran_is test b is = ap iterations_of is.told
 
-  pub runs_all : (test : Test) (blocks : List BlockOf) → AllByRecursion (RecordsRun test program call words) blocks → AllByRecursion (RanAs program 4096 call words) (map told blocks)
+  pub runs_all : (test : Test) (blocks : List BlockOf) → AllByRecursion (RecordsRun test program call words) blocks
+      → AllByRecursion (RanAs program 4096 call words) (map told blocks)
   runs_all test [] all = tt
   runs_all test (b ∷ blocks) all = (was_run test b all.0, runs_all test blocks all.1)
 
   -- its planes stand for its visits
-  pub stands_in_planes : (test : Test) (b : BlockOf) → RecordsRun test program call words b → StandFor b.planes (visits_in b)
-  stands_in_planes test b is = subst (λ its. StandFor b.planes (visits_of b.first (accesses_of_each its))) (sym (ran_is test b is)) is.planes
+  pub stands_in_planes : (test : Test) (b : BlockOf) → RecordsRun test program call words b
+      → StandFor b.planes (visits_in b)
+  stands_in_planes test b is = subst (λ its. StandFor b.planes (visits_of b.first (accesses_of_each its)))
+      (sym (ran_is test b is)) is.planes
 
   -- its copy keeps what its iterations leave
-  same_kept : (test : Test) (e : ℕ) (b : BlockOf) → e < length words → RecordsRun test program call words b → kept_of e b ≡ kept (at_block e (told b)) (slice_index words e)
+  same_kept : (test : Test) (e : ℕ) (b : BlockOf) → e < length words → RecordsRun test program call words b
+      → kept_of e b ≡ kept (at_block e (told b)) (slice_index words e)
   same_kept test e b inside is =
       let long : length b.copy.start ≡ length words = ap length is.start in
       let within : e < length b.copy.start = omega arith in
-      let copy : CopyRecords b.copy (accesses_of_each (told b).ran) = subst (λ its. CopyRecords b.copy (accesses_of_each its)) (sym (ran_is test b is)) is.copy in
-      let last = copy.remembers.last e within ∙ ap (λ ws. (kept (at_block e (told b)) (slice_index ws e)).last_value) is.start in
-      let reduced = ap combination (copy.remembers.reduction e within) ∙ sym (partial_is_combination (at_block e (told b))) in
+      let copy : CopyRecords b.copy (accesses_of_each (told b).ran) =
+      subst (λ its. CopyRecords b.copy (accesses_of_each its)) (sym (ran_is test b is)) is.copy in
+      let last = copy.remembers.last e within ∙ ap (λ ws. (kept (at_block e (told b)) (slice_index ws e)).last_value)
+      is.start in
+      let reduced = ap combination (copy.remembers.reduction e within)
+      ∙ sym (partial_is_combination (at_block e (told b))) in
       ap (λ l. (let k : Kept = record { last_value = l; partial = combination (b.copy.reduction e) } in k)) last
-      ∙ ap (λ p. (let k : Kept = record { last_value = (kept (at_block e (told b)) (slice_index words e)).last_value; partial = p } in k)) reduced
+      ∙ ap (λ p. (let k : Kept = record {
+        last_value = (kept (at_block e (told b)) (slice_index words e)).last_value;
+        partial = p;
+      } in k)) reduced
 
-  pub all_kept : (test : Test) (e : ℕ) (blocks : List BlockOf) → e < length words → AllByRecursion (RecordsRun test program call words) blocks →
+  pub all_kept : (test : Test) (e : ℕ) (blocks : List BlockOf) → e < length words
+      → AllByRecursion (RecordsRun test program call words) blocks →
       map (kept_of e) blocks ≡ map (λ its. kept its (slice_index words e)) (at_blocks e (map told blocks))
   all_kept test e [] inside all = refl
   all_kept test e (b ∷ blocks) inside all =
@@ -107,7 +121,8 @@ module _ (program : Program) (call : LoopCall) (words : List ℕ) where
       ∙ ap (λ ks. kept (at_block e (told b)) (slice_index words e) ∷ ks) (all_kept test e blocks inside all.1)
 
 -- planes tell which elements are reduction-only
-pub tells_reduction : (planes : Planes) (e : ℕ) (marks : Marks) → StandAt planes e marks → is_reduction planes e ≡ marked_reduction marks
+pub tells_reduction : (planes : Planes) (e : ℕ) (marks : Marks) → StandAt planes e marks
+    → is_reduction planes e ≡ marked_reduction marks
 tells_reduction planes e marks at =
     ap (λ (p : Bool). not p && (count_by (λ op. bit_of (plane_by planes.operators op) e) operators == 1)) at.plain
     ∙ ap (λ (by : Op → Bool). not marks.plain && (count_by by operators == 1)) (λ i op. at.by op i)

@@ -45,29 +45,42 @@ use Rattle.loop_core_gather.proofs.ChoiceLaws.{AreAt, are_at, all_chosen}
 use Rattle.loop_core_gather.proofs.JoiningLaws.{at_blocks, runs_of, joined_at, told, visits_in, marks_follow, runs_all, ran_is, all_kept, tells_reduction}
 
 -- what is gathered is what is told
-same_told : (test : Test) (program : Program) (call : LoopCall) (words : List ℕ) (b : BlockOf) → RecordsRun test program call words b → summary_of (told program call words b) ≡ told_of b
+same_told : (test : Test) (program : Program) (call : LoopCall) (words : List ℕ) (b : BlockOf)
+    → RecordsRun test program call words b → summary_of (told program call words b) ≡ told_of b
 same_told test program call words b is =
-    ap (λ (its : List Iterated). summary_of (record { number = b.number; first = b.first; past = b.past; ran = its })) (ran_is program call words test b is)
-    ∙ ap (λ (broke : Option ℕ). (let s : Summary = record { number = b.number; first = b.first; past = b.past; broke = broke } in s)) (sym is.broke)
+    ap (λ (its : List Iterated). summary_of (record { number = b.number; first = b.first; past = b.past; ran = its }))
+    (ran_is program call words test b is)
+    ∙ ap (λ (broke : Option ℕ). (let s : Summary = record {
+      number = b.number;
+      first = b.first;
+      past = b.past;
+      broke = broke;
+    } in s)) (sym is.broke)
 
-all_told : (test : Test) (program : Program) (call : LoopCall) (words : List ℕ) (blocks : List BlockOf) → AllByRecursion (RecordsRun test program call words) blocks →
+all_told : (test : Test) (program : Program) (call : LoopCall) (words : List ℕ) (blocks : List BlockOf)
+    → AllByRecursion (RecordsRun test program call words) blocks →
     map summary_of (all_gathered program call words blocks) ≡ map told_of blocks
 all_told test program call words [] all = refl
 all_told test program call words (b ∷ blocks) all =
     ap (λ s. s ∷ map summary_of (all_gathered program call words blocks)) (same_told test program call words b all.0)
     ∙ ap (λ ss. told_of b ∷ ss) (all_told test program call words blocks all.1)
 
-pub are_told : (test : Test) (program : Program) (call : LoopCall) (words : List ℕ) (blocks : List BlockOf) → All (RecordsRun test program call words) blocks →
+pub are_told : (test : Test) (program : Program) (call : LoopCall) (words : List ℕ) (blocks : List BlockOf)
+    → All (RecordsRun test program call words) blocks →
     map summary_of (all_gathered program call words blocks) ≡ map told_of blocks
-are_told test program call words blocks ran = all_told test program call words blocks (recursion_from_All (RecordsRun test program call words) blocks ran)
+are_told test program call words blocks ran =
+    all_told test program call words blocks (recursion_from_All (RecordsRun test program call words) blocks ran)
 
 -- each copy has as many words
-pub have_starts : (test : Test) (program : Program) (call : LoopCall) (words : List ℕ) (blocks : List BlockOf) → All (RecordsRun test program call words) blocks →
+pub have_starts : (test : Test) (program : Program) (call : LoopCall) (words : List ℕ) (blocks : List BlockOf)
+    → All (RecordsRun test program call words) blocks →
     All (λ b. length b.copy.start ≡ length words) blocks
 have_starts test program call words blocks ran =
-    All-weaker (RecordsRun test program call words) (λ b. length b.copy.start ≡ length words) (λ b is. ap length is.start) blocks ran
+    All-weaker (RecordsRun test program call words) (λ b. length b.copy.start ≡ length words)
+    (λ b is. ap length is.start) blocks ran
 
-gathered_is : (bounds : List ℕ) (blocks : List Block) → gathered bounds blocks ≡ joined (map (λ (b : Block). b.ran) (counting_of bounds blocks))
+gathered_is : (bounds : List ℕ) (blocks : List Block) → gathered bounds blocks
+    ≡ joined (map (λ (b : Block). b.ran) (counting_of bounds blocks))
 gathered_is [] blocks = refl
 gathered_is (first ∷ bounds) blocks = refl
 
@@ -75,8 +88,10 @@ passes_alone : (elements : List ℕ) → judged elements ≡ Parallel → elemen
 passes_alone [] h = refl
 passes_alone (least ∷ others) h = absurd (cc)
 
-module _ (test : Test) (program : Program) (call : LoopCall) (words : List ℕ) (bounds : List ℕ) (blocks : List BlockOf) (least : Option ℕ) (places : List ℕ)
-    (split : split_fault bounds call.n ≡ None) (ran : All (RecordsRun test program call words) blocks) (counts : BlocksCount bounds (all_gathered program call words blocks) least places) where
+module _ (test : Test) (program : Program) (call : LoopCall) (words : List ℕ) (bounds : List ℕ) (blocks : List BlockOf)
+    (least : Option ℕ) (places : List ℕ)
+    (split : split_fault bounds call.n ≡ None) (ran : All (RecordsRun test program call words) blocks)
+    (counts : BlocksCount bounds (all_gathered program call words blocks) least places) where
   abbrev counting : List BlockOf
   counting = chosen places blocks
 
@@ -87,7 +102,8 @@ module _ (test : Test) (program : Program) (call : LoopCall) (words : List ℕ) 
   all_ran = all_chosen (RecordsRun test program call words) blocks places ran
 
   at : AreAt (told program call words) blocks places (counting_of bounds (all_gathered program call words blocks))
-  at = are_at (told program call words) blocks places (counting_of bounds (all_gathered program call words blocks)) counts.in_order
+  at = are_at (told program call words) blocks places (counting_of bounds (all_gathered program call words blocks))
+      counts.in_order
 
   pub within : All (λ place. place < length blocks) places
   within = at.within
@@ -106,7 +122,8 @@ module _ (test : Test) (program : Program) (call : LoopCall) (words : List ℕ) 
   counted_is : counted_runs program 4096 call words ≡ Ended runs
   counted_is =
       ap (mapped accesses_of_each) gathers.iterations
-      ∙ ap (λ (its : List Iterated). Ended (accesses_of_each its)) (gathered_is bounds (all_gathered program call words blocks))
+      ∙ ap (λ (its : List Iterated). Ended (accesses_of_each its))
+      (gathered_is bounds (all_gathered program call words blocks))
       ∙ ap (λ (bs : List Block). Ended (runs_of bs)) (sym at.same)
 
   least_is : least ≡ least_break program 4096 call words
@@ -118,28 +135,35 @@ module _ (test : Test) (program : Program) (call : LoopCall) (words : List ℕ) 
 
   pub answer_within : count_to call.n least ≤ call.n
   answer_within =
-      subst (λ (m : ℕ). m ≤ call.n) (sym answer_is) (counts_to (λ index. is_break (iteration program 4096 call index words)) call.n).within
+      subst (λ (m : ℕ). m ≤ call.n) (sym answer_is)
+      (counts_to (λ index. is_break (iteration program 4096 call index words)) call.n).within
 
   -- merged planes stand for all visits
-  module _ (planes : Planes) (elements : planes.elements ≡ length words) (stand : StandFor planes (visits_at (visits_in program call words) counting)) where
-    marks_are : (e : ℕ) → marks_of (visits_at (visits_in program call words) counting e) ≡ marks_of_blocks 0 (at_blocks e (map (told program call words) counting))
+  module _ (planes : Planes) (elements : planes.elements ≡ length words)
+      (stand : StandFor planes (visits_at (visits_in program call words) counting)) where
+    marks_are : (e : ℕ) → marks_of (visits_at (visits_in program call words) counting e) ≡ marks_of_blocks 0
+        (at_blocks e (map (told program call words) counting))
     marks_are e = marks_follow program call words 0 e counting follow
 
-    conflict_is : (e : ℕ) → marked_conflict test (marks_of (visits_at (visits_in program call words) counting e)) ≡ conflicts test (at_element e runs)
+    conflict_is : (e : ℕ) → marked_conflict test (marks_of (visits_at (visits_in program call words) counting e))
+        ≡ conflicts test (at_element e runs)
     conflict_is e =
         ap (marked_conflict test) (marks_are e)
         ∙ sym (kept_blocks_tell.conflict test 0 (at_blocks e (map (told program call words) counting)))
         ∙ ap (conflicts test) (joined_at e (map (told program call words) counting))
 
-    left_is : (e : ℕ) → e < length words → left_at planes counting words e ≡ committed (at_element e runs) (slice_index words e)
+    left_is : (e : ℕ) → e < length words → left_at planes counting words e ≡ committed (at_element e runs)
+        (slice_index words e)
     left_is e inside =
         let word : ℕ = slice_index words e in
         let own : List BlockOf = counting in
         let all : List (List (List Action)) = at_blocks e (map (told program call words) counting) in
         let within_planes : e < planes.elements = omega (arith, inside, elements) in
         ap (λ (b : Bool). committed_of_kept b (map (kept_of e) own) word)
-        (tells_reduction planes e (marks_of (visits_at (visits_in program call words) counting e)) (stand.marks e within_planes) ∙ ap marked_reduction (marks_are e))
-        ∙ ap (λ ks. committed_of_kept (marked_reduction (marks_of_blocks 0 all)) ks word) (all_kept program call words test e counting inside all_ran)
+        (tells_reduction planes e (marks_of (visits_at (visits_in program call words) counting e))
+        (stand.marks e within_planes) ∙ ap marked_reduction (marks_are e))
+        ∙ ap (λ ks. committed_of_kept (marked_reduction (marks_of_blocks 0 all)) ks word)
+        (all_kept program call words test e counting inside all_ran)
         ∙ sym (kept_blocks_tell.commit 0 all word)
         ∙ ap (λ its. committed its word) (joined_at e (map (told program call words) counting))
 
@@ -149,29 +173,57 @@ module _ (test : Test) (program : Program) (call : LoopCall) (words : List ℕ) 
         let g : ℕ → ℕ = λ e. committed (at_element e runs) (slice_index words e) in
         let long = shown_length f (length words) in
         let same_length = shown_length g (length words) in
-        ext_get_or 0 (map f (range_with_len 0 (length words))) (map g (range_with_len 0 (length words))) (long ∙ sym same_length)
-        (λ e inside. (let below : e < length words = omega (arith, inside, long) in shown_at f (length words) e below ∙ left_is e below ∙ sym (shown_at g (length words) e below)))
+        ext_get_or 0 (map f (range_with_len 0 (length words))) (map g (range_with_len 0 (length words))) (long
+        ∙ sym same_length)
+        (λ e inside. (let below : e < length words = omega (arith, inside, long) in shown_at f (length words) e below
+        ∙ left_is e below ∙ sym (shown_at g (length words) e below)))
 
     -- what they tell
     module _ (plane : List ℕ) (fit : AreWords plane)
-        (is : elements_in_plane plane ≡ filter (λ e. marked_conflict test (marks_of (visits_at (visits_in program call words) counting e))) (range_with_len 0 (length words))) where
+        (is : elements_in_plane plane
+        ≡ filter (λ e. marked_conflict test (marks_of (visits_at (visits_in program call words) counting e)))
+        (range_with_len 0 (length words))) where
       judged_is : plane_verdict plane ≡ judged (conflicting test runs (length words))
       judged_is =
           plane_judges.verdict plane fit
-          ∙ ap judged (is ∙ filter-same (λ e. marked_conflict test (marks_of (visits_at (visits_in program call words) counting e))) (λ e. conflicts test (at_element e runs)) 0 (length words)
+          ∙ ap judged (is ∙ filter-same
+          (λ e. marked_conflict test (marks_of (visits_at (visits_in program call words) counting e)))
+          (λ e. conflicts test (at_element e runs)) 0 (length words)
           (λ e low high. conflict_is e))
 
       passes : plane_verdict plane ≡ Parallel → outcome test program 4096 call words
-          ≡ Ended (record { verdict = plane_verdict plane; answer = count_to call.n least; words = left_words planes counting words })
+          ≡ Ended (record {
+            verdict = plane_verdict plane;
+            answer = count_to call.n least;
+            words = left_words planes counting words;
+          })
       passes h =
-          outcome_by_test.passes test program 4096 call words runs counted_is (passes_alone (conflicting test runs (length words)) (sym judged_is ∙ h))
-          ∙ ap (λ (v : Verdict). Ended (let o : Outcome = record { verdict = v; answer = counted program 4096 call words; words = committed_words runs words } in o)) (sym h)
-          ∙ ap (λ (n : ℕ). Ended (let o : Outcome = record { verdict = plane_verdict plane; answer = n; words = committed_words runs words } in o)) (sym answer_is)
-          ∙ ap (λ (ws : List ℕ). Ended (let o : Outcome = record { verdict = plane_verdict plane; answer = count_to call.n least; words = ws } in o)) (sym words_are)
+          outcome_by_test.passes test program 4096 call words runs counted_is
+          (passes_alone (conflicting test runs (length words)) (sym judged_is ∙ h))
+          ∙ ap (λ (v : Verdict). Ended (let o : Outcome = record {
+            verdict = v;
+            answer = counted program 4096 call words;
+            words = committed_words runs words;
+          } in o)) (sym h)
+          ∙ ap (λ (n : ℕ). Ended (let o : Outcome = record {
+            verdict = plane_verdict plane;
+            answer = n;
+            words = committed_words runs words;
+          } in o)) (sym answer_is)
+          ∙ ap (λ (ws : List ℕ). Ended (let o : Outcome = record {
+            verdict = plane_verdict plane;
+            answer = count_to call.n least;
+            words = ws;
+          } in o)) (sym words_are)
 
-      pub tells : HasOutcome test program call words (record { verdict = plane_verdict plane; answer = count_to call.n least; words = left_words planes counting words })
+      pub tells : HasOutcome test program call words (record {
+        verdict = plane_verdict plane;
+        answer = count_to call.n least;
+        words = left_words planes counting words;
+      })
       tells = record {
-        told = ap (mapped (λ (rs : List (List Access)). judged (conflicting test rs (length words)))) counted_is ∙ ap Ended (sym judged_is);
+        told = ap (mapped (λ (rs : List (List Access)). judged (conflicting test rs (length words)))) counted_is
+            ∙ ap Ended (sym judged_is);
         passes = passes;
         count = shown_length (left_at planes counting words) (length words);
       }

@@ -23,7 +23,13 @@ pub record HasOutcome (test : Test) (program : Program) (call : LoopCall) (words
   pub passes : o.verdict ≡ Parallel → outcome test program 4096 call words ≡ Ended o
   pub count : length o.words ≡ length words
 
--- the outcome of a loop call from these maps: the verdict, the answer, and the maps after it, which are of the same sizes
-pub record IsOutcome (test : Test) (program : Program) (call : LoopCall) (start : MapList) (told : Verdict) (answer : ℕ) (left : MapList) : Type 0 where
-  pub outcome_is : outcome test program 4096 call start.words ≡ Ended (record { verdict = told; answer = answer; words = left.words })
+-- the outcome of a loop call from these maps: the verdict, the answer, and the maps after it, which are of the same
+-- sizes
+pub record IsOutcome (test : Test) (program : Program) (call : LoopCall) (start : MapList) (told : Verdict) (answer : ℕ)
+    (left : MapList) : Type 0 where
+  pub outcome_is : outcome test program 4096 call start.words ≡ Ended (record {
+    verdict = told;
+    answer = answer;
+    words = left.words;
+  })
   pub sizes : left.sizes ≡ start.sizes

@@ -35,7 +35,8 @@ visits_at each blocks e = joined (map (λ b. each b e) blocks)
 
 -- by planes an element is reduction-only: no plain access was made of it, and it was reduced by one operator
 abbrev pub is_reduction : Planes → ℕ → Bool
-is_reduction planes e = not (bit_of planes.plain.items e) && (count_by (λ op. bit_of (plane_by planes.operators op) e) operators == 1)
+is_reduction planes e = not (bit_of planes.plain.items e) && (count_by (λ op. bit_of (plane_by planes.operators op) e)
+    operators == 1)
 
 -- what is kept of a block at an element
 abbrev pub kept_of : ℕ → BlockOf → Kept
@@ -56,12 +57,14 @@ pub record IsUntouchedElement (e : ℕ) (b : BlockOf) : Type 0 where
 
 -- a word has a bit for each of the blocks at these places; of a block whose bit isn't set nothing is kept at an element
 abbrev pub TellsUntouched : (word e : ℕ) → List BlockOf → List ℕ → Type 0
-TellsUntouched word e blocks places = (i : ℕ) (b : BlockOf) → i < length places → slice_get blocks (slice_index places i) ≡ Some b →
+TellsUntouched word e blocks places = (i : ℕ) (b : BlockOf) → i < length places
+    → slice_get blocks (slice_index places i) ≡ Some b →
     (bit_at word i == 1) ≡ false → IsUntouchedElement e b
 
 -- blocks, the places of those that count, merged planes, and for each page which of those blocks touched it, all for so
 -- many elements
-pub record AreHeld (elements : ℕ) (blocks : List BlockOf) (places : List ℕ) (planes : Planes) (touched : List ℕ) : Type 0 where
+pub record AreHeld (elements : ℕ) (blocks : List BlockOf) (places : List ℕ) (planes : Planes) (touched : List ℕ) : Type
+    0 where
   pub few : elements ≤ 65536
   pub within : All (λ place. place < length blocks) places
   pub starts : All (λ b. length b.copy.start ≡ elements) blocks

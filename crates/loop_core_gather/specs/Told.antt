@@ -25,12 +25,14 @@ with_place None places = None
 with_place (Some place) None = None
 with_place (Some place) (Some places) = Some (place ∷ places)
 
--- from a block's number and first index on, the places of the blocks that don't start past the least break, where all of them are there
+-- from a block's number and first index on, the places of the blocks that don't start past the least break, where all
+-- of them are there
 abbrev pub order_from : Option ℕ → List Summary → (number first : ℕ) → List ℕ → Option (List ℕ)
 order_from least summaries number first [] = Some []
 order_from least summaries number first (past ∷ bounds) =
     if starts_late least first then order_from least summaries (number + 1) past bounds
-    else with_place (position_from (λ (s : Summary). s.number == number) 0 summaries) (order_from least summaries (number + 1) past bounds)
+    else with_place (position_from (λ (s : Summary). s.number == number) 0 summaries)
+    (order_from least summaries (number + 1) past bounds)
 
 -- the same of a whole split
 abbrev pub order_told : Option ℕ → List Summary → List ℕ → Option (List ℕ)

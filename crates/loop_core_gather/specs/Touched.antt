@@ -23,5 +23,6 @@ pub record MarksPages (old new : List ℕ) (pages : List ℕ) (bit : ℕ) : Type
 -- of the blocks at the first n of these places, the pages are marked, each block's by the bit of its number among
 -- them
 abbrev pub AreMarked : List BlockOf → List ℕ → (number : ℕ) → List ℕ → Type 0
-AreMarked blocks places number touched = (i : ℕ) (b : BlockOf) (page : ℕ) → i < number → slice_get blocks (slice_index places i) ≡ Some b →
+AreMarked blocks places number touched = (i : ℕ) (b : BlockOf) (page : ℕ) → i < number
+    → slice_get blocks (slice_index places i) ≡ Some b →
     has_page b.copy.pages page ≡ true → page < length touched → is_page_marked touched page i ≡ true

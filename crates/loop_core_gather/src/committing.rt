@@ -14,7 +14,8 @@ fn commit_page(words: &mut [u64], page: u32, gathered: &Gathered)
     requires within { page < words_for (length words.old) }
     requires few { length words.old ≤ 65536 }
     ensures count { length words.new ≡ length words.old }
-    ensures here { (e : ℕ) → e < length words.old → e / 64 ≡ page → slice_index words.new e ≡ slice_index gathered.now.words e }
+    ensures here { (e : ℕ) → e < length words.old → e / 64 ≡ page → slice_index words.new e ≡ slice_index
+        gathered.now.words e }
     ensures others { (e : ℕ) → e / 64 ≢ page → slice_index words.new e ≡ slice_index words.old e }
 {
     let first = page * PAGE;
@@ -30,7 +31,8 @@ pub(crate) fn commit(words: &mut [u64], touched: &[u64], gathered: &Gathered)
     requires count { length words.old ≡ length gathered.now.words }
     requires few { length words.old ≤ 65536 }
     requires pages { length touched.now ≡ words_for (length words.old) }
-    requires untouched { (e : ℕ) → e < length words.old → slice_index touched.now (e / 64) ≡ 0 → slice_index words.old e ≡ slice_index gathered.now.words e }
+    requires untouched { (e : ℕ) → e < length words.old → slice_index touched.now (e / 64) ≡ 0 → slice_index words.old e
+        ≡ slice_index gathered.now.words e }
     ensures { words.new ≡ gathered.now.words }
 {
     for (page, word) in touched.iter().enumerate() {

@@ -37,9 +37,14 @@ impl<'a> Model for Gathered<'a> {
 
     ghost Value = { Outcome };
 
-    ghost view = { λ g. record { verdict = g.verdict; answer = g.answer; words = left_words g.planes (chosen g.counting.items (map shown g.blocks.items)) g.start.now } };
+    ghost view = { λ g. record {
+      verdict = g.verdict;
+      answer = g.answer;
+      words = left_words g.planes (chosen g.counting.items (map shown g.blocks.items)) g.start.now;
+    } };
 
-    ghost invariant = { λ g. AreHeld (length g.start.now) (map shown g.blocks.items) g.counting.items g.planes g.touched.items };
+    ghost invariant = { λ g. AreHeld (length g.start.now) (map shown g.blocks.items) g.counting.items g.planes
+        g.touched.items };
 }
 
 impl<'a> Gathered<'a> {

@@ -76,8 +76,11 @@ pub fn gather<'a>(
     requires sizes { start.now.sizes ≡ program.now.sizes }
     requires split { split_fault split.now call.now.n ≡ None }
     requires ran { All (λ b. RecordsRun test program.now call.now start.now.words (shown b)) blocks.items }
-    ensures fault { (fault : FaultOf) → result ≡ Err (GatherError.Fault fault) → gather_fault split.now (all_gathered program.now call.now start.now.words (map shown blocks.entry.items)) ≡ Some fault }
-    ensures faultless { OnOk result (gather_fault split.now (all_gathered program.now call.now start.now.words (map shown blocks.entry.items)) ≡ None) }
+    ensures fault { (fault : FaultOf) → result ≡ Err (GatherError.Fault fault)
+        → gather_fault split.now (all_gathered program.now call.now start.now.words (map shown blocks.entry.items))
+        ≡ Some fault }
+    ensures faultless { OnOk result (gather_fault split.now (all_gathered program.now call.now start.now.words
+        (map shown blocks.entry.items)) ≡ None) }
     ensures told { IfOk result (HasOutcome test program.now call.now start.now.words) }
 {
     let summaries = summaries_of(alloc, &blocks)?;

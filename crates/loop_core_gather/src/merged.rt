@@ -37,7 +37,8 @@ pub(crate) fn merged_planes(
     ensures test { IfOk result (λ planes. test_of planes.tested ≡ test) }
     ensures whole { IfOk result ArePlanes }
     ensures stand { IfOk result StandForSome }
-    ensures visits { IfOk result (λ planes. (each : BlockOf → ℕ → List Visit) → All (λ b. StandFor b.planes (each b)) (map shown blocks.now) → StandFor planes (visits_at each (chosen places.now (map shown blocks.now)))) }
+    ensures visits { IfOk result (λ planes. (each : BlockOf → ℕ → List Visit) → All (λ b. StandFor b.planes (each b))
+        (map shown blocks.now) → StandFor planes (visits_at each (chosen places.now (map shown blocks.now)))) }
 {
     let mut planes = Planes::try_new(alloc, elements, test)?;
     for place in places {
@@ -52,7 +53,9 @@ pub(crate) fn conflicting_plane(alloc: Global, planes: &Planes) -> Result<Vec<u6
     requires few { planes.now.elements ≤ 65536 }
     ensures few { IfOk result (λ plane. length plane.items ≤ 1024) }
     ensures words { IfOk result (λ plane. AreWords plane.items) }
-    ensures elements { IfOk result (λ plane. (visits : ℕ → List Visit) → StandFor planes.now visits → elements_in_plane plane.items ≡ filter (λ e. marked_conflict (test_of planes.now.tested) (marks_of (visits e))) (range_with_len 0 planes.now.elements)) }
+    ensures elements { IfOk result (λ plane. (visits : ℕ → List Visit) → StandFor planes.now visits
+        → elements_in_plane plane.items ≡ filter (λ e. marked_conflict (test_of planes.now.tested)
+        (marks_of (visits e))) (range_with_len 0 planes.now.elements)) }
 {
     let mut plane = vec![in alloc; 0u64; (planes.elements as usize + 63) / 64]?;
     conflicts_touched::<LANES>(planes, plane.as_mut_slice());

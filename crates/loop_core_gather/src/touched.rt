@@ -61,7 +61,8 @@ pub(crate) fn touched_pages(
     requires places { All (λ place. place < length blocks.now) places.now }
     requires few { length places.now ≤ 64 }
     ensures pages { IfOk result (λ touched. length touched.items ≡ words_for elements) }
-    ensures marked { IfOk result (λ touched. AreMarked (map shown blocks.now) places.now (length places.now) touched.items) }
+    ensures marked { IfOk result (λ touched. AreMarked (map shown blocks.now) places.now (length places.now)
+        touched.items) }
 {
     let mut touched = vec![in alloc; 0u64; (elements as usize + 63) / 64]?;
     mark_all(touched.as_mut_slice(), blocks, places);

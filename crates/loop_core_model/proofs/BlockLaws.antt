@@ -13,7 +13,8 @@ mapped_same Unfinished = refl
 mapped_same (Ended iterations) = refl
 
 mapped_twice : (it : Iterated) (iterations : List Iterated) (e : BoundedResult (List Iterated)) →
-    mapped (λ others. it ∷ others) (mapped (λ others. iterations ++ others) e) ≡ mapped (λ others. (it ∷ iterations) ++ others) e
+    mapped (λ others. it ∷ others) (mapped (λ others. iterations ++ others) e) ≡ mapped (λ others. (it ∷ iterations)
+    ++ others) e
 mapped_twice it iterations Stuck = refl
 mapped_twice it iterations Unfinished = refl
 mapped_twice it iterations (Ended others) = refl
@@ -31,7 +32,8 @@ more_followed it (Ended iterations) far on = rw on (go (has_break iterations))
     go false = mapped_twice it iterations far
 
 one_followed : (near far : BoundedResult (List Iterated)) (e : BoundedResult Iterated) →
-    followed (up_to_break (followed (unless_break far) near)) e ≡ followed (unless_break far) (followed (up_to_break near) e)
+    followed (up_to_break (followed (unless_break far) near)) e ≡ followed (unless_break far)
+    (followed (up_to_break near) e)
 one_followed near far Stuck = refl
 one_followed near far Unfinished = refl
 one_followed near far (Ended it) = go (it.ret == 1) refl
@@ -46,7 +48,8 @@ pub scans_follow : ScansFollow
 scans_follow iterate zero more index =
     let none : zero + more ≡ more = omega arith in
     let here : index + zero ≡ index = omega arith in
-    ap (λ n. scan iterate n index) none ∙ sym (mapped_same (scan iterate more index)) ∙ ap (λ i. followed (unless_break (scan iterate more i)) (Ended [])) (sym here)
+    ap (λ n. scan iterate n index) none ∙ sym (mapped_same (scan iterate more index))
+    ∙ ap (λ i. followed (unless_break (scan iterate more i)) (Ended [])) (sym here)
 scans_follow iterate (suc few) more index =
     let one_more : suc few + more ≡ suc (few + more) = omega arith in
     let there : index + 1 + few ≡ index + suc few = omega arith in

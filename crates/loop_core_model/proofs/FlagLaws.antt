@@ -44,7 +44,8 @@ and_false true c = refl
 and_false false true = refl
 and_false false false = refl
 
-flags_next : (actions : List Action) (action : Action) → flags_of (actions ++ action ∷ []) ≡ flagged (flags_of actions) (kind_of action)
+flags_next : (actions : List Action) (action : Action) → flags_of (actions ++ action ∷ []) ≡ flagged (flags_of actions)
+    (kind_of action)
 flags_next actions (Read saw) = same_flags _ _ (record {
   wrote = any_more is_write actions (Read saw) ∙ or-false (writes actions);
   looked = looked_more actions (Read saw) ∙ and_true (exposed actions) (writes actions);

@@ -9,26 +9,31 @@ use Rattle.loop_core_model.specs.Conflict.{fails_lrpd, fails_flow, conflicts, at
 use Rattle.loop_core_model.proofs.OneElement.{and_false, fails_flow-fails_lrpd}
 
 -- what both tests keep is what the narrower one keeps
-filter_both : (wide narrow : ℕ → Bool) → ((e : ℕ) → wide e ≡ false → narrow e ≡ false) → (xs : List ℕ) → filter narrow xs ≡ filter narrow (filter wide xs)
+filter_both : (wide narrow : ℕ → Bool) → ((e : ℕ) → wide e ≡ false → narrow e ≡ false) → (xs : List ℕ)
+    → filter narrow xs ≡ filter narrow (filter wide xs)
 filter_both wide narrow only [] = refl
 filter_both wide narrow only (x ∷ xs) = go (wide x) (only x) (filter_both wide narrow only xs)
   where
     go : (w : Bool) → (w ≡ false → narrow x ≡ false) → filter narrow xs ≡ filter narrow (filter wide xs) →
-        cond (narrow x) (x ∷ filter narrow xs) (filter narrow xs) ≡ filter narrow (cond w (x ∷ filter wide xs) (filter wide xs))
+        cond (narrow x) (x ∷ filter narrow xs) (filter narrow xs) ≡ filter narrow
+        (cond w (x ∷ filter wide xs) (filter wide xs))
     go true later rest = ap (λ kept. cond (narrow x) (x ∷ kept) kept) rest
     go false later rest = rw (later refl) rest
 
 narrower : (iterations : List (List Action)) → conflicts Lrpd iterations ≡ false → conflicts Flow iterations ≡ false
 narrower iterations h =
-    and_false (is_none (only_operator (joined iterations))) (fails_lrpd iterations) (fails_flow iterations) (fails_flow-fails_lrpd iterations) h
+    and_false (is_none (only_operator (joined iterations))) (fails_lrpd iterations) (fails_flow iterations)
+    (fails_flow-fails_lrpd iterations) h
 
 flow_elements : (runs : List (List Access)) (elements : ℕ) →
     conflicting Flow runs elements ≡ filter (λ e. conflicts Flow (at_element e runs)) (conflicting Lrpd runs elements)
 flow_elements runs elements =
-    filter_both (λ e. conflicts Lrpd (at_element e runs)) (λ e. conflicts Flow (at_element e runs)) (λ e. narrower (at_element e runs)) (range_with_len 0 elements)
+    filter_both (λ e. conflicts Lrpd (at_element e runs)) (λ e. conflicts Flow (at_element e runs))
+    (λ e. narrower (at_element e runs)) (range_with_len 0 elements)
 
 pub flow_passes_more : FlowPassesMore
 flow_passes_more = record {
   elements = flow_elements;
-  passes = λ runs elements none. flow_elements runs elements ∙ ap (filter (λ e. conflicts Flow (at_element e runs))) none;
+  passes = λ runs elements none. flow_elements runs elements ∙ ap (filter (λ e. conflicts Flow (at_element e runs)))
+      none;
 }

@@ -8,14 +8,17 @@ use Rattle.loop_core_model.specs.Kept.{kept, committed_of_kept}
 use Rattle.loop_core_model.proofs.KeptLaws.{commits_of_kept}
 use Rattle.loop_core_model.specs.KeptLaw.{marks_of_blocks, KeptBlocksTell}
 
-numbered-append : (index : ℕ) (xs ys : List (List Action)) → numbered index (xs ++ ys) ≡ numbered index xs ++ numbered (index + length xs) ys
+numbered-append : (index : ℕ) (xs ys : List (List Action)) → numbered index (xs ++ ys) ≡ numbered index xs
+    ++ numbered (index + length xs) ys
 numbered-append index [] ys = let here : index ≡ index + 0 = omega arith in ap (λ n. numbered n ys) here
 numbered-append index (x ∷ xs) ys =
     let there : index + 1 + length xs ≡ index + length (x ∷ xs) = omega arith in
     let visit : Visit = record { index = index; actions = x } in
-    ap (λ rest. visit ∷ rest) (numbered-append (index + 1) xs ys ∙ ap (λ n. numbered (index + 1) xs ++ numbered n ys) there)
+    ap (λ rest. visit ∷ rest) (numbered-append (index + 1) xs ys ∙ ap (λ n. numbered (index + 1) xs ++ numbered n ys)
+    there)
 
-marks_of-blocks : (index : ℕ) (blocks : List (List (List Action))) → marks_of (numbered index (joined blocks)) ≡ marks_of_blocks index blocks
+marks_of-blocks : (index : ℕ) (blocks : List (List (List Action))) → marks_of (numbered index (joined blocks))
+    ≡ marks_of_blocks index blocks
 marks_of-blocks index [] = marks_merge.none
 marks_of-blocks index (block ∷ blocks) =
     ap marks_of (numbered-append index block (joined blocks))
@@ -25,7 +28,8 @@ marks_of-blocks index (block ∷ blocks) =
 pub kept_blocks_tell : KeptBlocksTell
 kept_blocks_tell = record {
   marks = marks_of-blocks;
-  conflict = λ test index blocks. marks_tell.conflict test index (joined blocks) ∙ ap (marked_conflict test) (marks_of-blocks index blocks);
+  conflict = λ test index blocks. marks_tell.conflict test index (joined blocks)
+      ∙ ap (marked_conflict test) (marks_of-blocks index blocks);
   commit = λ index blocks word.
       commits_of_kept blocks word
       ∙ ap (λ reduction. committed_of_kept reduction (map (λ iterations. kept iterations word) blocks) word)

@@ -23,7 +23,8 @@ partial_applied op (ReadWrite saw left ∷ actions) word h = absurd (cc)
 partial_applied op (Reduce other operand ∷ actions) word h =
     let same : op ≡ other = same_op op other (and_true_left (is_same op other) _ h) in
     let all : list_all (reduces_by op) actions ≡ true = and_true_right (is_same op other) _ h in
-    subst (λ (o : Op). applied word (partial_by (if list_all (reduces_by o) actions then Some o else None) (operand ∷ operands actions))
+    subst (λ (o : Op). applied word (partial_by (if list_all (reduces_by o) actions then Some o else None) (operand
+    ∷ operands actions))
     ≡ fold (combined op) (combined op word operand) (operands actions)) same
     (rw all (fold_at_once op word operand (operands actions)))
 
@@ -32,37 +33,48 @@ joined-append [] ys = refl
 joined-append (x ∷ xs) ys = ap (λ rest. x ++ rest) (joined-append xs ys) ∙ sym (append_assoc x (joined xs) (joined ys))
 
 -- reductions
-all_applied : (op : Op) (blocks : List (List (List Action))) (start word : ℕ) → list_all (reduces_by op) (joined (joined blocks)) ≡ true →
-    fold (combined op) word (operands (joined (joined blocks))) ≡ fold applied word (map (λ (k : Kept). k.partial) (map (λ iterations. kept iterations start) blocks))
+all_applied : (op : Op) (blocks : List (List (List Action))) (start word : ℕ)
+    → list_all (reduces_by op) (joined (joined blocks)) ≡ true →
+    fold (combined op) word (operands (joined (joined blocks))) ≡ fold applied word (map (λ (k : Kept). k.partial)
+    (map (λ iterations. kept iterations start) blocks))
 all_applied op [] start word h = refl
 all_applied op (block ∷ blocks) start word h =
-    let parts : joined (block ++ joined blocks) ≡ joined block ++ joined (joined blocks) = joined-append block (joined blocks) in
-    let all : list_all (reduces_by op) (joined block ++ joined (joined blocks)) ≡ true = subst (λ (actions : List Action). list_all (reduces_by op) actions ≡ true) parts h in
+    let parts : joined (block ++ joined blocks) ≡ joined block ++ joined (joined blocks) =
+    joined-append block (joined blocks) in
+    let all : list_all (reduces_by op) (joined block ++ joined (joined blocks)) ≡ true =
+    subst (λ (actions : List Action). list_all (reduces_by op) actions ≡ true) parts h in
     ap (λ actions. fold (combined op) word (operands actions)) parts
     ∙ ap (fold (combined op) word) (filter_map-append operand_of (joined block) (joined (joined blocks)))
     ∙ fold-append (combined op) word (operands (joined block)) (operands (joined (joined blocks)))
-    ∙ ap (λ w. fold (combined op) w (operands (joined (joined blocks)))) (sym (partial_applied op (joined block) word (all_left (reduces_by op) (joined block) (joined (joined blocks)) all)))
-    ∙ all_applied op blocks start (applied word (partial block)) (all_right (reduces_by op) (joined block) (joined (joined blocks)) all)
+    ∙ ap (λ w. fold (combined op) w (operands (joined (joined blocks))))
+    (sym (partial_applied op (joined block) word (all_left (reduces_by op) (joined block) (joined (joined blocks))
+    all)))
+    ∙ all_applied op blocks start (applied word (partial block)) (all_right (reduces_by op) (joined block)
+    (joined (joined blocks)) all)
 
 -- last writers
-pub last_that-append : (test : List Action → Bool) (xs ys : List (List Action)) → last_that test (xs ++ ys) ≡ option_or (last_that test ys) (last_that test xs)
+pub last_that-append : (test : List Action → Bool) (xs ys : List (List Action)) → last_that test (xs ++ ys)
+    ≡ option_or (last_that test ys) (last_that test xs)
 last_that-append test [] ys = or_none (last_that test ys)
   where
     or_none : (o : Option (List Action)) → o ≡ option_or o None
     or_none None = refl
     or_none (Some actions) = refl
 last_that-append test (x ∷ xs) ys =
-    ap (λ o. option_or o (if test x then Some x else None)) (last_that-append test xs ys) ∙ or_or (last_that test ys) (last_that test xs) (if test x then Some x else None)
+    ap (λ o. option_or o (if test x then Some x else None)) (last_that-append test xs ys)
+    ∙ or_or (last_that test ys) (last_that test xs) (if test x then Some x else None)
   where
     or_or : (a b c : Option (List Action)) → option_or (option_or a b) c ≡ option_or a (option_or b c)
     or_or None b c = refl
     or_or (Some actions) b c = refl
 
-map_or : (f : List Action → ℕ) (a b : Option (List Action)) → option_map f (option_or a b) ≡ option_or (option_map f a) (option_map f b)
+map_or : (f : List Action → ℕ) (a b : Option (List Action)) → option_map f (option_or a b) ≡ option_or (option_map f a)
+    (option_map f b)
 map_or f None b = refl
 map_or f (Some actions) b = refl
 
-last_kept : (blocks : List (List (List Action))) (word : ℕ) → last_value (joined blocks) word ≡ last_of (map (λ (k : Kept). k.last_value) (map (λ iterations. kept iterations word) blocks))
+last_kept : (blocks : List (List (List Action))) (word : ℕ) → last_value (joined blocks) word
+    ≡ last_of (map (λ (k : Kept). k.last_value) (map (λ iterations. kept iterations word) blocks))
 last_kept [] word = refl
 last_kept (block ∷ blocks) word =
     ap (option_map (λ actions. left_by_all actions word)) (last_that-append writes block (joined blocks))
@@ -73,6 +85,7 @@ pub commits_of_kept : CommitsOfKept
 commits_of_kept blocks word = go (only_operator (joined (joined blocks))) refl
   where
     go : (o : Option Op) → only_operator (joined (joined blocks)) ≡ o →
-        committed_by o (joined blocks) word ≡ committed_of_kept (is_some o) (map (λ iterations. kept iterations word) blocks) word
+        committed_by o (joined blocks) word ≡ committed_of_kept (is_some o) (map (λ iterations. kept iterations word)
+        blocks) word
     go None same = ap (λ o. unwrap_or o word) (last_kept blocks word)
     go (Some op) same = all_applied op blocks word word (only_reduces op (joined (joined blocks)) same)

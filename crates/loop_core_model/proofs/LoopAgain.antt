@@ -40,7 +40,8 @@ pub record AreEnded (endings : List (BoundedResult Iterated)) (runs : List (List
   pub each : AllByRecursion IsEnded endings
   pub made : map accesses_of endings ≡ runs
 
-are_ended : (endings : List (BoundedResult Iterated)) (its : List Iterated) → all_ended endings ≡ Ended its → AreEnded endings (accesses_of_each its)
+are_ended : (endings : List (BoundedResult Iterated)) (its : List Iterated) → all_ended endings ≡ Ended its
+    → AreEnded endings (accesses_of_each its)
 are_ended [] its h = record { each = tt; made = (let none : [] ≡ its = cc in ap accesses_of_each none) }
 are_ended (Stuck ∷ endings) its h = absurd (cc)
 are_ended (Unfinished ∷ endings) its h = absurd (cc)
@@ -52,7 +53,8 @@ are_ended (Ended it ∷ endings) its h =
       made = ap (λ runs. it.accesses ∷ runs) rest.made ∙ ap accesses_of_each (sym parts.2);
     }
 
-runs_ended : (endings : List (BoundedResult Iterated)) (runs : List (List Access)) → mapped accesses_of_each (all_ended endings) ≡ Ended runs → AreEnded endings runs
+runs_ended : (endings : List (BoundedResult Iterated)) (runs : List (List Access))
+    → mapped accesses_of_each (all_ended endings) ≡ Ended runs → AreEnded endings runs
 runs_ended endings runs h =
     let parts = mapped_from accesses_of_each (all_ended endings) runs h in
     subst (AreEnded endings) (sym parts.2) (are_ended endings parts.0 parts.1)
@@ -77,48 +79,67 @@ module _ (program : Program) (bound : ℕ) (call : LoopCall) (start : List ℕ) 
   EndsWith count left index = EndsAt breaks count left index
 
   -- one iteration of the loop in order, where it sees the same
-  step_again : (left index : ℕ) (now : List ℕ) (it : Iterated) → speculated index ≡ Ended it → length now ≡ length start → Saws it.accesses now →
+  step_again : (left index : ℕ) (now : List ℕ) (it : Iterated) → speculated index ≡ Ended it → length now ≡ length start
+      → Saws it.accesses now →
       loop_from program bound call (suc left) index now
-      ≡ (if it.ret == 1 then loop_end (index + 1) (words_after_all it.accesses now) else loop_from program bound call left (index + 1) (words_after_all it.accesses now))
+      ≡ (if it.ret == 1 then loop_end (index + 1) (words_after_all it.accesses now)
+      else loop_from program bound call left (index + 1) (words_after_all it.accesses now))
   step_again left index now it same long saws =
-      ap (followed (behind (loop_from program bound call left (index + 1)) index)) ((iteration_local program bound call index).again start now it same long saws)
+      ap (followed (behind (loop_from program bound call left (index + 1)) index))
+      ((iteration_local program bound call index).again start now it same long saws)
 
   -- the first iteration breaks: it is the last
-  last_one : (count : ℕ) (left index : ℕ) (now : List ℕ) (it : Iterated) → speculated index ≡ Ended it → (it.ret == 1) ≡ true →
+  last_one : (count : ℕ) (left index : ℕ) (now : List ℕ) (it : Iterated) → speculated index ≡ Ended it
+      → (it.ret == 1) ≡ true →
       EndsWith (suc count) (suc left) index →
-      loop_end (index + 1) (words_after_all it.accesses now) ≡ loop_end (index + suc count) (words_after_all (it.accesses ++ joined (runs_from (index + 1) count)) now)
-  last_one zero left index now it same one ends = ap (λ accesses. loop_end (index + 1) (words_after_all accesses now)) (sym (append-nil it.accesses))
+      loop_end (index + 1) (words_after_all it.accesses now) ≡ loop_end (index + suc count)
+      (words_after_all (it.accesses ++ joined (runs_from (index + 1) count)) now)
+  last_one zero left index now it same one ends = ap (λ accesses. loop_end (index + 1) (words_after_all accesses now))
+      (sym (append-nil it.accesses))
   last_one (suc count) left index now it same one ends =
-      absurd (let none : suc count ≡ 0 = ends_here breaks (suc count) left index (ap is_break same ∙ one) ends in omega arith)
+      absurd (let none : suc count ≡ 0 = ends_here breaks (suc count) left index (ap is_break same ∙ one) ends in
+      omega arith)
 
   -- what is claimed of the loop from an index on
   abbrev pub GoesAgain : (count left index : ℕ) → List ℕ → Type 0
   GoesAgain count left index now =
-      loop_from program bound call left index now ≡ loop_end (index + count) (words_after_all (joined (runs_from index count)) now)
+      loop_from program bound call left index now ≡ loop_end (index + count)
+      (words_after_all (joined (runs_from index count)) now)
 
-  turn_again : (count left index : ℕ) (now : List ℕ) (e : BoundedResult Iterated) → speculated index ≡ e → IsEnded e → length now ≡ length start →
-      Saws (accesses_of e) now → InTurn (runs_from (index + 1) count) (words_after_all (accesses_of e) now) → EndsWith (suc count) (suc left) index →
-      ((words : List ℕ) → InTurn (runs_from (index + 1) count) words → length words ≡ length start → EndsWith count left (index + 1) →
+  turn_again : (count left index : ℕ) (now : List ℕ) (e : BoundedResult Iterated) → speculated index ≡ e → IsEnded e
+      → length now ≡ length start →
+      Saws (accesses_of e) now → InTurn (runs_from (index + 1) count) (words_after_all (accesses_of e) now)
+      → EndsWith (suc count) (suc left) index →
+      ((words : List ℕ) → InTurn (runs_from (index + 1) count) words → length words ≡ length start
+      → EndsWith count left (index + 1) →
       GoesAgain count left (index + 1) words) →
-      loop_from program bound call (suc left) index now ≡ loop_end (index + suc count) (words_after_all (accesses_of e ++ joined (runs_from (index + 1) count)) now)
+      loop_from program bound call (suc left) index now ≡ loop_end (index + suc count)
+      (words_after_all (accesses_of e ++ joined (runs_from (index + 1) count)) now)
   turn_again count left index now Stuck same ended long saws turns ends later = absurd ended
   turn_again count left index now Unfinished same ended long saws turns ends later = absurd ended
   turn_again count left index now (Ended it) same ended long saws turns ends later =
       step_again left index now it same long saws ∙ go (it.ret == 1) refl
     where
       go : (one : Bool) → (it.ret == 1) ≡ one →
-          (if one then loop_end (index + 1) (words_after_all it.accesses now) else loop_from program bound call left (index + 1) (words_after_all it.accesses now))
+          (if one then loop_end (index + 1) (words_after_all it.accesses now) else loop_from program bound call left
+          (index + 1) (words_after_all it.accesses now))
           ≡ loop_end (index + suc count) (words_after_all (it.accesses ++ joined (runs_from (index + 1) count)) now)
       go true one = last_one count left index now it same one ends
       go false one =
           let answer : index + 1 + count ≡ index + suc count = omega arith in
-          later (words_after_all it.accesses now) turns (length-words_after_all it.accesses now ∙ long) (ends_next breaks count left index (ap is_break same ∙ one) ends)
-          ∙ ap (λ n. loop_end n (words_after_all (joined (runs_from (index + 1) count)) (words_after_all it.accesses now))) answer
-          ∙ ap (loop_end (index + suc count)) (sym (words_after_all-append it.accesses (joined (runs_from (index + 1) count)) now))
+          later (words_after_all it.accesses now) turns (length-words_after_all it.accesses now ∙ long)
+          (ends_next breaks count left index (ap is_break same ∙ one) ends)
+          ∙ ap (λ n. loop_end n (words_after_all (joined (runs_from (index + 1) count))
+          (words_after_all it.accesses now))) answer
+          ∙ ap (loop_end (index + suc count))
+          (sym (words_after_all-append it.accesses (joined (runs_from (index + 1) count)) now))
 
-  pub loop_again : (count left index : ℕ) (now : List ℕ) → count ≤ left → AllByRecursion IsEnded (map speculated (range_with_len index count)) →
-      InTurn (runs_from index count) now → length now ≡ length start → EndsWith count left index → GoesAgain count left index now
-  loop_again zero zero index now within ended turns long ends = ap (λ answer. loop_end answer now) (sym (add-zero index))
+  pub loop_again : (count left index : ℕ) (now : List ℕ) → count ≤ left
+      → AllByRecursion IsEnded (map speculated (range_with_len index count)) →
+      InTurn (runs_from index count) now → length now ≡ length start → EndsWith count left index
+      → GoesAgain count left index now
+  loop_again zero zero index now within ended turns long ends =
+      ap (λ answer. loop_end answer now) (sym (add-zero index))
   loop_again zero (suc left) index now within ended turns long ends = absurd (ends_somewhere breaks left index ends)
   loop_again (suc count) zero index now within ended turns long ends = absurd (omega arith)
   loop_again (suc count) (suc left) index now within ended turns long ends =
@@ -126,7 +147,8 @@ module _ (program : Program) (bound : ℕ) (call : LoopCall) (start : List ℕ) 
       (λ words turns' long' ends'. loop_again count left (index + 1) words (omega arith) ended.1 turns' long' ends')
 
   -- each iteration saw the start words
-  saws_start : (index count : ℕ) → AllByRecursion IsEnded (map speculated (range_with_len index count)) → AllByRecursion (λ accesses. Saws accesses start) (runs_from index count)
+  saws_start : (index count : ℕ) → AllByRecursion IsEnded (map speculated (range_with_len index count))
+      → AllByRecursion (λ accesses. Saws accesses start) (runs_from index count)
   saws_start index zero ended = tt
   saws_start index (suc count) ended = (go (speculated index) refl ended.0, saws_start (index + 1) count ended.1)
     where
@@ -150,28 +172,34 @@ all_in_order program bound call words ended unharmed =
     let runs : List (List Access) = map accesses_of (counted_iterations program bound call words) in
     let count : ℕ = counted program bound call words in
     let counts = counts_to (breaks program bound call words) call.n in
-    let turns : InTurn runs words = in_turn_at_start runs words (saws_start program bound call words 0 count ended) unharmed in
+    let turns : InTurn runs words = in_turn_at_start runs words (saws_start program bound call words 0 count ended)
+    unharmed in
     let answer : 0 + count ≡ count = omega arith in
-    loop_again program bound call words count call.n 0 words counts.within ended turns refl (ends_at_zero (breaks program bound call words) call.n count counts)
+    loop_again program bound call words count call.n 0 words counts.within ended turns refl
+    (ends_at_zero (breaks program bound call words) call.n count counts)
     ∙ ap (λ n. loop_end n (words_after_all (joined runs) words)) answer
     ∙ ap (loop_end count) (all_committed runs words unharmed)
 
 -- the same of the accesses of the counted iterations
 unharmed_in_order : (program : Program) (bound : ℕ) (call : LoopCall) (words : List ℕ) (runs : List (List Access)) →
-    counted_runs program bound call words ≡ Ended runs → UnharmedEach runs (length words) → IsInOrder program bound call words runs
+    counted_runs program bound call words ≡ Ended runs → UnharmedEach runs (length words)
+    → IsInOrder program bound call words runs
 unharmed_in_order program bound call words runs same unharmed =
     let are = runs_ended (counted_iterations program bound call words) runs same in
     subst (IsInOrder program bound call words) are.made
-    (all_in_order program bound call words are.each (subst (λ (rs : List (List Access)). UnharmedEach rs (length words)) (sym are.made) unharmed))
+    (all_in_order program bound call words are.each (subst (λ (rs : List (List Access)). UnharmedEach rs (length words))
+    (sym are.made) unharmed))
 
 -- what doesn't conflict by either test is unharmed
 not_harmed : (test : Test) (iterations : List (List Action)) → conflicts test iterations ≡ false → Unharmed iterations
 not_harmed Lrpd iterations h =
-    and_false (is_none (only_operator (joined iterations))) (fails_lrpd iterations) (fails_flow iterations) (fails_flow-fails_lrpd iterations) h
+    and_false (is_none (only_operator (joined iterations))) (fails_lrpd iterations) (fails_flow iterations)
+    (fails_flow-fails_lrpd iterations) h
 not_harmed Flow iterations h = h
 
 -- what passes is unharmed
-passes_unharmed : (test : Test) (runs : List (List Access)) (elements : ℕ) → conflicting test runs elements ≡ [] → UnharmedEach runs elements
+passes_unharmed : (test : Test) (runs : List (List Access)) (elements : ℕ) → conflicting test runs elements ≡ []
+    → UnharmedEach runs elements
 passes_unharmed test runs elements none e inside =
     not_harmed test (at_element e runs)
     (filter_none (λ e. conflicts test (at_element e runs)) 0 elements none e (omega arith) (omega arith))

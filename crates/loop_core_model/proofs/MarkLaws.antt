@@ -48,16 +48,20 @@ numbered_actions index (it ∷ its) = ap (λ rest. it ∷ rest) (numbered_action
 
 -- the marks of numbered iterations are those of their actions
 reduction_of : (its : List (List Action)) → is_some (only_operator (joined its))
-    ≡ (not (list_any (λ actions. list_any is_plain actions) its) && (count_by (λ op. list_any (λ actions. list_any (reduces_by op) actions) its) operators == 1))
+    ≡ (not (list_any (λ actions. list_any is_plain actions) its)
+    && (count_by (λ op. list_any (λ actions. list_any (reduces_by op) actions) its) operators == 1))
 reduction_of its =
     only-kept (joined its)
     ∙ ap (λ b. not b && (count_by (has (joined its)) operators == 1)) (sym (any-joined is_plain its))
-    ∙ ap (λ (test : Op → Bool). not (list_any (λ actions. list_any is_plain actions) its) && (count_by test operators == 1)) (λ i op. sym (any-joined (reduces_by op) its) i)
+    ∙ ap (λ (test : Op → Bool). not (list_any (λ actions. list_any is_plain actions) its)
+    && (count_by test operators == 1)) (λ i op. sym (any-joined (reduces_by op) its) i)
 
-reduction : (index : ℕ) (its : List (List Action)) → is_some (only_operator (joined its)) ≡ marked_reduction (marks_of (numbered index its))
+reduction : (index : ℕ) (its : List (List Action)) → is_some (only_operator (joined its)) ≡ marked_reduction
+    (marks_of (numbered index its))
 reduction index its =
     reduction_of its
-    ∙ ap (λ (all : List (List Action)). not (list_any (λ actions. list_any is_plain actions) all) && (count_by (λ op. list_any (λ actions. list_any (reduces_by op) actions) all) operators == 1))
+    ∙ ap (λ (all : List (List Action)). not (list_any (λ actions. list_any is_plain actions) all)
+    && (count_by (λ op. list_any (λ actions. list_any (reduces_by op) actions) all) operators == 1))
     (sym (numbered_actions index its))
 
 -- a mark that needs a writer is a mark of a written element
@@ -72,7 +76,8 @@ read_and_written its = list_any (λ actions. exposed actions && writes actions) 
 
 read_and_written-written : (its : List (List Action)) → (read_and_written its && written its) ≡ read_and_written its
 read_and_written-written [] = refl
-read_and_written-written (it ∷ its) = go (exposed it) (writes it) (read_and_written its) (written its) (read_and_written-written its)
+read_and_written-written (it ∷ its) = go (exposed it) (writes it) (read_and_written its) (written its)
+    (read_and_written-written its)
   where
     go : (E W np w : Bool) → (np && w) ≡ np → (((E && W) || np) && (W || w)) ≡ ((E && W) || np)
     go E W np w h = grind (arith, nat_tests)
@@ -87,21 +92,26 @@ two_write-written (it ∷ its) = go (writes it) (two_write its) (written its) (t
 -- an exposed read is by one that writes or by one that doesn't
 exposed_split : (its : List (List Action)) → list_any exposed its ≡ (read_only its || read_and_written its)
 exposed_split [] = refl
-exposed_split (it ∷ its) = ap (λ b. exposed it || b) (exposed_split its) ∙ go (exposed it) (writes it) (read_only its) (read_and_written its)
+exposed_split (it ∷ its) = ap (λ b. exposed it || b) (exposed_split its) ∙ go (exposed it) (writes it) (read_only its)
+    (read_and_written its)
   where
     go : (E W r np : Bool) → (E || (r || np)) ≡ (((E && not W) || r) || ((E && W) || np))
     go E W r np = grind (arith, nat_tests)
 
 clash_step : (W E r w np m : Bool) → (np && w) ≡ np → (m && w) ≡ m →
-    ((W && (r || np)) || ((E && w) || ((r && w) || (np && m)))) ≡ ((((E && not W) || r) && (W || w)) || (((E && W) || np) && ((W && w) || m)))
+    ((W && (r || np)) || ((E && w) || ((r && w) || (np && m)))) ≡ ((((E && not W) || r) && (W || w))
+    || (((E && W) || np) && ((W && w) || m)))
 clash_step W E r w np m h k = grind (arith, nat_tests)
 
-clash_marked : (its : List (List Action)) → fails_lrpd its ≡ ((read_only its && written its) || (read_and_written its && two_write its))
+clash_marked : (its : List (List Action)) → fails_lrpd its ≡ ((read_only its && written its)
+    || (read_and_written its && two_write its))
 clash_marked [] = refl
 clash_marked (it ∷ its) =
     ap (λ b. (writes it && b) || ((exposed it && list_any writes its) || fails_lrpd its)) (exposed_split its)
-    ∙ ap (λ b. (writes it && (read_only its || read_and_written its)) || ((exposed it && list_any writes its) || b)) (clash_marked its)
-    ∙ clash_step (writes it) (exposed it) (read_only its) (written its) (read_and_written its) (two_write its) (read_and_written-written its) (two_write-written its)
+    ∙ ap (λ b. (writes it && (read_only its || read_and_written its)) || ((exposed it && list_any writes its) || b))
+    (clash_marked its)
+    ∙ clash_step (writes it) (exposed it) (read_only its) (written its) (read_and_written its) (two_write its)
+    (read_and_written-written its) (two_write-written its)
 
 -- the first writer of iterations from an index on has no lesser index
 abbrev pub FromIndex : ℕ → Option ℕ → Type 0
@@ -129,7 +139,8 @@ last_step index true last h = inr (omega arith)
 last_step index false last (inl h) = inl (omega arith)
 last_step index false last (inr h) = inr (omega arith)
 
-reads_step : (index : ℕ) (E : Bool) (last : ℕ) (reads : Bool) → reads ≡ not (last == 0) → (E || reads) ≡ not (max (one_reader index E) last == 0)
+reads_step : (index : ℕ) (E : Bool) (last : ℕ) (reads : Bool) → reads ≡ not (last == 0)
+    → (E || reads) ≡ not (max (one_reader index E) last == 0)
 reads_step index true last reads h = grind (arith, nat_tests)
 reads_step index false last reads h = grind (arith, nat_tests)
 
@@ -149,13 +160,16 @@ covered : (reads harmed late : Bool) → harmed ≡ (reads && late) → (reads |
 covered true harmed late h = refl
 covered false harmed late h = h
 
-flow_step : (index : ℕ) (W E : Bool) (first : Option ℕ) (last : ℕ) (reads harmed : Bool) → FlowFacts (index + 1) first last reads harmed →
-    FlowFacts index (lesser (if W then Some index else None) first) (max (one_reader index E) last) (E || reads) ((W && reads) || harmed)
+flow_step : (index : ℕ) (W E : Bool) (first : Option ℕ) (last : ℕ) (reads harmed : Bool)
+    → FlowFacts (index + 1) first last reads harmed →
+    FlowFacts index (lesser (if W then Some index else None) first) (max (one_reader index E) last) (E || reads)
+    ((W && reads) || harmed)
 flow_step index true E None last reads harmed facts = record {
   late_first = omega arith;
   late_last = last_step index E last facts.late_last;
   reads_is = reads_step index E last reads facts.reads_is;
-  harm_is = rw (facts.harm_is, or-false) (facts.reads_is ∙ harmed_by_this index (one_reader index E) last (reader_small index E) facts.late_last);
+  harm_is = rw (facts.harm_is, or-false) (facts.reads_is ∙ harmed_by_this index (one_reader index E) last
+      (reader_small index E) facts.late_last);
 }
 flow_step index true E (Some first) last reads harmed facts = record {
   late_first = (let h = facts.late_first in omega arith);
@@ -163,7 +177,8 @@ flow_step index true E (Some first) last reads harmed facts = record {
   reads_is = reads_step index E last reads facts.reads_is;
   harm_is =
       let least : min index first ≡ index = (let h = facts.late_first in omega arith) in
-      rw least (covered reads harmed (nat_lt first (last - 1)) (facts.harm_is ∙ ap (λ b. b && nat_lt first (last - 1)) (sym facts.reads_is))
+      rw least (covered reads harmed (nat_lt first (last - 1)) (facts.harm_is ∙ ap (λ b. b && nat_lt first (last - 1))
+      (sym facts.reads_is))
       ∙ facts.reads_is ∙ harmed_by_this index (one_reader index E) last (reader_small index E) facts.late_last);
 }
 flow_step index false E None last reads harmed facts = record {
@@ -176,23 +191,29 @@ flow_step index false E (Some first) last reads harmed facts = record {
   late_first = (let h = facts.late_first in omega arith);
   late_last = last_step index E last facts.late_last;
   reads_is = reads_step index E last reads facts.reads_is;
-  harm_is = facts.harm_is ∙ harmed_later index first (one_reader index E) last (reader_small index E) facts.late_first facts.late_last;
+  harm_is = facts.harm_is ∙ harmed_later index first (one_reader index E) last (reader_small index E) facts.late_first
+      facts.late_last;
 }
 
 flow_facts : (index : ℕ) (its : List (List Action)) →
-    FlowFacts index (first_writer (numbered index its)) (last_reader (numbered index its)) (list_any exposed its) (fails_flow its)
+    FlowFacts index (first_writer (numbered index its)) (last_reader (numbered index its)) (list_any exposed its)
+    (fails_flow its)
 flow_facts index [] = record { late_first = tt; late_last = inl refl; reads_is = refl; harm_is = refl }
 flow_facts index (it ∷ its) =
-    flow_step index (writes it) (exposed it) (first_writer (numbered (index + 1) its)) (last_reader (numbered (index + 1) its)) (list_any exposed its) (fails_flow its)
+    flow_step index (writes it) (exposed it) (first_writer (numbered (index + 1) its))
+    (last_reader (numbered (index + 1) its)) (list_any exposed its) (fails_flow its)
     (flow_facts (index + 1) its)
 
-fails_marked : (test : Test) (index : ℕ) (its : List (List Action)) → fails test its ≡ marked_fails test (marks_of (numbered index its))
+fails_marked : (test : Test) (index : ℕ) (its : List (List Action)) → fails test its ≡ marked_fails test
+    (marks_of (numbered index its))
 fails_marked Lrpd index its =
     clash_marked its
-    ∙ ap (λ (all : List (List Action)). (read_only all && written all) || (read_and_written all && two_write all)) (sym (numbered_actions index its))
+    ∙ ap (λ (all : List (List Action)). (read_only all && written all) || (read_and_written all && two_write all))
+    (sym (numbered_actions index its))
 fails_marked Flow index its = (flow_facts index its).harm_is
 
-conflict : (test : Test) (index : ℕ) (its : List (List Action)) → conflicts test its ≡ marked_conflict test (marks_of (numbered index its))
+conflict : (test : Test) (index : ℕ) (its : List (List Action)) → conflicts test its ≡ marked_conflict test
+    (marks_of (numbered index its))
 conflict test index its =
     ap (λ b. not b && fails test its) (reduction index its)
     ∙ ap (λ b. not (marked_reduction (marks_of (numbered index its))) && b) (fails_marked test index its)
@@ -201,11 +222,13 @@ pub marks_tell : MarksTell
 marks_tell = record { reduction = reduction; conflict = conflict }
 
 -- numbers for first writers
-first_before : (first : Option ℕ) (last : ℕ) → last ≤ 4294967296 → stands_before first last ≡ (not (last == 0) && nat_lt (first_number first) (last - 1))
+first_before : (first : Option ℕ) (last : ℕ) → last ≤ 4294967296 → stands_before first last ≡ (not (last == 0)
+    && nat_lt (first_number first) (last - 1))
 first_before None last small = grind (arith, nat_tests)
 first_before (Some index) last small = refl
 
-first_lesser : (a b : Option ℕ) → first_number a ≤ 4294967295 → first_number b ≤ 4294967295 → first_number (lesser a b) ≡ min (first_number a) (first_number b)
+first_lesser : (a b : Option ℕ) → first_number a ≤ 4294967295 → first_number b ≤ 4294967295 → first_number (lesser a b)
+    ≡ min (first_number a) (first_number b)
 first_lesser None None h k = refl
 first_lesser None (Some b) h k = omega arith
 first_lesser (Some a) None h k = omega arith
@@ -230,12 +253,14 @@ one visit = same_marks _ _ (record {
   read_only = or-false _;
   read_and_written = or-false _;
   first = lesser_none (if writes visit.actions then Some visit.index else None);
-  last = (let e : max (one_reader visit.index (exposed visit.actions)) 0 ≡ one_reader visit.index (exposed visit.actions) = omega arith in e);
+  last = (let e : max (one_reader visit.index (exposed visit.actions)) 0 ≡ one_reader visit.index
+      (exposed visit.actions) = omega arith in e);
   plain = or-false _;
   by = λ op. or-false _;
 })
 
-two_write-append : (xs ys : List (List Action)) → two_write (xs ++ ys) ≡ ((two_write xs || two_write ys) || (list_any writes xs && list_any writes ys))
+two_write-append : (xs ys : List (List Action)) → two_write (xs ++ ys) ≡ ((two_write xs || two_write ys)
+    || (list_any writes xs && list_any writes ys))
 two_write-append [] ys = go (two_write ys) (list_any writes ys)
   where
     go : (m w : Bool) → m ≡ ((false || m) || (false && w))
@@ -245,7 +270,8 @@ two_write-append (x ∷ xs) ys =
     ∙ ap (λ b. (writes x && (list_any writes xs || list_any writes ys)) || b) (two_write-append xs ys)
     ∙ go (writes x) (list_any writes xs) (list_any writes ys) (two_write xs) (two_write ys)
   where
-    go : (W w1 w2 m1 m2 : Bool) → ((W && (w1 || w2)) || ((m1 || m2) || (w1 && w2))) ≡ ((((W && w1) || m1) || m2) || ((W || w1) && w2))
+    go : (W w1 w2 m1 m2 : Bool) → ((W && (w1 || w2)) || ((m1 || m2) || (w1 && w2))) ≡ ((((W && w1) || m1) || m2)
+        || ((W || w1) && w2))
     go W w1 w2 m1 m2 = grind (arith, nat_tests)
 
 actions_of-append : (xs ys : List Visit) → actions_of (xs ++ ys) ≡ actions_of xs ++ actions_of ys
@@ -277,7 +303,8 @@ last-append : (xs ys : List Visit) → last_reader (xs ++ ys) ≡ max (last_read
 last-append [] ys = let e : last_reader ys ≡ max 0 (last_reader ys) = omega arith in e
 last-append (x ∷ xs) ys =
     let own : ℕ = one_reader x.index (exposed x.actions) in
-    let regrouped : max own (max (last_reader xs) (last_reader ys)) ≡ max (max own (last_reader xs)) (last_reader ys) = omega arith in
+    let regrouped : max own (max (last_reader xs) (last_reader ys)) ≡ max (max own (last_reader xs)) (last_reader ys) =
+    omega arith in
     ap (max own) (last-append xs ys) ∙ regrouped
 
 both : (xs ys : List Visit) → marks_of (xs ++ ys) ≡ merged (marks_of xs) (marks_of ys)
@@ -295,7 +322,8 @@ both xs ys = same_marks _ _ (record {
 two_comm : (m n v w : Bool) → ((m || n) || (v && w)) ≡ ((n || m) || (w && v))
 two_comm m n v w = grind (arith, nat_tests)
 
-two_assoc : (m n k v w x : Bool) → ((((m || n) || (v && w)) || k) || ((v || w) && x)) ≡ ((m || ((n || k) || (w && x))) || (v && (w || x)))
+two_assoc : (m n k v w x : Bool) → ((((m || n) || (v && w)) || k) || ((v || w) && x)) ≡ ((m || ((n || k) || (w && x)))
+    || (v && (w || x)))
 two_assoc m n k v w x = grind (arith, nat_tests)
 
 either_first : (a b : Marks) → merged a b ≡ merged b a

@@ -33,7 +33,8 @@ and_false true c d f h = f h
 and_false false c d f h = refl
 
 -- where the iteration doesn't look at the word first, it sees the same whatever stood there
-pub sealed_saw : (actions : List Action) (word other : ℕ) → exposed actions ≡ false → SawEach actions word → SawEach actions other
+pub sealed_saw : (actions : List Action) (word other : ℕ) → exposed actions ≡ false → SawEach actions word
+    → SawEach actions other
 sealed_saw [] word other h saw = tt
 sealed_saw (Read w ∷ actions) word other h saw = absurd (cc)
 sealed_saw (Write w ∷ actions) word other h saw = saw
@@ -41,7 +42,8 @@ sealed_saw (ReadWrite w v ∷ actions) word other h saw = absurd (cc)
 sealed_saw (Reduce op v ∷ actions) word other h saw = absurd (cc)
 
 -- and what it leaves doesn't depend on it either, if it writes
-pub sealed_left : (actions : List Action) (word other : ℕ) → exposed actions ≡ false → writes actions ≡ true → left_by_all actions word ≡ left_by_all actions other
+pub sealed_left : (actions : List Action) (word other : ℕ) → exposed actions ≡ false → writes actions ≡ true
+    → left_by_all actions word ≡ left_by_all actions other
 sealed_left [] word other h w = absurd (cc)
 sealed_left (Read x ∷ actions) word other h w = absurd (cc)
 sealed_left (Write x ∷ actions) word other h w = refl
@@ -57,12 +59,14 @@ unwritten_left (ReadWrite x v ∷ actions) word h = absurd (cc)
 unwritten_left (Reduce op v ∷ actions) word h = absurd (cc)
 
 -- reduces see nothing
-pub reduces_saw : (op : Op) (actions : List Action) (word : ℕ) → list_all (reduces_by op) actions ≡ true → SawEach actions word
+pub reduces_saw : (op : Op) (actions : List Action) (word : ℕ) → list_all (reduces_by op) actions ≡ true
+    → SawEach actions word
 reduces_saw op [] word h = tt
 reduces_saw op (Read x ∷ actions) word h = absurd (cc)
 reduces_saw op (Write x ∷ actions) word h = absurd (cc)
 reduces_saw op (ReadWrite x v ∷ actions) word h = absurd (cc)
-reduces_saw op (Reduce other v ∷ actions) word h = (tt, reduces_saw op actions _ (and_true_right (is_same op other) _ h))
+reduces_saw op (Reduce other v ∷ actions) word h =
+    (tt, reduces_saw op actions _ (and_true_right (is_same op other) _ h))
 
 pub same_op : (a b : Op) → is_same a b ≡ true → a ≡ b
 same_op Add Add h = refl
@@ -81,7 +85,8 @@ reduces_left op (Write x ∷ actions) word h = absurd (cc)
 reduces_left op (ReadWrite x v ∷ actions) word h = absurd (cc)
 reduces_left op (Reduce other v ∷ actions) word h =
     let same : op ≡ other = same_op op other (and_true_left (is_same op other) _ h) in
-    subst (λ (o : Op). left_by_all actions (combined o word v) ≡ fold (combined op) (combined op word v) (operands actions)) same
+    subst (λ (o : Op). left_by_all actions (combined o word v) ≡ fold (combined op) (combined op word v)
+    (operands actions)) same
     (reduces_left op actions (combined op word v) (and_true_right (is_same op other) _ h))
 
 -- the word is still the start word, or nobody to come looks at it first
@@ -91,7 +96,8 @@ Calm start word iterations = (word ≡ start) ⊎ (list_any exposed iterations �
 -- what is known of an element before the iterations to come
 abbrev pub Holds : (start word : ℕ) → List (List Action) → Type 0
 Holds start word iterations =
-    ((op : Op) × (list_all (reduces_by op) (joined iterations) ≡ true)) ⊎ ((fails_flow iterations ≡ false) × Calm start word iterations)
+    ((op : Op) × (list_all (reduces_by op) (joined iterations) ≡ true)) ⊎ ((fails_flow iterations ≡ false)
+    × Calm start word iterations)
 
 -- all of a joined list passes: its first part and its rest
 and_mono : (b x y : Bool) → (x ≡ true → y ≡ true) → (b && x) ≡ true → (b && y) ≡ true
@@ -107,30 +113,38 @@ all_right p [] ys h = h
 all_right p (x ∷ xs) ys h = all_right p xs ys (and_true_right (p x) _ h)
 
 -- the next iteration sees on the word in order what it saw on the start word
-pub holds_saw : (start word : ℕ) (first : List Action) (rest : List (List Action)) → SawEach first start → Holds start word (first ∷ rest) → SawEach first word
-holds_saw start word first rest saw (inl reduced) = reduces_saw reduced.0 first word (all_left (reduces_by reduced.0) first (joined rest) reduced.1)
+pub holds_saw : (start word : ℕ) (first : List Action) (rest : List (List Action)) → SawEach first start
+    → Holds start word (first ∷ rest) → SawEach first word
+holds_saw start word first rest saw (inl reduced) =
+    reduces_saw reduced.0 first word (all_left (reduces_by reduced.0) first (joined rest) reduced.1)
 holds_saw start word first rest saw (inr calm) = go calm.1
   where
     go : Calm start word (first ∷ rest) → SawEach first word
     go (inl same) = subst (SawEach first) (sym same) saw
     go (inr none) = sealed_saw first start word (or_false_left (exposed first) _ none) saw
 
-calm_next : (start word : ℕ) (first : List Action) (rest : List (List Action)) (writing : Bool) → writes first ≡ writing →
-    (writing && list_any exposed rest) ≡ false → Calm start word (first ∷ rest) → Calm start (left_by_all first word) rest
+calm_next : (start word : ℕ) (first : List Action) (rest : List (List Action)) (writing : Bool) → writes first ≡ writing
+    →
+    (writing && list_any exposed rest) ≡ false → Calm start word (first ∷ rest) → Calm start (left_by_all first word)
+    rest
 calm_next start word first rest true w unharmed calm = inr unharmed
 calm_next start word first rest false w unharmed (inl same) = inl (unwritten_left first word w ∙ same)
 calm_next start word first rest false w unharmed (inr none) = inr (or_false_right (exposed first) _ none)
 
 -- and then the same is known of the iterations after it
-pub holds_next : (start word : ℕ) (first : List Action) (rest : List (List Action)) → Holds start word (first ∷ rest) → Holds start (left_by_all first word) rest
-holds_next start word first rest (inl reduced) = inl (reduced.0, all_right (reduces_by reduced.0) first (joined rest) reduced.1)
+pub holds_next : (start word : ℕ) (first : List Action) (rest : List (List Action)) → Holds start word (first ∷ rest)
+    → Holds start (left_by_all first word) rest
+holds_next start word first rest (inl reduced) =
+    inl (reduced.0, all_right (reduces_by reduced.0) first (joined rest) reduced.1)
 holds_next start word first rest (inr calm) =
     inr (
       or_false_right (writes first && list_any exposed rest) _ calm.0,
-      calm_next start word first rest (writes first) refl (or_false_left (writes first && list_any exposed rest) _ calm.0) calm.1,
+      calm_next start word first rest (writes first) refl (or_false_left (writes first && list_any exposed rest) _
+          calm.0) calm.1,
     )
 
-pub left_by_all-append : (xs ys : List Action) (word : ℕ) → left_by_all (xs ++ ys) word ≡ left_by_all ys (left_by_all xs word)
+pub left_by_all-append : (xs ys : List Action) (word : ℕ) → left_by_all (xs ++ ys) word ≡ left_by_all ys
+    (left_by_all xs word)
 left_by_all-append [] ys word = refl
 left_by_all-append (x ∷ xs) ys word = left_by_all-append xs ys (left_by x word)
 
@@ -139,28 +153,34 @@ abbrev pub picked : Option (List Action) → (start word : ℕ) → ℕ
 picked None start word = word
 picked (Some actions) start word = left_by_all actions start
 
-first_left : (start word : ℕ) (first : List Action) (rest : List (List Action)) (writing : Bool) → writes first ≡ writing → Calm start word (first ∷ rest) →
+first_left : (start word : ℕ) (first : List Action) (rest : List (List Action)) (writing : Bool)
+    → writes first ≡ writing → Calm start word (first ∷ rest) →
     left_by_all first word ≡ picked (if writing then Some first else None) start word
 first_left start word first rest false w calm = unwritten_left first word w
 first_left start word first rest true w (inl same) = ap (left_by_all first) same
-first_left start word first rest true w (inr none) = sealed_left first word start (or_false_left (exposed first) _ none) w
+first_left start word first rest true w (inr none) = sealed_left first word start (or_false_left (exposed first) _ none)
+    w
 
 picked-option_or : (later earlier : Option (List Action)) (start word left : ℕ) → left ≡ picked earlier start word →
     picked later start left ≡ picked (option_or later earlier) start word
 picked-option_or None earlier start word left h = h
 picked-option_or (Some actions) earlier start word left h = refl
 
-pub last_left : (start word : ℕ) (iterations : List (List Action)) → fails_flow iterations ≡ false → Calm start word iterations →
+pub last_left : (start word : ℕ) (iterations : List (List Action)) → fails_flow iterations ≡ false
+    → Calm start word iterations →
     left_by_all (joined iterations) word ≡ picked (last_that writes iterations) start word
 last_left start word [] unharmed calm = refl
 last_left start word (first ∷ rest) unharmed calm =
     left_by_all-append first (joined rest) word
     ∙ last_left start (left_by_all first word) rest (or_false_right (writes first && list_any exposed rest) _ unharmed)
-    (calm_next start word first rest (writes first) refl (or_false_left (writes first && list_any exposed rest) _ unharmed) calm)
-    ∙ picked-option_or (last_that writes rest) (if writes first then Some first else None) start word (left_by_all first word)
+    (calm_next start word first rest (writes first) refl (or_false_left (writes first && list_any exposed rest) _
+    unharmed) calm)
+    ∙ picked-option_or (last_that writes rest) (if writes first then Some first else None) start word
+    (left_by_all first word)
     (first_left start word first rest (writes first) refl calm)
 
-picked_at_start : (o : Option (List Action)) (start : ℕ) → picked o start start ≡ unwrap_or (option_map (λ actions. left_by_all actions start) o) start
+picked_at_start : (o : Option (List Action)) (start : ℕ)
+    → picked o start start ≡ unwrap_or (option_map (λ actions. left_by_all actions start) o) start
 picked_at_start None start = refl
 picked_at_start (Some actions) start = refl
 
@@ -176,7 +196,8 @@ chosen true a op h = (refl, cc)
 chosen false a op h = absurd (cc)
 
 -- all actions of a reduction-only element are reduces by its operator
-pub only_reduces : (op : Op) (actions : List Action) → only_operator actions ≡ Some op → list_all (reduces_by op) actions ≡ true
+pub only_reduces : (op : Op) (actions : List Action) → only_operator actions ≡ Some op
+    → list_all (reduces_by op) actions ≡ true
 only_reduces op [] h = absurd (cc)
 only_reduces op (Read x ∷ actions) h = absurd (cc)
 only_reduces op (Write x ∷ actions) h = absurd (cc)
@@ -189,7 +210,8 @@ only_reduces op (Reduce other v ∷ actions) h =
 abbrev pub Unharmed : List (List Action) → Type 0
 Unharmed iterations = (is_none (only_operator (joined iterations)) && fails_flow iterations) ≡ false
 
-holds_by : (start : ℕ) (iterations : List (List Action)) (o : Option Op) → only_operator (joined iterations) ≡ o → (is_none o && fails_flow iterations) ≡ false → Holds start start iterations
+holds_by : (start : ℕ) (iterations : List (List Action)) (o : Option Op) → only_operator (joined iterations) ≡ o
+    → (is_none o && fails_flow iterations) ≡ false → Holds start start iterations
 holds_by start iterations None same unharmed = inr (unharmed, inl refl)
 holds_by start iterations (Some op) same unharmed = inl (op, only_reduces op (joined iterations) same)
 
@@ -197,21 +219,29 @@ holds_by start iterations (Some op) same unharmed = inl (op, only_reduces op (jo
 pub holds_at_start : (start : ℕ) (iterations : List (List Action)) → Unharmed iterations → Holds start start iterations
 holds_at_start start iterations unharmed = holds_by start iterations (only_operator (joined iterations)) refl unharmed
 
-committed_with : (start : ℕ) (iterations : List (List Action)) (o : Option Op) → only_operator (joined iterations) ≡ o → (is_none o && fails_flow iterations) ≡ false →
+committed_with : (start : ℕ) (iterations : List (List Action)) (o : Option Op) → only_operator (joined iterations) ≡ o
+    → (is_none o && fails_flow iterations) ≡ false →
     left_by_all (joined iterations) start ≡ committed_by o iterations start
-committed_with start iterations None same unharmed = last_left start start iterations unharmed (inl refl) ∙ picked_at_start (last_that writes iterations) start
-committed_with start iterations (Some op) same unharmed = reduces_left op (joined iterations) start (only_reduces op (joined iterations) same)
+committed_with start iterations None same unharmed = last_left start start iterations unharmed (inl refl)
+    ∙ picked_at_start (last_that writes iterations) start
+committed_with start iterations (Some op) same unharmed =
+    reduces_left op (joined iterations) start (only_reduces op (joined iterations) same)
 
 -- all actions in order leave what is committed
-pub left-committed : (start : ℕ) (iterations : List (List Action)) → Unharmed iterations → left_by_all (joined iterations) start ≡ committed iterations start
-left-committed start iterations unharmed = committed_with start iterations (only_operator (joined iterations)) refl unharmed
+pub left-committed : (start : ℕ) (iterations : List (List Action)) → Unharmed iterations
+    → left_by_all (joined iterations) start ≡ committed iterations start
+left-committed start iterations unharmed = committed_with start iterations (only_operator (joined iterations)) refl
+    unharmed
 
 -- where no pair fails the LRPD test, none fails the flow test
 or_false : (a b : Bool) → a ≡ false → b ≡ false → (a || b) ≡ false
 or_false a b h k = rw (h, k) refl
 
-pub fails_flow-fails_lrpd : (iterations : List (List Action)) → fails_lrpd iterations ≡ false → fails_flow iterations ≡ false
+pub fails_flow-fails_lrpd : (iterations : List (List Action)) → fails_lrpd iterations ≡ false
+    → fails_flow iterations ≡ false
 fails_flow-fails_lrpd [] h = refl
 fails_flow-fails_lrpd (first ∷ rest) h =
-    or_false (writes first && list_any exposed rest) (fails_flow rest) (or_false_left (writes first && list_any exposed rest) _ h)
-    (fails_flow-fails_lrpd rest (or_false_right (exposed first && list_any writes rest) (fails_lrpd rest) (or_false_right (writes first && list_any exposed rest) _ h)))
+    or_false (writes first && list_any exposed rest) (fails_flow rest)
+    (or_false_left (writes first && list_any exposed rest) _ h)
+    (fails_flow-fails_lrpd rest (or_false_right (exposed first && list_any writes rest) (fails_lrpd rest)
+    (or_false_right (writes first && list_any exposed rest) _ h)))

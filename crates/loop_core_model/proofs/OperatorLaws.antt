@@ -15,14 +15,16 @@ use Rattle.loop_core_model.specs.Kept.{combined_from_first, applied, OperatorsAs
 
 -- a number is its half and its last bit
 by_bits : (x y : ℕ) → x / 2 ≡ y / 2 → x % 2 ≡ y % 2 → x ≡ y
-by_bits x y half bit = sym (div-add-mod x 2) ∙ ap (λ h. 2 * h + x % 2) half ∙ ap (λ b. 2 * (y / 2) + b) bit ∙ div-add-mod y 2
+by_bits x y half bit = sym (div-add-mod x 2) ∙ ap (λ h. 2 * h + x % 2) half ∙ ap (λ b. 2 * (y / 2) + b) bit
+    ∙ div-add-mod y 2
 
 bit_cases : (x : ℕ) → x < 2 → (x ≡ 0) ⊎ (x ≡ 1)
 bit_cases zero h = inl refl
 bit_cases (suc zero) h = inr refl
 bit_cases (suc (suc x)) h = absurd (omega arith)
 
-bits_assoc : (x y z : ℕ) → (x ≡ 0) ⊎ (x ≡ 1) → (y ≡ 0) ⊎ (y ≡ 1) → (z ≡ 0) ⊎ (z ≡ 1) → bit_or (bit_or x y) z ≡ bit_or x (bit_or y z)
+bits_assoc : (x y z : ℕ) → (x ≡ 0) ⊎ (x ≡ 1) → (y ≡ 0) ⊎ (y ≡ 1) → (z ≡ 0) ⊎ (z ≡ 1)
+    → bit_or (bit_or x y) z ≡ bit_or x (bit_or y z)
 bits_assoc x y z (inl a) (inl b) (inl c) = rw (a, b, c) refl
 bits_assoc x y z (inl a) (inl b) (inr c) = rw (a, b, c) refl
 bits_assoc x y z (inl a) (inr b) (inl c) = rw (a, b, c) refl
@@ -51,13 +53,16 @@ wrapped_assoc : (a b c m : ℕ) → ((a + b) % m + c) % m ≡ (a + (b + c) % m) 
 wrapped_assoc a b c m = mod-add-mod (a + b) m c ∙ ap (λ n. n % m) (add_assoc a b c) ∙ sym (add-mod-mod a (b + c) m)
 
 -- an operator on the low 64 bits, whose results keep to them
-low_assoc : (f : ℕ → ℕ → ℕ) → ((a b : ℕ) → f a b % 2 ^ 64 ≡ f (a % 2 ^ 64) (b % 2 ^ 64)) → ((a b c : ℕ) → f (f a b) c ≡ f a (f b c)) → (a b c : ℕ) →
+low_assoc : (f : ℕ → ℕ → ℕ) → ((a b : ℕ) → f a b % 2 ^ 64 ≡ f (a % 2 ^ 64) (b % 2 ^ 64))
+    → ((a b c : ℕ) → f (f a b) c ≡ f a (f b c)) → (a b c : ℕ) →
     f (f (a % 2 ^ 64) (b % 2 ^ 64) % 2 ^ 64) (c % 2 ^ 64) ≡ f (a % 2 ^ 64) (f (b % 2 ^ 64) (c % 2 ^ 64) % 2 ^ 64)
 low_assoc f fits assoc a b c =
-    ap (λ n. f n (c % 2 ^ 64)) (kept a b) ∙ assoc (a % 2 ^ 64) (b % 2 ^ 64) (c % 2 ^ 64) ∙ ap (f (a % 2 ^ 64)) (sym (kept b c))
+    ap (λ n. f n (c % 2 ^ 64)) (kept a b) ∙ assoc (a % 2 ^ 64) (b % 2 ^ 64) (c % 2 ^ 64)
+    ∙ ap (f (a % 2 ^ 64)) (sym (kept b c))
   where
     kept : (x y : ℕ) → f (x % 2 ^ 64) (y % 2 ^ 64) % 2 ^ 64 ≡ f (x % 2 ^ 64) (y % 2 ^ 64)
-    kept x y = fits (x % 2 ^ 64) (y % 2 ^ 64) ∙ ap (λ n. f n (y % 2 ^ 64 % 2 ^ 64)) (mod-mod x (2 ^ 64)) ∙ ap (f (x % 2 ^ 64)) (mod-mod y (2 ^ 64))
+    kept x y = fits (x % 2 ^ 64) (y % 2 ^ 64) ∙ ap (λ n. f n (y % 2 ^ 64 % 2 ^ 64)) (mod-mod x (2 ^ 64))
+        ∙ ap (f (x % 2 ^ 64)) (mod-mod y (2 ^ 64))
 
 -- the halves of a word of two halves
 low_half : (low high : ℕ) → of_halves low high % 2 ^ 32 ≡ low % 2 ^ 32
@@ -69,12 +74,18 @@ high_half low high = omega arith
 halves_assoc : (a b c : ℕ) → halves_added (halves_added a b) c ≡ halves_added a (halves_added b c)
 unfolding halves_added half_of
 halves_assoc a b c =
-    ap (λ n. of_halves (n + c % 2 ^ 32) (halves_added a b / 2 ^ 32 + c / 2 ^ 32)) (low_half (a % 2 ^ 32 + b % 2 ^ 32) (a / 2 ^ 32 + b / 2 ^ 32))
-    ∙ ap (λ n. of_halves ((a % 2 ^ 32 + b % 2 ^ 32) % 2 ^ 32 + c % 2 ^ 32) (n + c / 2 ^ 32)) (high_half (a % 2 ^ 32 + b % 2 ^ 32) (a / 2 ^ 32 + b / 2 ^ 32))
-    ∙ ap (λ n. n + 2 ^ 32 * (((a / 2 ^ 32 + b / 2 ^ 32) % 2 ^ 32 + c / 2 ^ 32) % 2 ^ 32)) (wrapped_assoc (a % 2 ^ 32) (b % 2 ^ 32) (c % 2 ^ 32) (2 ^ 32))
-    ∙ ap (λ n. (a % 2 ^ 32 + (b % 2 ^ 32 + c % 2 ^ 32) % 2 ^ 32) % 2 ^ 32 + 2 ^ 32 * n) (wrapped_assoc (a / 2 ^ 32) (b / 2 ^ 32) (c / 2 ^ 32) (2 ^ 32))
-    ∙ sym (ap (λ n. of_halves (a % 2 ^ 32 + n) (a / 2 ^ 32 + halves_added b c / 2 ^ 32)) (low_half (b % 2 ^ 32 + c % 2 ^ 32) (b / 2 ^ 32 + c / 2 ^ 32))
-    ∙ ap (λ n. of_halves (a % 2 ^ 32 + (b % 2 ^ 32 + c % 2 ^ 32) % 2 ^ 32) (a / 2 ^ 32 + n)) (high_half (b % 2 ^ 32 + c % 2 ^ 32) (b / 2 ^ 32 + c / 2 ^ 32)))
+    ap (λ n. of_halves (n + c % 2 ^ 32) (halves_added a b / 2 ^ 32 + c / 2 ^ 32)) (low_half (a % 2 ^ 32 + b % 2 ^ 32)
+    (a / 2 ^ 32 + b / 2 ^ 32))
+    ∙ ap (λ n. of_halves ((a % 2 ^ 32 + b % 2 ^ 32) % 2 ^ 32 + c % 2 ^ 32) (n + c / 2 ^ 32))
+    (high_half (a % 2 ^ 32 + b % 2 ^ 32) (a / 2 ^ 32 + b / 2 ^ 32))
+    ∙ ap (λ n. n + 2 ^ 32 * (((a / 2 ^ 32 + b / 2 ^ 32) % 2 ^ 32 + c / 2 ^ 32) % 2 ^ 32))
+    (wrapped_assoc (a % 2 ^ 32) (b % 2 ^ 32) (c % 2 ^ 32) (2 ^ 32))
+    ∙ ap (λ n. (a % 2 ^ 32 + (b % 2 ^ 32 + c % 2 ^ 32) % 2 ^ 32) % 2 ^ 32 + 2 ^ 32 * n)
+    (wrapped_assoc (a / 2 ^ 32) (b / 2 ^ 32) (c / 2 ^ 32) (2 ^ 32))
+    ∙ sym (ap (λ n. of_halves (a % 2 ^ 32 + n) (a / 2 ^ 32 + halves_added b c / 2 ^ 32))
+    (low_half (b % 2 ^ 32 + c % 2 ^ 32) (b / 2 ^ 32 + c / 2 ^ 32))
+    ∙ ap (λ n. of_halves (a % 2 ^ 32 + (b % 2 ^ 32 + c % 2 ^ 32) % 2 ^ 32) (a / 2 ^ 32 + n))
+    (high_half (b % 2 ^ 32 + c % 2 ^ 32) (b / 2 ^ 32 + c / 2 ^ 32)))
 
 each_associates : (op : Op) (a b c : ℕ) → combined op (combined op a b) c ≡ combined op a (combined op b c)
 unfolding combined alu halves_added
@@ -88,12 +99,15 @@ each_associates Xor a b c = low_assoc bit_xor (λ x y. xor_mod x y 64) xor_assoc
 each_associates AddH a b c = halves_assoc a b c
 
 -- operands in turn are their combination at once
-pub fold_at_once : (op : Op) (word first : ℕ) (rest : List ℕ) → combined op word (fold (combined op) first rest) ≡ fold (combined op) (combined op word first) rest
+pub fold_at_once : (op : Op) (word first : ℕ) (rest : List ℕ) → combined op word (fold (combined op) first rest)
+    ≡ fold (combined op) (combined op word first) rest
 fold_at_once op word first [] = refl
 fold_at_once op word first (next ∷ rest) =
-    fold_at_once op word (combined op first next) rest ∙ ap (λ w. fold (combined op) w rest) (sym (each_associates op word first next))
+    fold_at_once op word (combined op first next) rest ∙ ap (λ w. fold (combined op) w rest)
+    (sym (each_associates op word first next))
 
-at_once : (op : Op) (word : ℕ) (operands : List ℕ) → fold (combined op) word operands ≡ applied word (combined_from_first op operands)
+at_once : (op : Op) (word : ℕ) (operands : List ℕ) → fold (combined op) word operands ≡ applied word
+    (combined_from_first op operands)
 at_once op word [] = refl
 at_once op word (first ∷ rest) = sym (fold_at_once op word first rest)
 

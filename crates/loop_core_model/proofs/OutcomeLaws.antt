@@ -14,16 +14,26 @@ use Rattle.loop_core_model.proofs.LoopAgain.{loop_law}
 use Rattle.loop_core_model.specs.Outcome.{judged_as, outcome}
 use Rattle.loop_core_model.specs.OutcomeLaw.{OutcomeByTest}
 
-outcome_is : (test : Test) (program : Program) (bound : ℕ) (call : LoopCall) (words : List ℕ) (runs : List (List Access)) (elements : List ℕ) (looped : Looped) →
-    counted_runs program bound call words ≡ Ended runs → conflicting test runs (length words) ≡ elements → loop_in_order program bound call words ≡ Ended looped →
-    outcome test program bound call words ≡ Ended (record { verdict = judged elements; answer = looped.answer; words = looped.words })
+outcome_is : (test : Test) (program : Program) (bound : ℕ) (call : LoopCall) (words : List ℕ)
+    (runs : List (List Access)) (elements : List ℕ) (looped : Looped) →
+    counted_runs program bound call words ≡ Ended runs → conflicting test runs (length words) ≡ elements
+    → loop_in_order program bound call words ≡ Ended looped →
+    outcome test program bound call words ≡ Ended (record {
+      verdict = judged elements;
+      answer = looped.answer;
+      words = looped.words;
+    })
 outcome_is test program bound call words runs elements looped r c l =
     let told : verdict test program bound call words ≡ Ended (judged elements) =
-    ap (mapped (λ (rs : List (List Access)). judged (conflicting test rs (length words)))) r ∙ ap (λ (es : List ℕ). Ended (judged es)) c in
-    ap (followed (judged_as (verdict test program bound call words))) l ∙ ap (λ (v : BoundedResult Verdict). judged_as v looped) told
+    ap (mapped (λ (rs : List (List Access)). judged (conflicting test rs (length words)))) r
+    ∙ ap (λ (es : List ℕ). Ended (judged es)) c in
+    ap (followed (judged_as (verdict test program bound call words))) l
+    ∙ ap (λ (v : BoundedResult Verdict). judged_as v looped) told
 
 pub outcome_by_test : OutcomeByTest
 outcome_by_test = record {
-  passes = λ test program bound call words runs r c. outcome_is test program bound call words runs _ _ r c (loop_law test program bound call words runs r c);
-  conflicts = λ test program bound call words runs least others looped r c l. outcome_is test program bound call words runs _ looped r c l;
+  passes = λ test program bound call words runs r c. outcome_is test program bound call words runs _ _ r c
+      (loop_law test program bound call words runs r c);
+  conflicts = λ test program bound call words runs least others looped r c l. outcome_is test program bound call words
+      runs _ looped r c l;
 }

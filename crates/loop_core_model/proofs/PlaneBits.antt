@@ -27,7 +27,8 @@ filter-moved : (p q : ℕ → Bool) (k from count : ℕ) → ((e : ℕ) → p (k
 filter-moved p q k from zero same = refl
 filter-moved p q k from (suc count) same =
     let there : k + from + 1 ≡ k + (from + 1) = omega arith in
-    by_test (p (k + from)) (q from) (k + from) from (filter p (range_with_len (k + from + 1) count)) (filter q (range_with_len (from + 1) count)) (same from) refl
+    by_test (p (k + from)) (q from) (k + from) from (filter p (range_with_len (k + from + 1) count))
+    (filter q (range_with_len (from + 1) count)) (same from) refl
     (ap (λ n. filter p (range_with_len n count)) there ∙ filter-moved p q k (from + 1) count same)
   where
     by_test : (b c : Bool) (x y : ℕ) (xs ys : List ℕ) → b ≡ c → x ≡ k + y → xs ≡ map (λ e. k + e) ys →
@@ -47,18 +48,21 @@ elements-cons width wide word words =
     ap (λ n. filter (bit_of (word ∷ words)) (range_with_len 0 n)) parts
     ∙ ap (filter (bit_of (word ∷ words))) (range-append 0 width (64 * length words))
     ∙ filter-append (bit_of (word ∷ words)) (range_with_len 0 width) (range_with_len (0 + width) (64 * length words))
-    ∙ ap₂ (λ xs ys. xs ++ ys) (filter-same (bit_of (word ∷ words)) (λ i. bit_at word i == 1) 0 width (λ e low high. in_first e (omega (arith, wide))))
+    ∙ ap₂ (λ xs ys. xs ++ ys) (filter-same (bit_of (word ∷ words)) (λ i. bit_at word i == 1) 0 width
+    (λ e low high. in_first e (omega (arith, wide))))
     (ap (λ n. filter (bit_of (word ∷ words)) (range_with_len n (64 * length words))) on
     ∙ filter-moved (bit_of (word ∷ words)) (bit_of words) width 0 (64 * length words) behind_first)
   where
-    at_place : (i j k m : ℕ) → i ≡ j → k ≡ m → (bit_at (slice_index_or (word ∷ words) i 0) k == 1) ≡ (bit_at (slice_index_or (word ∷ words) j 0) m == 1)
+    at_place : (i j k m : ℕ) → i ≡ j → k ≡ m → (bit_at (slice_index_or (word ∷ words) i 0) k == 1)
+        ≡ (bit_at (slice_index_or (word ∷ words) j 0) m == 1)
     at_place i j k m e f = ap₂ (λ a b. bit_at (slice_index_or (word ∷ words) a 0) b == 1) e f
 
     in_first : (e : ℕ) → e < 64 → bit_of (word ∷ words) e ≡ (bit_at word e == 1)
     in_first e h = at_place (e / 64) 0 (e % 64) e (omega arith) (omega arith)
 
     behind_first : (e : ℕ) → bit_of (word ∷ words) (width + e) ≡ bit_of words e
-    behind_first e = at_place ((width + e) / 64) (suc (e / 64)) ((width + e) % 64) (e % 64) (omega (arith, wide)) (omega (arith, wide))
+    behind_first e = at_place ((width + e) / 64) (suc (e / 64)) ((width + e) % 64) (e % 64) (omega (arith, wide))
+        (omega (arith, wide))
 
 -- n bits are set
 bits_in-count : (width word : ℕ) → word < 2 ^ width → length (bits_in width word) ≡ count_ones word
@@ -82,7 +86,8 @@ bits_in-count (suc width) word h =
     next : (e : ℕ) → (bit_at word (1 + e) == 1) ≡ (bit_at (word / 2) e == 1)
     next e = let on : 1 + e ≡ suc e = omega arith in ap (λ n. n == 1) (ap (bit_at word) on ∙ bit_at-suc word e)
 
-    by_test : (b : Bool) (rest : List ℕ) → (bit_at word 0 == 1) ≡ b → length rest ≡ count_ones (word / 2) → length (cond b (0 ∷ rest) rest) ≡ count_ones word
+    by_test : (b : Bool) (rest : List ℕ) → (bit_at word 0 == 1) ≡ b → length rest ≡ count_ones (word / 2)
+        → length (cond b (0 ∷ rest) rest) ≡ count_ones word
     by_test true rest e count =
         let low : bit_at word 0 ≡ word % 2 = bit_at_lowest word in
         let is : bit_at word 0 ≡ 1 = grind (arith, nat_tests) in
@@ -98,24 +103,29 @@ bits_in-count (suc width) word h =
         none_at n less not_one = grind (arith, nat_tests)
 
 -- the least number that passes
-least-filter : (p : ℕ → Bool) (from count at : ℕ) → at < count → p (from + at) ≡ true → ((i : ℕ) → i < at → p (from + i) ≡ false) →
+least-filter : (p : ℕ → Bool) (from count at : ℕ) → at < count → p (from + at) ≡ true
+    → ((i : ℕ) → i < at → p (from + i) ≡ false) →
     least_element_in (filter p (range_with_len from count)) ≡ Some (from + at)
 least-filter p from zero at h here below = absurd (omega arith)
 least-filter p from (suc count) zero h here below =
     let at_first : from + 0 ≡ from = omega arith in
-    ap (λ b. least_element_in (cond b (from ∷ filter p (range_with_len (from + 1) count)) (filter p (range_with_len (from + 1) count)))) (ap p (sym at_first) ∙ here) ∙ ap Some (sym at_first)
+    ap (λ b. least_element_in (cond b (from ∷ filter p (range_with_len (from + 1) count))
+    (filter p (range_with_len (from + 1) count)))) (ap p (sym at_first) ∙ here) ∙ ap Some (sym at_first)
 least-filter p from (suc count) (suc at) h here below =
     let at_first : from ≡ from + 0 = omega arith in
     let on : from + 1 + at ≡ from + suc at = omega arith in
-    ap (λ b. least_element_in (cond b (from ∷ filter p (range_with_len (from + 1) count)) (filter p (range_with_len (from + 1) count)))) (ap p at_first ∙ below 0 (omega arith))
+    ap (λ b. least_element_in (cond b (from ∷ filter p (range_with_len (from + 1) count))
+    (filter p (range_with_len (from + 1) count)))) (ap p at_first ∙ below 0 (omega arith))
     ∙ least-filter p (from + 1) count at (omega arith) (ap p on ∙ here)
     (λ i less. let on_i : from + 1 + i ≡ from + suc i = omega arith in ap p on_i ∙ below (suc i) (omega arith))
     ∙ ap Some on
 
-bits_in-least : (width word : ℕ) → width ≡ 64 → word < 2 ^ 64 → 0 < word → least_element_in (bits_in width word) ≡ Some (trailing_zeros w64 word)
+bits_in-least : (width word : ℕ) → width ≡ 64 → word < 2 ^ 64 → 0 < word → least_element_in (bits_in width word)
+    ≡ Some (trailing_zeros w64 word)
 unfolding bits_in
 bits_in-least width word wide fits some =
-    let lowest : (trailing_zeros w64 word < 64) × (bit_at word (trailing_zeros w64 word) ≡ 1) × ((i : ℕ) → i < trailing_zeros w64 word → bit_at word i ≡ 0) =
+    let lowest : (trailing_zeros w64 word < 64) × (bit_at word (trailing_zeros w64 word) ≡ 1)
+    × ((i : ℕ) → i < trailing_zeros w64 word → bit_at word i ≡ 0) =
     bit_at-trailing_zeros w64 word some fits in
     least-filter (λ i. bit_at word i == 1) 0 width (trailing_zeros w64 word) (omega (arith, wide, lowest.0))
     (place (trailing_zeros w64 word) 1 lowest.1) (λ i less. place i 0 (lowest.2 i less))
@@ -128,7 +138,8 @@ bits_in-none : (width : ℕ) → bits_in width 0 ≡ []
 unfolding bits_in
 bits_in-none width = filter-none (λ i. bit_at 0 i == 1) 0 width (λ e low high. ap (λ n. n == 1) (bit_at-zero e))
 
-elements-count : (width : ℕ) → width ≡ 64 → (words : List ℕ) → AreWords words → length (elements_in_plane words) ≡ set_bits words
+elements-count : (width : ℕ) → width ≡ 64 → (words : List ℕ) → AreWords words → length (elements_in_plane words)
+    ≡ set_bits words
 elements-count width wide [] are = refl
 elements-count width wide (word ∷ words) are =
     let fits : word < 2 ^ width = subst (λ (n : ℕ). word < 2 ^ n) (sym wide) are.0 in
@@ -137,48 +148,59 @@ elements-count width wide (word ∷ words) are =
     ∙ ap₂ (λ m n. m + n) (bits_in-count width word fits)
     (length-map (elements_in_plane words) (λ e. width + e) ∙ elements-count width wide words are.1)
 
-least-append : (xs ys : List ℕ) (least : ℕ) → least_element_in xs ≡ Some least → least_element_in (xs ++ ys) ≡ Some least
+least-append : (xs ys : List ℕ) (least : ℕ) → least_element_in xs ≡ Some least → least_element_in (xs ++ ys)
+    ≡ Some least
 least-append [] ys least is = cc
 least-append (x ∷ xs) ys least is = is
 
 least-moved : (width k : ℕ) → width ≡ 64 → (es : List ℕ) →
-    option_map (λ e. 64 * k + e) (least_element_in (map (λ e. width + e) es)) ≡ option_map (λ e. 64 * (k + 1) + e) (least_element_in es)
+    option_map (λ e. 64 * k + e) (least_element_in (map (λ e. width + e) es)) ≡ option_map (λ e. 64 * (k + 1) + e)
+    (least_element_in es)
 least-moved width k wide [] = refl
 least-moved width k wide (e ∷ es) = let on : 64 * k + (width + e) ≡ 64 * (k + 1) + e = omega (arith, wide) in ap Some on
 
-elements-least : (width : ℕ) → width ≡ 64 → (k : ℕ) (words : List ℕ) → AreWords words → option_map (λ e. 64 * k + e) (least_element_in (elements_in_plane words)) ≡ least_bit k words
+elements-least : (width : ℕ) → width ≡ 64 → (k : ℕ) (words : List ℕ) → AreWords words
+    → option_map (λ e. 64 * k + e) (least_element_in (elements_in_plane words)) ≡ least_bit k words
 elements-least width wide k [] are = refl
 elements-least width wide k (word ∷ words) are =
     ap (λ es. option_map (λ e. 64 * k + e) (least_element_in es)) (elements-cons width wide word words)
     ∙ by_word (word == 0) refl (elements-least width wide (k + 1) words are.1)
   where
-    by_word : (b : Bool) → (word == 0) ≡ b → option_map (λ e. 64 * (k + 1) + e) (least_element_in (elements_in_plane words)) ≡ least_bit (k + 1) words →
-        option_map (λ e. 64 * k + e) (least_element_in (bits_in width word ++ map (λ e. width + e) (elements_in_plane words)))
+    by_word : (b : Bool) → (word == 0) ≡ b → option_map (λ e. 64 * (k + 1) + e)
+        (least_element_in (elements_in_plane words)) ≡ least_bit (k + 1) words →
+        option_map (λ e. 64 * k + e) (least_element_in (bits_in width word
+        ++ map (λ e. width + e) (elements_in_plane words)))
         ≡ (if b then least_bit (k + 1) words else Some (64 * k + trailing_zeros w64 word))
     by_word true is behind =
         let zero_is : word ≡ 0 = grind (arith, nat_tests) in
-        ap (λ bits. option_map (λ e. 64 * k + e) (least_element_in (bits ++ map (λ e. width + e) (elements_in_plane words)))) (ap (bits_in width) zero_is ∙ bits_in-none width)
+        ap (λ bits. option_map (λ e. 64 * k + e)
+        (least_element_in (bits ++ map (λ e. width + e) (elements_in_plane words)))) (ap (bits_in width) zero_is
+        ∙ bits_in-none width)
         ∙ least-moved width k wide (elements_in_plane words) ∙ behind
     by_word false is behind =
         let some : 0 < word = grind (arith, nat_tests) in
         ap (option_map (λ e. 64 * k + e))
-        (least-append (bits_in width word) (map (λ e. width + e) (elements_in_plane words)) (trailing_zeros w64 word) (bits_in-least width word wide are.0 some))
+        (least-append (bits_in width word) (map (λ e. width + e) (elements_in_plane words)) (trailing_zeros w64 word)
+        (bits_in-least width word wide are.0 some))
 
 from_zero : (o : Option ℕ) → option_map (λ e. 64 * 0 + e) o ≡ o
 from_zero None = refl
 from_zero (Some e) = let on : 64 * 0 + e ≡ e = omega arith in ap Some on
 
 elements-first : (words : List ℕ) → AreWords words → least_element_in (elements_in_plane words) ≡ least_bit 0 words
-elements-first words are = sym (from_zero (least_element_in (elements_in_plane words))) ∙ elements-least 64 refl 0 words are
+elements-first words are = sym (from_zero (least_element_in (elements_in_plane words)))
+    ∙ elements-least 64 refl 0 words are
 
 count_and_least : (elements : List ℕ) → judged_by (length elements) (least_element_in elements) ≡ judged elements
 count_and_least [] = refl
-count_and_least (least ∷ others) = let one_more : suc (length others) ≡ length others + 1 = omega arith in ap (λ count. Conflict count least) one_more
+count_and_least (least ∷ others) = let one_more : suc (length others) ≡ length others + 1 = omega arith in
+    ap (λ count. Conflict count least) one_more
 
 pub plane_judges : PlaneJudges
 plane_judges = record {
   count = elements-count 64 refl;
   least = elements-first;
   verdict = λ words are.
-      ap₂ judged_by (sym (elements-count 64 refl words are)) (sym (elements-first words are)) ∙ count_and_least (elements_in_plane words);
+      ap₂ judged_by (sym (elements-count 64 refl words are)) (sym (elements-first words are))
+      ∙ count_and_least (elements_in_plane words);
 }

@@ -11,7 +11,8 @@ use Rattle.loop_core_model.specs.Actions.{is_same, reduces_by, joined, only_oper
 use Rattle.loop_core_model.proofs.OneElement.{same_op, is_same-refl}
 use Rattle.loop_core_model.specs.Flags.{is_plain}
 
-pub any-joined : (p : Action → Bool) (its : List (List Action)) → list_any (λ actions. list_any p actions) its ≡ list_any p (joined its)
+pub any-joined : (p : Action → Bool) (its : List (List Action)) → list_any (λ actions. list_any p actions) its
+    ≡ list_any p (joined its)
 any-joined p [] = refl
 any-joined p (it ∷ its) = ap (λ b. list_any p it || b) (any-joined p its) ∙ sym (list_any-append p it (joined its))
 
@@ -39,10 +40,13 @@ any_operator test Add h = or_left (test Add) _ h
 any_operator test Or h = or_right (test Add) _ (or_left (test Or) _ h)
 any_operator test And h = or_right (test Add) _ (or_right (test Or) _ (or_left (test And) _ h))
 any_operator test Xor h = or_right (test Add) _ (or_right (test Or) _ (or_right (test And) _ (or_left (test Xor) _ h)))
-any_operator test AddH h = or_right (test Add) _ (or_right (test Or) _ (or_right (test And) _ (or_right (test Xor) _ (or_left (test AddH) _ h))))
+any_operator test AddH h =
+    or_right (test Add) _ (or_right (test Or) _
+    (or_right (test And) _ (or_right (test Xor) _ (or_left (test AddH) _ h))))
 
 -- a reduce by the operator itself is none by another
-another_same : (op : Op) (operand : ℕ) (actions : List Action) → another op (has (Reduce op operand ∷ actions)) ≡ another op (has actions)
+another_same : (op : Op) (operand : ℕ) (actions : List Action) → another op (has (Reduce op operand ∷ actions))
+    ≡ another op (has actions)
 another_same Add operand actions = refl
 another_same Or operand actions = refl
 another_same And operand actions = refl
@@ -57,7 +61,8 @@ and_not_true true b h = rw h refl
 and_not_true false b h = refl
 
 -- all reduce by an operator where none is plain and none reduces by another
-all_alone : (op : Op) (actions : List Action) → list_all (reduces_by op) actions ≡ (not (plain actions) && not (another op (has actions)))
+all_alone : (op : Op) (actions : List Action) → list_all (reduces_by op) actions ≡ (not (plain actions)
+    && not (another op (has actions)))
 all_alone Add [] = refl
 all_alone Or [] = refl
 all_alone And [] = refl
@@ -68,10 +73,13 @@ all_alone op (Write left ∷ actions) = refl
 all_alone op (ReadWrite saw left ∷ actions) = refl
 all_alone op (Reduce other operand ∷ actions) = go (all_alone op actions) (is_same op other) refl
   where
-    go : list_all (reduces_by op) actions ≡ (not (plain actions) && not (another op (has actions))) → (b : Bool) → is_same op other ≡ b →
-        (b && list_all (reduces_by op) actions) ≡ (not (plain actions) && not (another op (has (Reduce other operand ∷ actions))))
+    go : list_all (reduces_by op) actions ≡ (not (plain actions) && not (another op (has actions))) → (b : Bool)
+        → is_same op other ≡ b →
+        (b && list_all (reduces_by op) actions) ≡ (not (plain actions)
+        && not (another op (has (Reduce other operand ∷ actions))))
     go rest true same =
-        subst (λ (o : Op). list_all (reduces_by op) actions ≡ (not (plain actions) && not (another op (has (Reduce o operand ∷ actions))))) (same_op op other same)
+        subst (λ (o : Op). list_all (reduces_by op) actions ≡ (not (plain actions)
+        && not (another op (has (Reduce o operand ∷ actions))))) (same_op op other same)
         (rest ∙ ap (λ b. not (plain actions) && not b) (sym (another_same op operand actions)))
     go rest false apart =
         and_not_true (not (plain actions)) (another op (has (Reduce other operand ∷ actions)))
@@ -91,7 +99,8 @@ some_if true op = refl
 some_if false op = refl
 
 -- a list's only operator, by what is kept of it
-pub only-kept : (actions : List Action) → is_some (only_operator actions) ≡ (not (plain actions) && (count_by (has actions) operators == 1))
+pub only-kept : (actions : List Action) → is_some (only_operator actions) ≡ (not (plain actions)
+    && (count_by (has actions) operators == 1))
 only-kept [] = refl
 only-kept (Read saw ∷ actions) = refl
 only-kept (Write left ∷ actions) = refl
@@ -100,4 +109,5 @@ only-kept (Reduce op operand ∷ actions) =
     some_if (list_all (reduces_by op) actions) op
     ∙ all_alone op actions
     ∙ ap (λ b. not (plain actions) && not b) (sym (another_same op operand actions))
-    ∙ ap (λ b. not (plain actions) && b) (sym (exactly_one op (has (Reduce op operand ∷ actions)) (or_left (is_same op op) _ (is_same-refl op))))
+    ∙ ap (λ b. not (plain actions) && b)
+    (sym (exactly_one op (has (Reduce op operand ∷ actions)) (or_left (is_same op op) _ (is_same-refl op))))

@@ -17,25 +17,31 @@ use Rattle.loop_core_model.proofs.Steps.{bit, times, first_break, break_of, leas
 abbrev pub numbers : List Block → List ℕ
 numbers blocks = map (λ (b : Block). b.number) blocks
 
-none_times : (k : ℕ) (blocks : List Block) → times k (numbers blocks) ≡ 0 → list_any (λ (other : Block). other.number == k) blocks ≡ false
+none_times : (k : ℕ) (blocks : List Block) → times k (numbers blocks) ≡ 0
+    → list_any (λ (other : Block). other.number == k) blocks ≡ false
 none_times k [] h = refl
 none_times k (b ∷ blocks) h = go (cases_Bool (b.number == k)) (λ none. none_times k blocks none)
   where
-    go : ((b.number == k) ≡ true) ⊎ ((b.number == k) ≡ false) → (times k (numbers blocks) ≡ 0 → list_any (λ (other : Block). other.number == k) blocks ≡ false) →
+    go : ((b.number == k) ≡ true) ⊎ ((b.number == k) ≡ false) → (times k (numbers blocks) ≡ 0
+        → list_any (λ (other : Block). other.number == k) blocks ≡ false) →
         list_any (λ (other : Block). other.number == k) (b ∷ blocks) ≡ false
     go (inl here) later = absurd (let one : bit (b.number == k) ≡ 1 = ap bit here in omega arith)
     go (inr other) later =
-        or_from (b.number == k) (list_any (λ (other : Block). other.number == k) blocks) other (later (let none : bit (b.number == k) ≡ 0 = ap bit other in omega arith))
+        or_from (b.number == k) (list_any (λ (other : Block). other.number == k) blocks) other
+        (later (let none : bit (b.number == k) ≡ 0 = ap bit other in omega arith))
 
-pub some_times : (k : ℕ) (blocks : List Block) → 0 < times k (numbers blocks) → is_none (block_numbered k blocks) ≡ false
+pub some_times : (k : ℕ) (blocks : List Block) → 0 < times k (numbers blocks) → is_none (block_numbered k blocks)
+    ≡ false
 some_times k [] h = absurd (omega arith)
 some_times k (b ∷ blocks) h = go (cases_Bool (b.number == k)) (λ some. some_times k blocks some)
   where
-    go : ((b.number == k) ≡ true) ⊎ ((b.number == k) ≡ false) → (0 < times k (numbers blocks) → is_none (block_numbered k blocks) ≡ false) →
+    go : ((b.number == k) ≡ true) ⊎ ((b.number == k) ≡ false) → (0 < times k (numbers blocks)
+        → is_none (block_numbered k blocks) ≡ false) →
         is_none (block_numbered k (b ∷ blocks)) ≡ false
     go (inl here) later = ap (λ (c : Bool). is_none (cond c (Some b) (block_numbered k blocks))) here
     go (inr other) later =
-        ap (λ (c : Bool). is_none (cond c (Some b) (block_numbered k blocks))) other ∙ later (let none : bit (b.number == k) ≡ 0 = ap bit other in omega arith)
+        ap (λ (c : Bool). is_none (cond c (Some b) (block_numbered k blocks))) other
+        ∙ later (let none : bit (b.number == k) ≡ 0 = ap bit other in omega arith)
 
 -- no number stands twice
 pub once_each : (blocks : List Block) → ((k : ℕ) → times k (numbers blocks) ≤ 1) → twice blocks ≡ false
@@ -43,39 +49,50 @@ once_each [] each = refl
 once_each (b ∷ blocks) each =
     let here : bit (b.number == b.number) ≡ 1 = ap bit (eq-eqb b.number b.number refl) in
     let most = each b.number in
-    or_from (list_any (λ (other : Block). other.number == b.number) blocks) (twice blocks) (none_times b.number blocks (omega arith))
+    or_from (list_any (λ (other : Block). other.number == b.number) blocks) (twice blocks)
+    (none_times b.number blocks (omega arith))
     (once_each blocks (λ k. (let all = each k in omega arith)))
 
 -- none is of another split
-pub none_foreign : (bounds : List ℕ) (blocks : List Block) → AllByRecursion (λ b. stands_in bounds b ≡ true) blocks → list_any (λ (b : Block). not (stands_in bounds b)) blocks ≡ false
+pub none_foreign : (bounds : List ℕ) (blocks : List Block) → AllByRecursion (λ b. stands_in bounds b ≡ true) blocks
+    → list_any (λ (b : Block). not (stands_in bounds b)) blocks ≡ false
 none_foreign bounds [] stand = refl
 none_foreign bounds (b ∷ blocks) stand =
-    or_from (not (stands_in bounds b)) (list_any (λ (c : Block). not (stands_in bounds c)) blocks) (not_from_true (stands_in bounds b) stand.0) (none_foreign bounds blocks stand.1)
+    or_from (not (stands_in bounds b)) (list_any (λ (c : Block). not (stands_in bounds c)) blocks)
+    (not_from_true (stands_in bounds b) stand.0) (none_foreign bounds blocks stand.1)
 
 -- none is missing that doesn't start past the least break
 none_lacks_from : (least : Option ℕ) (blocks : List Block) (number first : ℕ) (bounds : List ℕ) →
-    ((j : ℕ) → j < length bounds → (is_none (block_numbered (number + j) blocks) ≡ false) ⊎ (starts_late least (slice_index (first ∷ bounds) j) ≡ true)) →
+    ((j : ℕ) → j < length bounds → (is_none (block_numbered (number + j) blocks) ≡ false)
+    ⊎ (starts_late least (slice_index (first ∷ bounds) j) ≡ true)) →
     lacks_block least blocks number first bounds ≡ false
 none_lacks_from least blocks number first [] each = refl
 none_lacks_from least blocks number first (past ∷ bounds) each =
-    or_from (not (starts_late least first) && is_none (block_numbered number blocks)) (lacks_block least blocks (number + 1) past bounds) (go (each 0 (omega arith)))
+    or_from (not (starts_late least first) && is_none (block_numbered number blocks))
+    (lacks_block least blocks (number + 1) past bounds) (go (each 0 (omega arith)))
     (none_lacks_from least blocks (number + 1) past bounds (λ j h.
     let same : number + suc j ≡ number + 1 + j = omega arith in
-    subst (λ (k : ℕ). (is_none (block_numbered k blocks) ≡ false) ⊎ (starts_late least (slice_index (past ∷ bounds) j) ≡ true)) same (each (suc j) (omega arith))))
+    subst (λ (k : ℕ). (is_none (block_numbered k blocks) ≡ false) ⊎ (starts_late least (slice_index (past ∷ bounds) j)
+    ≡ true)) same (each (suc j) (omega arith))))
   where
-    go : (is_none (block_numbered (number + 0) blocks) ≡ false) ⊎ (starts_late least first ≡ true) → (not (starts_late least first) && is_none (block_numbered number blocks)) ≡ false
+    go : (is_none (block_numbered (number + 0) blocks) ≡ false) ⊎ (starts_late least first ≡ true)
+        → (not (starts_late least first) && is_none (block_numbered number blocks)) ≡ false
     go (inl there) =
         let same : number + 0 ≡ number = omega arith in
-        and_right (not (starts_late least first)) (is_none (block_numbered number blocks)) (subst (λ (k : ℕ). is_none (block_numbered k blocks) ≡ false) same there)
-    go (inr late) = and_left (not (starts_late least first)) (is_none (block_numbered number blocks)) (not_from_true (starts_late least first) late)
+        and_right (not (starts_late least first)) (is_none (block_numbered number blocks))
+        (subst (λ (k : ℕ). is_none (block_numbered k blocks) ≡ false) same there)
+    go (inr late) = and_left (not (starts_late least first)) (is_none (block_numbered number blocks))
+        (not_from_true (starts_late least first) late)
 
 pub none_lacks : (bounds : List ℕ) (blocks : List Block) →
-    ((k : ℕ) → k < blocks_of bounds → (is_none (block_numbered k blocks) ≡ false) ⊎ (starts_late (least_of blocks) (start_of bounds k) ≡ true)) → lacks_some bounds blocks ≡ false
+    ((k : ℕ) → k < blocks_of bounds → (is_none (block_numbered k blocks) ≡ false) ⊎ (starts_late (least_of blocks)
+    (start_of bounds k) ≡ true)) → lacks_some bounds blocks ≡ false
 none_lacks [] blocks each = refl
 none_lacks (first ∷ bounds) blocks each =
     none_lacks_from (least_of blocks) blocks 0 first bounds (λ j h.
     let same : j ≡ 0 + j = omega arith in
-    subst (λ (k : ℕ). (is_none (block_numbered k blocks) ≡ false) ⊎ (starts_late (least_of blocks) (slice_index (first ∷ bounds) j) ≡ true)) same (each j (omega arith)))
+    subst (λ (k : ℕ). (is_none (block_numbered k blocks) ≡ false) ⊎ (starts_late (least_of blocks)
+    (slice_index (first ∷ bounds) j) ≡ true)) same (each j (omega arith)))
 
 -- a bound that is there
 bound_is : (bounds : List ℕ) (k x : ℕ) → is_bound (slice_get bounds k) x ≡ true → slice_index bounds k ≡ x
@@ -88,55 +105,68 @@ module _ (iterate : ℕ → BoundedResult Iterated) where
   breaking index = is_break (iterate index)
 
   -- a scan that ended broke at the first index that breaks
-  broke_once : (left index : ℕ) (it : Iterated) (ran : List Iterated) → iterate index ≡ Ended it → (it.ret == 1) ≡ true → it ∷ [] ≡ ran →
+  broke_once : (left index : ℕ) (it : Iterated) (ran : List Iterated) → iterate index ≡ Ended it → (it.ret == 1) ≡ true
+      → it ∷ [] ≡ ran →
       break_from index ran ≡ first_break breaking (suc left) index
   broke_once left index it ran same one is_one =
       sym (ap (break_from index) is_one)
       ∙ (ap (λ (b : Bool). if b then Some index else None) one
-      ∙ sym (ap (λ (e : BoundedResult Iterated). if is_break e then Some index else first_break breaking left (index + 1)) same
+      ∙ sym (ap (λ (e : BoundedResult Iterated). if is_break e then Some index
+      else first_break breaking left (index + 1)) same
       ∙ ap (λ (b : Bool). if b then Some index else first_break breaking left (index + 1)) one))
 
-  went_on : (left index : ℕ) (it : Iterated) (others ran : List Iterated) → iterate index ≡ Ended it → (it.ret == 1) ≡ false → ran ≡ it ∷ others →
-      break_from (index + 1) others ≡ first_break breaking left (index + 1) → break_from index ran ≡ first_break breaking (suc left) index
+  went_on : (left index : ℕ) (it : Iterated) (others ran : List Iterated) → iterate index ≡ Ended it
+      → (it.ret == 1) ≡ false → ran ≡ it ∷ others →
+      break_from (index + 1) others ≡ first_break breaking left (index + 1) → break_from index ran ≡ first_break
+      breaking (suc left) index
   went_on left index it others ran same on is_more rest =
       ap (break_from index) is_more
       ∙ (ap (λ (b : Bool). if b then Some index else break_from (index + 1) others) on
       ∙ (rest
-      ∙ sym (ap (λ (e : BoundedResult Iterated). if is_break e then Some index else first_break breaking left (index + 1)) same
+      ∙ sym (ap (λ (e : BoundedResult Iterated). if is_break e then Some index
+      else first_break breaking left (index + 1)) same
       ∙ ap (λ (b : Bool). if b then Some index else first_break breaking left (index + 1)) on)))
 
-  pub scan_break : (left index : ℕ) (ran : List Iterated) → scan iterate left index ≡ Ended ran → break_from index ran ≡ first_break breaking left index
+  pub scan_break : (left index : ℕ) (ran : List Iterated) → scan iterate left index ≡ Ended ran
+      → break_from index ran ≡ first_break breaking left index
   scan_break zero index ran h = let none : [] ≡ ran = cc in sym (ap (break_from index) none)
   scan_break (suc left) index ran h = by_first (iterate index) refl h (λ its e. scan_break left (index + 1) its e)
     where
       by_break : (it : Iterated) → iterate index ≡ Ended it → (b : Bool) → (it.ret == 1) ≡ b →
           (if b then Ended (it ∷ []) else in_front_of (scan iterate left (index + 1)) it) ≡ Ended ran →
-          ((its : List Iterated) → scan iterate left (index + 1) ≡ Ended its → break_from (index + 1) its ≡ first_break breaking left (index + 1)) →
+          ((its : List Iterated) → scan iterate left (index + 1) ≡ Ended its → break_from (index + 1) its ≡ first_break
+          breaking left (index + 1)) →
           break_from index ran ≡ first_break breaking (suc left) index
       by_break it same true one h later = broke_once left index it ran same one (cc)
       by_break it same false on h later =
           let parts = mapped_from (λ others. it ∷ others) (scan iterate left (index + 1)) ran h in
           went_on left index it parts.0 ran same on parts.2 (later parts.0 parts.1)
 
-      by_first : (e : BoundedResult Iterated) → iterate index ≡ e → followed (up_to_break (scan iterate left (index + 1))) e ≡ Ended ran →
-          ((its : List Iterated) → scan iterate left (index + 1) ≡ Ended its → break_from (index + 1) its ≡ first_break breaking left (index + 1)) →
+      by_first : (e : BoundedResult Iterated) → iterate index ≡ e
+          → followed (up_to_break (scan iterate left (index + 1))) e ≡ Ended ran →
+          ((its : List Iterated) → scan iterate left (index + 1) ≡ Ended its → break_from (index + 1) its ≡ first_break
+          breaking left (index + 1)) →
           break_from index ran ≡ first_break breaking (suc left) index
       by_first Stuck same h later = absurd (cc)
       by_first Unfinished same h later = absurd (cc)
       by_first (Ended it) same h later = by_break it same (it.ret == 1) refl h later
 
   -- so the least break of blocks that were run is known from their numbers
-  break_is : (bounds : List ℕ) (b : Block) → stands_in bounds b ≡ true → scan iterate (b.past - b.first) b.first ≡ Ended b.ran → break_from b.first b.ran ≡ break_of breaking bounds b.number
+  break_is : (bounds : List ℕ) (b : Block) → stands_in bounds b ≡ true → scan iterate (b.past - b.first) b.first
+      ≡ Ended b.ran → break_from b.first b.ran ≡ break_of breaking bounds b.number
   break_is bounds b stand run =
-      let parts = and_parts (is_bound (slice_get bounds b.number) b.first) (is_bound (slice_get bounds (b.number + 1)) b.past) stand in
+      let parts = and_parts (is_bound (slice_get bounds b.number) b.first) (is_bound (slice_get bounds (b.number + 1))
+      b.past) stand in
       let starts : start_of bounds b.number ≡ b.first = bound_is bounds b.number b.first parts.0 in
       let ends : end_of bounds b.number ≡ b.past = bound_is bounds (b.number + 1) b.past parts.1 in
       scan_break (b.past - b.first) b.first b.ran run
       ∙ (ap (λ (past : ℕ). first_break breaking (past - b.first) b.first) (sym ends)
       ∙ ap (λ (first : ℕ). first_break breaking (end_of bounds b.number - first) first) (sym starts))
 
-  pub least_is_least : (bounds : List ℕ) (blocks : List Block) → AllByRecursion (λ b. stands_in bounds b ≡ true) blocks →
-      AllByRecursion (λ (b : Block). scan iterate (b.past - b.first) b.first ≡ Ended b.ran) blocks → least_of blocks ≡ least_break_of breaking bounds (numbers blocks)
+  pub least_is_least : (bounds : List ℕ) (blocks : List Block) → AllByRecursion (λ b. stands_in bounds b ≡ true) blocks
+      →
+      AllByRecursion (λ (b : Block). scan iterate (b.past - b.first) b.first ≡ Ended b.ran) blocks
+      → least_of blocks ≡ least_break_of breaking bounds (numbers blocks)
   least_is_least bounds [] stand run = refl
   least_is_least bounds (b ∷ blocks) stand run =
       ap (λ (o : Option ℕ). lesser o (least_of blocks)) (break_is bounds b stand.0 run.0)

@@ -13,9 +13,12 @@ module _ (iterate : ℕ → BoundedResult Iterated) where
   breaks_at index = is_break (iterate index)
 
   -- the counted iterations are those up to the first that breaks
-  one_scanned : (count left index : ℕ) (e : BoundedResult Iterated) → iterate index ≡ e → EndsAt breaks_at (suc count) (suc left) index →
-      (breaks_at index ≡ false → all_ended (map iterate (range_with_len (index + 1) count)) ≡ scan iterate left (index + 1)) →
-      all_ended (e ∷ map iterate (range_with_len (index + 1) count)) ≡ followed (up_to_break (scan iterate left (index + 1))) e
+  one_scanned : (count left index : ℕ) (e : BoundedResult Iterated) → iterate index ≡ e
+      → EndsAt breaks_at (suc count) (suc left) index →
+      (breaks_at index ≡ false → all_ended (map iterate (range_with_len (index + 1) count)) ≡ scan iterate left
+      (index + 1)) →
+      all_ended (e ∷ map iterate (range_with_len (index + 1) count))
+      ≡ followed (up_to_break (scan iterate left (index + 1))) e
   one_scanned count left index Stuck same ends later = refl
   one_scanned count left index Unfinished same ends later = refl
   one_scanned count left index (Ended it) same ends later = go (it.ret == 1) refl
@@ -28,7 +31,8 @@ module _ (iterate : ℕ → BoundedResult Iterated) where
           ap (λ (n : ℕ). in_front_of (all_ended (map iterate (range_with_len (index + 1) n))) it) none
       go false one = ap (λ rest. in_front_of rest it) (later (ap is_break same ∙ one))
 
-  scan_is : (count left index : ℕ) → count ≤ left → EndsAt breaks_at count left index → all_ended (map iterate (range_with_len index count)) ≡ scan iterate left index
+  scan_is : (count left index : ℕ) → count ≤ left → EndsAt breaks_at count left index
+      → all_ended (map iterate (range_with_len index count)) ≡ scan iterate left index
   scan_is zero zero index within ends = refl
   scan_is zero (suc left) index within ends = absurd (ends_somewhere breaks_at left index ends)
   scan_is (suc count) zero index within ends = absurd (omega arith)
@@ -37,10 +41,12 @@ module _ (iterate : ℕ → BoundedResult Iterated) where
       (λ going. scan_is count left (index + 1) (omega arith) (ends_next breaks_at count left index going ends))
 
   -- from the first on
-  pub counted_scan : (n : ℕ) → all_ended (map iterate (range_with_len 0 (count_to n (least_below breaks_at n)))) ≡ scan iterate n 0
+  pub counted_scan : (n : ℕ) → all_ended (map iterate (range_with_len 0 (count_to n (least_below breaks_at n))))
+      ≡ scan iterate n 0
   counted_scan n =
       let counts = counts_to breaks_at n in
-      scan_is (count_to n (least_below breaks_at n)) n 0 counts.within (ends_at_zero breaks_at n (count_to n (least_below breaks_at n)) counts)
+      scan_is (count_to n (least_below breaks_at n)) n 0 counts.within
+      (ends_at_zero breaks_at n (count_to n (least_below breaks_at n)) counts)
 
 pub counted_are_scanned : CountedAreScanned
 counted_are_scanned program bound call words = counted_scan (λ index. iteration program bound call index words) call.n

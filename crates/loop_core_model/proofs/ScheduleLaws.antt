@@ -41,7 +41,8 @@ pub record Sound (breaks : ℕ → Bool) (bounds : List ℕ) (state : ScheduleSt
   pub sixteen : length state.workers ≡ 16
   pub within : state.shared.next ≤ blocks_of bounds
   pub fits : (w : ℕ) → Fits breaks bounds state.shared.next (worker_of state w)
-  pub counts : (k : ℕ) → CountsTo bounds state.shared.next state.shared.least k (times k state.shared.runs + held k state.workers)
+  pub counts : (k : ℕ) → CountsTo bounds state.shared.next state.shared.least k (times k state.shared.runs
+      + held k state.workers)
   pub least : least_break_of breaks bounds state.shared.runs ≡ lesser state.shared.least (unposted state.workers)
 
 -- a worker that a list of events names
@@ -49,59 +50,80 @@ abbrev pub names : ℕ → List Event → Bool
 names w events = list_any (λ (e : Event). e.worker == w) events
 
 module _ (breaks : ℕ → Bool) (bounds : List ℕ) (rises : falls 0 bounds ≡ false) where
-  sound_after : (state : ScheduleState) (number : ℕ) (new : Worker) (after : Shared) → Sound breaks bounds state → number < 16 →
-      Kept breaks bounds (worker_of state number) state.shared new after → Sound breaks bounds (record { shared = after; workers = slice_set state.workers number new })
+  sound_after : (state : ScheduleState) (number : ℕ) (new : Worker) (after : Shared) → Sound breaks bounds state
+      → number < 16 →
+      Kept breaks bounds (worker_of state number) state.shared new after
+      → Sound breaks bounds (record { shared = after; workers = slice_set state.workers number new })
   sound_after state number new after sound below kept = record {
     sixteen = length-set state.workers number new ∙ sound.sixteen;
     within = kept.within;
     fits = λ w. fits_each w (cases_eq w number);
     counts = λ k.
-        subst (λ (t : ℕ). CountsTo bounds after.next after.least k (times k after.runs + t)) (sym (changed ℕ (λ a b. a + b) 0 (holds k) add_swap state.workers number new there))
+        subst (λ (t : ℕ). CountsTo bounds after.next after.least k (times k after.runs + t))
+        (sym (changed ℕ (λ a b. a + b) 0 (holds k) add_swap state.workers number new there))
         (kept.counts k (others ℕ (λ a b. a + b) 0 (holds k) state.workers number)
         (subst (λ (t : ℕ). CountsTo bounds state.shared.next state.shared.least k (times k state.shared.runs + t))
         (one_and_others ℕ (λ a b. a + b) 0 (holds k) add_swap state.workers number there) (sound.counts k)));
     least =
         kept.least (others (Option ℕ) lesser None to_post state.workers number)
-        (sound.least ∙ ap (lesser state.shared.least) (one_and_others (Option ℕ) lesser None to_post lesser_swap state.workers number there))
-        ∙ ap (lesser after.least) (sym (changed (Option ℕ) lesser None to_post lesser_swap state.workers number new there));
+        (sound.least ∙ ap (lesser state.shared.least) (one_and_others (Option ℕ) lesser None to_post lesser_swap
+        state.workers number there))
+        ∙ ap (lesser after.least) (sym (changed (Option ℕ) lesser None to_post lesser_swap state.workers number new
+        there));
   }
     where
       there : number < length state.workers
       there = let n = sound.sixteen in omega arith
 
-      fits_each : (w : ℕ) → (w ≡ number) ⊎ (w ≡ number → ⊥) → Fits breaks bounds after.next (slice_index_or (slice_set state.workers number new) w Idle)
+      fits_each : (w : ℕ) → (w ≡ number) ⊎ (w ≡ number → ⊥)
+          → Fits breaks bounds after.next (slice_index_or (slice_set state.workers number new) w Idle)
       fits_each w (inl same) =
           subst (λ (v : Worker). Fits breaks bounds after.next v)
-          (sym (ap (λ (i : ℕ). slice_index_or (slice_set state.workers number new) i Idle) same ∙ get_or-set_same state.workers number new Idle there)) kept.fits
+          (sym (ap (λ (i : ℕ). slice_index_or (slice_set state.workers number new) i Idle) same
+          ∙ get_or-set_same state.workers number new Idle there)) kept.fits
       fits_each w (inr other) =
-          subst (λ (v : Worker). Fits breaks bounds after.next v) (sym (get_or-set_other state.workers number w new Idle other)) (kept.fit_on (worker_of state w) (sound.fits w))
+          subst (λ (v : Worker). Fits breaks bounds after.next v)
+          (sym (get_or-set_other state.workers number w new Idle other)) (kept.fit_on (worker_of state w)
+          (sound.fits w))
 
   -- after an event: what is known of the state, and that no other worker did anything
   abbrev pub OneOk : ℕ → ScheduleState → Result ScheduleState ReplayFault → Type 0
   OneOk number state (Err fault) = Unit {0}
-  OneOk number state (Ok after) = Sound breaks bounds after × ((w : ℕ) → (w ≡ number → ⊥) → worker_of after w ≡ worker_of state w)
+  OneOk number state (Ok after) = Sound breaks bounds after
+      × ((w : ℕ) → (w ≡ number → ⊥) → worker_of after w ≡ worker_of state w)
 
-  enabled_ok : (place number : ℕ) (state : ScheduleState) → Sound breaks bounds state → number < 16 → (o : Option Moved) →
-      KeptIfEnabled breaks bounds rises (worker_of state number) state.shared o → OneOk number state (if_enabled place number state o)
+  enabled_ok : (place number : ℕ) (state : ScheduleState) → Sound breaks bounds state → number < 16 → (o : Option Moved)
+      →
+      KeptIfEnabled breaks bounds rises (worker_of state number) state.shared o
+      → OneOk number state (if_enabled place number state o)
   enabled_ok place number state sound below None kept = tt
-  enabled_ok place number state sound below (Some m) kept =
-      (sound_after state number m.worker m.shared sound below kept, λ w other. get_or-set_other state.workers number w m.worker Idle other)
+  enabled_ok place number state sound below (Some m) kept = (
+    sound_after state number m.worker m.shared sound below kept,
+    λ w other. get_or-set_other state.workers number w
+        m.worker Idle other,
+  )
 
-  pub event_ok : (e : Event) (place : ℕ) (state : ScheduleState) → Sound breaks bounds state → (above : Bool) → nat_lt 15 e.worker ≡ above →
-      OneOk e.worker state (if above then Err (faults.NoSuchWorker place) else if_enabled place e.worker state (transition breaks bounds e.kind (worker_of state e.worker) state.shared))
+  pub event_ok : (e : Event) (place : ℕ) (state : ScheduleState) → Sound breaks bounds state → (above : Bool)
+      → nat_lt 15 e.worker ≡ above →
+      OneOk e.worker state (if above then Err (faults.NoSuchWorker place) else if_enabled place e.worker state
+      (transition breaks bounds e.kind (worker_of state e.worker) state.shared))
   event_ok e place state sound true h = tt
   event_ok e place state sound false h =
       let most = ltb-false 15 e.worker h in
-      enabled_ok place e.worker state sound (omega arith) (transition breaks bounds e.kind (worker_of state e.worker) state.shared)
-      (event_keeps breaks bounds rises e.kind (worker_of state e.worker) state.shared sound.within (sound.fits e.worker))
+      enabled_ok place e.worker state sound (omega arith) (transition breaks bounds e.kind (worker_of state e.worker)
+      state.shared)
+      (event_keeps breaks bounds rises e.kind (worker_of state e.worker) state.shared sound.within
+      (sound.fits e.worker))
 
   -- after a list of events
   abbrev pub AllOk : List Event → ScheduleState → Result ScheduleState ReplayFault → Type 0
   AllOk events state (Err fault) = Unit {0}
-  AllOk events state (Ok after) = Sound breaks bounds after × ((w : ℕ) → names w events ≡ false → worker_of after w ≡ worker_of state w)
+  AllOk events state (Ok after) = Sound breaks bounds after × ((w : ℕ) → names w events ≡ false
+      → worker_of after w ≡ worker_of state w)
 
   -- an event before others
-  event_before : (e : Event) (events : List Event) (first next : ScheduleState) → ((w : ℕ) → (w ≡ e.worker → ⊥) → worker_of next w ≡ worker_of first w) →
+  event_before : (e : Event) (events : List Event) (first next : ScheduleState) → ((w : ℕ) → (w ≡ e.worker → ⊥)
+      → worker_of next w ≡ worker_of first w) →
       (r : Result ScheduleState ReplayFault) → AllOk events next r → AllOk (e ∷ events) first r
   event_before e events first next same (Err fault) ok = tt
   event_before e events first next same (Ok after) ok = (
@@ -112,15 +134,20 @@ module _ (breaks : ℕ → Bool) (bounds : List ℕ) (rises : falls 0 bounds ≡
   )
 
   events_on : (e : Event) (events : List Event) (place : ℕ) (state : ScheduleState) →
-      ((next : ScheduleState) → Sound breaks bounds next → AllOk events next (after_events breaks bounds events (place + 1) next)) →
-      (r : Result ScheduleState ReplayFault) → OneOk e.worker state r → AllOk (e ∷ events) state (and_then (after_events breaks bounds events (place + 1)) r)
+      ((next : ScheduleState) → Sound breaks bounds next
+      → AllOk events next (after_events breaks bounds events (place + 1) next)) →
+      (r : Result ScheduleState ReplayFault) → OneOk e.worker state r
+      → AllOk (e ∷ events) state (and_then (after_events breaks bounds events (place + 1)) r)
   events_on e events place state later (Err fault) ok = tt
-  events_on e events place state later (Ok next) ok = event_before e events state next ok.1 (after_events breaks bounds events (place + 1) next) (later next ok.0)
+  events_on e events place state later (Ok next) ok =
+      event_before e events state next ok.1 (after_events breaks bounds events (place + 1) next) (later next ok.0)
 
-  pub events_ok : (events : List Event) (place : ℕ) (state : ScheduleState) → Sound breaks bounds state → AllOk events state (after_events breaks bounds events place state)
+  pub events_ok : (events : List Event) (place : ℕ) (state : ScheduleState) → Sound breaks bounds state
+      → AllOk events state (after_events breaks bounds events place state)
   events_ok [] place state sound = (sound, λ w none. refl)
   events_ok (e ∷ events) place state sound =
-      events_on e events place state (λ next ok. events_ok events (place + 1) next ok) (after_event breaks bounds e place state)
+      events_on e events place state (λ next ok. events_ok events (place + 1) next ok)
+      (after_event breaks bounds e place state)
       (event_ok e place state sound (nat_lt 15 e.worker) refl)
 
   -- at first
@@ -164,42 +191,55 @@ quiet_posts Stopped h = refl
 quiet_posts w h = absurd (cc)
 
 -- a worker that stopped found no block left
-stopped_fits : (breaks : ℕ → Bool) (bounds : List ℕ) (next : ℕ) (w : Worker) → is_stopped w ≡ true → Fits breaks bounds next w → next ≡ blocks_of bounds
+stopped_fits : (breaks : ℕ → Bool) (bounds : List ℕ) (next : ℕ) (w : Worker) → is_stopped w ≡ true
+    → Fits breaks bounds next w → next ≡ blocks_of bounds
 stopped_fits breaks bounds next Stopped h fits = fits
 stopped_fits breaks bounds next w h fits = absurd (cc)
 
 -- of a list that all passes, one that is named does
-named_stopped : (state : ScheduleState) (events : List Event) → list_all (λ (e : Event). is_stopped (worker_of state e.worker)) events ≡ true → (w : ℕ) → names w events ≡ true →
+named_stopped : (state : ScheduleState) (events : List Event)
+    → list_all (λ (e : Event). is_stopped (worker_of state e.worker)) events ≡ true → (w : ℕ) → names w events ≡ true →
     is_stopped (worker_of state w) ≡ true
 named_stopped state [] all w h = absurd (cc)
 named_stopped state (e ∷ events) all w h =
-    let parts = and_parts (is_stopped (worker_of state e.worker)) (list_all (λ (e : Event). is_stopped (worker_of state e.worker)) events) all in
+    let parts = and_parts (is_stopped (worker_of state e.worker))
+    (list_all (λ (e : Event). is_stopped (worker_of state e.worker)) events) all in
     go parts.0 (named_stopped state events parts.1 w) (or_cases (e.worker == w) (names w events) h)
   where
-    go : is_stopped (worker_of state e.worker) ≡ true → (names w events ≡ true → is_stopped (worker_of state w) ≡ true) →
+    go : is_stopped (worker_of state e.worker) ≡ true → (names w events ≡ true → is_stopped (worker_of state w) ≡ true)
+        →
         ((e.worker == w) ≡ true) ⊎ (names w events ≡ true) → is_stopped (worker_of state w) ≡ true
     go here later (inl same) = subst (λ (i : ℕ). is_stopped (worker_of state i) ≡ true) (eqb-true e.worker w same) here
     go here later (inr found) = later found
 
-first_stopped : (state : ScheduleState) (events : List Event) → nat_lt 0 (length events) ≡ true → list_all (λ (e : Event). is_stopped (worker_of state e.worker)) events ≡ true →
+first_stopped : (state : ScheduleState) (events : List Event) → nat_lt 0 (length events) ≡ true
+    → list_all (λ (e : Event). is_stopped (worker_of state e.worker)) events ≡ true →
     (w : ℕ) × (is_stopped (worker_of state w) ≡ true)
 first_stopped state [] some all = absurd (cc)
-first_stopped state (e ∷ events) some all =
-    (e.worker, (and_parts (is_stopped (worker_of state e.worker)) (list_all (λ (e : Event). is_stopped (worker_of state e.worker)) events) all).0)
+first_stopped state (e ∷ events) some all = (
+  e.worker,
+  (and_parts (is_stopped (worker_of state e.worker))
+      (list_all (λ (e : Event). is_stopped (worker_of state e.worker)) events) all).0,
+)
 
 -- the fault by three tests
 abbrev fault_by : (missing double foreign : Bool) → Option GatherFault
-fault_by missing double foreign = if missing then Some Missing else if double then Some Twice else if foreign then Some Foreign else None
+fault_by missing double foreign = if missing then Some Missing else if double then Some Twice else if foreign
+    then Some Foreign else None
 
-pub no_fault : (bounds : List ℕ) (blocks : List Block) → lacks_some bounds blocks ≡ false → twice blocks ≡ false → list_any (λ (b : Block). not (stands_in bounds b)) blocks ≡ false →
+pub no_fault : (bounds : List ℕ) (blocks : List Block) → lacks_some bounds blocks ≡ false → twice blocks ≡ false
+    → list_any (λ (b : Block). not (stands_in bounds b)) blocks ≡ false →
     gather_fault bounds blocks ≡ None
 no_fault bounds blocks m t f =
     ap (λ (b : Bool). fault_by b (twice blocks) (list_any (λ (c : Block). not (stands_in bounds c)) blocks)) m
-    ∙ (ap (λ (b : Bool). fault_by false b (list_any (λ (c : Block). not (stands_in bounds c)) blocks)) t ∙ ap (λ (b : Bool). fault_by false false b) f)
+    ∙ (ap (λ (b : Bool). fault_by false b (list_any (λ (c : Block). not (stands_in bounds c)) blocks)) t
+    ∙ ap (λ (b : Bool). fault_by false false b) f)
 
 -- what is known at the end
-module _ (breaks : ℕ → Bool) (bounds : List ℕ) (rises : falls 0 bounds ≡ false) (events : List Event) (state : ScheduleState) (sound : Sound breaks bounds state)
-    (apart : (w : ℕ) → names w events ≡ false → worker_of state w ≡ worker_of at_first w) (some : nat_lt 0 (length events) ≡ true)
+module _ (breaks : ℕ → Bool) (bounds : List ℕ) (rises : falls 0 bounds ≡ false) (events : List Event)
+    (state : ScheduleState) (sound : Sound breaks bounds state)
+    (apart : (w : ℕ) → names w events ≡ false → worker_of state w ≡ worker_of at_first w)
+    (some : nat_lt 0 (length events) ≡ true)
     (all : list_all (λ (e : Event). is_stopped (worker_of state e.worker)) events ≡ true) where
   quiet : (w : ℕ) → is_quiet (worker_of state w) ≡ true
   quiet w = go (cases_Bool (names w events))
@@ -209,13 +249,16 @@ module _ (breaks : ℕ → Bool) (bounds : List ℕ) (rises : falls 0 bounds ≡
       go (inr other) = ap is_quiet (apart w other ∙ idle_at breaks bounds rises 16 w)
 
   none_held : (k : ℕ) → held k state.workers ≡ 0
-  none_held k = none_of_all ℕ (λ a b. a + b) 0 (holds k) (λ a. omega arith) state.workers (λ i h. quiet_holds k (worker_of state i) (quiet i))
+  none_held k = none_of_all ℕ (λ a b. a + b) 0 (holds k) (λ a. omega arith) state.workers
+      (λ i h. quiet_holds k (worker_of state i) (quiet i))
 
   none_unposted : unposted state.workers ≡ None
-  none_unposted = none_of_all (Option ℕ) lesser None to_post (λ a. refl) state.workers (λ i h. quiet_posts (worker_of state i) (quiet i))
+  none_unposted = none_of_all (Option ℕ) lesser None to_post (λ a. refl) state.workers
+      (λ i h. quiet_posts (worker_of state i) (quiet i))
 
   all_taken : state.shared.next ≡ blocks_of bounds
-  all_taken = let one = first_stopped state events some all in stopped_fits breaks bounds state.shared.next (worker_of state one.0) one.1 (sound.fits one.0)
+  all_taken = let one = first_stopped state events some all in stopped_fits breaks bounds state.shared.next
+      (worker_of state one.0) one.1 (sound.fits one.0)
 
   least_is : state.shared.least ≡ least_break_of breaks bounds state.shared.runs
   least_is = sym (sound.least ∙ (ap (lesser state.shared.least) none_unposted ∙ lesser_none state.shared.least))
@@ -224,10 +267,12 @@ module _ (breaks : ℕ → Bool) (bounds : List ℕ) (rises : falls 0 bounds ≡
   once k = let most = (sound.counts k).once in omega arith
 
   -- a block of the split was run, or may be skipped
-  pub run_or_late : (k : ℕ) → k < blocks_of bounds → (0 < times k state.shared.runs) ⊎ (starts_late state.shared.least (start_of bounds k) ≡ true)
+  pub run_or_late : (k : ℕ) → k < blocks_of bounds → (0 < times k state.shared.runs) ⊎ (starts_late state.shared.least
+      (start_of bounds k) ≡ true)
   run_or_late k below = go ((sound.counts k).taken (let t = all_taken in omega arith))
     where
-      go : (times k state.shared.runs + held k state.workers ≡ 1) ⊎ (starts_late state.shared.least (start_of bounds k) ≡ true) →
+      go : (times k state.shared.runs + held k state.workers ≡ 1) ⊎ (starts_late state.shared.least (start_of bounds k)
+          ≡ true) →
           (0 < times k state.shared.runs) ⊎ (starts_late state.shared.least (start_of bounds k) ≡ true)
       go (inl one) = let none = none_held k in inl (omega arith)
       go (inr late) = inr late
@@ -236,17 +281,23 @@ module _ (breaks : ℕ → Bool) (bounds : List ℕ) (rises : falls 0 bounds ≡
 pub record AtEnd (breaks : ℕ → Bool) (bounds : List ℕ) (shared : Shared) : Type 0 where
   pub taken : shared.next ≡ blocks_of bounds
   pub once : (k : ℕ) → times k shared.runs ≤ 1
-  pub run_or_late : (k : ℕ) → k < blocks_of bounds → (0 < times k shared.runs) ⊎ (starts_late shared.least (start_of bounds k) ≡ true)
+  pub run_or_late : (k : ℕ) → k < blocks_of bounds
+      → (0 < times k shared.runs) ⊎ (starts_late shared.least (start_of bounds k) ≡ true)
   pub least : shared.least ≡ least_break_of breaks bounds shared.runs
 
-ended_by : (breaks : ℕ → Bool) (bounds : List ℕ) (rises : falls 0 bounds ≡ false) (events : List Event) (state : ScheduleState)
-    (r : Result ScheduleState ReplayFault) → AllOk breaks bounds rises events at_first r → and_then (if_ended events) r ≡ Ok state → AtEnd breaks bounds state.shared
+ended_by : (breaks : ℕ → Bool) (bounds : List ℕ) (rises : falls 0 bounds ≡ false) (events : List Event)
+    (state : ScheduleState)
+    (r : Result ScheduleState ReplayFault) → AllOk breaks bounds rises events at_first r → and_then (if_ended events) r
+    ≡ Ok state → AtEnd breaks bounds state.shared
 ended_by breaks bounds rises events state (Err fault) ok h = absurd (cc)
 ended_by breaks bounds rises events state (Ok last) ok h = go (has_ended events last) refl h
   where
-    go : (ended : Bool) → has_ended events last ≡ ended → (if ended then Ok last else Err (faults.NotEnded (length events))) ≡ Ok state → AtEnd breaks bounds state.shared
+    go : (ended : Bool) → has_ended events last ≡ ended
+        → (if ended then Ok last else Err (faults.NotEnded (length events))) ≡ Ok state
+        → AtEnd breaks bounds state.shared
     go true e h =
-        let parts = and_parts (nat_lt 0 (length events)) (list_all (λ (e : Event). is_stopped (worker_of last e.worker)) events) e in
+        let parts = and_parts (nat_lt 0 (length events)) (list_all (λ (e : Event). is_stopped (worker_of last e.worker))
+        events) e in
         let same : last ≡ state = cc in
         subst (λ (s : ScheduleState). AtEnd breaks bounds s.shared) same (record {
           taken = all_taken breaks bounds rises events last ok.0 ok.1 parts.0 parts.1;
@@ -256,8 +307,10 @@ ended_by breaks bounds rises events state (Ok last) ok h = go (has_ended events 
         })
     go false e h = absurd (cc)
 
-module _ (program : Program) (bound : ℕ) (call : LoopCall) (words : List ℕ) (bounds : List ℕ) (shared : Shared) (fine : split_fault bounds call.n ≡ None)
-    (end : AtEnd (breaks_at program bound call words) bounds shared) (blocks : List Block) (are : AreRun program bound call words bounds shared.runs blocks) where
+module _ (program : Program) (bound : ℕ) (call : LoopCall) (words : List ℕ) (bounds : List ℕ) (shared : Shared)
+    (fine : split_fault bounds call.n ≡ None)
+    (end : AtEnd (breaks_at program bound call words) bounds shared) (blocks : List Block)
+    (are : AreRun program bound call words bounds shared.runs blocks) where
   same_times : (k : ℕ) → times k (map (λ (b : Block). b.number) blocks) ≡ times k shared.runs
   same_times k = ap (times k) are.numbered
 
@@ -289,6 +342,7 @@ pub ended_schedules_complete : EndedSchedulesComplete
 ended_schedules_complete program bound call words bounds events state fine h =
     let breaks : ℕ → Bool = breaks_at program bound call words in
     let rises = (faultless call.n bounds fine).rises in
-    let end : AtEnd breaks bounds state.shared = ended_by breaks bounds rises events state (after_events breaks bounds events 0 at_first)
+    let end : AtEnd breaks bounds state.shared =
+    ended_by breaks bounds rises events state (after_events breaks bounds events 0 at_first)
     (events_ok breaks bounds rises events 0 at_first (sound_at_first breaks bounds rises)) h in
     record { taken = end.taken; complete = complete program bound call words bounds state.shared fine end }

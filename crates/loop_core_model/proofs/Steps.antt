@@ -76,9 +76,11 @@ pub lesser_none : (a : Option ℕ) → lesser a None ≡ a
 lesser_none None = refl
 lesser_none (Some x) = refl
 
-late_lesser : (start index : ℕ) (least : Option ℕ) → starts_late least start ≡ true → starts_late (lesser (Some index) least) start ≡ true
+late_lesser : (start index : ℕ) (least : Option ℕ) → starts_late least start ≡ true
+    → starts_late (lesser (Some index) least) start ≡ true
 late_lesser start index None h = absurd (cc)
-late_lesser start index (Some p) h = lt-ltb (min index p) start (let low = ltb-true p start h in let m = min-le_right index p in omega arith)
+late_lesser start index (Some p) h = lt-ltb (min index p) start (let low = ltb-true p start h in
+    let m = min-le_right index p in omega arith)
 
 -- a worker within a block: it has met no break yet
 pub record RunsFrom (breaks : ℕ → Bool) (bounds : List ℕ) (block index : ℕ) : Type 0 where
@@ -101,17 +103,20 @@ pub record CountsTo (bounds : List ℕ) (next : ℕ) (least : Option ℕ) (k cou
   pub not_taken : next ≤ k → count ≡ 0
   pub taken : k < next → (count ≡ 1) ⊎ (starts_late least (start_of bounds k) ≡ true)
 
-recount : (bounds : List ℕ) (next : ℕ) (least : Option ℕ) (k a b : ℕ) → a ≡ b → CountsTo bounds next least k a → CountsTo bounds next least k b
+recount : (bounds : List ℕ) (next : ℕ) (least : Option ℕ) (k a b : ℕ) → a ≡ b → CountsTo bounds next least k a
+    → CountsTo bounds next least k b
 recount bounds next least k a b same c = subst (λ (n : ℕ). CountsTo bounds next least k n) same c
 
 -- what an event keeps, whatever the other workers do
-pub record Kept (breaks : ℕ → Bool) (bounds : List ℕ) (old : Worker) (shared : Shared) (new : Worker) (after : Shared) : Type 0 where
+pub record Kept (breaks : ℕ → Bool) (bounds : List ℕ) (old : Worker) (shared : Shared) (new : Worker)
+    (after : Shared) : Type 0 where
   pub within : after.next ≤ blocks_of bounds
   pub fits : Fits breaks bounds after.next new
   pub fit_on : (w : Worker) → Fits breaks bounds shared.next w → Fits breaks bounds after.next w
   pub counts : (k rest : ℕ) → CountsTo bounds shared.next shared.least k (times k shared.runs + (holds k old + rest)) →
       CountsTo bounds after.next after.least k (times k after.runs + (holds k new + rest))
-  pub least : (rest : Option ℕ) → least_break_of breaks bounds shared.runs ≡ lesser shared.least (lesser (to_post old) rest) →
+  pub least : (rest : Option ℕ) → least_break_of breaks bounds shared.runs ≡ lesser shared.least
+      (lesser (to_post old) rest) →
       least_break_of breaks bounds after.runs ≡ lesser after.least (lesser (to_post new) rest)
 
 abbrev pub KeptBy : (ℕ → Bool) → List ℕ → Worker → Shared → Moved → Type 0
@@ -129,7 +134,8 @@ module _ (breaks : ℕ → Bool) (bounds : List ℕ) (rises : falls 0 bounds ≡
     least = λ rest h. h ∙ ap (λ (o : Option ℕ). lesser shared.least (lesser o rest)) post;
   }
 
-  fit_next : (next : ℕ) → next < blocks_of bounds → (w : Worker) → Fits breaks bounds next w → Fits breaks bounds (next + 1) w
+  fit_next : (next : ℕ) → next < blocks_of bounds → (w : Worker) → Fits breaks bounds next w
+      → Fits breaks bounds (next + 1) w
   fit_next next below Idle h = tt
   fit_next next below (Holding block) h = h
   fit_next next below (Running block index) h = h
@@ -138,10 +144,12 @@ module _ (breaks : ℕ → Bool) (bounds : List ℕ) (rises : falls 0 bounds ≡
   fit_next next below Stopped h = absurd (omega arith)
 
   -- a block more is taken
-  taken_one : (next : ℕ) (least : Option ℕ) (k t rest : ℕ) → CountsTo bounds next least k (t + (0 + rest)) → CountsTo bounds (next + 1) least k (t + (bit (next == k) + rest))
+  taken_one : (next : ℕ) (least : Option ℕ) (k t rest : ℕ) → CountsTo bounds next least k (t + (0 + rest))
+      → CountsTo bounds (next + 1) least k (t + (bit (next == k) + rest))
   taken_one next least k t rest c = go (bit_cases next k)
     where
-      go : ((next ≡ k) × (bit (next == k) ≡ 1)) ⊎ ((next ≡ k → ⊥) × (bit (next == k) ≡ 0)) → CountsTo bounds (next + 1) least k (t + (bit (next == k) + rest))
+      go : ((next ≡ k) × (bit (next == k) ≡ 1)) ⊎ ((next ≡ k → ⊥) × (bit (next == k) ≡ 0))
+          → CountsTo bounds (next + 1) least k (t + (bit (next == k) + rest))
       go (inl this) =
           let same = this.0 in
           let one = this.1 in
@@ -154,9 +162,14 @@ module _ (breaks : ℕ → Bool) (bounds : List ℕ) (rises : falls 0 bounds ≡
           recount bounds (next + 1) least k _ _ same
           (record { once = c.once; not_taken = λ h. c.not_taken (omega arith); taken = λ h. c.taken (omega arith) })
 
-  claimed : (shared : Shared) → shared.next ≤ blocks_of bounds → (below : Bool) → nat_lt shared.next (blocks_of bounds) ≡ below →
+  claimed : (shared : Shared) → shared.next ≤ blocks_of bounds → (below : Bool) → nat_lt shared.next (blocks_of bounds)
+      ≡ below →
       KeptBy breaks bounds Idle shared
-      (if below then becomes (Holding shared.next) (record { next = shared.next + 1; least = shared.least; runs = shared.runs }) else becomes Drained shared)
+      (if below then becomes (Holding shared.next) (record {
+        next = shared.next + 1;
+        least = shared.least;
+        runs = shared.runs;
+      }) else becomes Drained shared)
   claimed shared within true e =
       let below : shared.next < blocks_of bounds = ltb-true shared.next (blocks_of bounds) e in record {
         within = omega arith;
@@ -174,7 +187,8 @@ module _ (breaks : ℕ → Bool) (bounds : List ℕ) (rises : falls 0 bounds ≡
       CountsTo bounds next least k (t + (bit (block == k) + rest)) → CountsTo bounds next least k (t + (0 + rest))
   skipped_one next least block k t rest past c = go (bit_cases block k)
     where
-      go : ((block ≡ k) × (bit (block == k) ≡ 1)) ⊎ ((block ≡ k → ⊥) × (bit (block == k) ≡ 0)) → CountsTo bounds next least k (t + (0 + rest))
+      go : ((block ≡ k) × (bit (block == k) ≡ 1)) ⊎ ((block ≡ k → ⊥) × (bit (block == k) ≡ 0))
+          → CountsTo bounds next least k (t + (0 + rest))
       go (inl this) =
           let one = this.1 in
           let most = c.once in record {
@@ -185,8 +199,10 @@ module _ (breaks : ℕ → Bool) (bounds : List ℕ) (rises : falls 0 bounds ≡
       go (inr other) = let none = other.1 in recount bounds next least k _ _ (omega arith) c
 
   -- a block is run to its end, or to a break
-  has_run : (old new : Worker) (shared : Shared) (block : ℕ) → shared.next ≤ blocks_of bounds → Fits breaks bounds shared.next new →
-      ((k : ℕ) → holds k old ≡ bit (block == k) + holds k new) → to_post old ≡ None → to_post new ≡ break_of breaks bounds block →
+  has_run : (old new : Worker) (shared : Shared) (block : ℕ) → shared.next ≤ blocks_of bounds
+      → Fits breaks bounds shared.next new →
+      ((k : ℕ) → holds k old ≡ bit (block == k) + holds k new) → to_post old ≡ None
+      → to_post new ≡ break_of breaks bounds block →
       KeptBy breaks bounds old shared (having_run block new shared)
   has_run old new shared block within fits one nothing post = record {
     within = within;
@@ -194,8 +210,10 @@ module _ (breaks : ℕ → Bool) (bounds : List ℕ) (rises : falls 0 bounds ≡
     fit_on = λ w h. h;
     counts = λ k rest c. recount bounds shared.next shared.least k _ _ (let e = one k in omega arith) c;
     least = λ rest h.
-        ap (lesser (break_of breaks bounds block)) (h ∙ ap (λ (o : Option ℕ). lesser shared.least (lesser o rest)) nothing)
-        ∙ (lesser_swap (break_of breaks bounds block) shared.least rest ∙ ap (λ (o : Option ℕ). lesser shared.least (lesser o rest)) (sym post));
+        ap (lesser (break_of breaks bounds block)) (h ∙ ap (λ (o : Option ℕ). lesser shared.least (lesser o rest))
+        nothing)
+        ∙ (lesser_swap (break_of breaks bounds block) shared.least rest
+        ∙ ap (λ (o : Option ℕ). lesser shared.least (lesser o rest)) (sym post));
   }
 
   empty_break : (block : ℕ) → start_of bounds block ≡ end_of bounds block → None ≡ break_of breaks bounds block
@@ -203,16 +221,24 @@ module _ (breaks : ℕ → Bool) (bounds : List ℕ) (rises : falls 0 bounds ≡
       let none : end_of bounds block - start_of bounds block ≡ 0 = omega arith in
       sym (ap (λ (left : ℕ). first_break breaks left (start_of bounds block)) none)
 
-  looked_in : (shared : Shared) (block : ℕ) → shared.next ≤ blocks_of bounds → block < blocks_of bounds → (empty : Bool) → (start_of bounds block == end_of bounds block) ≡ empty →
-      KeptBy breaks bounds (Holding block) shared (if empty then having_run block Idle shared else becomes (Running block (start_of bounds block)) shared)
+  looked_in : (shared : Shared) (block : ℕ) → shared.next ≤ blocks_of bounds → block < blocks_of bounds → (empty : Bool)
+      → (start_of bounds block == end_of bounds block) ≡ empty →
+      KeptBy breaks bounds (Holding block) shared (if empty then having_run block Idle shared
+      else becomes (Running block (start_of bounds block)) shared)
   looked_in shared block within below true e =
-      has_run (Holding block) Idle shared block within tt (λ k. omega arith) refl (empty_break block (eqb-true (start_of bounds block) (end_of bounds block) e))
+      has_run (Holding block) Idle shared block within tt (λ k. omega arith) refl
+      (empty_break block (eqb-true (start_of bounds block) (end_of bounds block) e))
   looked_in shared block within below false e =
       let apart = eqb-false (start_of bounds block) (end_of bounds block) e in
       let up = rising 0 bounds rises block (block + 1) (omega arith) (omega arith) in
-      stays (Holding block) (Running block (start_of bounds block)) shared within (record { within = below; before_end = omega arith; no_break = refl }) (λ k. refl) refl
+      stays (Holding block) (Running block (start_of bounds block)) shared within (record {
+        within = below;
+        before_end = omega arith;
+        no_break = refl;
+      }) (λ k. refl) refl
 
-  looked : (shared : Shared) (block : ℕ) → shared.next ≤ blocks_of bounds → block < blocks_of bounds → (past : Bool) → starts_late shared.least (start_of bounds block) ≡ past →
+  looked : (shared : Shared) (block : ℕ) → shared.next ≤ blocks_of bounds → block < blocks_of bounds → (past : Bool)
+      → starts_late shared.least (start_of bounds block) ≡ past →
       KeptBy breaks bounds (Holding block) shared
       (if past then becomes Idle shared
       else if start_of bounds block == end_of bounds block then having_run block Idle shared
@@ -224,15 +250,19 @@ module _ (breaks : ℕ → Bool) (bounds : List ℕ) (rises : falls 0 bounds ≡
     counts = λ k rest c. skipped_one shared.next shared.least block k (times k shared.runs) rest e c;
     least = λ rest h. h;
   }
-  looked shared block within below false e = looked_in shared block within below (start_of bounds block == end_of bounds block) refl
+  looked shared block within below false e =
+      looked_in shared block within below (start_of bounds block == end_of bounds block) refl
 
   -- the first of the indices that are left
-  first_of_left : (left index : ℕ) → 0 < left → first_break breaks left index ≡ (if breaks index then Some index else first_break breaks (left - 1) (index + 1))
+  first_of_left : (left index : ℕ) → 0 < left → first_break breaks left index ≡ (if breaks index then Some index
+      else first_break breaks (left - 1) (index + 1))
   first_of_left zero index h = absurd (omega arith)
-  first_of_left (suc left) index h = ap (λ (l : ℕ). if breaks index then Some index else first_break breaks l (index + 1)) (omega arith)
+  first_of_left (suc left) index h = ap (λ (l : ℕ). if breaks index then Some index
+      else first_break breaks l (index + 1)) (omega arith)
 
   break_here : (block index : ℕ) (b : Bool) → RunsFrom breaks bounds block index → breaks index ≡ b →
-      break_of breaks bounds block ≡ (if b then Some index else first_break breaks (end_of bounds block - (index + 1)) (index + 1))
+      break_of breaks bounds block ≡ (if b then Some index else first_break breaks (end_of bounds block - (index + 1))
+      (index + 1))
   break_here block index b from e =
       let high = from.before_end in
       let one_less : end_of bounds block - index - 1 ≡ end_of bounds block - (index + 1) = omega arith in
@@ -241,9 +271,11 @@ module _ (breaks : ℕ → Bool) (bounds : List ℕ) (rises : falls 0 bounds ≡
       ∙ (ap (λ (c : Bool). if c then Some index else first_break breaks (end_of bounds block - index - 1) (index + 1)) e
       ∙ ap (λ (left : ℕ). if b then Some index else first_break breaks left (index + 1)) one_less))
 
-  turned_on : (shared : Shared) (block index : ℕ) → shared.next ≤ blocks_of bounds → RunsFrom breaks bounds block index → breaks index ≡ false →
+  turned_on : (shared : Shared) (block index : ℕ) → shared.next ≤ blocks_of bounds → RunsFrom breaks bounds block index
+      → breaks index ≡ false →
       (last : Bool) → (index + 1 == end_of bounds block) ≡ last →
-      KeptBy breaks bounds (Running block index) shared (if last then having_run block Idle shared else becomes (Running block (index + 1)) shared)
+      KeptBy breaks bounds (Running block index) shared (if last then having_run block Idle shared
+      else becomes (Running block (index + 1)) shared)
   turned_on shared block index within from going true e =
       let same = eqb-true (index + 1) (end_of bounds block) e in
       let none : end_of bounds block - (index + 1) ≡ 0 = omega arith in
@@ -253,18 +285,23 @@ module _ (breaks : ℕ → Bool) (bounds : List ℕ) (rises : falls 0 bounds ≡
       let apart = eqb-false (index + 1) (end_of bounds block) e in
       let high = from.before_end in
       stays (Running block index) (Running block (index + 1)) shared within
-      (record { within = from.within; before_end = omega arith; no_break = break_here block index false from going }) (λ k. refl) refl
+      (record { within = from.within; before_end = omega arith; no_break = break_here block index false from going })
+      (λ k. refl) refl
 
-  turned : (shared : Shared) (block index : ℕ) → shared.next ≤ blocks_of bounds → RunsFrom breaks bounds block index → (b : Bool) → breaks index ≡ b →
+  turned : (shared : Shared) (block index : ℕ) → shared.next ≤ blocks_of bounds → RunsFrom breaks bounds block index
+      → (b : Bool) → breaks index ≡ b →
       KeptBy breaks bounds (Running block index) shared
       (if b then having_run block (Posting index) shared
       else if index + 1 == end_of bounds block then having_run block Idle shared
       else becomes (Running block (index + 1)) shared)
   turned shared block index within from true e =
-      has_run (Running block index) (Posting index) shared block within tt (λ k. omega arith) refl (sym (break_here block index true from e))
-  turned shared block index within from false e = turned_on shared block index within from e (index + 1 == end_of bounds block) refl
+      has_run (Running block index) (Posting index) shared block within tt (λ k. omega arith) refl
+      (sym (break_here block index true from e))
+  turned shared block index within from false e =
+      turned_on shared block index within from e (index + 1 == end_of bounds block) refl
 
-  posted : (shared : Shared) (index : ℕ) → shared.next ≤ blocks_of bounds → KeptBy breaks bounds (Posting index) shared (posts index shared)
+  posted : (shared : Shared) (index : ℕ) → shared.next ≤ blocks_of bounds → KeptBy breaks bounds (Posting index) shared
+      (posts index shared)
   posted shared index within = record {
     within = within;
     fits = tt;
@@ -273,7 +310,8 @@ module _ (breaks : ℕ → Bool) (bounds : List ℕ) (rises : falls 0 bounds ≡
     least = λ rest h. h ∙ lesser_of_three shared.least (Some index) rest;
   }
     where
-      go : (k : ℕ) → {count : ℕ} → (count ≡ 1) ⊎ (starts_late shared.least (start_of bounds k) ≡ true) → (count ≡ 1) ⊎ (starts_late (lesser (Some index) shared.least) (start_of bounds k) ≡ true)
+      go : (k : ℕ) → {count : ℕ} → (count ≡ 1) ⊎ (starts_late shared.least (start_of bounds k) ≡ true)
+          → (count ≡ 1) ⊎ (starts_late (lesser (Some index) shared.least) (start_of bounds k) ≡ true)
       go k (inl one) = inl one
       go k (inr past) = inr (late_lesser (start_of bounds k) index shared.least past)
 
@@ -281,10 +319,12 @@ module _ (breaks : ℕ → Bool) (bounds : List ℕ) (rises : falls 0 bounds ≡
   KeptIfEnabled old shared None = Unit {0}
   KeptIfEnabled old shared (Some m) = KeptBy breaks bounds old shared m
 
-  pub event_keeps : (kind : EventKind) (old : Worker) (shared : Shared) → shared.next ≤ blocks_of bounds → Fits breaks bounds shared.next old →
+  pub event_keeps : (kind : EventKind) (old : Worker) (shared : Shared) → shared.next ≤ blocks_of bounds
+      → Fits breaks bounds shared.next old →
       KeptIfEnabled old shared (transition breaks bounds kind old shared)
   event_keeps Claim Idle shared within fits = claimed shared within (nat_lt shared.next (blocks_of bounds)) refl
-  event_keeps Look (Holding block) shared within fits = looked shared block within fits (starts_late shared.least (start_of bounds block)) refl
+  event_keeps Look (Holding block) shared within fits =
+      looked shared block within fits (starts_late shared.least (start_of bounds block)) refl
   event_keeps Turn (Running block index) shared within fits = turned shared block index within fits (breaks index) refl
   event_keeps Post (Posting index) shared within fits = posted shared index within
   event_keeps Stop Drained shared within fits = stays Drained Stopped shared within fits (λ k. refl) refl

@@ -19,7 +19,8 @@ module _ (A : Type 0) (op : A → A → A) (unit : A) (f : Worker → A) where
       total ws ≡ op (f (slice_index_or ws i Idle)) (others ws i)
   one_and_others swap [] i h = absurd (omega arith)
   one_and_others swap (w ∷ ws) zero h = refl
-  one_and_others swap (w ∷ ws) (suc i) h = ap (op (f w)) (one_and_others swap ws i (omega arith)) ∙ swap (f w) (f (slice_index_or ws i Idle)) (others ws i)
+  one_and_others swap (w ∷ ws) (suc i) h = ap (op (f w)) (one_and_others swap ws i (omega arith))
+      ∙ swap (f w) (f (slice_index_or ws i Idle)) (others ws i)
 
   others_stay : (ws : List Worker) (i : ℕ) (w : Worker) → others (slice_set ws i w) i ≡ others ws i
   others_stay [] i w = refl
@@ -27,13 +28,17 @@ module _ (A : Type 0) (op : A → A → A) (unit : A) (f : Worker → A) where
   others_stay (x ∷ ws) (suc i) w = ap (op (f x)) (others_stay ws i w)
 
   -- after a change of one
-  pub changed : ((a b c : A) → op a (op b c) ≡ op b (op a c)) → (ws : List Worker) (i : ℕ) (w : Worker) → i < length ws → total (slice_set ws i w) ≡ op (f w) (others ws i)
+  pub changed : ((a b c : A) → op a (op b c) ≡ op b (op a c)) → (ws : List Worker) (i : ℕ) (w : Worker) → i < length ws
+      → total (slice_set ws i w) ≡ op (f w) (others ws i)
   changed swap ws i w h =
       one_and_others swap (slice_set ws i w) i (subst (λ (n : ℕ). i < n) (sym (length-set ws i w)) h)
-      ∙ (ap (λ (x : Worker). op (f x) (others (slice_set ws i w) i)) (get_or-set_same ws i w Idle h) ∙ ap (op (f w)) (others_stay ws i w))
+      ∙ (ap (λ (x : Worker). op (f x) (others (slice_set ws i w) i)) (get_or-set_same ws i w Idle h)
+      ∙ ap (op (f w)) (others_stay ws i w))
 
   -- where none comes to anything
-  pub none_of_all : ((a : A) → op unit a ≡ a) → (ws : List Worker) → ((i : ℕ) → i < length ws → f (slice_index_or ws i Idle) ≡ unit) → total ws ≡ unit
+  pub none_of_all : ((a : A) → op unit a ≡ a) → (ws : List Worker)
+      → ((i : ℕ) → i < length ws → f (slice_index_or ws i Idle) ≡ unit) → total ws ≡ unit
   none_of_all left [] each = refl
   none_of_all left (w ∷ ws) each =
-      ap (λ (a : A). op a (total ws)) (each 0 (omega arith)) ∙ (left (total ws) ∙ none_of_all left ws (λ i h. each (suc i) (omega arith)))
+      ap (λ (a : A). op a (total ws)) (each 0 (omega arith))
+      ∙ (left (total ws) ∙ none_of_all left ws (λ i h. each (suc i) (omega arith)))

@@ -18,64 +18,80 @@ use Rattle.loop_core_model.specs.VerdictBounds.{VerdictsAgree}
 use Rattle.loop_core_model.proofs.ScanLaws.{counted_are_scanned}
 
 -- a scan that is there stays the same
-breaking_extends : (low high : BoundedResult (List Iterated)) → Extends low high → (it : Iterated) → Extends (up_to_break low it) (up_to_break high it)
+breaking_extends : (low high : BoundedResult (List Iterated)) → Extends low high → (it : Iterated)
+    → Extends (up_to_break low it) (up_to_break high it)
 breaking_extends low high ext it = go (it.ret == 1)
   where
-    go : (one : Bool) → Extends (if one then Ended (it ∷ []) else in_front_of low it) (if one then Ended (it ∷ []) else in_front_of high it)
+    go : (one : Bool) → Extends (if one then Ended (it ∷ []) else in_front_of low it) (if one then Ended (it ∷ [])
+        else in_front_of high it)
     go true = inr refl
     go false = mapped_extends (λ others. it ∷ others) ext
 
-scan_extends : (few many : ℕ → BoundedResult Iterated) → ((index : ℕ) → Extends (few index) (many index)) → (left index : ℕ) → Extends (scan few left index) (scan many left index)
+scan_extends : (few many : ℕ → BoundedResult Iterated) → ((index : ℕ) → Extends (few index) (many index))
+    → (left index : ℕ) → Extends (scan few left index) (scan many left index)
 scan_extends few many each zero index = inr refl
 scan_extends few many each (suc left) index =
     followed_extends (up_to_break (scan few left (index + 1))) (up_to_break (scan many left (index + 1)))
-    (breaking_extends (scan few left (index + 1)) (scan many left (index + 1)) (scan_extends few many each left (index + 1))) (few index) (many index) (each index)
+    (breaking_extends (scan few left (index + 1)) (scan many left (index + 1)) (scan_extends few many each left
+    (index + 1))) (few index) (many index) (each index)
 
 pub runs_extend : (program : Program) (low high : ℕ) → low ≤ high → (call : LoopCall) (words : List ℕ) →
     Extends (counted_runs program low call words) (counted_runs program high call words)
 runs_extend program low high h call words =
     let few : ℕ → BoundedResult Iterated = λ index. iteration program low call index words in
     let many : ℕ → BoundedResult Iterated = λ index. iteration program high call index words in
-    let scans : Extends (scan few call.n 0) (scan many call.n 0) = scan_extends few many (λ index. iteration_extends program low high h call index words) call.n 0 in
+    let scans : Extends (scan few call.n 0) (scan many call.n 0) =
+    scan_extends few many (λ index. iteration_extends program low high h call index words) call.n 0 in
     mapped_extends accesses_of_each
-    (subst (λ (g : BoundedResult (List Iterated)). Extends g (all_ended (counted_iterations program high call words))) (sym (counted_are_scanned program low call words))
-    (subst (λ (g : BoundedResult (List Iterated)). Extends (scan few call.n 0) g) (sym (counted_are_scanned program high call words)) scans))
+    (subst (λ (g : BoundedResult (List Iterated)). Extends g (all_ended (counted_iterations program high call words)))
+    (sym (counted_are_scanned program low call words))
+    (subst (λ (g : BoundedResult (List Iterated)). Extends (scan few call.n 0) g)
+    (sym (counted_are_scanned program high call words)) scans))
 
-pub verdict_extends : (test : Test) (program : Program) (low high : ℕ) → low ≤ high → (call : LoopCall) (words : List ℕ) →
+pub verdict_extends : (test : Test) (program : Program) (low high : ℕ) → low ≤ high → (call : LoopCall) (words : List ℕ)
+    →
     Extends (verdict test program low call words) (verdict test program high call words)
 verdict_extends test program low high h call words =
     mapped_extends (λ runs. judged (conflicting test runs (length words))) (runs_extend program low high h call words)
 
 -- lines
-if_valid_extends : (test : Test) (program : Program) (low high : ℕ) → low ≤ high → (words : List ℕ) (o : Option LoopCall) →
+if_valid_extends : (test : Test) (program : Program) (low high : ℕ) → low ≤ high
+    → (words : List ℕ) (o : Option LoopCall) →
     Extends (verdict_if_valid test program low words o) (verdict_if_valid test program high words o)
 if_valid_extends test program low high h words None = inr refl
 if_valid_extends test program low high h words (Some call) = verdict_extends test program low high h call words
 
 line_extends : (test : Test) (program : Program) (low high : ℕ) → low ≤ high → (made : LoopMade) →
     Extends (loop_report test program low made) (loop_report test program high made)
-line_extends test program low high h made = mapped_extends (line made) (if_valid_extends test program low high h made.words made.call)
+line_extends test program low high h made =
+    mapped_extends (line made) (if_valid_extends test program low high h made.words made.call)
 
-lines_extend : (few many : LoopMade → BoundedResult LoopReport) → ((made : LoopMade) → Extends (few made) (many made)) → (loops : List LoopMade) →
+lines_extend : (few many : LoopMade → BoundedResult LoopReport) → ((made : LoopMade) → Extends (few made) (many made))
+    → (loops : List LoopMade) →
     Extends (all_ended (map few loops)) (all_ended (map many loops))
 lines_extend few many each [] = inr refl
 lines_extend few many each (made ∷ loops) =
     followed_extends (in_front_of (all_ended (map few loops))) (in_front_of (all_ended (map many loops)))
-    (λ line. mapped_extends (λ others. line ∷ others) (lines_extend few many each loops)) (few made) (many made) (each made)
+    (λ line. mapped_extends (λ others. line ∷ others) (lines_extend few many each loops)) (few made) (many made)
+    (each made)
 
-reported_extends : (few many : LoopMade → BoundedResult LoopReport) → ((made : LoopMade) → Extends (few made) (many made)) → (e f : BoundedResult Finished) → Extends e f →
+reported_extends : (few many : LoopMade → BoundedResult LoopReport)
+    → ((made : LoopMade) → Extends (few made) (many made)) → (e f : BoundedResult Finished) → Extends e f →
     Extends (reported_with few e) (reported_with many f)
 reported_extends few many each e f ext =
-    followed_extends (with_each_line few) (with_each_line many) (λ finished. mapped_extends (with_lines finished) (lines_extend few many each finished.loops)) e f ext
+    followed_extends (with_each_line few) (with_each_line many) (λ finished. mapped_extends (with_lines finished)
+    (lines_extend few many each finished.loops)) e f ext
 
 pub verdicts_agree : VerdictsAgree
 verdicts_agree = record {
   runs = runs_extend;
   verdicts = verdict_extends;
   reports = λ test program low high h argument words.
-      reported_extends (loop_report test program low) (loop_report test program high) (line_extends test program low high h) (program_in_order program low argument words)
+      reported_extends (loop_report test program low) (loop_report test program high) (line_extends test program low
+      high h) (program_in_order program low argument words)
       (program_in_order program high argument words) (program_extends program low high h argument words);
   reports_in_order = λ program low high h argument words.
-      reported_extends loop_report_in_order loop_report_in_order (λ made. inr refl) (program_in_order program low argument words)
+      reported_extends loop_report_in_order loop_report_in_order (λ made. inr refl)
+      (program_in_order program low argument words)
       (program_in_order program high argument words) (program_extends program low high h argument words);
 }

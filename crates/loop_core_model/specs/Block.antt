@@ -10,7 +10,8 @@ use Rattle.loop_core_model.specs.Scan.{scan}
 
 -- what is run of the interval from a first index up to, and without, another
 abbrev pub block_run : Program → ℕ → LoopCall → List ℕ → (first past : ℕ) → BoundedResult (List Iterated)
-block_run program bound call words first past = scan (λ index. iteration program bound call index words) (past - first) first
+block_run program bound call words first past = scan (λ index. iteration program bound call index words) (past - first)
+    first
 
 -- some iteration broke
 abbrev pub has_break : List Iterated → Bool

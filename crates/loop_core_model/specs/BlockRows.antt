@@ -1,4 +1,5 @@
--- Worked blocks: first writers and last readers of loops that are run as one block, marks of halves, and what is kept of
+-- Worked blocks: first writers and last readers of loops that are run as one block, marks of halves, and what is kept
+-- of
 -- blocks. Each is worked out by hand.
 use Rattle.std.specs.Prelude.{◌≡◌, ℕ, ◌&&◌, Bool, List, [], ◌∷◌, map, Some, None}
 use Rattle.std.specs.List.{filter, range_with_len}
@@ -16,7 +17,8 @@ use Rattle.loop_core_model.specs.Kept.{Kept, kept}
 
 -- the loop of n iterations of a callback over n elements, and its block of an interval
 abbrev pub block_of : (elements n : ℕ) → List Insn → (before : List ℕ) (first past : ℕ) → BoundedResult (List Iterated)
-block_of elements n callback before first past = block_run (looping (elements ∷ []) n callback) 20 (worked_call n) before first past
+block_of elements n callback before first past = block_run (looping (elements ∷ []) n callback) 20 (worked_call n)
+    before first past
 
 -- the marks of an element
 abbrev pub marks_at : ℕ → ℕ → List Iterated → Marks
@@ -24,10 +26,12 @@ marks_at first e ran = marks_of (numbered first (at_element e (accesses_of_each 
 
 -- the elements of one map that have a mark
 abbrev pub marked : (elements first : ℕ) → (Marks → Bool) → BoundedResult (List Iterated) → BoundedResult (List ℕ)
-marked elements first mark ran = mapped (λ its. filter (λ e. mark (marks_at first e its)) (range_with_len 0 elements)) ran
+marked elements first mark ran = mapped (λ its. filter (λ e. mark (marks_at first e its)) (range_with_len 0 elements))
+    ran
 
 -- something of the marks of each element
-abbrev pub of_each : {A : Type 0} → (elements first : ℕ) → (Marks → A) → BoundedResult (List Iterated) → BoundedResult (List A)
+abbrev pub of_each : {A : Type 0} → (elements first : ℕ) → (Marks → A) → BoundedResult (List Iterated)
+    → BoundedResult (List A)
 of_each elements first pick ran = mapped (λ its. map (λ e. pick (marks_at first e its)) (range_with_len 0 elements)) ran
 
 -- what is kept of a block at element 0
@@ -71,9 +75,18 @@ pub record WriterRows : Type 0 where
 
 -- operands of blocks, from the first on
 pub record PartialRows : Type 0 where
-  pub add_low : kept_at_0 (block_of 1 8 add_index (10 ∷ []) 0 4) 10 ≡ Ended (record { last_value = Some 13; partial = Some (Add, 6) })
-  pub add_high : kept_at_0 (block_of 1 8 add_index (10 ∷ []) 4 8) 10 ≡ Ended (record { last_value = Some 17; partial = Some (Add, 22) })
-  pub ands : kept_at_0 (block_of 1 3 and_operands (15 ∷ []) 0 3) 15 ≡ Ended (record { last_value = Some 14; partial = Some (And, 12) })
+  pub add_low : kept_at_0 (block_of 1 8 add_index (10 ∷ []) 0 4) 10 ≡ Ended (record {
+    last_value = Some 13;
+    partial = Some (Add, 6);
+  })
+  pub add_high : kept_at_0 (block_of 1 8 add_index (10 ∷ []) 4 8) 10 ≡ Ended (record {
+    last_value = Some 17;
+    partial = Some (Add, 22);
+  })
+  pub ands : kept_at_0 (block_of 1 3 and_operands (15 ∷ []) 0 3) 15 ≡ Ended (record {
+    last_value = Some 14;
+    partial = Some (And, 12);
+  })
 
 -- halves that are added apart: a block of four, and marks of a mix with whole words
 pub record HalfBlockRows : Type 0 where
@@ -82,7 +95,8 @@ pub record HalfBlockRows : Type 0 where
   pub addh : marked 1 0 (λ m. m.by AddH) (block_of 1 4 add_halves (4294967295 ∷ []) 0 4) ≡ Ended (0 ∷ [])
   pub no_add : marked 1 0 (λ m. m.by Add) (block_of 1 4 add_halves (4294967295 ∷ []) 0 4) ≡ Ended []
   pub both : marked 1 0 (λ m. m.by Add && m.by AddH) (block_of 1 2 add_half_and_whole (0 ∷ []) 0 2) ≡ Ended (0 ∷ [])
-  pub stored : marked 1 0 (λ m. m.read_and_written && (m.written_by_two && m.plain)) (block_of 1 2 store_half (0 ∷ []) 0 2) ≡ Ended (0 ∷ [])
+  pub stored : marked 1 0 (λ m. m.read_and_written && (m.written_by_two && m.plain)) (block_of 1 2 store_half (0 ∷ []) 0
+      2) ≡ Ended (0 ∷ [])
 
 -- all of them
 pub record BlockRows : Type 0 where

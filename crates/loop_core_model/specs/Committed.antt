@@ -28,4 +28,5 @@ committed iterations word = committed_by (only_operator (joined iterations)) ite
 
 -- all words after the commit
 abbrev pub committed_words : List (List Access) → List ℕ → List ℕ
-committed_words runs words = map (λ e. committed (at_element e runs) (slice_index words e)) (range_with_len 0 (length words))
+committed_words runs words = map (λ e. committed (at_element e runs) (slice_index words e))
+    (range_with_len 0 (length words))

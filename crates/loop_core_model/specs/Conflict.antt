@@ -9,7 +9,8 @@ use Rattle.loop_core_model.specs.Actions.{writes, exposed, joined, only_operator
 -- two different iterations, of which one writes the element and the other has an exposed read of it
 abbrev pub fails_lrpd : List (List Action) → Bool
 fails_lrpd [] = false
-fails_lrpd (first ∷ rest) = (writes first && list_any exposed rest) || ((exposed first && list_any writes rest) || fails_lrpd rest)
+fails_lrpd (first ∷ rest) = (writes first && list_any exposed rest) || ((exposed first && list_any writes rest)
+    || fails_lrpd rest)
 
 -- the same, where the one that writes has the lesser index
 abbrev pub fails_flow : List (List Action) → Bool
@@ -50,10 +51,12 @@ pub record FailingPair (test : Test) (iterations : List (List Action)) : Type 0 
 
 -- a test fails exactly where there is such a pair
 abbrev pub FailsByPair : Type 0
-FailsByPair = (test : Test) (iterations : List (List Action)) → (fails test iterations ≡ true) ↔ FailingPair test iterations
+FailsByPair = (test : Test) (iterations : List (List Action)) → (fails test iterations ≡ true) ↔ FailingPair test
+    iterations
 
 -- what conflicts by the flow test conflicts by the other too; so a loop that passes that one passes the flow test
 pub record FlowPassesMore : Type 0 where
   pub elements : (runs : List (List Access)) (elements : ℕ) →
       conflicting Flow runs elements ≡ filter (λ e. conflicts Flow (at_element e runs)) (conflicting Lrpd runs elements)
-  pub passes : (runs : List (List Access)) (elements : ℕ) → conflicting Lrpd runs elements ≡ [] → conflicting Flow runs elements ≡ []
+  pub passes : (runs : List (List Access)) (elements : ℕ) → conflicting Lrpd runs elements ≡ []
+      → conflicting Flow runs elements ≡ []

@@ -35,7 +35,8 @@ becomes worker shared = record { worker = worker; shared = shared }
 
 -- the same, having run a block
 abbrev pub having_run : ℕ → Worker → Shared → Moved
-having_run block worker shared = becomes worker (record { next = shared.next; least = shared.least; runs = block ∷ shared.runs })
+having_run block worker shared =
+    becomes worker (record { next = shared.next; least = shared.least; runs = block ∷ shared.runs })
 
 -- takes the next block and holds it; where none is left it is drained
 abbrev pub claims : List ℕ → Shared → Moved
@@ -62,7 +63,11 @@ iterates breaks bounds block index shared =
 
 -- the least break becomes the lesser of both
 abbrev pub posts : ℕ → Shared → Moved
-posts index shared = becomes Idle (record { next = shared.next; least = lesser (Some index) shared.least; runs = shared.runs })
+posts index shared = becomes Idle (record {
+  next = shared.next;
+  least = lesser (Some index) shared.least;
+  runs = shared.runs;
+})
 
 -- which events are enabled, and what each does
 abbrev pub transition : (ℕ → Bool) → List ℕ → EventKind → Worker → Shared → Option Moved

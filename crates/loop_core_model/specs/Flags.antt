@@ -44,7 +44,12 @@ no_flags = record { wrote = false; looked = false; plain = false; by = λ op. fa
 
 -- the flags after one access more, by its kind: a look counts where the iteration hasn't written yet
 abbrev pub flagged : Flags → Kind → Flags
-flagged flags Reads = record { wrote = flags.wrote; looked = flags.looked || not flags.wrote; plain = true; by = flags.by }
+flagged flags Reads = record {
+  wrote = flags.wrote;
+  looked = flags.looked || not flags.wrote;
+  plain = true;
+  by = flags.by;
+}
 flagged flags Writes = record { wrote = true; looked = flags.looked; plain = true; by = flags.by }
 flagged flags Both = record { wrote = true; looked = flags.looked || not flags.wrote; plain = true; by = flags.by }
 flagged flags (Reduces op) = record {
@@ -57,4 +62,5 @@ flagged flags (Reduces op) = record {
 -- the flags begin empty, and each action changes them by its kind alone
 pub record FlagsFollowKinds : Type 0 where
   pub start : flags_of [] ≡ no_flags
-  pub next : (actions : List Action) (action : Action) → flags_of (actions ++ action ∷ []) ≡ flagged (flags_of actions) (kind_of action)
+  pub next : (actions : List Action) (action : Action) → flags_of (actions ++ action ∷ []) ≡ flagged (flags_of actions)
+      (kind_of action)

@@ -41,7 +41,8 @@ block_numbered number blocks = find (λ (b : Block). b.number == number) blocks
 abbrev pub lacks_block : Option ℕ → List Block → (number first : ℕ) → List ℕ → Bool
 lacks_block least blocks number first [] = false
 lacks_block least blocks number first (past ∷ bounds) =
-    (not (starts_late least first) && is_none (block_numbered number blocks)) || lacks_block least blocks (number + 1) past bounds
+    (not (starts_late least first) && is_none (block_numbered number blocks)) || lacks_block least blocks (number + 1)
+    past bounds
 
 -- a block in front of others, where it is there
 abbrev pub in_front : Option Block → List Block → List Block
@@ -52,7 +53,8 @@ in_front (Some b) blocks = b ∷ blocks
 abbrev pub counting : Option ℕ → List Block → (number first : ℕ) → List ℕ → List Block
 counting least blocks number first [] = []
 counting least blocks number first (past ∷ bounds) =
-    in_front (if starts_late least first then None else block_numbered number blocks) (counting least blocks (number + 1) past bounds)
+    in_front (if starts_late least first then None else block_numbered number blocks)
+    (counting least blocks (number + 1) past bounds)
 
 -- some block of a split isn't there that doesn't start past the least break of those that are
 abbrev pub lacks_some : List ℕ → List Block → Bool
@@ -84,15 +86,19 @@ gather_fault bounds blocks =
 -- the iterations of the blocks of a split that count
 abbrev pub gathered : List ℕ → List Block → List Iterated
 gathered [] blocks = []
-gathered (first ∷ bounds) blocks = joined (map (λ (b : Block). b.ran) (counting (least_of blocks) blocks 0 first bounds))
+gathered (first ∷ bounds) blocks =
+    joined (map (λ (b : Block). b.ran) (counting (least_of blocks) blocks 0 first bounds))
 
 -- blocks of a split without a fault have the least break, and their iterations that count are the counted ones,
 -- whichever other blocks were run
-pub record Gathers (program : Program) (bound : ℕ) (call : LoopCall) (words : List ℕ) (bounds : List ℕ) (blocks : List Block) : Type 0 where
+pub record Gathers (program : Program) (bound : ℕ) (call : LoopCall) (words : List ℕ) (bounds : List ℕ)
+    (blocks : List Block) : Type 0 where
   pub break : least_of blocks ≡ least_break program bound call words
   pub iterations : all_ended (counted_iterations program bound call words) ≡ Ended (gathered bounds blocks)
 
 abbrev pub BlocksGather : Type 0
-BlocksGather = (program : Program) (bound : ℕ) (call : LoopCall) (words : List ℕ) (bounds : List ℕ) (blocks : List Block) →
-    split_fault bounds call.n ≡ None → gather_fault bounds blocks ≡ None → AllByRecursion (IsRunOf program bound call words) blocks →
+BlocksGather = (program : Program) (bound : ℕ) (call : LoopCall) (words : List ℕ) (bounds : List ℕ)
+    (blocks : List Block) →
+    split_fault bounds call.n ≡ None → gather_fault bounds blocks ≡ None
+    → AllByRecursion (IsRunOf program bound call words) blocks →
     Gathers program bound call words bounds blocks

@@ -16,7 +16,12 @@ iterations first past (Some index) = replicate (index - first) (returning 0) ++ 
 
 -- a block with a number and an interval that broke at an index, or didn't
 abbrev pub worked_block : (number first past : ℕ) → Option ℕ → Block
-worked_block number first past broke_at = record { number = number; first = first; past = past; ran = iterations first past broke_at }
+worked_block number first past broke_at = record {
+  number = number;
+  first = first;
+  past = past;
+  ran = iterations first past broke_at;
+}
 
 -- a list of blocks has this fault, or none
 abbrev pub HasGatherFault : List Block → Option GatherFault → Type 0
@@ -24,15 +29,19 @@ HasGatherFault runs fault = gather_fault (0 ∷ 4 ∷ 8 ∷ 12 ∷ 16 ∷ []) ru
 
 -- blocks past the least break may be there or not, in any order; one that starts at the break has to be there
 pub record GatherRows : Type 0 where
-  pub all : HasGatherFault (worked_block 2 8 12 None ∷ worked_block 0 0 4 None ∷ worked_block 3 12 16 None ∷ worked_block 1 4 8 None ∷ []) None
+  pub all : HasGatherFault (worked_block 2 8 12 None ∷ worked_block 0 0 4 None ∷ worked_block 3 12 16 None
+      ∷ worked_block 1 4 8 None ∷ []) None
   pub up_to_the_break : HasGatherFault (worked_block 0 0 4 (Some 3) ∷ []) None
   pub past_the_break : HasGatherFault (worked_block 3 12 16 (Some 12) ∷ worked_block 0 0 4 (Some 3) ∷ []) None
   pub starts_at_the_break : HasGatherFault (worked_block 0 0 4 None ∷ worked_block 1 4 8 (Some 4) ∷ []) None
   pub before_the_break : HasGatherFault (worked_block 1 4 8 (Some 4) ∷ []) (Some Missing)
-  pub at_the_break : HasGatherFault (worked_block 0 0 4 None ∷ worked_block 1 4 8 None ∷ worked_block 3 12 16 (Some 12) ∷ []) (Some Missing)
-  pub without_a_break : HasGatherFault (worked_block 0 0 4 None ∷ worked_block 1 4 8 None ∷ worked_block 2 8 12 None ∷ []) (Some Missing)
+  pub at_the_break : HasGatherFault (worked_block 0 0 4 None ∷ worked_block 1 4 8 None ∷ worked_block 3 12 16 (Some 12)
+      ∷ []) (Some Missing)
+  pub without_a_break : HasGatherFault (worked_block 0 0 4 None ∷ worked_block 1 4 8 None ∷ worked_block 2 8 12 None
+      ∷ []) (Some Missing)
   pub none : HasGatherFault [] (Some Missing)
-  pub twice : HasGatherFault (worked_block 0 0 4 (Some 3) ∷ worked_block 1 4 8 None ∷ worked_block 0 0 4 (Some 3) ∷ []) (Some Twice)
+  pub twice : HasGatherFault (worked_block 0 0 4 (Some 3) ∷ worked_block 1 4 8 None ∷ worked_block 0 0 4 (Some 3) ∷ [])
+      (Some Twice)
   pub other_interval : HasGatherFault (worked_block 0 0 5 (Some 3) ∷ []) (Some Foreign)
   pub other_number : HasGatherFault (worked_block 0 0 4 (Some 3) ∷ worked_block 4 16 20 None ∷ []) (Some Foreign)
   pub missing_before_twice : HasGatherFault (worked_block 1 4 8 None ∷ worked_block 1 4 8 None ∷ []) (Some Missing)

@@ -17,7 +17,8 @@ abbrev pub partial_by : Option Op → List ℕ → Option (Op × ℕ)
 partial_by None operands = None
 partial_by (Some op) operands = combined_from_first op operands
 
--- where iterations accessed the element, and by reduces of one operator alone, that operator and their operands combined,
+-- where iterations accessed the element, and by reduces of one operator alone, that operator and their operands
+-- combined,
 -- beginning with the first
 abbrev pub partial : List (List Action) → Option (Op × ℕ)
 partial iterations = partial_by (only_operator (joined iterations)) (operands (joined iterations))
@@ -49,10 +50,12 @@ committed_of_kept false blocks word = unwrap_or (last_of (map (λ (k : Kept). k.
 -- each operator is associative; so operands that are applied to a word in turn are their combination applied at once
 pub record OperatorsAssociate : Type 0 where
   pub each : (op : Op) (a b c : ℕ) → combined op (combined op a b) c ≡ combined op a (combined op b c)
-  pub at_once : (op : Op) (word : ℕ) (operands : List ℕ) → fold (combined op) word operands ≡ applied word (combined_from_first op operands)
+  pub at_once : (op : Op) (word : ℕ) (operands : List ℕ) → fold (combined op) word operands ≡ applied word
+      (combined_from_first op operands)
 
 -- what a pass leaves of all iterations is what it leaves of what is kept of the blocks that they stand in
 abbrev pub CommitsOfKept : Type 0
 CommitsOfKept = (blocks : List (List (List Action))) (word : ℕ) →
     committed (joined blocks) word
-    ≡ committed_of_kept (is_some (only_operator (joined (joined blocks)))) (map (λ iterations. kept iterations word) blocks) word
+    ≡ committed_of_kept (is_some (only_operator (joined (joined blocks)))) (map (λ iterations. kept iterations word)
+    blocks) word

@@ -58,4 +58,5 @@ accesses_of_each iterations = map (λ (it : Iterated). it.accesses) iterations
 
 -- the accesses of each counted iteration on the start words, where all of them end
 abbrev pub counted_runs : Program → ℕ → LoopCall → List ℕ → BoundedResult (List (List Access))
-counted_runs program bound call words = mapped accesses_of_each (all_ended (counted_iterations program bound call words))
+counted_runs program bound call words =
+    mapped accesses_of_each (all_ended (counted_iterations program bound call words))

@@ -23,10 +23,12 @@ pub record Outcome : Type 0 where
 abbrev pub judged_as : BoundedResult Verdict → Looped → BoundedResult Outcome
 judged_as told looped = mapped (λ v. record { verdict = v; answer = looped.answer; words = looped.words }) told
 
--- the outcome of a loop call by a test: the answer and the words of the loop in order, and the verdict. No split, worker
+-- the outcome of a loop call by a test: the answer and the words of the loop in order, and the verdict. No split,
+-- worker
 -- or schedule occurs in it
 abbrev pub outcome : Test → Program → ℕ → LoopCall → List ℕ → BoundedResult Outcome
-outcome test program bound call words = followed (judged_as (verdict test program bound call words)) (loop_in_order program bound call words)
+outcome test program bound call words = followed (judged_as (verdict test program bound call words))
+    (loop_in_order program bound call words)
 
 -- whether an iteration on the start words returns 1
 abbrev pub breaks_at : Program → ℕ → LoopCall → List ℕ → ℕ → Bool
@@ -38,6 +40,7 @@ unless_fault value (Err fault) = Err fault
 unless_fault value (Ok state) = Ok value
 
 -- what a list of events comes to against a split: the loop's outcome where the list has ended, else its first fault
-abbrev pub replayed : Test → Program → ℕ → LoopCall → List ℕ → (bounds : List ℕ) → List Event → Result (BoundedResult Outcome) ReplayFault
+abbrev pub replayed : Test → Program → ℕ → LoopCall → List ℕ → (bounds : List ℕ) → List Event
+    → Result (BoundedResult Outcome) ReplayFault
 replayed test program bound call words bounds events =
     unless_fault (outcome test program bound call words) (replay (breaks_at program bound call words) bounds events)

@@ -15,12 +15,19 @@ use Rattle.loop_core_model.specs.Outcome.{outcome}
 -- where all counted iterations end on the start words: if no element conflicts, the loop answers how many iterations
 -- count, and leaves what is committed of their accesses; else it answers and leaves what it does in order
 pub record OutcomeByTest : Type 0 where
-  pub passes : (test : Test) (program : Program) (bound : ℕ) (call : LoopCall) (words : List ℕ) (runs : List (List Access)) →
+  pub passes : (test : Test) (program : Program) (bound : ℕ) (call : LoopCall) (words : List ℕ)
+      (runs : List (List Access)) →
       counted_runs program bound call words ≡ Ended runs → conflicting test runs (length words) ≡ [] →
       outcome test program bound call words
-      ≡ Ended (record { verdict = Parallel; answer = counted program bound call words; words = committed_words runs words })
-  pub conflicts : (test : Test) (program : Program) (bound : ℕ) (call : LoopCall) (words : List ℕ) (runs : List (List Access)) (least : ℕ) (others : List ℕ)
-      (looped : Looped) → counted_runs program bound call words ≡ Ended runs → conflicting test runs (length words) ≡ least ∷ others →
+      ≡ Ended (record {
+        verdict = Parallel;
+        answer = counted program bound call words;
+        words = committed_words runs words;
+      })
+  pub conflicts : (test : Test) (program : Program) (bound : ℕ) (call : LoopCall) (words : List ℕ)
+      (runs : List (List Access)) (least : ℕ) (others : List ℕ)
+      (looped : Looped) → counted_runs program bound call words ≡ Ended runs → conflicting test runs (length words)
+      ≡ least ∷ others →
       loop_in_order program bound call words ≡ Ended looped →
       outcome test program bound call words
       ≡ Ended (record { verdict = Conflict (length others + 1) least; answer = looped.answer; words = looped.words })

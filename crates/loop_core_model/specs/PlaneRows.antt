@@ -1,4 +1,5 @@
--- Worked planes: the marks of loops that are run as one block, as planes of words, and the verdicts that planes of conflicts
+-- Worked planes: the marks of loops that are run as one block, as planes of words, and the verdicts that planes of
+-- conflicts
 -- tell. Each is worked out by hand.
 use Rattle.std.specs.Prelude.{◌≡◌, ℕ, zero, suc, ◌+◌, ◌*◌, Bool, if◌then◌else◌, List, [], ◌∷◌, map, take, drop, replicate, Option, Some, None}
 use Rattle.array_maps.specs.declared.access.Op.TheVariants.{Add, Or, And, Xor, AddH}
@@ -62,7 +63,20 @@ HasPlanes elements words ran planes = mapped (planes_of words) (of_each elements
 abbrev pub unmarked : ℕ → WorkedPlanes
 unmarked words =
     let none : List ℕ = replicate words 0 in
-    record { w = none; m = none; r = none; np = none; nx = none; add = none; or = none; and = none; xor = none; addh = none; lrpd = none; flow = none }
+    record {
+      w = none;
+      m = none;
+      r = none;
+      np = none;
+      nx = none;
+      add = none;
+      or = none;
+      and = none;
+      xor = none;
+      addh = none;
+      lrpd = none;
+      flow = none;
+    }
 
 -- 65 iterations, each of which adds 1 to its own element
 abbrev pub increments : BoundedResult (List Iterated)
@@ -76,14 +90,29 @@ all = 18446744073709551615 ∷ 1 ∷ []
 abbrev pub element_zero : List ℕ
 element_zero = 1 ∷ []
 
--- each element gets the one before it: 1 to 4 are written, 0 to 3 read, 1 to 3 both, by different iterations; or the one
+-- each element gets the one before it: 1 to 4 are written, 0 to 3 read, 1 to 3 both, by different iterations; or the
+-- one
 -- after it, where by the flow test none conflicts; 65 elements that are read and then written; adds and ors to one
 -- element; and plain stores to one, which each iteration reads after its own
 pub record MarkRows : Type 0 where
-  pub right : HasPlanes 5 1 right (record (unmarked 1) { w = 30 ∷ []; r = 15 ∷ []; nx = 31 ∷ []; lrpd = 14 ∷ []; flow = 14 ∷ [] })
+  pub right : HasPlanes 5 1 right (record (unmarked 1) {
+    w = 30 ∷ [];
+    r = 15 ∷ [];
+    nx = 31 ∷ [];
+    lrpd = 14 ∷ [];
+    flow = 14 ∷ [];
+  })
   pub left : HasPlanes 5 1 left (record (unmarked 1) { w = 15 ∷ []; r = 30 ∷ []; nx = 31 ∷ []; lrpd = 14 ∷ [] })
   pub increments : HasPlanes 65 2 increments (record (unmarked 2) { w = all; np = all; nx = all })
-  pub mixed : HasPlanes 1 1 mixed (record (unmarked 1) { w = element_zero; m = element_zero; np = element_zero; add = element_zero; or = element_zero; lrpd = element_zero; flow = element_zero })
+  pub mixed : HasPlanes 1 1 mixed (record (unmarked 1) {
+    w = element_zero;
+    m = element_zero;
+    np = element_zero;
+    add = element_zero;
+    or = element_zero;
+    lrpd = element_zero;
+    flow = element_zero;
+  })
   pub writers : HasPlanes 1 1 writers (record (unmarked 1) { w = element_zero; m = element_zero; nx = element_zero })
 
 -- a plane has n bits that are set, of which this is the least, and tells this verdict

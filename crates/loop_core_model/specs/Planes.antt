@@ -30,7 +30,8 @@ abbrev pub set_bits : List ℕ → ℕ
 set_bits [] = 0
 set_bits (word ∷ words) = count_ones word + set_bits words
 
--- the least bit that is set, of words of which the first is word k: 64 * k and the trailing zeros of the first that isn't 0
+-- the least bit that is set, of words of which the first is word k: 64 * k and the trailing zeros of the first that
+-- isn't 0
 abbrev pub least_bit : (k : ℕ) → List ℕ → Option ℕ
 least_bit k [] = None
 least_bit k (word ∷ words) = if word == 0 then least_bit (k + 1) words else Some (64 * k + trailing_zeros w64 word)
@@ -42,10 +43,12 @@ plane_verdict words = judged_by (set_bits words) (least_bit 0 words)
 -- a plane whose bits say what a test says of n elements, and are zero past the end, has just the elements that pass
 abbrev pub PlaneHasElements : Type 0
 PlaneHasElements = (words : List ℕ) (test : ℕ → Bool) (elements : ℕ) → elements ≤ 64 * length words →
-    ((e : ℕ) → e < elements → bit_of words e ≡ test e) → ((e : ℕ) → elements ≤ e → e < 64 * length words → bit_of words e ≡ false) →
+    ((e : ℕ) → e < elements → bit_of words e ≡ test e) → ((e : ℕ) → elements ≤ e → e < 64 * length words
+    → bit_of words e ≡ false) →
     elements_in_plane words ≡ filter test (range_with_len 0 elements)
 
--- a plane has as many elements as bits are set in its words, the least of them is the least bit, and the verdict that it
+-- a plane has as many elements as bits are set in its words, the least of them is the least bit, and the verdict that
+-- it
 -- tells is that on them
 pub record PlaneJudges : Type 0 where
   pub count : (words : List ℕ) → AreWords words → length (elements_in_plane words) ≡ set_bits words

@@ -39,7 +39,8 @@ s worker = record { kind = Stop; worker = worker }
 -- a loop of 16 iterations, of which each marks its element, and 3 and 12 break
 abbrev pub break_at_two : List Insn
 break_at_two =
-    element_address ++ StoreImm Dw 3 (pos 0) (pos 1) ∷ mov 0 0 ∷ Jump W64 Eq 1 (Imm (pos 3)) (pos 1) ∷ skip_unless 1 12 1 ∷ mov 0 1 ∷ Exit ∷ []
+    element_address ++ StoreImm Dw 3 (pos 0) (pos 1) ∷ mov 0 0 ∷ Jump W64 Eq 1 (Imm (pos 3)) (pos 1)
+    ∷ skip_unless 1 12 1 ∷ mov 0 1 ∷ Exit ∷ []
 
 -- that loop, its call and its split
 abbrev pub two_breaks : Program
@@ -56,7 +57,8 @@ ScheduleEnds test events =
 
 -- a list of events has this fault first
 abbrev pub EventIsRefused : List Event → ReplayFault → Type 0
-EventIsRefused events fault = replay (breaks_at two_breaks 20 (worked_call 16) (replicate 16 0)) quarters events ≡ Err fault
+EventIsRefused events fault = replay (breaks_at two_breaks 20 (worked_call 16) (replicate 16 0)) quarters events
+    ≡ Err fault
 
 -- worker 1 takes three blocks and posts 12 before worker 0 looks at its own, and posts 3
 abbrev pub two_workers : List Event
@@ -80,9 +82,11 @@ pub record EndedRows (test : Test) : Type 0 where
   pub two : ScheduleEnds test (two_workers ++ s 0 ∷ [])
   pub skips : ScheduleEnds test (first_block ++ p 0 ∷ c 0 ∷ l 0 ∷ c 0 ∷ l 0 ∷ c 0 ∷ l 0 ∷ c 0 ∷ s 0 ∷ [])
   pub lesser_post : ScheduleEnds test (two_posts ++ l 1 ∷ c 1 ∷ s 1 ∷ c 2 ∷ s 2 ∷ c 0 ∷ s 0 ∷ [])
-  pub conflict : replayed test (looping (5 ∷ []) 4 shift_right) 20 (worked_call 4) (9 ∷ replicate 4 0) (0 ∷ 4 ∷ []) (c 0 ∷ l 0 ∷ t 0 ∷ t 0 ∷ t 0 ∷ t 0 ∷ c 0 ∷ s 0 ∷ [])
+  pub conflict : replayed test (looping (5 ∷ []) 4 shift_right) 20 (worked_call 4) (9 ∷ replicate 4 0) (0 ∷ 4 ∷ [])
+      (c 0 ∷ l 0 ∷ t 0 ∷ t 0 ∷ t 0 ∷ t 0 ∷ c 0 ∷ s 0 ∷ [])
       ≡ Ok (Ended (record { verdict = Conflict 3 1; answer = 4; words = replicate 5 9 }))
-  pub no_iterations : replayed test (looping (5 ∷ []) 0 shift_right) 20 (worked_call 0) (replicate 5 9) (0 ∷ 0 ∷ 0 ∷ []) (c 2 ∷ l 2 ∷ c 2 ∷ l 2 ∷ c 2 ∷ s 2 ∷ [])
+  pub no_iterations : replayed test (looping (5 ∷ []) 0 shift_right) 20 (worked_call 0) (replicate 5 9) (0 ∷ 0 ∷ 0 ∷ [])
+      (c 2 ∷ l 2 ∷ c 2 ∷ l 2 ∷ c 2 ∷ s 2 ∷ [])
       ≡ Ok (Ended (record { verdict = Parallel; answer = 0; words = replicate 5 9 }))
 
 -- what the workers share at the end of a list that has ended

@@ -64,8 +64,10 @@ reported_with line f = followed (with_each_line line) f
 
 -- the report of a program that may run its loops in parallel
 abbrev pub report : Test → Program → ℕ → ℕ → List ℕ → BoundedResult Reported
-report test program bound argument words = reported_with (loop_report test program bound) (program_in_order program bound argument words)
+report test program bound argument words =
+    reported_with (loop_report test program bound) (program_in_order program bound argument words)
 
 -- the report of a program in order
 abbrev pub report_in_order : Program → ℕ → ℕ → List ℕ → BoundedResult Reported
-report_in_order program bound argument words = reported_with loop_report_in_order (program_in_order program bound argument words)
+report_in_order program bound argument words =
+    reported_with loop_report_in_order (program_in_order program bound argument words)

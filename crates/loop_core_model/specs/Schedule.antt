@@ -22,7 +22,8 @@ worker_of state number = slice_index_or state.workers number Idle
 -- the state after a worker's event, or the fault of one that isn't enabled at this place of the list
 abbrev pub if_enabled : (place number : ℕ) → ScheduleState → Option Moved → Result ScheduleState ReplayFault
 if_enabled place number state None = Err (faults.NotEnabled place)
-if_enabled place number state (Some moved) = Ok (record { shared = moved.shared; workers = slice_set state.workers number moved.worker })
+if_enabled place number state (Some moved) =
+    Ok (record { shared = moved.shared; workers = slice_set state.workers number moved.worker })
 
 -- the state after an event, or its least fault: there is no such worker, or it isn't enabled
 abbrev pub after_event : (ℕ → Bool) → List ℕ → Event → ℕ → ScheduleState → Result ScheduleState ReplayFault
@@ -31,14 +32,16 @@ after_event breaks bounds e place state =
     else if_enabled place e.worker state (transition breaks bounds e.kind (worker_of state e.worker) state.shared)
 
 -- goes on from a state where there is one
-abbrev pub and_then : (ScheduleState → Result ScheduleState ReplayFault) → Result ScheduleState ReplayFault → Result ScheduleState ReplayFault
+abbrev pub and_then : (ScheduleState → Result ScheduleState ReplayFault) → Result ScheduleState ReplayFault
+    → Result ScheduleState ReplayFault
 and_then go_on (Err fault) = Err fault
 and_then go_on (Ok state) = go_on state
 
 -- the state after all events, where the first of them stands at this place of the list; or the first fault
 abbrev pub after_events : (ℕ → Bool) → List ℕ → List Event → ℕ → ScheduleState → Result ScheduleState ReplayFault
 after_events breaks bounds [] place state = Ok state
-after_events breaks bounds (e ∷ events) place state = and_then (after_events breaks bounds events (place + 1)) (after_event breaks bounds e place state)
+after_events breaks bounds (e ∷ events) place state = and_then (after_events breaks bounds events (place + 1))
+    (after_event breaks bounds e place state)
 
 -- a worker has stopped
 abbrev pub is_stopped : Worker → Bool
@@ -51,7 +54,8 @@ is_stopped Stopped = true
 
 -- at least one worker stands in the list, and each that does has stopped
 abbrev pub has_ended : List Event → ScheduleState → Bool
-has_ended events state = nat_lt 0 (length events) && list_all (λ (e : Event). is_stopped (worker_of state e.worker)) events
+has_ended events state = nat_lt 0 (length events) && list_all (λ (e : Event). is_stopped (worker_of state e.worker))
+    events
 
 -- the state, where the list has ended
 abbrev pub if_ended : List Event → ScheduleState → Result ScheduleState ReplayFault

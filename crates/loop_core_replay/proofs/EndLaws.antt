@@ -36,43 +36,56 @@ module _ (s : SettingOf) where
   numbered [] = refl
   numbered (b ∷ blocks) = ap (λ (ns : List ℕ). (shown b).number ∷ ns) (numbered blocks)
 
-  one_stands : (b : BlockOf) → IsBlockOf s b.number b → stands_in s.bounds (as_gathered s.program s.call s.start.words b) ≡ true
+  one_stands : (b : BlockOf) → IsBlockOf s b.number b
+      → stands_in s.bounds (as_gathered s.program s.call s.start.words b) ≡ true
   one_stands b is =
       let below = is.within in
       let first : is_bound (slice_get s.bounds b.number) b.first ≡ true =
-      subst (λ (i : ℕ). is_bound (slice_get s.bounds b.number) i ≡ true) (sym is.first_is) (bound_at s.bounds b.number (omega (arith, below))) in
+      subst (λ (i : ℕ). is_bound (slice_get s.bounds b.number) i ≡ true) (sym is.first_is)
+      (bound_at s.bounds b.number (omega (arith, below))) in
       let past : is_bound (slice_get s.bounds (b.number + 1)) b.past ≡ true =
-      subst (λ (i : ℕ). is_bound (slice_get s.bounds (b.number + 1)) i ≡ true) (sym is.past_is) (bound_at s.bounds (b.number + 1) (omega (arith, below))) in
+      subst (λ (i : ℕ). is_bound (slice_get s.bounds (b.number + 1)) i ≡ true) (sym is.past_is)
+      (bound_at s.bounds (b.number + 1) (omega (arith, below))) in
       rw (first, past) refl
 
   stand : (blocks : List Block) → AreOwn blocks → AllByRecursion (λ b. stands_in s.bounds b ≡ true) (gathered_of blocks)
   stand [] own = tt
   stand (b ∷ blocks) own = (one_stands (shown b) own.0, stand blocks own.1)
 
-  run : (blocks : List Block) → AreOwn blocks → AllByRecursion (gather.IsRunOf s.program 4096 s.call s.start.words) (gathered_of blocks)
+  run : (blocks : List Block) → AreOwn blocks → AllByRecursion (gather.IsRunOf s.program 4096 s.call s.start.words)
+      (gathered_of blocks)
   run [] own = tt
   run (b ∷ blocks) own = (own.0.ran.told ∙ ap (λ e. Ended (iterations_of e)) (sym own.0.ran.told), run blocks own.1)
 
   -- each of them was run
-  pub all_run : (blocks : List Block) → AreOwn blocks → All (λ (b : Block). RecordsRun s.test s.program s.call s.start.words (shown b)) blocks
+  pub all_run : (blocks : List Block) → AreOwn blocks
+      → All (λ (b : Block). RecordsRun s.test s.program s.call s.start.words (shown b)) blocks
   all_run [] own = All-nil (λ (b : Block). RecordsRun s.test s.program s.call s.start.words (shown b))
-  all_run (b ∷ blocks) own = All-cons (λ (b : Block). RecordsRun s.test s.program s.call s.start.words (shown b)) b blocks own.0.ran (all_run blocks own.1)
+  all_run (b ∷ blocks) own = All-cons (λ (b : Block). RecordsRun s.test s.program s.call s.start.words (shown b)) b
+      blocks own.0.ran (all_run blocks own.1)
 
   -- they are gathered
-  pub no_fault : EndedSchedulesComplete → IsSetting s → (events : List Event) (ran : List Block) → IsLeft s events ran → gather_fault s.bounds (gathered_of ran) ≡ None
+  pub no_fault : EndedSchedulesComplete → IsSetting s → (events : List Event) (ran : List Block) → IsLeft s events ran
+      → gather_fault s.bounds (gathered_of ran) ≡ None
   no_fault law is events ran left =
-      ((law s.program 4096 s.call s.start.words s.bounds events (state left.standing (block_numbers ran)) is.split left.ended).complete (gathered_of ran)
+      ((law s.program 4096 s.call s.start.words s.bounds events (state left.standing (block_numbers ran)) is.split
+      left.ended).complete (gathered_of ran)
       (record { numbered = numbered ran; stand = stand ran left.blocks; run = run ran left.blocks })).gathered
 
   -- and the list comes to the loop's outcome
-  pub comes_to : (events : List Event) (ran : List Block) → IsLeft s events ran → (o : Outcome) → outcome s.test s.program 4096 s.call s.start.words ≡ Ended o →
+  pub comes_to : (events : List Event) (ran : List Block) → IsLeft s events ran → (o : Outcome)
+      → outcome s.test s.program 4096 s.call s.start.words ≡ Ended o →
       replayed s.test s.program 4096 s.call s.start.words s.bounds events ≡ Ok (Ended o)
-  comes_to events ran left o is = ap (unless_fault (outcome s.test s.program 4096 s.call s.start.words)) left.ended ∙ ap Ok is
+  comes_to events ran left o is = ap (unless_fault (outcome s.test s.program 4096 s.call s.start.words)) left.ended
+      ∙ ap Ok is
 
 -- so no fault is met
-pub meets_none : {G E : Type 0} → EndedSchedulesComplete → (s : SettingOf) → IsSetting s → (events : List Event) (ran : List Block) → IsLeft s events ran →
-    (result : Result G E) (wrap : GatherFault → E) (error : E) (fault : GatherFault) → result ≡ Err error → error ≡ wrap fault →
-    ((f : GatherFault) → result ≡ Err (wrap f) → gather_fault s.bounds (all_gathered s.program s.call s.start.words (map shown ran)) ≡ Some f) → ⊥
+pub meets_none : {G E : Type 0} → EndedSchedulesComplete → (s : SettingOf) → IsSetting s
+    → (events : List Event) (ran : List Block) → IsLeft s events ran →
+    (result : Result G E) (wrap : GatherFault → E) (error : E) (fault : GatherFault) → result ≡ Err error
+    → error ≡ wrap fault →
+    ((f : GatherFault) → result ≡ Err (wrap f) → gather_fault s.bounds (all_gathered s.program s.call s.start.words
+    (map shown ran)) ≡ Some f) → ⊥
 meets_none law s is events ran left result wrap error fault failed wrapped told =
     let never = no_fault s law is events ran left in
     let met = told fault (failed ∙ ap (λ e. Err e) wrapped) in

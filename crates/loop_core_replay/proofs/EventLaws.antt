@@ -27,23 +27,29 @@ use Rattle.loop_core_replay.specs.Settings.{SettingOf, IsSetting, setting_breaks
 use Rattle.loop_core_replay.specs.Replays.{BlocksOf, ReplayOf, block_numbers, state_of, AreBlocks, BreaksAt, BlockHasRun, HasCome}
 
 -- a state that events lead to is sound
-sound_of : (s : SettingOf) → IsSetting s → (events : List Event) (place : ℕ) (now : ScheduleState) → LeadTo (setting_breaks s) s.bounds events place now → Sound (setting_breaks s) s.bounds now
+sound_of : (s : SettingOf) → IsSetting s → (events : List Event) (place : ℕ) (now : ScheduleState)
+    → LeadTo (setting_breaks s) s.bounds events place now → Sound (setting_breaks s) s.bounds now
 sound_of s is events place now led =
     let rises = (faultless s.call.n s.bounds is.split).rises in
     (subst (AllOk (setting_breaks s) s.bounds rises (take place events) at_first) led
-    (events_ok (setting_breaks s) s.bounds rises (take place events) 0 at_first (sound_at_first (setting_breaks s) s.bounds rises))).0
+    (events_ok (setting_breaks s) s.bounds rises (take place events) 0 at_first (sound_at_first (setting_breaks s)
+    s.bounds rises))).0
 
 -- of the indices from one on the first that breaks isn't below it
-not_below : (breaks : ℕ → Bool) (left from index : ℕ) → index < from → is_bound (first_break breaks left from) index ≡ false
+not_below : (breaks : ℕ → Bool) (left from index : ℕ) → index < from → is_bound (first_break breaks left from) index
+    ≡ false
 not_below breaks zero from index below = refl
-not_below breaks (suc left) from index below = go (breaks from) (not_below breaks left (from + 1) index (omega (arith, below)))
+not_below breaks (suc left) from index below =
+    go (breaks from) (not_below breaks left (from + 1) index (omega (arith, below)))
   where
-    go : (b : Bool) → is_bound (first_break breaks left (from + 1)) index ≡ false → is_bound (if b then Some from else first_break breaks left (from + 1)) index ≡ false
+    go : (b : Bool) → is_bound (first_break breaks left (from + 1)) index ≡ false → is_bound (if b then Some from
+        else first_break breaks left (from + 1)) index ≡ false
     go true later = ne_eqb from index (λ same. absurd (omega (arith, below, same)))
     go false later = later
 
 -- the first from an index on is that index where it breaks
-first_is : (breaks : ℕ → Bool) (left index : ℕ) → 0 < left → is_bound (first_break breaks left index) index ≡ breaks index
+first_is : (breaks : ℕ → Bool) (left index : ℕ) → 0 < left → is_bound (first_break breaks left index) index
+    ≡ breaks index
 first_is breaks zero index some_left = absurd (omega (arith, some_left))
 first_is breaks (suc left) index some_left = go (breaks index)
   where
@@ -52,50 +58,68 @@ first_is breaks (suc left) index some_left = go (breaks index)
     go false = not_below breaks left (index + 1) index (omega arith)
 
 -- a worker's iteration breaks where its block does
-pub next_breaks : (s : SettingOf) → IsSetting s → (events : List Event) (place : ℕ) (r : ReplayOf) → HasCome s events place r → (turn : PendingIteration) → IsBefore r.workers turn →
+pub next_breaks : (s : SettingOf) → IsSetting s → (events : List Event) (place : ℕ) (r : ReplayOf)
+    → HasCome s events place r → (turn : PendingIteration) → IsBefore r.workers turn →
     (broke : Option ℕ) → BreaksAt s turn.block broke → is_bound broke turn.index ≡ setting_breaks s turn.index
 next_breaks s is events place r come turn before broke at =
     let sound = sound_of s is events place (state_of r) come.led in
     let here : worker_of (state_of r) turn.worker ≡ InBlock turn.block turn.index =
-    seen_at r.workers.workers turn.worker ∙ ap schedule_worker (at_is r.workers.workers turn.worker (Running turn.block turn.index) before) in
-    let runs : RunsFrom (setting_breaks s) s.bounds turn.block turn.index = subst (WorkerIsSound (setting_breaks s) s.bounds r.workers.shared.next) here (sound.fits turn.worker) in
+    seen_at r.workers.workers turn.worker
+    ∙ ap schedule_worker (at_is r.workers.workers turn.worker (Running turn.block turn.index) before) in
+    let runs : RunsFrom (setting_breaks s) s.bounds turn.block turn.index =
+    subst (WorkerIsSound (setting_breaks s) s.bounds r.workers.shared.next) here (sound.fits turn.worker) in
     let end = runs.before_end in
     ap (λ (o : Option ℕ). is_bound o turn.index)
     (at.broke_is
-    ∙ (scan_break (λ (index : ℕ). iteration s.program 4096 s.call index s.start.words) (end_of s.bounds turn.block - start_of s.bounds turn.block) (start_of s.bounds turn.block) at.ran at.told
+    ∙ (scan_break (λ (index : ℕ). iteration s.program 4096 s.call index s.start.words) (end_of s.bounds turn.block
+    - start_of s.bounds turn.block) (start_of s.bounds turn.block) at.ran at.told
     ∙ runs.no_break))
     ∙ first_is (setting_breaks s) (end_of s.bounds turn.block - turn.index) turn.index (omega (arith, end))
 
-module _ (law : EventsInTurn) (s : SettingOf) (is : IsSetting s) (events : List Event) (place : ℕ) (old new : ReplayOf) (come : HasCome s events place old) (fits : WorkersFit s.bounds new.workers) where
+module _ (law : EventsInTurn) (s : SettingOf) (is : IsSetting s) (events : List Event) (place : ℕ) (old new : ReplayOf)
+    (come : HasCome s events place old) (fits : WorkersFit s.bounds new.workers) where
   -- an event with which no block was run
-  pub done : (e : Event) → slice_get events place ≡ Some e → new.blocks ≡ old.blocks → Leads s.bounds e place old.workers new.workers [] → HasCome s events (place + 1) new
+  pub done : (e : Event) → slice_get events place ≡ Some e → new.blocks ≡ old.blocks
+      → Leads s.bounds e place old.workers new.workers [] → HasCome s events (place + 1) new
   done e there same leads = record {
-    led = subst (λ (ns : List ℕ). LeadTo (setting_breaks s) s.bounds events (place + 1) (state new.workers ns)) (sym (ap (λ b. block_numbers b.ran) same))
-        (law.next (setting_breaks s) s.bounds events place e (state_of old) (state new.workers (block_numbers old.blocks.ran)) there come.led (leads (setting_breaks s) (block_numbers old.blocks.ran)));
+    led = subst (λ (ns : List ℕ). LeadTo (setting_breaks s) s.bounds events (place + 1) (state new.workers ns))
+        (sym (ap (λ b. block_numbers b.ran) same))
+        (law.next (setting_breaks s) s.bounds events place e (state_of old)
+        (state new.workers (block_numbers old.blocks.ran)) there come.led
+        (leads (setting_breaks s) (block_numbers old.blocks.ran)));
     fits = fits;
     blocks = subst (AreBlocks s) (sym same) come.blocks;
   }
 
   -- one with which an empty block was
-  pub passed : (e : Event) → slice_get events place ≡ Some e → (number : ℕ) → BlockHasRun s number old.blocks new.blocks → Leads s.bounds e place old.workers new.workers (number ∷ []) →
+  pub passed : (e : Event) → slice_get events place ≡ Some e → (number : ℕ) → BlockHasRun s number old.blocks new.blocks
+      → Leads s.bounds e place old.workers new.workers (number ∷ []) →
       HasCome s events (place + 1) new
   passed e there number run leads = record {
-    led = subst (λ (ns : List ℕ). LeadTo (setting_breaks s) s.bounds events (place + 1) (state new.workers ns)) (sym run.numbers)
-        (law.next (setting_breaks s) s.bounds events place e (state_of old) (state new.workers (number ∷ block_numbers old.blocks.ran)) there come.led (leads (setting_breaks s) (block_numbers old.blocks.ran)));
+    led = subst (λ (ns : List ℕ). LeadTo (setting_breaks s) s.bounds events (place + 1) (state new.workers ns))
+        (sym run.numbers)
+        (law.next (setting_breaks s) s.bounds events place e (state_of old)
+        (state new.workers (number ∷ block_numbers old.blocks.ran)) there come.led
+        (leads (setting_breaks s) (block_numbers old.blocks.ran)));
     fits = fits;
     blocks = run.blocks;
   }
 
   -- a turn
-  pub turned : (turn : PendingIteration) → slice_get events place ≡ Some (record { kind = kinds.Turn; worker = turn.worker }) → IsBefore old.workers turn →
+  pub turned : (turn : PendingIteration) → slice_get events place
+      ≡ Some (record { kind = kinds.Turn; worker = turn.worker }) → IsBefore old.workers turn →
       (broke : Option ℕ) → BreaksAt s turn.block broke → (b : Bool) → b ≡ is_bound broke turn.index →
       (ran : Option ℕ) → IterationFinished s.bounds turn b old.workers new.workers ran → AreBlocks s new.blocks →
-      block_numbers new.blocks.ran ≡ option_to_list ran ++ block_numbers old.blocks.ran → HasCome s events (place + 1) new
+      block_numbers new.blocks.ran ≡ option_to_list ran ++ block_numbers old.blocks.ran
+      → HasCome s events (place + 1) new
   turned turn there before broke at b is_b ran turns blocks numbers = record {
-    led = subst (λ (ns : List ℕ). LeadTo (setting_breaks s) s.bounds events (place + 1) (state new.workers ns)) (sym numbers)
-        (law.next (setting_breaks s) s.bounds events place (record { kind = kinds.Turn; worker = turn.worker }) (state_of old)
+    led = subst (λ (ns : List ℕ). LeadTo (setting_breaks s) s.bounds events (place + 1) (state new.workers ns))
+        (sym numbers)
+        (law.next (setting_breaks s) s.bounds events place (record { kind = kinds.Turn; worker = turn.worker })
+        (state_of old)
         (state new.workers (option_to_list ran ++ block_numbers old.blocks.ran)) there come.led
-        (turns (setting_breaks s) (block_numbers old.blocks.ran) place (sym (is_b ∙ next_breaks s is events place old come turn before broke at))));
+        (turns (setting_breaks s) (block_numbers old.blocks.ran) place
+        (sym (is_b ∙ next_breaks s is events place old come turn before broke at))));
     fits = fits;
     blocks = blocks;
   }
@@ -106,8 +130,10 @@ on_ok P Q (Ok a) go h = go h
 on_ok P Q (Err b) go h = h
 
 -- the same of a replay and a setting that are seen as their fields
-module _ (law : EventsInTurn) (given s : SettingOf) (same : given ≡ s) (is : IsSetting given) (events : List Event) (place : ℕ) (old : ReplayOf)
-    (workers : Standing) (blocks : BlocksOf) (seen_as : record { workers = workers; blocks = blocks } ≡ old) (come : HasCome s events place old)
+module _ (law : EventsInTurn) (given s : SettingOf) (same : given ≡ s) (is : IsSetting given) (events : List Event)
+    (place : ℕ) (old : ReplayOf)
+    (workers : Standing) (blocks : BlocksOf) (seen_as : record { workers = workers; blocks = blocks } ≡ old)
+    (come : HasCome s events place old)
     (after : Standing) (fits : WorkersFit given.bounds after) where
   setting : IsSetting s
   setting = subst IsSetting same is
@@ -115,26 +141,35 @@ module _ (law : EventsInTurn) (given s : SettingOf) (same : given ≡ s) (is : I
   fits_so : WorkersFit s.bounds after
   fits_so = subst (λ (o : SettingOf). WorkersFit o.bounds after) same fits
 
-  leads_so : (e : Event) (ran : List ℕ) → Leads given.bounds e place workers after ran → Leads s.bounds e place old.workers after ran
+  leads_so : (e : Event) (ran : List ℕ) → Leads given.bounds e place workers after ran
+      → Leads s.bounds e place old.workers after ran
   leads_so e ran leads =
       subst (λ (o : SettingOf). Leads o.bounds e place old.workers after ran) same
       (subst (λ (r : ReplayOf). Leads given.bounds e place r.workers after ran) seen_as leads)
 
-  pub step_done : (e : Event) → slice_get events place ≡ Some e → (step : Step) → step ≡ steps.Done → StepFollows given.bounds e place workers after step →
+  pub step_done : (e : Event) → slice_get events place ≡ Some e → (step : Step) → step ≡ steps.Done
+      → StepFollows given.bounds e place workers after step →
       HasCome s events (place + 1) (record { workers = after; blocks = blocks })
   step_done e there step is follows =
-      done law s setting events place old (record { workers = after; blocks = blocks }) come fits_so e there (ap (λ (r : ReplayOf). r.blocks) seen_as)
+      done law s setting events place old (record { workers = after; blocks = blocks }) come fits_so e there
+      (ap (λ (r : ReplayOf). r.blocks) seen_as)
       (leads_so e [] (subst (StepFollows given.bounds e place workers after) is follows))
 
-  pub step_passed : (e : Event) → slice_get events place ≡ Some e → (number : ℕ) (new : BlocksOf) → BlockHasRun s number blocks new →
-      (step : Step) → step ≡ steps.Ran number → StepFollows given.bounds e place workers after step → HasCome s events (place + 1) (record { workers = after; blocks = new })
+  pub step_passed : (e : Event) → slice_get events place ≡ Some e → (number : ℕ) (new : BlocksOf)
+      → BlockHasRun s number blocks new →
+      (step : Step) → step ≡ steps.Ran number → StepFollows given.bounds e place workers after step
+      → HasCome s events (place + 1) (record { workers = after; blocks = new })
   step_passed e there number new run step is follows =
       passed law s setting events place old (record { workers = after; blocks = new }) come fits_so e there number
-      (subst (λ (r : ReplayOf). BlockHasRun s number r.blocks new) seen_as run) (leads_so e (number ∷ []) (subst (StepFollows given.bounds e place workers after) is follows))
+      (subst (λ (r : ReplayOf). BlockHasRun s number r.blocks new) seen_as run)
+      (leads_so e (number ∷ []) (subst (StepFollows given.bounds e place workers after) is follows))
 
-  module _ (turn : PendingIteration) (there : slice_get events place ≡ Some (record { kind = kinds.Turn; worker = turn.worker })) (before : IsBefore old.workers turn)
-      (broke : Option ℕ) (begun : BlocksOf) (kept : begun.ran ≡ blocks.ran) (are : AreBlocks s begun) (at : BreaksAt s turn.block broke)
-      (b : Bool) (is_b : b ≡ is_bound broke turn.index) (ran : Option ℕ) (turns : IterationFinished given.bounds turn b workers after ran) where
+  module _ (turn : PendingIteration) (there : slice_get events place
+      ≡ Some (record { kind = kinds.Turn; worker = turn.worker })) (before : IsBefore old.workers turn)
+      (broke : Option ℕ) (begun : BlocksOf) (kept : begun.ran ≡ blocks.ran) (are : AreBlocks s begun)
+      (at : BreaksAt s turn.block broke)
+      (b : Bool) (is_b : b ≡ is_bound broke turn.index) (ran : Option ℕ) (turns : IterationFinished given.bounds turn b
+      workers after ran) where
     turns_so : IterationFinished s.bounds turn b old.workers after ran
     turns_so =
         subst (λ (o : SettingOf). IterationFinished o.bounds turn b old.workers after ran) same
@@ -145,19 +180,28 @@ module _ (law : EventsInTurn) (given s : SettingOf) (same : given ≡ s) (is : I
 
     pub turn_on : ran ≡ None → HasCome s events (place + 1) (record { workers = after; blocks = begun })
     turn_on is_none =
-        turned law s setting events place old (record { workers = after; blocks = begun }) come fits_so turn there before broke at b is_b ran turns_so are
-        (ap block_numbers kept_so ∙ ap (λ (o : Option ℕ). option_to_list o ++ block_numbers old.blocks.ran) (sym is_none))
+        turned law s setting events place old (record { workers = after; blocks = begun }) come fits_so turn there
+        before broke at b is_b ran turns_so are
+        (ap block_numbers kept_so ∙ ap (λ (o : Option ℕ). option_to_list o ++ block_numbers old.blocks.ran)
+        (sym is_none))
 
-    pub turn_last : (number : ℕ) → ran ≡ Some number → (new : BlocksOf) → BlockHasRun s number begun new → HasCome s events (place + 1) (record { workers = after; blocks = new })
+    pub turn_last : (number : ℕ) → ran ≡ Some number → (new : BlocksOf) → BlockHasRun s number begun new
+        → HasCome s events (place + 1) (record { workers = after; blocks = new })
     turn_last number is_some new run =
-        turned law s setting events place old (record { workers = after; blocks = new }) come fits_so turn there before broke at b is_b ran turns_so run.blocks
-        (run.numbers ∙ (ap (λ rs. number ∷ block_numbers rs) kept_so ∙ ap (λ (o : Option ℕ). option_to_list o ++ block_numbers old.blocks.ran) (sym is_some)))
+        turned law s setting events place old (record { workers = after; blocks = new }) come fits_so turn there before
+        broke at b is_b ran turns_so run.blocks
+        (run.numbers ∙ (ap (λ rs. number ∷ block_numbers rs) kept_so
+        ∙ ap (λ (o : Option ℕ). option_to_list o ++ block_numbers old.blocks.ran) (sym is_some)))
 
 -- an event that has a fault
-pub step_refused : (law : EventsInTurn) (given s : SettingOf) → given ≡ s → (events : List Event) (place : ℕ) (old : ReplayOf) (workers : Standing) (blocks : BlocksOf) →
-    record { workers = workers; blocks = blocks } ≡ old → HasCome s events place old → (e : Event) → slice_get events place ≡ Some e → (met fault : ReplayFault) → met ≡ fault →
+pub step_refused : (law : EventsInTurn) (given s : SettingOf) → given ≡ s
+    → (events : List Event) (place : ℕ) (old : ReplayOf) (workers : Standing) (blocks : BlocksOf) →
+    record { workers = workers; blocks = blocks } ≡ old → HasCome s events place old → (e : Event)
+    → slice_get events place ≡ Some e → (met fault : ReplayFault) → met ≡ fault →
     Faults given.bounds e place workers met → replay (setting_breaks s) s.bounds events ≡ Err fault
 step_refused law given s same events place old workers blocks seen_as come e there met fault is faults =
     let so : Faults s.bounds e place old.workers met =
-    subst (λ (o : SettingOf). Faults o.bounds e place old.workers met) same (subst (λ (r : ReplayOf). Faults given.bounds e place r.workers met) seen_as faults) in
-    law.fault (setting_breaks s) s.bounds events place e (state_of old) met there come.led (so (setting_breaks s) (block_numbers old.blocks.ran)) ∙ ap Err is
+    subst (λ (o : SettingOf). Faults o.bounds e place old.workers met) same
+    (subst (λ (r : ReplayOf). Faults given.bounds e place r.workers met) seen_as faults) in
+    law.fault (setting_breaks s) s.bounds events place e (state_of old) met there come.led
+    (so (setting_breaks s) (block_numbers old.blocks.ran)) ∙ ap Err is

@@ -60,7 +60,8 @@ pub record IsUnderWay (blocks : BlocksOf) (number : ℕ) : Type 0 where
 -- a block breaks here on the start words, or not at all
 pub record BreaksAt (s : SettingOf) (number : ℕ) (broke : Option ℕ) : Type 0 where
   pub ran : List Iterated
-  pub told : block_run s.program 4096 s.call s.start.words (start_of s.bounds number) (end_of s.bounds number) ≡ Ended ran
+  pub told : block_run s.program 4096 s.call s.start.words (start_of s.bounds number) (end_of s.bounds number)
+      ≡ Ended ran
   pub broke_is : broke ≡ break_from (start_of s.bounds number) ran
 
 -- a block was run more

@@ -76,7 +76,8 @@ impl<'a> Blocks<'a> {
     /// A worker has run this block, which is under way.
     pub(crate) fn end(&mut self, number: u32) -> Result<(), AllocError>
         requires { IsUnderWay self.old number }
-        ensures { OnOk result ((setting : SettingOf) → AreBlocks setting self.old → BlockHasRun setting number self.old self.new) }
+        ensures { OnOk result ((setting : SettingOf) → AreBlocks setting self.old → BlockHasRun setting number self.old
+            self.new) }
     {
         match self.under_way[number as usize].take() {
             Some(block) => Ok(self.ran.insert(0, block)?),

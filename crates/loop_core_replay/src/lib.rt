@@ -1,4 +1,5 @@
-//! The replay of a list of events: what a speculative loop comes to where its workers do what the list says, or the first
+//! The replay of a list of events: what a speculative loop comes to where its workers do what the list says, or the
+//! first
 //! fault of a list that is no schedule.
 //!
 //! ```text

@@ -80,7 +80,8 @@ impl<'a> Replay<'a> {
         requires place { place < length events.now }
         requires come { HasCome of.now events.now place self.old }
         ensures come { OnOk result (HasCome of.now events.now (place + 1) self.new) }
-        ensures fault { (fault : ReplayFault) → result ≡ Err (ReplayError.Fault fault) → replay (setting_breaks of.now) of.now.bounds events.now ≡ Err fault }
+        ensures fault { (fault : ReplayFault) → result ≡ Err (ReplayError.Fault fault)
+            → replay (setting_breaks of.now) of.now.bounds events.now ≡ Err fault }
     {
         law_of_events_in_turn();
         match self.workers.begin(of.split, events[place], place) {
@@ -112,7 +113,8 @@ pub(crate) fn run_events<'a>(
     events: &[Event],
 ) -> Result<Vec<Block<'a>>, ReplayError>
     ensures left { IfOk result (λ ran. IsLeft of.now events.now ran.items) }
-    ensures fault { (fault : ReplayFault) → result ≡ Err (ReplayError.Fault fault) → replay (setting_breaks of.now) of.now.bounds events.now ≡ Err fault }
+    ensures fault { (fault : ReplayFault) → result ≡ Err (ReplayError.Fault fault)
+        → replay (setting_breaks of.now) of.now.bounds events.now ≡ Err fault }
 {
     let mut replay = Replay::try_new(of)?;
     for place in 0..events.len() {

@@ -22,7 +22,8 @@ use std::alloc::Global;
 /// blocks of this split. Gives what the loop comes to from these maps, which stay as they are. The maps are of the
 /// program's sizes, and the split is of the call's iterations.
 ///
-/// A list that is no schedule is refused by its first fault: E1 (`NoSuchWorker`) a worker above 15, E2 (`NotEnabled`) an
+/// A list that is no schedule is refused by its first fault: E1 (`NoSuchWorker`) a worker above 15, E2 (`NotEnabled`)
+/// an
 /// event that isn't enabled, E3 (`NotEnded`) a list that hasn't ended. `Memory` says nothing of the list.
 pub fn replay_loop(
     alloc: Global,
@@ -36,9 +37,11 @@ pub fn replay_loop(
     requires known { OverApproximatesCall program.now call.now }
     requires sizes { start.now.sizes ≡ program.now.sizes }
     requires split { split_fault split.now call.now.n ≡ None }
-    ensures outcome { IfOk result (λ o. replayed test program.now 4096 call.now start.now.words split.now events.now ≡ Ok (Ended (record { verdict = o.verdict; answer = o.answer; words = o.maps.words }))) }
+    ensures outcome { IfOk result (λ o. replayed test program.now 4096 call.now start.now.words split.now events.now
+        ≡ Ok (Ended (record { verdict = o.verdict; answer = o.answer; words = o.maps.words }))) }
     ensures sizes { IfOk result (λ o. o.maps.sizes ≡ start.now.sizes) }
-    ensures fault { (fault : ReplayFault) → result ≡ Err (ReplayError.Fault fault) → replayed test program.now 4096 call.now start.now.words split.now events.now ≡ Err fault }
+    ensures fault { (fault : ReplayFault) → result ≡ Err (ReplayError.Fault fault)
+        → replayed test program.now 4096 call.now start.now.words split.now events.now ≡ Err fault }
 {
     law_of_schedules();
     let of = Setting {

@@ -25,7 +25,19 @@ impl<'a> Model for Setting<'a> {
 
     ghost Value = { SettingOf };
 
-    ghost view = { λ s. record { program = s.program.now; call = s.call.now; start = s.start.now; bounds = s.split.now; test = s.test } };
+    ghost view = { λ s. record {
+      program = s.program.now;
+      call = s.call.now;
+      start = s.start.now;
+      bounds = s.split.now;
+      test = s.test;
+    } };
 
-    ghost invariant = { λ s. IsSetting (record { program = s.program.now; call = s.call.now; start = s.start.now; bounds = s.split.now; test = s.test }) };
+    ghost invariant = { λ s. IsSetting (record {
+      program = s.program.now;
+      call = s.call.now;
+      start = s.start.now;
+      bounds = s.split.now;
+      test = s.test;
+    }) };
 }

@@ -9,6 +9,8 @@ abbrev pub map_effect : MapList → Access → MapList → Type 0
 map_effect old access new = new ≡ record { sizes = old.sizes; words = words_after access old.words }
 
 -- so no access changes the sizes
-pub sizes_kept : (old new : MapList) (accesses : List Access) → Effects map_effect old accesses new → new.sizes ≡ old.sizes
+pub sizes_kept : (old new : MapList) (accesses : List Access) → Effects map_effect old accesses new
+    → new.sizes ≡ old.sizes
 sizes_kept old new [] effects = ap (λ (maps : MapList). maps.sizes) effects
-sizes_kept old new (access ∷ accesses) effects = sizes_kept effects.0 new accesses effects.2 ∙ ap (λ (maps : MapList). maps.sizes) effects.1
+sizes_kept old new (access ∷ accesses) effects = sizes_kept effects.0 new accesses effects.2
+    ∙ ap (λ (maps : MapList). maps.sizes) effects.1

@@ -20,7 +20,9 @@ pub record AreOneLoop (program : Program) (made call : LoopCall) (words : List �
   pub replays : (test : Test) (bounds : List ℕ) (events : List Event) → split_fault bounds call.n ≡ None →
       replayed test program 4096 call words bounds events ≡ replayed test program 4096 made words bounds events
 
--- of an accepted program a call that main made and the same call with its frame filled are one loop, from any words of its maps
+-- of an accepted program a call that main made and the same call with its frame filled are one loop, from any words of
+-- its maps
 abbrev pub FilledCallsAreOneLoop : Type 0
-FilledCallsAreOneLoop = (program : Program) → IsSoundProgram program → (made call : LoopCall) → IsFilled program made call → OverApproximatesCall program call →
+FilledCallsAreOneLoop = (program : Program) → IsSoundProgram program → (made call : LoopCall)
+    → IsFilled program made call → OverApproximatesCall program call →
     (words : List ℕ) → AreMapWords program words → AreOneLoop program made call words

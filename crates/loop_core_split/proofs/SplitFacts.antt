@@ -11,13 +11,17 @@ use Rattle.loop_core_split.specs.Splits.{IsSplit}
 pub last_is : (bounds : List ℕ) → IsSplit bounds → slice_index_or bounds (length bounds - 1) 0 ≡ last_bound 0 bounds
 last_is bounds is = (faultless (last_bound 0 bounds) bounds is).last
 
-pub in_order : (bounds : List ℕ) (block : ℕ) → IsSplit bounds → block < blocks_of bounds → slice_index_or bounds block 0 ≤ slice_index_or bounds (block + 1) 0
-in_order bounds block is h = rising 0 bounds (faultless (last_bound 0 bounds) bounds is).rises block (block + 1) (omega arith) (omega arith)
+pub in_order : (bounds : List ℕ) (block : ℕ) → IsSplit bounds → block < blocks_of bounds → slice_index_or bounds block 0
+    ≤ slice_index_or bounds (block + 1) 0
+in_order bounds block is h = rising 0 bounds (faultless (last_bound 0 bounds) bounds is).rises block (block + 1)
+    (omega arith) (omega arith)
 
-pub within : (bounds : List ℕ) (block : ℕ) → IsSplit bounds → block < blocks_of bounds → slice_index_or bounds (block + 1) 0 ≤ last_bound 0 bounds
+pub within : (bounds : List ℕ) (block : ℕ) → IsSplit bounds → block < blocks_of bounds
+    → slice_index_or bounds (block + 1) 0 ≤ last_bound 0 bounds
 within bounds block is h =
     let sound = faultless (last_bound 0 bounds) bounds is in
-    subst (λ (n : ℕ). slice_index_or bounds (block + 1) 0 ≤ n) sound.last (rising 0 bounds sound.rises (block + 1) (blocks_of bounds) (omega arith) (omega arith))
+    subst (λ (n : ℕ). slice_index_or bounds (block + 1) 0 ≤ n) sound.last (rising 0 bounds sound.rises (block + 1)
+    (blocks_of bounds) (omega arith) (omega arith))
 
 -- none, or more than 64, can't be had
 pub no_even_split : (n blocks : ℕ) → (1 ≤ blocks → 64 < blocks) → split_fault (even_bounds n blocks) n ≡ Some Number
@@ -36,4 +40,5 @@ last_bound_is (bound ∷ bounds) several =
 
 -- a split of some number of iterations is one of as many as its last bound says
 pub split_is : (bounds : List ℕ) (n : ℕ) → split_fault bounds n ≡ None → IsSplit bounds
-split_is bounds n h = subst (λ (m : ℕ). split_fault bounds m ≡ None) (sym (faultless n bounds h).last ∙ last_bound_is bounds (faultless n bounds h).several) h
+split_is bounds n h = subst (λ (m : ℕ). split_fault bounds m ≡ None) (sym (faultless n bounds h).last
+    ∙ last_bound_is bounds (faultless n bounds h).several) h

@@ -12,13 +12,19 @@ LeadTo breaks bounds events place state = after_events breaks bounds (take place
 -- one event more leads on, or has the list's fault; where there is none more the list has ended or not
 pub record EventsInTurn : Type 0 where
   pub first : (breaks : ℕ → Bool) (bounds : List ℕ) (events : List Event) → LeadTo breaks bounds events 0 at_first
-  pub next : (breaks : ℕ → Bool) (bounds : List ℕ) (events : List Event) (place : ℕ) (e : Event) (old new : ScheduleState) →
-      slice_get events place ≡ Some e → LeadTo breaks bounds events place old → after_event breaks bounds e place old ≡ Ok new →
+  pub next : (breaks : ℕ → Bool) (bounds : List ℕ) (events : List Event) (place : ℕ) (e : Event)
+      (old new : ScheduleState) →
+      slice_get events place ≡ Some e → LeadTo breaks bounds events place old → after_event breaks bounds e place old
+      ≡ Ok new →
       LeadTo breaks bounds events (place + 1) new
-  pub fault : (breaks : ℕ → Bool) (bounds : List ℕ) (events : List Event) (place : ℕ) (e : Event) (old : ScheduleState) (fault : ReplayFault) →
-      slice_get events place ≡ Some e → LeadTo breaks bounds events place old → after_event breaks bounds e place old ≡ Err fault →
+  pub fault : (breaks : ℕ → Bool) (bounds : List ℕ) (events : List Event) (place : ℕ) (e : Event) (old : ScheduleState)
+      (fault : ReplayFault) →
+      slice_get events place ≡ Some e → LeadTo breaks bounds events place old → after_event breaks bounds e place old
+      ≡ Err fault →
       replay breaks bounds events ≡ Err fault
   pub ended : (breaks : ℕ → Bool) (bounds : List ℕ) (events : List Event) (state : ScheduleState) →
-      LeadTo breaks bounds events (length events) state → has_ended events state ≡ true → replay breaks bounds events ≡ Ok state
+      LeadTo breaks bounds events (length events) state → has_ended events state ≡ true → replay breaks bounds events
+      ≡ Ok state
   pub not_ended : (breaks : ℕ → Bool) (bounds : List ℕ) (events : List Event) (state : ScheduleState) →
-      LeadTo breaks bounds events (length events) state → has_ended events state ≡ false → replay breaks bounds events ≡ Err (NotEnded (length events))
+      LeadTo breaks bounds events (length events) state → has_ended events state ≡ false → replay breaks bounds events
+      ≡ Err (NotEnded (length events))

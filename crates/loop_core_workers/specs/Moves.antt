@@ -15,7 +15,8 @@ use Rattle.loop_core_workers.specs.Standing.{schedule_worker, shared_of, Standin
 
 -- what a worker and what it shares become, where these blocks were run before
 abbrev pub transition_result : WorkerTransition → List ℕ → Moved
-transition_result move runs = becomes (schedule_worker move.worker) (shared_of move.shared (option_to_list move.ran ++ runs))
+transition_result move runs = becomes (schedule_worker move.worker) (shared_of move.shared (option_to_list move.ran
+    ++ runs))
 
 -- it is a worker of this split, and what its workers share; a block that was run with it is one of the split's
 pub record TransitionFits (bounds : List ℕ) (move : WorkerTransition) : Type 0 where
@@ -25,12 +26,15 @@ pub record TransitionFits (bounds : List ℕ) (move : WorkerTransition) : Type 0
 
 -- workers after one of them moved
 abbrev pub after_transition : Standing → (number : ℕ) → WorkerTransition → Standing
-after_transition standing number move = record { shared = move.shared; workers = slice_set standing.workers number move.worker }
+after_transition standing number move =
+    record { shared = move.shared; workers = slice_set standing.workers number move.worker }
 
 -- the event is enabled: whatever breaks it moves the worker so
-pub record IsTransition (bounds : List ℕ) (kind : EventKind) (worker : Worker) (shared : Shared) (move : WorkerTransition) : Type 0 where
+pub record IsTransition (bounds : List ℕ) (kind : EventKind) (worker : Worker) (shared : Shared)
+    (move : WorkerTransition) : Type 0 where
   pub fits : TransitionFits bounds move
-  pub moves : (breaks : ℕ → Bool) (runs : List ℕ) → transition breaks bounds kind (schedule_worker worker) (shared_of shared runs) ≡ Some (transition_result move runs)
+  pub moves : (breaks : ℕ → Bool) (runs : List ℕ) → transition breaks bounds kind (schedule_worker worker)
+      (shared_of shared runs) ≡ Some (transition_result move runs)
 
 -- the same, or it is this iteration's turn
 abbrev pub IsAskedFor : List ℕ → EventKind → Worker → Shared → Asked → Type 0
@@ -40,4 +44,5 @@ IsAskedFor bounds kind worker shared (Iteration block index) = (kind ≡ kinds.T
 -- it isn't, whatever breaks
 abbrev pub IsNeverEnabled : List ℕ → EventKind → Worker → Shared → Type 0
 IsNeverEnabled bounds kind worker shared =
-    (breaks : ℕ → Bool) (runs : List ℕ) → transition breaks bounds kind (schedule_worker worker) (shared_of shared runs) ≡ None
+    (breaks : ℕ → Bool) (runs : List ℕ) → transition breaks bounds kind (schedule_worker worker) (shared_of shared runs)
+    ≡ None

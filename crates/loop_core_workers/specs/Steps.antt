@@ -15,11 +15,13 @@ use Rattle.loop_core_workers.specs.Standing.{Standing, state}
 -- the event at this place of a list leads from one state to another, and these blocks were run with it
 abbrev pub Leads : List ℕ → Event → (place : ℕ) → (old new : Standing) → List ℕ → Type 0
 Leads bounds e place old new ran =
-    (breaks : ℕ → Bool) (runs : List ℕ) → after_event breaks bounds e place (state old runs) ≡ Ok (state new (ran ++ runs))
+    (breaks : ℕ → Bool) (runs : List ℕ) → after_event breaks bounds e place (state old runs)
+    ≡ Ok (state new (ran ++ runs))
 
 -- it has this fault
 abbrev pub Faults : List ℕ → Event → (place : ℕ) → Standing → ReplayFault → Type 0
-Faults bounds e place old fault = (breaks : ℕ → Bool) (runs : List ℕ) → after_event breaks bounds e place (state old runs) ≡ Err fault
+Faults bounds e place old fault = (breaks : ℕ → Bool) (runs : List ℕ)
+    → after_event breaks bounds e place (state old runs) ≡ Err fault
 
 -- the event was done, and this block was run with it or none
 abbrev pub IsStepOf : Option ℕ → Step → Type 0
@@ -41,10 +43,12 @@ IsBefore standing turn = slice_get standing.workers turn.worker ≡ Some (Runnin
 abbrev pub StepFollows : List ℕ → Event → (place : ℕ) → (old new : Standing) → Step → Type 0
 StepFollows bounds e place old new steps.Done = Leads bounds e place old new []
 StepFollows bounds e place old new (steps.Ran block) = Leads bounds e place old new (block ∷ [])
-StepFollows bounds e place old new (steps.Turn turn) = (e ≡ record { kind = kinds.Turn; worker = turn.worker }) × IsBefore old turn × (new ≡ old)
+StepFollows bounds e place old new (steps.Turn turn) = (e ≡ record { kind = kinds.Turn; worker = turn.worker })
+    × IsBefore old turn × (new ≡ old)
 
 -- what comes of a turn whose iteration broke or not; the block was run with it or not
 abbrev pub IterationFinished : List ℕ → PendingIteration → (broke : Bool) → (old new : Standing) → Option ℕ → Type 0
 IterationFinished bounds turn broke old new ran =
     (breaks : ℕ → Bool) (runs : List ℕ) (place : ℕ) → breaks turn.index ≡ broke →
-    after_event breaks bounds (record { kind = kinds.Turn; worker = turn.worker }) place (state old runs) ≡ Ok (state new (option_to_list ran ++ runs))
+    after_event breaks bounds (record { kind = kinds.Turn; worker = turn.worker }) place (state old runs)
+    ≡ Ok (state new (option_to_list ran ++ runs))

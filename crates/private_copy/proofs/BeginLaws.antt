@@ -27,13 +27,16 @@ shows_start pages begun start writers =
     (λ i inside.
     let early = writers i in
     shown_at f (length start) i (omega (arith, inside, long))
-    ∙ ap (λ (b : Bool). if b then (cell_at pages i).value else slice_index start i) (ne_eqb (cell_at pages i).writer (begun + 1) (λ h. omega (arith, h, early))))
+    ∙ ap (λ (b : Bool). if b then (cell_at pages i).value else slice_index start i) (ne_eqb (cell_at pages i).writer
+    (begun + 1) (λ h. omega (arith, h, early))))
 
 -- flags that touched nothing
 pub none_flagged : (flags : IterFlags) → touched_count flags ≡ 0 → IsEmptied flags
-none_flagged flags none = record { count = none; each = λ e. nothing_flagged _ (flags.covered e (none_touched flags.touched.items e none)) }
+none_flagged flags none =
+    record { count = none; each = λ e. nothing_flagged _ (flags.covered e (none_touched flags.touched.items e none)) }
 
-pub begins : (old new : PrivateCopy) (need : ℕ) → IsBegun old need new → (runs : List (List Access)) → CopyRecords old runs → CopyRecordsWithin new runs []
+pub begins : (old new : PrivateCopy) (need : ℕ) → IsBegun old need new → (runs : List (List Access))
+    → CopyRecords old runs → CopyRecordsWithin new runs []
 begins old new need begun runs stands =
     let long : length new.start ≡ length old.start = ap length begun.start in
     record {
@@ -44,7 +47,8 @@ begins old new need begun runs stands =
         last = λ e inside.
             begun.last e ∙ stands.remembers.last e (omega (arith, inside, long))
             ∙ ap (λ ws. last_value (at_element e runs) (slice_index ws e)) (sym begun.start)
-            ∙ sym (ap (λ its. last_value its (slice_index new.start e)) (at_last e runs []) ∙ last_none (at_element e runs) (slice_index new.start e));
+            ∙ sym (ap (λ its. last_value its (slice_index new.start e)) (at_last e runs [])
+            ∙ last_none (at_element e runs) (slice_index new.start e));
         reduction = λ e inside.
             begun.reduction e ∙ stands.remembers.reduction e (omega (arith, inside, long))
             ∙ sym (ap reduction_of (at_last e runs []) ∙ reduction_none (at_element e runs));

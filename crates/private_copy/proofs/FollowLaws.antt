@@ -32,19 +32,23 @@ flags_step old new accesses access e done was true is =
     ∙ sym (flags_follow_kinds.next (actions_at e accesses) access.action)
     ∙ ap flags_of (sym (actions_here e accesses access is))
 flags_step old new accesses access e done was false is =
-    done.other_marks e (λ h. eqb-false access.element e is (sym h)) ∙ was ∙ ap flags_of (sym (actions_other e accesses access is))
+    done.other_marks e (λ h. eqb-false access.element e is (sym h)) ∙ was
+    ∙ ap flags_of (sym (actions_other e accesses access is))
 
 -- the last value there
-last_step : (old new : PrivateCopy) (runs : List (List Access)) (accesses : List Access) (access : Access) (e : ℕ) → Accessed old access new →
+last_step : (old new : PrivateCopy) (runs : List (List Access)) (accesses : List Access) (access : Access) (e : ℕ)
+    → Accessed old access new →
     old.words ≡ words_after_all accesses old.start → e < length old.start →
-    old.last e ≡ last_value (at_element e (runs ++ accesses ∷ [])) (slice_index old.start e) → (here : Bool) → (eqb access.element e) ≡ here →
+    old.last e ≡ last_value (at_element e (runs ++ accesses ∷ [])) (slice_index old.start e) → (here : Bool)
+    → (eqb access.element e) ≡ here →
     new.last e ≡ last_value (at_element e (runs ++ (accesses ++ access ∷ []) ∷ [])) (slice_index old.start e)
 last_step old new runs accesses access e done words inside was true is =
     let same : access.element ≡ e = eqb-true access.element e is in
     let start : ℕ = slice_index old.start e in
     ap new.last (sym same) ∙ done.last
     ∙ ap (λ (x : ℕ). last_after (old.last x) access.action (slice_index old.words x)) same
-    ∙ ap (λ o. last_after o access.action (slice_index old.words e)) (was ∙ ap (λ its. last_value its start) (at_last e runs accesses))
+    ∙ ap (λ o. last_after o access.action (slice_index old.words e)) (was
+    ∙ ap (λ its. last_value its start) (at_last e runs accesses))
     ∙ ap (last_after (last_value (at_element e runs ++ actions_at e accesses ∷ []) start) access.action)
     (ap (λ ws. slice_index ws e) words ∙ element_after_all accesses old.start e inside)
     ∙ sym (last_more (at_element e runs) (actions_at e accesses) access.action start)
@@ -58,8 +62,10 @@ last_step old new runs accesses access e done words inside was false is =
     ∙ ap (λ its. last_value its start) (sym (at_last e runs (accesses ++ access ∷ [])))
 
 -- what is combined there
-reduction_step : (old new : PrivateCopy) (runs : List (List Access)) (accesses : List Access) (access : Access) (e : ℕ) → Accessed old access new →
-    old.reduction e ≡ reduction_of (at_element e (runs ++ accesses ∷ [])) → (here : Bool) → (eqb access.element e) ≡ here →
+reduction_step : (old new : PrivateCopy) (runs : List (List Access)) (accesses : List Access) (access : Access) (e : ℕ)
+    → Accessed old access new →
+    old.reduction e ≡ reduction_of (at_element e (runs ++ accesses ∷ [])) → (here : Bool) → (eqb access.element e)
+    ≡ here →
     new.reduction e ≡ reduction_of (at_element e (runs ++ (accesses ++ access ∷ []) ∷ []))
 reduction_step old new runs accesses access e done was true is =
     let same : access.element ≡ e = eqb-true access.element e is in
@@ -85,20 +91,26 @@ step old new runs accesses access within done =
       words = done.words ∙ ap (words_after access) within.words ∙ sym (words_after_all-more accesses access old.start)
           ∙ ap (words_after_all (accesses ++ access ∷ [])) (sym done.start);
       flags = λ e inside. let same = done.elements in
-          flags_step old new accesses access e done (within.flags e (omega (arith, inside, same))) (eqb access.element e) refl;
+          flags_step old new accesses access e done (within.flags e (omega (arith, inside, same)))
+          (eqb access.element e) refl;
       remembers = record {
         last = λ e inside. let was : e < length old.start = omega (arith, inside, long) in
-            last_step old new runs accesses access e done within.words was (within.remembers.last e was) (eqb access.element e) refl
-            ∙ ap (λ ws. last_value (at_element e (runs ++ (accesses ++ access ∷ []) ∷ [])) (slice_index ws e)) (sym done.start);
+            last_step old new runs accesses access e done within.words was (within.remembers.last e was)
+            (eqb access.element e) refl
+            ∙ ap (λ ws. last_value (at_element e (runs ++ (accesses ++ access ∷ []) ∷ [])) (slice_index ws e))
+            (sym done.start);
         reduction = λ e inside. let was : e < length old.start = omega (arith, inside, long) in
-            reduction_step old new runs accesses access e done (within.remembers.reduction e was) (eqb access.element e) refl;
-        pages = done.pages ∙ ap (λ pages. with_page pages (page_of access.element)) within.remembers.pages ∙ sym (pages_more runs accesses access);
+            reduction_step old new runs accesses access e done (within.remembers.reduction e was) (eqb access.element e)
+            refl;
+        pages = done.pages ∙ ap (λ pages. with_page pages (page_of access.element)) within.remembers.pages
+            ∙ sym (pages_more runs accesses access);
       };
     }
 
 -- and accesses in turn
 stands : (old new : Private) (runs : List (List Access)) (before more : List Access) →
-    CopyRecordsWithin (copy_of old) runs before → Effects AccessEffect old more new → CopyRecordsWithin (copy_of new) runs (before ++ more)
+    CopyRecordsWithin (copy_of old) runs before → Effects AccessEffect old more new
+    → CopyRecordsWithin (copy_of new) runs (before ++ more)
 stands old new runs before [] within same =
     subst (λ (l : List Access). CopyRecordsWithin (copy_of new) runs l) (sym (append-nil before))
     (subst (λ (p : Private). CopyRecordsWithin (copy_of p) runs before) (sym same) within)
@@ -107,17 +119,21 @@ stands old new runs before (access ∷ more) within effects =
     subst (λ (l : List Access). CopyRecordsWithin (copy_of new) runs l) (append_assoc before (access ∷ []) more)
     (stands effects.0 new runs (before ++ access ∷ []) more next effects.2)
 
-start : (old new : Private) (more : List Access) → Effects AccessEffect old more new → (copy_of new).start ≡ (copy_of old).start
+start : (old new : Private) (more : List Access) → Effects AccessEffect old more new
+    → (copy_of new).start ≡ (copy_of old).start
 start old new [] same = ap (λ (p : Private). (copy_of p).start) same
 start old new (access ∷ more) effects = start effects.0 new more effects.2 ∙ effects.1.start
 
-begun : (old new : Private) (more : List Access) → Effects AccessEffect old more new → (copy_of new).begun ≡ (copy_of old).begun
+begun : (old new : Private) (more : List Access) → Effects AccessEffect old more new
+    → (copy_of new).begun ≡ (copy_of old).begun
 begun old new [] same = ap (λ (p : Private). (copy_of p).begun) same
 begun old new (access ∷ more) effects = begun effects.0 new more effects.2 ∙ effects.1.begun
 
-serves : (old new : Private) (more : List Access) → Effects AccessEffect old more new → (copy_of new).serves + length more ≡ (copy_of old).serves
+serves : (old new : Private) (more : List Access) → Effects AccessEffect old more new
+    → (copy_of new).serves + length more ≡ (copy_of old).serves
 serves old new [] same = let h = ap (λ (p : Private). (copy_of p).serves) same in omega (arith, h)
-serves old new (access ∷ more) effects = let h = serves effects.0 new more effects.2 in let k = effects.1.serves in omega (arith, h, k)
+serves old new (access ∷ more) effects = let h = serves effects.0 new more effects.2 in let k = effects.1.serves in
+    omega (arith, h, k)
 
 pub accesses_follow : AccessesFollow
 accesses_follow = record { stands = stands; start = start; begun = begun; serves = serves }

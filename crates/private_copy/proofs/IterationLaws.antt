@@ -23,22 +23,28 @@ or_true true = refl
 or_true false = refl
 
 -- an iteration writes where it did, or where its last action does
-writes_more : (actions : List Action) (action : Action) → writes (actions ++ action ∷ []) ≡ (writes actions || is_write action)
-writes_more actions action = list_any-append is_write actions (action ∷ []) ∙ ap (λ b. writes actions || b) (or-false (is_write action))
+writes_more : (actions : List Action) (action : Action) → writes (actions ++ action ∷ [])
+    ≡ (writes actions || is_write action)
+writes_more actions action = list_any-append is_write actions (action ∷ [])
+    ∙ ap (λ b. writes actions || b) (or-false (is_write action))
 
 -- the last value after earlier iterations
 abbrev value_of : Bool → List Action → Option (List Action) → ℕ → Option ℕ
-value_of wrote actions earlier word = option_map (λ acts. left_by_all acts word) (option_or (if wrote then Some actions else None) earlier)
+value_of wrote actions earlier word = option_map (λ acts. left_by_all acts word) (option_or (if wrote then Some actions
+    else None) earlier)
 
 value_behind : (xs : List (List Action)) (actions : List Action) (word : ℕ) →
     last_value (xs ++ actions ∷ []) word ≡ value_of (writes actions) actions (last_that writes xs) word
-value_behind xs actions word = ap (option_map (λ acts. left_by_all acts word)) (last_that-append writes xs (actions ∷ []))
+value_behind xs actions word = ap (option_map (λ acts. left_by_all acts word)) (last_that-append writes xs (actions
+    ∷ []))
 
-left_more : (actions : List Action) (action : Action) (word : ℕ) → left_by_all (actions ++ action ∷ []) word ≡ left_by action (left_by_all actions word)
+left_more : (actions : List Action) (action : Action) (word : ℕ) → left_by_all (actions ++ action ∷ []) word
+    ≡ left_by action (left_by_all actions word)
 left_more actions action word = left_by_all-append actions (action ∷ []) word
 
 -- a read leaves it
-read_more : (wrote : Bool) (more actions : List Action) (earlier : Option (List Action)) (word : ℕ) → left_by_all more word ≡ left_by_all actions word →
+read_more : (wrote : Bool) (more actions : List Action) (earlier : Option (List Action)) (word : ℕ)
+    → left_by_all more word ≡ left_by_all actions word →
     value_of wrote more earlier word ≡ value_of wrote actions earlier word
 read_more true more actions earlier word same = ap Some same
 read_more false more actions earlier word same = refl
@@ -48,15 +54,19 @@ write_more : (xs : List (List Action)) (actions : List Action) (action : Action)
     last_value (xs ++ (actions ++ action ∷ []) ∷ []) word ≡ Some (left_by action (left_by_all actions word))
 write_more xs actions action word writing =
     value_behind xs (actions ++ action ∷ []) word
-    ∙ ap (λ b. value_of b (actions ++ action ∷ []) (last_that writes xs) word) (writes_more actions action ∙ ap (λ b. writes actions || b) writing ∙ or_true (writes actions))
+    ∙ ap (λ b. value_of b (actions ++ action ∷ []) (last_that writes xs) word) (writes_more actions action
+    ∙ ap (λ b. writes actions || b) writing ∙ or_true (writes actions))
     ∙ ap Some (left_more actions action word)
 
 pub last_more : (xs : List (List Action)) (actions : List Action) (action : Action) (word : ℕ) →
-    last_value (xs ++ (actions ++ action ∷ []) ∷ []) word ≡ last_after (last_value (xs ++ actions ∷ []) word) action (left_by_all actions word)
+    last_value (xs ++ (actions ++ action ∷ []) ∷ []) word ≡ last_after (last_value (xs ++ actions ∷ []) word) action
+    (left_by_all actions word)
 last_more xs actions (Read saw) word =
     value_behind xs (actions ++ Read saw ∷ []) word
-    ∙ ap (λ b. value_of b (actions ++ Read saw ∷ []) (last_that writes xs) word) (writes_more actions (Read saw) ∙ or-false (writes actions))
-    ∙ read_more (writes actions) (actions ++ Read saw ∷ []) actions (last_that writes xs) word (left_more actions (Read saw) word)
+    ∙ ap (λ b. value_of b (actions ++ Read saw ∷ []) (last_that writes xs) word) (writes_more actions (Read saw)
+    ∙ or-false (writes actions))
+    ∙ read_more (writes actions) (actions ++ Read saw ∷ []) actions (last_that writes xs) word
+    (left_more actions (Read saw) word)
     ∙ sym (value_behind xs actions word)
 last_more xs actions (Write left) word = write_more xs actions (Write left) word refl
 last_more xs actions (ReadWrite saw left) word = write_more xs actions (ReadWrite saw left) word refl
@@ -73,21 +83,25 @@ joined_last xs ys = joined-append xs (ys ∷ []) ∙ ap (λ l. joined xs ++ l) (
 pub reduction_more : (xs : List (List Action)) (actions : List Action) (action : Action) →
     reduction_of (xs ++ (actions ++ action ∷ []) ∷ []) ≡ reduction_after (reduction_of (xs ++ actions ∷ [])) action
 reduction_more xs actions action =
-    ap (reduction_from Untouched) (joined_last xs (actions ++ action ∷ []) ∙ sym (append_assoc (joined xs) actions (action ∷ [])))
+    ap (reduction_from Untouched) (joined_last xs (actions ++ action ∷ [])
+    ∙ sym (append_assoc (joined xs) actions (action ∷ [])))
     ∙ reduction_from-append Untouched (joined xs ++ actions) (action ∷ [])
     ∙ ap (λ l. reduction_after (reduction_from Untouched l) action) (sym (joined_last xs actions))
 
 pub reduction_none : (xs : List (List Action)) → reduction_of (xs ++ [] ∷ []) ≡ reduction_of xs
 reduction_none xs = ap (reduction_from Untouched) (joined_last xs [] ∙ append-nil (joined xs))
 
-pages_after-append : (pages : List ℕ) (xs ys : List Access) → pages_after pages (xs ++ ys) ≡ pages_after (pages_after pages xs) ys
+pages_after-append : (pages : List ℕ) (xs ys : List Access) → pages_after pages (xs ++ ys) ≡ pages_after
+    (pages_after pages xs) ys
 pages_after-append pages [] ys = refl
 pages_after-append pages (x ∷ xs) ys = pages_after-append (with_page pages (page_of x.element)) xs ys
 
 pub pages_more : (runs : List (List Access)) (accesses : List Access) (access : Access) →
-    pages_after [] (joined (runs ++ (accesses ++ access ∷ []) ∷ [])) ≡ with_page (pages_after [] (joined (runs ++ accesses ∷ []))) (page_of access.element)
+    pages_after [] (joined (runs ++ (accesses ++ access ∷ []) ∷ []))
+    ≡ with_page (pages_after [] (joined (runs ++ accesses ∷ []))) (page_of access.element)
 pages_more runs accesses access =
-    ap (pages_after []) (joined_last runs (accesses ++ access ∷ []) ∙ sym (append_assoc (joined runs) accesses (access ∷ [])))
+    ap (pages_after []) (joined_last runs (accesses ++ access ∷ [])
+    ∙ sym (append_assoc (joined runs) accesses (access ∷ [])))
     ∙ pages_after-append [] (joined runs ++ accesses) (access ∷ [])
     ∙ ap (λ l. with_page (pages_after [] l) (page_of access.element)) (sym (joined_last runs accesses))
 
@@ -95,16 +109,19 @@ pub pages_none : (runs : List (List Access)) → pages_after [] (joined (runs ++
 pages_none runs = ap (pages_after []) (joined_last runs [] ∙ append-nil (joined runs))
 
 -- iterations at one element
-pub at_last : (e : ℕ) (runs : List (List Access)) (accesses : List Access) → at_element e (runs ++ accesses ∷ []) ≡ at_element e runs ++ actions_at e accesses ∷ []
+pub at_last : (e : ℕ) (runs : List (List Access)) (accesses : List Access) → at_element e (runs ++ accesses ∷ [])
+    ≡ at_element e runs ++ actions_at e accesses ∷ []
 at_last e runs accesses = map-append (actions_at e) runs (accesses ∷ [])
 
 pub actions_here : (e : ℕ) (accesses : List Access) (access : Access) → (eqb access.element e) ≡ true →
     actions_at e (accesses ++ access ∷ []) ≡ actions_at e accesses ++ access.action ∷ []
 actions_here e accesses access here =
-    actions_at-append e accesses (access ∷ []) ∙ ap (λ (b : Bool). actions_at e accesses ++ (if b then access.action ∷ [] else [])) here
+    actions_at-append e accesses (access ∷ [])
+    ∙ ap (λ (b : Bool). actions_at e accesses ++ (if b then access.action ∷ [] else [])) here
 
 pub actions_other : (e : ℕ) (accesses : List Access) (access : Access) → (eqb access.element e) ≡ false →
     actions_at e (accesses ++ access ∷ []) ≡ actions_at e accesses
 actions_other e accesses access other =
-    actions_at-append e accesses (access ∷ []) ∙ ap (λ (b : Bool). actions_at e accesses ++ (if b then access.action ∷ [] else [])) other
+    actions_at-append e accesses (access ∷ [])
+    ∙ ap (λ (b : Bool). actions_at e accesses ++ (if b then access.action ∷ [] else [])) other
     ∙ append-nil (actions_at e accesses)

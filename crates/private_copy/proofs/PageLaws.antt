@@ -29,7 +29,8 @@ pub record Stands (keys : List ℕ) (n p at : ℕ) : Type 0 where
   pub within : at < length keys
   pub is : get_or keys at 0 ≡ p
 
-behind_of : (keys : List ℕ) (n p at : ℕ) → at < length keys → get_or keys at 0 ≡ p → has_page (take n keys) p ≡ false → (at < n) → ⊥
+behind_of : (keys : List ℕ) (n p at : ℕ) → at < length keys → get_or keys at 0 ≡ p → has_page (take n keys) p ≡ false
+    → (at < n) → ⊥
 behind_of keys n p at within is absent before =
     let here : get_or (take n keys) at 0 ≡ p = get_or-take n keys at 0 before ∙ is in
     let inside : at < length (take n keys) = omega (arith, length-take n keys) in
@@ -38,7 +39,8 @@ behind_of keys n p at within is absent before =
 get_or_any : (xs : List ℕ) (i d e : ℕ) → i < length xs → get_or xs i d ≡ get_or xs i e
 get_or_any xs i d e within = get_or_default xs i d e within
 
-pub where_stands : (keys : List ℕ) (n p at : ℕ) → position (λ other. eqb p other) keys ≡ Some at → has_page (take n keys) p ≡ false → Stands keys n p at
+pub where_stands : (keys : List ℕ) (n p at : ℕ) → position (λ other. eqb p other) keys ≡ Some at
+    → has_page (take n keys) p ≡ false → Stands keys n p at
 where_stands keys n p at found absent =
     let is = position-Some (λ other. eqb p other) keys at 0 found in
     let here : get_or keys at 0 ≡ p = sym (eqb-true p _ is.1) in
@@ -49,7 +51,8 @@ where_stands keys n p at found absent =
     }
 
 -- the pages of a swap: the page at a place after the first comes after them
-pub take_swap : (keys : List ℕ) (n p at : ℕ) → Stands keys n p at → take (n + 1) (swap keys at n) ≡ take n keys ++ p ∷ []
+pub take_swap : (keys : List ℕ) (n p at : ℕ) → Stands keys n p at → take (n + 1) (swap keys at n) ≡ take n keys ++ p
+    ∷ []
 take_swap [] n p at h = absurd (let w = h.within in omega arith)
 take_swap (d ∷ ys) n p at h =
     let keys : List ℕ = d ∷ ys in
@@ -62,7 +65,8 @@ take_swap (d ∷ ys) n p at h =
     let last : get_or both n 0 ≡ get_or keys at d = get_or-set_same one n (get_or keys at d) 0 (omega (arith, long)) in
     take_more both n 0 (omega (arith, long, all))
     ∙ ap (λ (x : ℕ). take n both ++ x ∷ []) (last ∙ get_or_any keys at d 0 within ∙ h.is)
-    ∙ ap (λ (l : List ℕ). l ++ p ∷ []) (take-set-le n one n (get_or keys at d) (omega arith) ∙ take-set-le n keys at (get_or keys n d) behind)
+    ∙ ap (λ (l : List ℕ). l ++ p ∷ []) (take-set-le n one n (get_or keys at d) (omega arith)
+    ∙ take-set-le n keys at (get_or keys n d) behind)
 
 -- a page that isn't among the placed ones leaves room for it
 pub some_left : (keys : List ℕ) (n p : ℕ) → has_page keys p ≡ true → has_page (take n keys) p ≡ false → n < length keys
@@ -76,13 +80,15 @@ abbrev pub Agree : List ℕ → ℕ → List Slot → Type 0
 Agree keys n table = (page : ℕ) → page < length table → is_some (get_or table page None) ≡ has_page (take n keys) page
 
 has_last : (pages : List ℕ) (p page : ℕ) → has_page (pages ++ p ∷ []) page ≡ (has_page pages page || eqb page p)
-has_last pages p page = list_any-append (λ other. eqb page other) pages (p ∷ []) ∙ ap (λ b. has_page pages page || b) (or-false (eqb page p))
+has_last pages p page = list_any-append (λ other. eqb page other) pages (p ∷ []) ∙ ap (λ b. has_page pages page || b)
+    (or-false (eqb page p))
 
 or_true : (b : Bool) → (b || true) ≡ true
 or_true true = refl
 or_true false = refl
 
-pub agree_more : (keys : List ℕ) (n p at : ℕ) (table : List Slot) (slot : Slot) → Stands keys n p at → p < length table → is_some slot ≡ true →
+pub agree_more : (keys : List ℕ) (n p at : ℕ) (table : List Slot) (slot : Slot) → Stands keys n p at → p < length table
+    → is_some slot ≡ true →
     Agree keys n table → Agree (swap keys at n) (n + 1) (set table p slot)
 agree_more keys n p at table slot stands within some agree page inside =
     let long : length (set table p slot) ≡ length table = length-set table p slot in
@@ -90,21 +96,26 @@ agree_more keys n p at table slot stands within some agree page inside =
     ap (λ l. has_page l page) (take_swap keys n p at stands) ∙ has_last (take n keys) p page in
     elim (cases_eq page p) [
       | inl same ↦
-          ap (λ (k : ℕ). is_some (get_or (set table p slot) k None)) same ∙ ap is_some (get_or-set_same table p slot None within) ∙ some
-          ∙ sym (after ∙ ap (λ b. has_page (take n keys) page || b) (eq-eqb page p same) ∙ or_true (has_page (take n keys) page))
+          ap (λ (k : ℕ). is_some (get_or (set table p slot) k None)) same
+          ∙ ap is_some (get_or-set_same table p slot None within) ∙ some
+          ∙ sym (after ∙ ap (λ b. has_page (take n keys) page || b) (eq-eqb page p same)
+          ∙ or_true (has_page (take n keys) page))
       | inr other ↦
           ap is_some (get_or-set_other table p page slot None (λ h. other h)) ∙ agree page (omega (arith, inside, long))
-          ∙ sym (after ∙ ap (λ b. has_page (take n keys) page || b) (ne_eqb page p other) ∙ or-false (has_page (take n keys) page))
+          ∙ sym (after ∙ ap (λ b. has_page (take n keys) page || b) (ne_eqb page p other)
+          ∙ or-false (has_page (take n keys) page))
     ]
 
 -- the last spare page
 same_slot : (slot other : Slot) → Some slot ≡ Some other → slot ≡ other
 same_slot slot other popped = cc
 
-pub spare_blank : (spare : List Slot) (slot : Slot) (many : ℕ) → many ≡ length spare → ((k : ℕ) → k < length spare → IsBlank (get_or spare k None)) →
+pub spare_blank : (spare : List Slot) (slot : Slot) (many : ℕ) → many ≡ length spare
+    → ((k : ℕ) → k < length spare → IsBlank (get_or spare k None)) →
     0 < many → Some slot ≡ Some (get_or spare (many - 1) None) → IsBlank slot
 spare_blank spare slot many long blank_all left popped =
-    subst (λ (s : Slot). IsBlank s) (sym (same_slot slot (get_or spare (many - 1) None) popped)) (blank_all (many - 1) (omega (arith, left, long)))
+    subst (λ (s : Slot). IsBlank s) (sym (same_slot slot (get_or spare (many - 1) None) popped))
+    (blank_all (many - 1) (omega (arith, left, long)))
 
 pub blank_is_some : (slot : Slot) → IsBlank slot → is_some slot ≡ true
 blank_is_some None h = absurd h
@@ -119,9 +130,11 @@ not_some None h = refl
 not_some (Some page) h = absurd (not_both h)
 
 -- a blank page in the place of none changes no cell
-pub cells_stay : (table : List Slot) (p : ℕ) (slot : Slot) → IsBlank slot → is_some (get_or table p None) ≡ false → map cells_of (set table p slot) ≡ map cells_of table
+pub cells_stay : (table : List Slot) (p : ℕ) (slot : Slot) → IsBlank slot → is_some (get_or table p None) ≡ false
+    → map cells_of (set table p slot) ≡ map cells_of table
 cells_stay table p slot blank_slot none =
-    map-set_same cells_of table p slot None (blank_has_cells slot blank_slot ∙ sym (not_some (get_or table p None) none))
+    map-set_same cells_of table p slot None (blank_has_cells slot blank_slot
+    ∙ sym (not_some (get_or table p None) none))
 
 -- the cell of an element
 abbrev pub cell_of : List Slot → ℕ → Cell
@@ -134,7 +147,8 @@ blank_cell : (e : ℕ) → get_or blank_cells (e % 64) blank ≡ blank
 blank_cell e = get_or-replicate 64 (e % 64) blank blank (mod-lt e (omega arith))
 
 pub unplaced_cell : (table : List Slot) (e : ℕ) → get_or table (e / 64) None ≡ None → cell_of table e ≡ blank
-unplaced_cell table e none = ap (λ cells. get_or cells (e % 64) blank) (page_of_table table (e / 64) ∙ ap cells_of none) ∙ blank_cell e
+unplaced_cell table e none = ap (λ cells. get_or cells (e % 64) blank) (page_of_table table (e / 64) ∙ ap cells_of none)
+    ∙ blank_cell e
 
 pub none_placed : (n p : ℕ) (none : Slot) → none ≡ None → get_or (replicate n none) p None ≡ None
 none_placed n p none is = elim (cases_lt p n) [
@@ -143,39 +157,49 @@ none_placed n p none is = elim (cases_lt p n) [
 ]
 
 -- a cell that is set
-pub set_here : (table : List Slot) (e : ℕ) (cells : List Cell) (cell : Cell) (slot : Slot) → e / 64 < length table → e % 64 < length cells →
+pub set_here : (table : List Slot) (e : ℕ) (cells : List Cell) (cell : Cell) (slot : Slot) → e / 64 < length table
+    → e % 64 < length cells →
     cells_of slot ≡ set cells (e % 64) cell → cell_of (set table (e / 64) slot) e ≡ cell
 set_here table e cells cell slot within inside is =
-    ap (λ cs. get_or cs (e % 64) blank) (page_of_table (set table (e / 64) slot) (e / 64) ∙ ap cells_of (get_or-set_same table (e / 64) slot None within) ∙ is)
+    ap (λ cs. get_or cs (e % 64) blank) (page_of_table (set table (e / 64) slot) (e / 64)
+    ∙ ap cells_of (get_or-set_same table (e / 64) slot None within) ∙ is)
     ∙ get_or-set_same cells (e % 64) cell blank inside
 
 same_element : (a b : ℕ) → a / 64 ≡ b / 64 → a % 64 ≡ b % 64 → a ≡ b
 same_element a b q r = let x = div-add-mod a 64 in let y = div-add-mod b 64 in omega (arith, q, r, x, y)
 
-pub set_others : (table : List Slot) (e other : ℕ) (cell : Cell) (old slot : Slot) → e / 64 < length table → get_or table (e / 64) None ≡ old →
-    cells_of slot ≡ set (cells_of old) (e % 64) cell → other ≢ e → cell_of (set table (e / 64) slot) other ≡ cell_of table other
+pub set_others : (table : List Slot) (e other : ℕ) (cell : Cell) (old slot : Slot) → e / 64 < length table
+    → get_or table (e / 64) None ≡ old →
+    cells_of slot ≡ set (cells_of old) (e % 64) cell → other ≢ e → cell_of (set table (e / 64) slot) other
+    ≡ cell_of table other
 set_others table e other cell old slot within was is differ = elim (cases_eq (other / 64) (e / 64)) [
   | inl page ↦
       ap (λ cs. get_or cs (other % 64) blank) (page_of_table (set table (e / 64) slot) (other / 64)
       ∙ ap (λ (k : ℕ). cells_of (get_or (set table (e / 64) slot) k None)) page
       ∙ ap cells_of (get_or-set_same table (e / 64) slot None within) ∙ is)
       ∙ get_or-set_other (cells_of old) (e % 64) (other % 64) cell blank (λ h. differ (same_element other e page h))
-      ∙ ap (λ cs. get_or cs (other % 64) blank) (sym (page_of_table table (other / 64) ∙ ap (λ (k : ℕ). cells_of (get_or table k None)) page ∙ ap cells_of was))
+      ∙ ap (λ cs. get_or cs (other % 64) blank) (sym (page_of_table table (other / 64)
+      ∙ ap (λ (k : ℕ). cells_of (get_or table k None)) page ∙ ap cells_of was))
   | inr another ↦
       ap (λ cs. get_or cs (other % 64) blank) (page_of_table (set table (e / 64) slot) (other / 64)
-      ∙ ap cells_of (get_or-set_other table (e / 64) (other / 64) slot None another) ∙ sym (page_of_table table (other / 64)))
+      ∙ ap cells_of (get_or-set_other table (e / 64) (other / 64) slot None another)
+      ∙ sym (page_of_table table (other / 64)))
 ]
 
 -- numbers are noted one after another
-pub number_added : (keys new : List ℕ) (n : ℕ) → has_page keys n ≡ false → new ≡ (if has_page keys n then keys else keys ++ n ∷ []) → new ≡ keys ++ n ∷ []
+pub number_added : (keys new : List ℕ) (n : ℕ) → has_page keys n ≡ false → new ≡ (if has_page keys n then keys
+    else keys ++ n ∷ []) → new ≡ keys ++ n ∷ []
 number_added keys new n absent is = is ∙ ap (λ (b : Bool). if b then keys else keys ++ n ∷ []) absent
 
-pub noted_before : (keys : List ℕ) (n : ℕ) → ((p : ℕ) → p < n → has_page keys p ≡ true) → (p : ℕ) → p < n + 1 → has_page (keys ++ n ∷ []) p ≡ true
+pub noted_before : (keys : List ℕ) (n : ℕ) → ((p : ℕ) → p < n → has_page keys p ≡ true) → (p : ℕ) → p < n + 1
+    → has_page (keys ++ n ∷ []) p ≡ true
 noted_before keys n before p below = has_last keys n p ∙ elim (cases_eq p n) [
   | inl same ↦ ap (λ b. has_page keys p || b) (eq-eqb p n same) ∙ or_true (has_page keys p)
   | inr other ↦ ap (λ b. b || eqb p n) (before p (omega (arith, below, other)))
 ]
 
-pub noted_behind : (keys : List ℕ) (n : ℕ) → ((p : ℕ) → n ≤ p → has_page keys p ≡ false) → (p : ℕ) → n + 1 ≤ p → has_page (keys ++ n ∷ []) p ≡ false
+pub noted_behind : (keys : List ℕ) (n : ℕ) → ((p : ℕ) → n ≤ p → has_page keys p ≡ false) → (p : ℕ) → n + 1 ≤ p
+    → has_page (keys ++ n ∷ []) p ≡ false
 noted_behind keys n behind p above =
-    has_last keys n p ∙ ap (λ b. b || eqb p n) (behind p (omega (arith, above))) ∙ ne_eqb p n (λ h. omega (arith, h, above))
+    has_last keys n p ∙ ap (λ b. b || eqb p n) (behind p (omega (arith, above)))
+    ∙ ne_eqb p n (λ h. omega (arith, h, above))

@@ -20,25 +20,31 @@ mixed_stays (Reduce op operand ∷ actions) = mixed_stays actions
 
 -- after a first operand
 from_first : (op : Op) (first : ℕ) (actions : List Action) →
-    partial_by (if list_all (reduces_by op) actions then Some op else None) (first ∷ operands actions) ≡ combination (reduction_from (By op first) actions)
+    partial_by (if list_all (reduces_by op) actions then Some op else None) (first ∷ operands actions) ≡ combination
+    (reduction_from (By op first) actions)
 from_first op first [] = refl
 from_first op first (Read saw ∷ actions) = ap combination (sym (mixed_stays actions))
 from_first op first (Write left ∷ actions) = ap combination (sym (mixed_stays actions))
 from_first op first (ReadWrite saw left ∷ actions) = ap combination (sym (mixed_stays actions))
-from_first op first (Reduce other operand ∷ actions) = go (is_same op other) (from_first op (combined op first operand) actions)
+from_first op first (Reduce other operand ∷ actions) =
+    go (is_same op other) (from_first op (combined op first operand) actions)
   where
-    all : (b : Bool) → partial_by (if b then Some op else None) (first ∷ operand ∷ operands actions) ≡ partial_by (if b then Some op else None) (combined op first operand ∷ operands actions)
+    all : (b : Bool) → partial_by (if b then Some op else None) (first ∷ operand ∷ operands actions) ≡ partial_by (if b
+        then Some op else None) (combined op first operand ∷ operands actions)
     all true = refl
     all false = refl
 
-    go : (same : Bool) → partial_by (if list_all (reduces_by op) actions then Some op else None) (combined op first operand ∷ operands actions)
+    go : (same : Bool) → partial_by (if list_all (reduces_by op) actions then Some op else None)
+        (combined op first operand ∷ operands actions)
         ≡ combination (reduction_from (By op (combined op first operand)) actions) →
-        partial_by (if same && list_all (reduces_by op) actions then Some op else None) (first ∷ operand ∷ operands actions)
+        partial_by (if same && list_all (reduces_by op) actions then Some op else None) (first ∷ operand
+        ∷ operands actions)
         ≡ combination (reduction_from (if same then By op (combined op first operand) else Mixed) actions)
     go true rest = all (list_all (reduces_by op) actions) ∙ rest
     go false rest = ap combination (sym (mixed_stays actions))
 
-in_turn : (actions : List Action) → partial_by (only_operator actions) (operands actions) ≡ combination (reduction_from Untouched actions)
+in_turn : (actions : List Action) → partial_by (only_operator actions) (operands actions) ≡ combination
+    (reduction_from Untouched actions)
 in_turn [] = refl
 in_turn (Read saw ∷ actions) = ap combination (sym (mixed_stays actions))
 in_turn (Write left ∷ actions) = ap combination (sym (mixed_stays actions))
@@ -48,6 +54,7 @@ in_turn (Reduce op operand ∷ actions) = from_first op operand actions
 pub partial_is_combination : PartialIsCombination
 partial_is_combination iterations = in_turn (joined iterations)
 
-pub reduction_from-append : (before : Reduction) (xs ys : List Action) → reduction_from before (xs ++ ys) ≡ reduction_from (reduction_from before xs) ys
+pub reduction_from-append : (before : Reduction) (xs ys : List Action) → reduction_from before (xs ++ ys)
+    ≡ reduction_from (reduction_from before xs) ys
 reduction_from-append before [] ys = refl
 reduction_from-append before (x ∷ xs) ys = reduction_from-append (reduction_after before x) xs ys

@@ -14,7 +14,8 @@ numbered_last first [] actions index is =
     let same : first ≡ index = omega (arith, is) in
     ap (λ (n : ℕ). (let v : Visit = record { index = n; actions = actions } in v) ∷ []) same
 numbered_last first (x ∷ xs) actions index is =
-    ap (λ rest. (let v : Visit = record { index = first; actions = x } in v) ∷ rest) (numbered_last (first + 1) xs actions index (omega (arith, is)))
+    ap (λ rest. (let v : Visit = record { index = first; actions = x } in v) ∷ rest)
+    (numbered_last (first + 1) xs actions index (omega (arith, is)))
 
 at_each : (first : ℕ) (runs : List (List Access)) (accesses : List Access) (index e : ℕ) → index ≡ first + length runs →
     one_more (visits_of first runs) index (λ x. actions_at x accesses) e ≡ visits_of first (runs ++ accesses ∷ []) e
@@ -23,6 +24,7 @@ at_each first runs accesses index e is =
     sym (numbered_last first (at_element e runs) (actions_at e accesses) index (omega (arith, is, long)))
     ∙ ap (numbered first) (sym (at_last e runs accesses))
 
-pub visits_more : (first : ℕ) (runs : List (List Access)) (accesses : List Access) (index : ℕ) → index ≡ first + length runs →
+pub visits_more : (first : ℕ) (runs : List (List Access)) (accesses : List Access) (index : ℕ)
+    → index ≡ first + length runs →
     one_more (visits_of first runs) index (λ x. actions_at x accesses) ≡ visits_of first (runs ++ accesses ∷ [])
 visits_more first runs accesses index is = λ i e. at_each first runs accesses index e is i

@@ -38,7 +38,8 @@ pub record Accessed (old : PrivateCopy) (access : Access) (new : PrivateCopy) : 
   pub mark : flags_at new.flags access.element ≡ flagged (flags_at old.flags access.element) (kind_of access.action)
   pub other_marks : (e : ℕ) → e ≢ access.element → flags_at new.flags e ≡ flags_at old.flags e
   pub elements : element_count new.flags ≡ element_count old.flags
-  pub last : new.last access.element ≡ last_after (old.last access.element) access.action (slice_index old.words access.element)
+  pub last : new.last access.element ≡ last_after (old.last access.element) access.action
+      (slice_index old.words access.element)
   pub other_lasts : (e : ℕ) → e ≢ access.element → new.last e ≡ old.last e
   pub reduction : new.reduction access.element ≡ reduction_after (old.reduction access.element) access.action
   pub other_reductions : (e : ℕ) → e ≢ access.element → new.reduction e ≡ old.reduction e

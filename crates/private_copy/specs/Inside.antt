@@ -13,7 +13,8 @@ pages_in p = record {
   spare = length p.spare.items;
 }
 
--- all numbers are there; there is a page in the table exactly where its number is among the placed ones; spare pages are
+-- all numbers are there; there is a page in the table exactly where its number is among the placed ones; spare pages
+-- are
 -- blank
 pub record ArePages (p : Inside) : Type 0 where
   pub most : length p.table.items ≤ 1024

@@ -19,7 +19,8 @@ last_in cell = if cell.writer == 0 then None else Some cell.value
 abbrev pub copy_of : Private → PrivateCopy
 copy_of p = record {
   start = p.start.now;
-  words = map (λ e. seen_word (cell_at p.pages e) p.begun (slice_index p.start.now e)) (range_with_len 0 (length p.start.now));
+  words = map (λ e. seen_word (cell_at p.pages e) p.begun (slice_index p.start.now e))
+      (range_with_len 0 (length p.start.now));
   flags = p.flags;
   last = λ e. last_in (cell_at p.pages e);
   reduction = λ e. reduction_in (cell_at p.pages e);

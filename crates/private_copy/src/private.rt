@@ -88,7 +88,8 @@ impl<'a> Private<'a> {
         requires count { (copy_of self.old).begun < 4294967295 }
         ensures err { OnErr result (copy_of self.new ≡ copy_of self.old) }
         ensures ok { OnOk result (IsBegun (copy_of self.old) need (copy_of self.new)) }
-        ensures stands { OnOk result ((runs : List (List Access)) → CopyRecords (copy_of self.old) runs → CopyRecordsWithin (copy_of self.new) runs []) }
+        ensures stands { OnOk result ((runs : List (List Access)) → CopyRecords (copy_of self.old) runs
+            → CopyRecordsWithin (copy_of self.new) runs []) }
     {
         self.pages.prepare(alloc, need)?;
         self.begun += 1;
@@ -105,11 +106,17 @@ impl<'a> Private<'a> {
         requires elements { planes.old.elements ≡ length (copy_of self.old).start }
         requires index { index < 4294967295 }
         ensures shape { KeepsShape planes.old planes.new }
-        ensures marks { (e : ℕ) (marks : Marks) → StandAt planes.old e marks → StandAt planes.new e (merged marks (marks_of_one index (flags_at (copy_of self.old).flags e))) }
-        ensures visits { (visits : ℕ → List Visit) (runs : List (List Access)) (accesses : List Access) → CopyRecordsWithin (copy_of self.old) runs accesses → StandFor planes.old visits → StandFor planes.new (one_more visits index (λ e. actions_at e accesses)) }
-        ensures planes { (first : ℕ) (runs : List (List Access)) (accesses : List Access) → index ≡ first + length runs → CopyRecordsWithin (copy_of self.old) runs accesses → StandFor planes.old (visits_of first runs) → StandFor planes.new (visits_of first (runs ++ accesses ∷ [])) }
+        ensures marks { (e : ℕ) (marks : Marks) → StandAt planes.old e marks
+            → StandAt planes.new e (merged marks (marks_of_one index (flags_at (copy_of self.old).flags e))) }
+        ensures visits { (visits : ℕ → List Visit) (runs : List (List Access)) (accesses : List Access)
+            → CopyRecordsWithin (copy_of self.old) runs accesses → StandFor planes.old visits
+            → StandFor planes.new (one_more visits index (λ e. actions_at e accesses)) }
+        ensures planes { (first : ℕ) (runs : List (List Access)) (accesses : List Access) → index ≡ first + length runs
+            → CopyRecordsWithin (copy_of self.old) runs accesses → StandFor planes.old (visits_of first runs)
+            → StandFor planes.new (visits_of first (runs ++ accesses ∷ [])) }
         ensures ended { IsEnded (copy_of self.old) (copy_of self.new) }
-        ensures stands { (runs : List (List Access)) (accesses : List Access) → CopyRecordsWithin (copy_of self.old) runs accesses → CopyRecords (copy_of self.new) (runs ++ accesses ∷ []) }
+        ensures stands { (runs : List (List Access)) (accesses : List Access) → CopyRecordsWithin (copy_of self.old)
+            runs accesses → CopyRecords (copy_of self.new) (runs ++ accesses ∷ []) }
     {
         planes.end_iteration(&mut self.flags, index);
         self.serves = 0;

@@ -16,7 +16,8 @@ use Rattle.shadow_marks.specs.Kept.{place_by}
 product_tested : (bit power : ℕ) → bit < 2 → 0 < power → not (eqb (bit * power) 0) ≡ eqb bit 1
 product_tested bit power h k =
     elim (cases_eq bit 1) [
-      | inl one ↦ rw one (let e : 1 * power ≡ power = omega arith in rw e (ap not (ne_eqb power 0 (λ zero. omega arith))))
+      | inl one ↦ rw one (let e : 1 * power ≡ power = omega arith in
+          rw e (ap not (ne_eqb power 0 (λ zero. omega arith))))
       | inr other ↦
           let none : bit ≡ 0 = omega arith in
           rw none (let e : 0 * power ≡ 0 = omega arith in rw e refl)
@@ -40,7 +41,8 @@ power_tested place k =
     ]
 
 -- ored with one, it has that bit more
-pub bit_ored : (word mask place k : ℕ) → mask ≡ 2 ^ place → eqb (bit_at (bit_or word mask) k) 1 ≡ (eqb (bit_at word k) 1 || eqb k place)
+pub bit_ored : (word mask place k : ℕ) → mask ≡ 2 ^ place → eqb (bit_at (bit_or word mask) k) 1 ≡ (eqb (bit_at word k) 1
+    || eqb k place)
 bit_ored word mask place k e =
     ap (λ m. eqb (bit_at (bit_or word m) k) 1) e
     ∙ ap (λ n. eqb n 1) (bit_at_or word (2 ^ place) k)

@@ -49,7 +49,8 @@ pub record Waits (old now : Planes) (start flags : IterFlags) (e : ℕ) : Type 0
 
 pub record IsFolded (old now : Planes) (start flags : IterFlags) (index e : ℕ) : Type 0 where
   pub none : flags_at flags e ≡ no_flags
-  pub marks : (marks : Marks) → StandAt old e marks → StandAt now e (merged marks (marks_of_one index (flags_at start e)))
+  pub marks : (marks : Marks) → StandAt old e marks
+      → StandAt now e (merged marks (marks_of_one index (flags_at start e)))
 
 -- how far the end of an iteration has come
 pub record Comes (old now : Planes) (start flags : IterFlags) (index : ℕ) : Type 0 where
@@ -65,12 +66,15 @@ begins old start index are = record {
 }
 
 -- one element's flags come in
-taken_here : (old now next : Planes) (start flags rest : IterFlags) (index e : ℕ) (kept : ElementFlags) → TakesFlags flags rest e kept →
-    Folds now next e index (flags_in kept) → Waits old now start flags e ⊎ IsFolded old now start flags index e → IsFolded old next start rest index e
+taken_here : (old now next : Planes) (start flags rest : IterFlags) (index e : ℕ) (kept : ElementFlags)
+    → TakesFlags flags rest e kept →
+    Folds now next e index (flags_in kept) → Waits old now start flags e ⊎ IsFolded old now start flags index e
+    → IsFolded old next start rest index e
 taken_here old now next start flags rest index e kept takes folds (inl waits) = record {
   none = takes.emptied;
   marks = λ marks stand.
-      subst (λ (f : Flags). StandAt next e (merged marks (marks_of_one index f))) (takes.taken ∙ waits.same) (folds.here marks (waits.marks marks stand));
+      subst (λ (f : Flags). StandAt next e (merged marks (marks_of_one index f))) (takes.taken ∙ waits.same)
+      (folds.here marks (waits.marks marks stand));
 }
 taken_here old now next start flags rest index e kept takes folds (inr done) = record {
   none = takes.emptied;
@@ -81,7 +85,8 @@ taken_here old now next start flags rest index e kept takes folds (inr done) = r
       subst (λ (m : Marks). StandAt next e m) same (folds.here all (done.marks marks stand));
 }
 
-taken_there : (old now next : Planes) (start flags rest : IterFlags) (index e k : ℕ) (kept : ElementFlags) → k ≢ e → TakesFlags flags rest e kept →
+taken_there : (old now next : Planes) (start flags rest : IterFlags) (index e k : ℕ) (kept : ElementFlags) → k ≢ e
+    → TakesFlags flags rest e kept →
     Folds now next e index (flags_in kept) → Waits old now start flags k ⊎ IsFolded old now start flags index k →
     Waits old next start rest k ⊎ IsFolded old next start rest index k
 taken_there old now next start flags rest index e k kept other takes folds (inl waits) = inl (record {
@@ -93,7 +98,8 @@ taken_there old now next start flags rest index e k kept other takes folds (inr 
   marks = λ marks stand. folds.others k other _ (done.marks marks stand);
 })
 
-pub one_comes : (old now next : Planes) (start flags rest : IterFlags) (index e : ℕ) (kept : ElementFlags) → TakesFlags flags rest e kept →
+pub one_comes : (old now next : Planes) (start flags rest : IterFlags) (index e : ℕ) (kept : ElementFlags)
+    → TakesFlags flags rest e kept →
     Folds now next e index (flags_in kept) → Comes old now start flags index → Comes old next start rest index
 one_comes old now next start flags rest index e kept takes folds comes = record {
   shape = record {
@@ -121,21 +127,27 @@ all_here old now start flags index e marks none (inl waits) stand =
     subst (λ (m : Marks). StandAt now e m) same (waits.marks marks stand)
 all_here old now start flags index e marks none (inr done) stand = done.marks marks stand
 
-pub all_come : (old now : Planes) (start flags : IterFlags) (index : ℕ) → IsEmptied flags → Comes old now start flags index →
+pub all_come : (old now : Planes) (start flags : IterFlags) (index : ℕ) → IsEmptied flags
+    → Comes old now start flags index →
     (e : ℕ) (marks : Marks) → StandAt old e marks → StandAt now e (merged marks (marks_of_one index (flags_at start e)))
-all_come old now start flags index emptied comes e marks stand = all_here old now start flags index e marks (emptied.each e) (comes.each e) stand
+all_come old now start flags index emptied comes e marks stand =
+    all_here old now start flags index e marks (emptied.each e) (comes.each e) stand
 
 -- so planes that stood for iterations stand for one more
-pub stand_for_more : (old now : Planes) (start : IterFlags) (index : ℕ) → element_count start ≡ old.elements → KeepsShape old now →
-    ((e : ℕ) (marks : Marks) → StandAt old e marks → StandAt now e (merged marks (marks_of_one index (flags_at start e)))) →
-    (visits : ℕ → List Visit) (actions : ℕ → List Action) → AreFlagsOf actions start → StandFor old visits → StandFor now (one_more visits index actions)
+pub stand_for_more : (old now : Planes) (start : IterFlags) (index : ℕ) → element_count start ≡ old.elements
+    → KeepsShape old now →
+    ((e : ℕ) (marks : Marks) → StandAt old e marks
+    → StandAt now e (merged marks (marks_of_one index (flags_at start e)))) →
+    (visits : ℕ → List Visit) (actions : ℕ → List Action) → AreFlagsOf actions start → StandFor old visits
+    → StandFor now (one_more visits index actions)
 stand_for_more old now start index elements shape ended visits actions flags stand = record {
   whole = shape.whole;
   marks = λ e h.
       let within : e < old.elements = omega (arith, shape.elements) in
       let inside : e < element_count start = omega (arith, elements) in
       let visit : Visit = record { index = index; actions = actions e } in
-      let same : merged (marks_of (visits e)) (marks_of_one index (flags_at start e)) ≡ marks_of (visits e ++ visit ∷ []) =
+      let same : merged (marks_of (visits e)) (marks_of_one index (flags_at start e)) ≡ marks_of (visits e ++ visit
+      ∷ []) =
       ap (λ (f : Flags). merged (marks_of (visits e)) (marks_of_one index f)) (flags e inside)
       ∙ ap (λ (m : Marks). merged (marks_of (visits e)) m) (sym (marks_merge.one visit))
       ∙ sym (marks_merge.both (visits e) (visit ∷ [])) in

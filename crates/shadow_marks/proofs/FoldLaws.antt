@@ -35,24 +35,30 @@ ored_here : (old new : List ℕ) (e : ℕ) (bit : Bool) → OrsBit old new e bit
 ored_here old new e bit ors =
     ors.bits e ∙ ap (λ b. bit_of old e || (bit && b)) (eq-eqb e e refl) ∙ ap (λ b. bit_of old e || b) (and_true bit)
 
-ored_there : (old new : List ℕ) (e : ℕ) (bit : Bool) → OrsBit old new e bit → (k : ℕ) → k ≢ e → bit_of new k ≡ bit_of old k
+ored_there : (old new : List ℕ) (e : ℕ) (bit : Bool) → OrsBit old new e bit → (k : ℕ) → k ≢ e
+    → bit_of new k ≡ bit_of old k
 ored_there old new e bit ors k other =
-    ors.bits k ∙ ap (λ b. bit_of old k || (bit && b)) (ne_eqb k e other) ∙ ap (λ b. bit_of old k || b) (and_false bit) ∙ or-false (bit_of old k)
+    ors.bits k ∙ ap (λ b. bit_of old k || (bit && b)) (ne_eqb k e other) ∙ ap (λ b. bit_of old k || b) (and_false bit)
+    ∙ or-false (bit_of old k)
 
-ored_plane : (elements : ℕ) (old new : List ℕ) (e : ℕ) (bit : Bool) → OrsBit old new e bit → e < elements → IsBitPlane elements old → IsBitPlane elements new
+ored_plane : (elements : ℕ) (old new : List ℕ) (e : ℕ) (bit : Bool) → OrsBit old new e bit → e < elements
+    → IsBitPlane elements old → IsBitPlane elements new
 ored_plane elements old new e bit ors within plane = record {
   count = ors.count ∙ plane.count;
   past = λ k past. ored_there old new e bit ors k (λ same. absurd (omega arith)) ∙ plane.past k past;
 }
 
-pub has_word : (elements : ℕ) (words : List ℕ) (e : ℕ) → e < elements → IsBitPlane elements words → e / 64 < length words
+pub has_word : (elements : ℕ) (words : List ℕ) (e : ℕ) → e < elements → IsBitPlane elements words
+    → e / 64 < length words
 has_word elements words e within plane = rw plane.count (omega arith)
 
 -- a mark that was there, with what comes
-joined_here : (old new : List ℕ) (e : ℕ) (bit mark : Bool) → OrsBit old new e bit → bit_of old e ≡ mark → bit_of new e ≡ (mark || bit)
+joined_here : (old new : List ℕ) (e : ℕ) (bit mark : Bool) → OrsBit old new e bit → bit_of old e ≡ mark
+    → bit_of new e ≡ (mark || bit)
 joined_here old new e bit mark ors was = ored_here old new e bit ors ∙ ap (λ b. b || bit) was
 
-joined_there : (old new : List ℕ) (e : ℕ) (bit mark : Bool) (k : ℕ) → k ≢ e → OrsBit old new e bit → bit_of old k ≡ mark → bit_of new k ≡ mark
+joined_there : (old new : List ℕ) (e : ℕ) (bit mark : Bool) (k : ℕ) → k ≢ e → OrsBit old new e bit → bit_of old k ≡ mark
+    → bit_of new k ≡ mark
 joined_there old new e bit mark k other ors was = ored_there old new e bit ors k other ∙ was
 
 pub nothing_ored : (words : List ℕ) (e : ℕ) (bit : Bool) → bit ≡ false → OrsBit words words e bit
@@ -68,18 +74,21 @@ by_two two writes false false same = ap (λ b. two || b) (and_false writes) ∙ 
 by_two two writes true false same = absurd (cc)
 by_two two writes false true same = absurd (cc)
 
-lrpd_here : (old new : LrpdPlanes) (e index : ℕ) (flags : Flags) (marks : Marks) → LrpdFolds old new e flags → LrpdStandAt old e marks →
+lrpd_here : (old new : LrpdPlanes) (e index : ℕ) (flags : Flags) (marks : Marks) → LrpdFolds old new e flags
+    → LrpdStandAt old e marks →
     LrpdStandAt new e (merged marks (marks_of_one index flags))
 lrpd_here old new e index flags marks folds stand = record {
   written = joined_here _ _ e flags.wrote marks.written folds.written stand.written;
   written_by_two =
-      joined_here _ _ e (flags.wrote && bit_of old.written.items e) marks.written_by_two folds.written_by_two stand.written_by_two
+      joined_here _ _ e (flags.wrote && bit_of old.written.items e) marks.written_by_two folds.written_by_two
+      stand.written_by_two
       ∙ by_two marks.written_by_two flags.wrote marks.written (bit_of old.written.items e) stand.written;
   read_only = joined_here _ _ e _ marks.read_only folds.read_only stand.read_only;
   read_and_written = joined_here _ _ e _ marks.read_and_written folds.read_and_written stand.read_and_written;
 }
 
-lrpd_there : (old new : LrpdPlanes) (e k : ℕ) (flags : Flags) (marks : Marks) → k ≢ e → LrpdFolds old new e flags → LrpdStandAt old k marks →
+lrpd_there : (old new : LrpdPlanes) (e k : ℕ) (flags : Flags) (marks : Marks) → k ≢ e → LrpdFolds old new e flags
+    → LrpdStandAt old k marks →
     LrpdStandAt new k marks
 lrpd_there old new e k flags marks other folds stand = record {
   written = joined_there _ _ e _ marks.written k other folds.written stand.written;
@@ -103,7 +112,8 @@ lesser_none None = refl
 lesser_none (Some n) = refl
 
 first_here : (writes : Bool) (first : Option ℕ) (old new index : ℕ) → old ≡ first_number first → index < 4294967295 →
-    new ≡ (if writes then min old index else old) → new ≡ first_number (lesser first (if writes then Some index else None))
+    new ≡ (if writes then min old index else old) → new ≡ first_number (lesser first (if writes then Some index
+    else None))
 first_here true None old new index was small is = let e : min old index ≡ index = omega arith in is ∙ e
 first_here true (Some first) old new index was small is = is ∙ ap (λ n. min n index) was
 first_here false first old new index was small is = is ∙ was ∙ ap first_number (sym (lesser_none first))
@@ -113,14 +123,16 @@ last_here : (reads : Bool) (last old new index : ℕ) → old ≡ last →
 last_here true last old new index was is = is ∙ ap (λ n. max n (index + 1)) was
 last_here false last old new index was is = is ∙ was ∙ (let e : last ≡ max last 0 = omega arith in e)
 
-flow_here : (old new : FlowPlanes) (e index : ℕ) (flags : Flags) (marks : Marks) → index < 4294967295 → FlowFolds old new e flags index →
+flow_here : (old new : FlowPlanes) (e index : ℕ) (flags : Flags) (marks : Marks) → index < 4294967295
+    → FlowFolds old new e flags index →
     FlowStandAt old e marks → FlowStandAt new e (merged marks (marks_of_one index flags))
 flow_here old new e index flags marks small folds stand = record {
   first = first_here flags.wrote marks.first _ _ index stand.first small folds.first.here;
   last = last_here flags.looked marks.last _ _ index stand.last folds.last.here;
 }
 
-flow_there : (old new : FlowPlanes) (e k index : ℕ) (flags : Flags) (marks : Marks) → k ≢ e → FlowFolds old new e flags index →
+flow_there : (old new : FlowPlanes) (e k index : ℕ) (flags : Flags) (marks : Marks) → k ≢ e
+    → FlowFolds old new e flags index →
     FlowStandAt old k marks → FlowStandAt new k marks
 flow_there old new e k index flags marks other folds stand = record {
   first = folds.first.others k other ∙ stand.first;
@@ -135,34 +147,45 @@ flow_whole elements old new e index flags folds are = record {
 }
 
 -- those of either test
-tested_here : (old new : Tested) (e index : ℕ) (flags : Flags) (marks : Marks) → index < 4294967295 → TestedFolds old new e flags index →
+tested_here : (old new : Tested) (e index : ℕ) (flags : Flags) (marks : Marks) → index < 4294967295
+    → TestedFolds old new e flags index →
     TestedStandAt old e marks → TestedStandAt new e (merged marks (marks_of_one index flags))
-tested_here (ByLrpd old) (ByLrpd new) e index flags marks small folds stand = lrpd_here old new e index flags marks folds stand
+tested_here (ByLrpd old) (ByLrpd new) e index flags marks small folds stand =
+    lrpd_here old new e index flags marks folds stand
 tested_here (ByLrpd old) (ByFlow new) e index flags marks small folds stand = absurd folds
 tested_here (ByFlow old) (ByLrpd new) e index flags marks small folds stand = absurd folds
-tested_here (ByFlow old) (ByFlow new) e index flags marks small folds stand = flow_here old new e index flags marks small folds stand
+tested_here (ByFlow old) (ByFlow new) e index flags marks small folds stand =
+    flow_here old new e index flags marks small folds stand
 
-tested_there : (old new : Tested) (e k index : ℕ) (flags : Flags) (marks : Marks) → k ≢ e → TestedFolds old new e flags index →
+tested_there : (old new : Tested) (e k index : ℕ) (flags : Flags) (marks : Marks) → k ≢ e
+    → TestedFolds old new e flags index →
     TestedStandAt old k marks → TestedStandAt new k marks
-tested_there (ByLrpd old) (ByLrpd new) e k index flags marks other folds stand = lrpd_there old new e k flags marks other folds stand
+tested_there (ByLrpd old) (ByLrpd new) e k index flags marks other folds stand =
+    lrpd_there old new e k flags marks other folds stand
 tested_there (ByLrpd old) (ByFlow new) e k index flags marks other folds stand = absurd folds
 tested_there (ByFlow old) (ByLrpd new) e k index flags marks other folds stand = absurd folds
-tested_there (ByFlow old) (ByFlow new) e k index flags marks other folds stand = flow_there old new e k index flags marks other folds stand
+tested_there (ByFlow old) (ByFlow new) e k index flags marks other folds stand =
+    flow_there old new e k index flags marks other folds stand
 
-tested_whole : (elements : ℕ) (old new : Tested) (e index : ℕ) (flags : Flags) → TestedFolds old new e flags index → e < elements →
+tested_whole : (elements : ℕ) (old new : Tested) (e index : ℕ) (flags : Flags) → TestedFolds old new e flags index
+    → e < elements →
     AreTested elements old → AreTested elements new
-tested_whole elements (ByLrpd old) (ByLrpd new) e index flags folds within are = lrpd_whole elements old new e flags folds within are
+tested_whole elements (ByLrpd old) (ByLrpd new) e index flags folds within are =
+    lrpd_whole elements old new e flags folds within are
 tested_whole elements (ByLrpd old) (ByFlow new) e index flags folds within are = absurd folds
 tested_whole elements (ByFlow old) (ByLrpd new) e index flags folds within are = absurd folds
-tested_whole elements (ByFlow old) (ByFlow new) e index flags folds within are = flow_whole elements old new e index flags folds are
+tested_whole elements (ByFlow old) (ByFlow new) e index flags folds within are =
+    flow_whole elements old new e index flags folds are
 
-tested_test : (old new : Tested) (e index : ℕ) (flags : Flags) → TestedFolds old new e flags index → test_of new ≡ test_of old
+tested_test : (old new : Tested) (e index : ℕ) (flags : Flags) → TestedFolds old new e flags index
+    → test_of new ≡ test_of old
 tested_test (ByLrpd old) (ByLrpd new) e index flags folds = refl
 tested_test (ByLrpd old) (ByFlow new) e index flags folds = absurd folds
 tested_test (ByFlow old) (ByLrpd new) e index flags folds = absurd folds
 tested_test (ByFlow old) (ByFlow new) e index flags folds = refl
 
-pub tested_have : (elements : ℕ) (tested : Tested) (e : ℕ) → e < elements → AreTested elements tested → TestedHave tested e
+pub tested_have : (elements : ℕ) (tested : Tested) (e : ℕ) → e < elements → AreTested elements tested
+    → TestedHave tested e
 tested_have elements (ByLrpd planes) e within are = record {
   written = has_word elements _ e within are.written;
   written_by_two = has_word elements _ e within are.written_by_two;
@@ -180,7 +203,8 @@ operator_ored old new e flags folds And = folds.and
 operator_ored old new e flags folds Xor = folds.xor
 operator_ored old new e flags folds AddH = folds.addh
 
-pub operators_have : (elements : ℕ) (planes : OperatorPlanes) (e : ℕ) → e < elements → ((op : Op) → IsBitPlane elements (plane_by planes op)) → OperatorsHave planes e
+pub operators_have : (elements : ℕ) (planes : OperatorPlanes) (e : ℕ) → e < elements
+    → ((op : Op) → IsBitPlane elements (plane_by planes op)) → OperatorsHave planes e
 operators_have elements planes e within are = record {
   add = has_word elements _ e within (are Add);
   or = has_word elements _ e within (are Or);
@@ -196,7 +220,8 @@ pub record TakesPart (old new : Planes) (e index : ℕ) (flags : Flags) : Type 0
   pub operators : OperatorsFold old.operators new.operators e flags
   pub tested : TestedFolds old.tested new.tested e flags index
 
-pub parts_fold : (old new : Planes) (e index : ℕ) (flags : Flags) → ArePlanes old → e < old.elements → index < 4294967295 →
+pub parts_fold : (old new : Planes) (e index : ℕ) (flags : Flags) → ArePlanes old → e < old.elements
+    → index < 4294967295 →
     TakesPart old new e index flags → Folds old new e index flags
 parts_fold old new e index flags are within small part =
     let ored : (op : Op) → OrsBit (plane_by old.operators op) (plane_by new.operators op) e (flags.by op) =
@@ -227,9 +252,11 @@ parts_fold old new e index flags are within small part =
 no_bits : (words e : ℕ) → bit_of (replicate words 0) e ≡ false
 no_bits words e =
     elim (cases_lt (e / 64) words) [
-      | inl within ↦ ap (λ w. eqb (bit_at w (e % 64)) 1) (get_or-replicate words (e / 64) 0 0 within) ∙ ap (λ b. eqb b 1) (bit_at-zero (e % 64))
+      | inl within ↦ ap (λ w. eqb (bit_at w (e % 64)) 1) (get_or-replicate words (e / 64) 0 0 within)
+          ∙ ap (λ b. eqb b 1) (bit_at-zero (e % 64))
       | inr past ↦
-          ap (λ w. eqb (bit_at w (e % 64)) 1) (get_or_past (replicate words 0) (e / 64) 0 (omega (arith, length-replicate {A = ℕ} words 0)))
+          ap (λ w. eqb (bit_at w (e % 64)) 1) (get_or_past (replicate words 0) (e / 64) 0
+          (omega (arith, length-replicate {A = ℕ} words 0)))
           ∙ ap (λ b. eqb b 1) (bit_at-zero (e % 64))
     ]
 
@@ -240,10 +267,15 @@ empty_plane elements words is = record {
 }
 
 pub nothing_ended : (planes : Planes) → planes.plain.items ≡ replicate (words_for planes.elements) 0 →
-    ((op : Op) → plane_by planes.operators op ≡ replicate (words_for planes.elements) 0) → AreTested planes.elements planes.tested →
+    ((op : Op) → plane_by planes.operators op ≡ replicate (words_for planes.elements) 0)
+    → AreTested planes.elements planes.tested →
     ((e : ℕ) → e < planes.elements → TestedStandAt planes.tested e no_marks) → StandFor planes no_visits
 nothing_ended planes plain by whole none = record {
-  whole = record { plain = empty_plane planes.elements _ plain; by = λ op. empty_plane planes.elements _ (by op); tested = whole };
+  whole = record {
+    plain = empty_plane planes.elements _ plain;
+    by = λ op. empty_plane planes.elements _ (by op);
+    tested = whole;
+  };
   marks = λ e h. record {
     plain = ap (λ (l : List ℕ). bit_of l e) plain ∙ no_bits (words_for planes.elements) e;
     by = λ op. ap (λ (l : List ℕ). bit_of l e) (by op) ∙ no_bits (words_for planes.elements) e;

@@ -34,12 +34,15 @@ before Xor n h = ne_eqb 6 n (λ same. absurd (omega arith))
 before AddH n h = ne_eqb 7 n (λ same. absurd (omega arith))
 
 -- a bit of the flags with one more
-unchanged : (bits mask place k : ℕ) → mask ≡ 2 ^ place → eqb k place ≡ false → eqb (bit_at (bit_or bits mask) k) 1 ≡ eqb (bit_at bits k) 1
-unchanged bits mask place k m other = bit_ored bits mask place k m ∙ ap (λ b. eqb (bit_at bits k) 1 || b) other ∙ or-false (eqb (bit_at bits k) 1)
+unchanged : (bits mask place k : ℕ) → mask ≡ 2 ^ place → eqb k place ≡ false → eqb (bit_at (bit_or bits mask) k) 1
+    ≡ eqb (bit_at bits k) 1
+unchanged bits mask place k m other = bit_ored bits mask place k m ∙ ap (λ b. eqb (bit_at bits k) 1 || b) other
+    ∙ or-false (eqb (bit_at bits k) 1)
 
 changed : (bits mask place : ℕ) → mask ≡ 2 ^ place → eqb (bit_at (bit_or bits mask) place) 1 ≡ true
 changed bits mask place m =
-    bit_ored bits mask place place m ∙ ap (λ b. eqb (bit_at bits place) 1 || b) (eq-eqb place place refl) ∙ or_true (eqb (bit_at bits place) 1)
+    bit_ored bits mask place place m ∙ ap (λ b. eqb (bit_at bits place) 1 || b) (eq-eqb place place refl)
+    ∙ or_true (eqb (bit_at bits place) 1)
 
 pub flag_ored : (kept : ElementFlags) (flag : Flag) (mask : ℕ) → mask ≡ 2 ^ bit_place flag →
     flags_in (record { bits = bit_or kept.bits mask }) ≡ with_flag flag (flags_in kept)
@@ -90,7 +93,8 @@ look_before_write flags none = same_flags _ _ (record {
 -- where no operator's bit is set there is no reduce
 masked : (bits mask k : ℕ) → bit_and bits mask ≡ 0 → bit_at mask k ≡ 1 → eqb (bit_at bits k) 1 ≡ false
 masked bits mask k none one =
-    let met : min (bit_at bits k) (bit_at mask k) ≡ 0 = sym (bit_at_and bits mask k) ∙ ap (λ n. bit_at n k) none ∙ bit_at-zero k in
+    let met : min (bit_at bits k) (bit_at mask k) ≡ 0 = sym (bit_at_and bits mask k) ∙ ap (λ n. bit_at n k) none
+    ∙ bit_at-zero k in
     ne_eqb (bit_at bits k) 1 (λ set. absurd (omega arith))
 
 pub no_reduce : (bits : ℕ) (op : Op) → bit_and bits 248 ≡ 0 → eqb (bit_at bits (place_by op)) 1 ≡ false

@@ -37,22 +37,27 @@ or_left a b h = ap (λ x. x || b) h
 or_both : (a b : Bool) → a ≡ false → b ≡ false → (a || b) ≡ false
 or_both a b h k = ap (λ x. x || b) h ∙ k
 
-pub last_within : (touched rest : List ℕ) (e : ℕ) (cells : List ElementFlags) → touched ≡ rest ++ e ∷ [] → Covers touched cells → e < length cells
+pub last_within : (touched rest : List ℕ) (e : ℕ) (cells : List ElementFlags) → touched ≡ rest ++ e ∷ []
+    → Covers touched cells → e < length cells
 last_within touched rest e cells is covers =
-    covers.within e (ap (λ l. has_element l e) is ∙ has-last rest e e ∙ ap (λ b. has_element rest e || b) (eq-eqb e e refl) ∙ or_true (has_element rest e))
+    covers.within e (ap (λ l. has_element l e) is ∙ has-last rest e e
+    ∙ ap (λ b. has_element rest e || b) (eq-eqb e e refl) ∙ or_true (has_element rest e))
 
 -- the last one taken from the list and emptied
-pub covers_rest : (touched rest : List ℕ) (e : ℕ) (cells : List ElementFlags) → touched ≡ rest ++ e ∷ [] → Covers touched cells →
+pub covers_rest : (touched rest : List ℕ) (e : ℕ) (cells : List ElementFlags) → touched ≡ rest ++ e ∷ []
+    → Covers touched cells →
     Covers rest (set cells e nothing_kept)
 covers_rest touched rest e cells is covers = record {
   within = λ x has.
-      let was : has_element touched x ≡ true = ap (λ l. has_element l x) is ∙ has-last rest e x ∙ or_left (has_element rest x) (eqb e x) has in
+      let was : has_element touched x ≡ true = ap (λ l. has_element l x) is ∙ has-last rest e x
+      ∙ or_left (has_element rest x) (eqb e x) has in
       omega (arith, covers.within x was, length-set cells e nothing_kept);
   covered = λ x has.
       elim (cases_eq x e) [
         | inl same ↦
             ap (λ (y : ℕ). (get_or (set cells e nothing_kept) y nothing_kept).bits) same
-            ∙ ap (λ (kept : ElementFlags). kept.bits) (get_or-set_same cells e nothing_kept nothing_kept (last_within touched rest e cells is covers))
+            ∙ ap (λ (kept : ElementFlags). kept.bits) (get_or-set_same cells e nothing_kept nothing_kept
+            (last_within touched rest e cells is covers))
         | inr other ↦
             ap (λ (kept : ElementFlags). kept.bits) (get_or-set_other cells e x nothing_kept nothing_kept other)
             ∙ covers.covered x

@@ -27,7 +27,8 @@ pub record FlowHave (planes : FlowPlanes) (e : ℕ) : Type 0 where
 -- the planes of a test after the flags of an element came into them
 pub record LrpdFolds (old new : LrpdPlanes) (e : ℕ) (flags : Flags) : Type 0 where
   pub written : OrsBit old.written.items new.written.items e flags.wrote
-  pub written_by_two : OrsBit old.written_by_two.items new.written_by_two.items e (flags.wrote && bit_of old.written.items e)
+  pub written_by_two : OrsBit old.written_by_two.items new.written_by_two.items e (flags.wrote
+      && bit_of old.written.items e)
   pub read_only : OrsBit old.read_only.items new.read_only.items e (flags.looked && not flags.wrote)
   pub read_and_written : OrsBit old.read_and_written.items new.read_and_written.items e (flags.looked && flags.wrote)
 

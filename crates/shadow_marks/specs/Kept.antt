@@ -31,7 +31,12 @@ has_flag kept flag = bit_at kept.bits (bit_place flag) == 1
 
 -- the flags that are kept
 abbrev pub flags_in : ElementFlags → Flags
-flags_in kept = record { wrote = has_flag kept Wrote; looked = has_flag kept Looked; plain = has_flag kept Plain; by = λ op. has_flag kept (By op) }
+flags_in kept = record {
+  wrote = has_flag kept Wrote;
+  looked = has_flag kept Looked;
+  plain = has_flag kept Plain;
+  by = λ op. has_flag kept (By op);
+}
 
 -- nothing is kept of an element that wasn't touched
 abbrev pub nothing_kept : ElementFlags
@@ -51,7 +56,12 @@ with_flag (By op) flags = record {
 
 -- flags after a look, which is exposed where the iteration hasn't written
 abbrev pub with_read : Flags → Flags
-with_read flags = record { wrote = flags.wrote; looked = flags.looked || not flags.wrote; plain = flags.plain; by = flags.by }
+with_read flags = record {
+  wrote = flags.wrote;
+  looked = flags.looked || not flags.wrote;
+  plain = flags.plain;
+  by = flags.by;
+}
 
 -- whether an element is in a list
 abbrev pub has_element : List ℕ → ℕ → Bool

@@ -23,8 +23,10 @@ impl Planes {
         requires elements { element_count flags.old ≡ self.old.elements }
         requires index { index < NO_WRITER }
         ensures shape { KeepsShape self.old self.new }
-        ensures marks { (e : ℕ) (marks : Marks) → StandAt self.old e marks → StandAt self.new e (merged marks (marks_of_one index (flags_at flags.old e))) }
-        ensures visits { (visits : ℕ → List Visit) (actions : ℕ → List Action) → AreFlagsOf actions flags.old → StandFor self.old visits → StandFor self.new (one_more visits index actions) }
+        ensures marks { (e : ℕ) (marks : Marks) → StandAt self.old e marks
+            → StandAt self.new e (merged marks (marks_of_one index (flags_at flags.old e))) }
+        ensures visits { (visits : ℕ → List Visit) (actions : ℕ → List Action) → AreFlagsOf actions flags.old
+            → StandFor self.old visits → StandFor self.new (one_more visits index actions) }
         ensures emptied { IsEmptied flags.new }
         ensures same_elements { element_count flags.new ≡ element_count flags.old }
     {

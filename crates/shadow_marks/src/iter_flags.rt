@@ -18,7 +18,8 @@ pub struct IterFlags {
     touched: Vec<u32>,
     ghost room: { 4096 ≤ vec_capacity touched },
     ghost within: { (e : ℕ) → has_element touched.items e ≡ true → e < length cells.items },
-    ghost covered: { (e : ℕ) → has_element touched.items e ≡ false → (slice_index_or cells.items e nothing_kept).bits ≡ 0 },
+    ghost covered: { (e : ℕ) → has_element touched.items e ≡ false → (slice_index_or cells.items e nothing_kept).bits
+        ≡ 0 },
 }
 
 impl IterFlags {
@@ -81,7 +82,8 @@ impl IterFlags {
     /// there is no such element.
     #[inline]
     pub(crate) fn take(&mut self) -> Option<(u32, ElementFlags)>
-        ensures { MatchOption result (TakesNone self.old self.new) (λ taken. TakesFlags self.old self.new taken.0 taken.1) }
+        ensures { MatchOption result (TakesNone self.old self.new) (λ taken. TakesFlags self.old self.new taken.0
+            taken.1) }
     {
         let Some(e) = self.touched.pop() else {
             return None;

@@ -19,13 +19,17 @@ use Rattle.loop_core_sequential.specs.Loops.{RanLoopInOrder}
 use Rattle.loop_core_gather.specs.Gathered.{IsOutcome}
 
 -- a loop call left what it leaves in order, and this is its verdict's line, whatever call main made of it
-pub record RanCall (line_of : LoopMade → BoundedResult LoopReport) (program : Program) (call : LoopCall) (start left : MapList) (answer : ℕ) (told_verdict : Verdict) : Type 0 where
+pub record RanCall (line_of : LoopMade → BoundedResult LoopReport) (program : Program) (call : LoopCall)
+    (start left : MapList) (answer : ℕ) (told_verdict : Verdict) : Type 0 where
   pub ran : RanLoopInOrder program call start left answer
-  pub told : (made : LoopCall) → IsFilled program made call → OverApproximatesCall program call → AreMapWords program start.words
-      → line_of (record { slot = made.slot; answer = pos answer; words = start.words; call = Some made }) ≡ Ended (record { slot = made.slot; answer = pos answer; verdict = told_verdict })
+  pub told : (made : LoopCall) → IsFilled program made call → OverApproximatesCall program call
+      → AreMapWords program start.words
+      → line_of (record { slot = made.slot; answer = pos answer; words = start.words; call = Some made })
+      ≡ Ended (record { slot = made.slot; answer = pos answer; verdict = told_verdict })
 
 -- a loop that ran in order
-pub in_order_call : {program : Program} {call : LoopCall} {start left : MapList} {answer : ℕ} → RanLoopInOrder program call start left answer
+pub in_order_call : {program : Program} {call : LoopCall} {start left : MapList} {answer : ℕ}
+    → RanLoopInOrder program call start left answer
     → RanCall loop_report_in_order program call start left answer InOrder
 in_order_call ran = record { ran = ran; told = λ made filled known fit. refl }
 
@@ -44,21 +48,27 @@ record Parts (told : BoundedResult Verdict) (looped : BoundedResult Looped) (o :
   judged : told ≡ Ended o.verdict
   ordered : looped ≡ Ended (record { answer = o.answer; words = o.words })
 
-parts : (told : BoundedResult Verdict) (looped : BoundedResult Looped) (o : Outcome) → followed (judged_as told) looped ≡ Ended o → Parts told looped o
+parts : (told : BoundedResult Verdict) (looped : BoundedResult Looped) (o : Outcome) → followed (judged_as told) looped
+    ≡ Ended o → Parts told looped o
 parts (Ended v) (Ended l) o h =
     let same = same_value (record { verdict = v; answer = l.answer; words = l.words }) o h in
-    record { judged = ap (λ (p : Outcome). Ended p.verdict) same; ordered = ap (λ (p : Outcome). Ended (record { answer = p.answer; words = p.words })) same }
+    record {
+      judged = ap (λ (p : Outcome). Ended p.verdict) same;
+      ordered = ap (λ (p : Outcome). Ended (record { answer = p.answer; words = p.words })) same;
+    }
 parts Stuck (Ended l) o h = absurd (cc)
 parts Unfinished (Ended l) o h = absurd (cc)
 parts told Stuck o h = absurd (cc)
 parts told Unfinished o h = absurd (cc)
 
 -- a loop whose outcome by a test is this
-pub call_by_test : {test : Test} {program : Program} {call : LoopCall} {start left : MapList} {answer : ℕ} {told_verdict : Verdict}
+pub call_by_test : {test : Test} {program : Program} {call : LoopCall} {start left : MapList} {answer : ℕ}
+    {told_verdict : Verdict}
     → FilledCallsAreOneLoop → IsSoundProgram program → IsOutcome test program call start told_verdict answer left
     → RanCall (loop_report test program 4096) program call start left answer told_verdict
 call_by_test {test} {program} {call} {start} {left} {answer} {told_verdict} one_loop sound is =
-    let both = parts (verdict test program 4096 call start.words) (loop_in_order program 4096 call start.words) (record { verdict = told_verdict; answer = answer; words = left.words }) is.outcome_is in
+    let both = parts (verdict test program 4096 call start.words) (loop_in_order program 4096 call start.words)
+    (record { verdict = told_verdict; answer = answer; words = left.words }) is.outcome_is in
     record {
       ran = record { told = both.ordered; kept = is.sizes };
       told = λ made filled known fit.

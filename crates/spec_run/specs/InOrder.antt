@@ -14,7 +14,8 @@ pub record IsReportInOrder (program : Program) (argument : ℕ) (old new : MapLi
   -- the old maps are of the program's sizes, and the new ones too
   pub sizes : old.sizes ≡ program.sizes
   pub kept : new.sizes ≡ old.sizes
-  -- the return value, each loop call's slot and answer, and the new maps' words are the program's, where main takes at most
+  -- the return value, each loop call's slot and answer, and the new maps' words are the program's, where main takes at
+  -- most
   -- 4,096 instructions up to each turn, and an iteration at most as many
   pub told : report_in_order program 4096 argument old.words
       ≡ Ended (record { ret = report.ret; loops = report.loops.items; words = new.words })

@@ -9,7 +9,8 @@ pub even_is : (n blocks : ℕ) → 0 < blocks → blocks ≤ 64 → split_fault 
 even_is n blocks more few = even_is_split.split n blocks (omega (arith, more)) few
 
 -- and run by as many workers as over another split
-pub even_plan : (workers n blocks : ℕ) (given bounds : List ℕ) → IsLoopPlan workers given n → 0 < blocks → blocks ≤ 64 → bounds ≡ even_bounds n blocks → IsLoopPlan workers bounds n
+pub even_plan : (workers n blocks : ℕ) (given bounds : List ℕ) → IsLoopPlan workers given n → 0 < blocks → blocks ≤ 64
+    → bounds ≡ even_bounds n blocks → IsLoopPlan workers bounds n
 even_plan workers n blocks given bounds is more few even = record {
   some_worker = is.some_worker;
   few_workers = is.few_workers;

@@ -22,12 +22,14 @@ use Rattle.spec_run_loop.proofs.CompleteLaws.{each_runs}
 use Rattle.spec_run_loop.specs.Workers.{IsWorkerAt, AreOfWorkers}
 
 -- what holds of each image by index holds of all images
-pub images_all : {A B : Type 0} (P : B → Type 0) (f : A → B) (xs : List A) → All (λ x. P (f x)) xs → AllByRecursion P (map f xs)
+pub images_all : {A B : Type 0} (P : B → Type 0) (f : A → B) (xs : List A) → All (λ x. P (f x)) xs
+    → AllByRecursion P (map f xs)
 images_all P f [] all = tt
 images_all P f (x ∷ xs) all = (all 0 x (omega arith), images_all P f xs (λ k d below. all (suc k) d (omega arith)))
 
 -- what holds of all results that are there holds of the last, and of the others
-pub popped : {A E : Type 0} (Q : A → Type 0) (xs ys : List (Result A E)) (r : Result A E) → xs ≡ ys ++ r ∷ [] → All (λ s. IfOk s Q) xs → All (λ s. IfOk s Q) ys × IfOk r Q
+pub popped : {A E : Type 0} (Q : A → Type 0) (xs ys : List (Result A E)) (r : Result A E) → xs ≡ ys ++ r ∷ []
+    → All (λ s. IfOk s Q) xs → All (λ s. IfOk s Q) ys × IfOk r Q
 popped Q xs ys r same all = All-pop (λ s. IfOk s Q) xs ys (Some r) same all
 
 pub not_both : {A : Type 0} (o : Option A) (a : A) → o ≡ None → o ≡ Some a → ⊥
@@ -35,7 +37,8 @@ not_both o a is_none is_some = let both : None ≡ Some a = sym is_none ∙ is_s
 
 module _ (test : Test) (program : Program) (call : LoopCall) (words : List ℕ) (bounds : List ℕ) (board : BoardId) where
   -- one worker, from a new seat on
-  pub worker_at : (old : SeatRecord) (w : WorkerOf) → old ≡ new_seat board → Worked bounds old w.seat w.blocks → AllByRecursion (RecordsRun test program call words) w.blocks →
+  pub worker_at : (old : SeatRecord) (w : WorkerOf) → old ≡ new_seat board → Worked bounds old w.seat w.blocks
+      → AllByRecursion (RecordsRun test program call words) w.blocks →
       IsWorkerAt test program call words bounds board w
   worker_at old w fresh worked ran =
       let here : w.seat.board ≡ board = worked.did.board ∙ ap (λ (s : SeatRecord). s.board) fresh in
@@ -48,28 +51,40 @@ module _ (test : Test) (program : Program) (call : LoopCall) (words : List ℕ) 
       }
 
   -- no worker yet
-  pub none_yet : (seats : List SeatRecord) (blocks : List BlockOf) → seats ≡ [] → blocks ≡ [] → AreOfWorkers test program call words bounds board 0 seats blocks
-  none_yet seats blocks no_seat no_block = record { workers = []; are = tt; count = refl; seats_are = no_seat; blocks_are = no_block }
+  pub none_yet : (seats : List SeatRecord) (blocks : List BlockOf) → seats ≡ [] → blocks ≡ []
+      → AreOfWorkers test program call words bounds board 0 seats blocks
+  none_yet seats blocks no_seat no_block = record {
+    workers = [];
+    are = tt;
+    count = refl;
+    seats_are = no_seat;
+    blocks_are = no_block;
+  }
 
   -- one more
-  pub one_more : (number : ℕ) (seats all_seats : List SeatRecord) (blocks all_blocks : List BlockOf) (w : WorkerOf) → AreOfWorkers test program call words bounds board number seats blocks →
-      IsWorkerAt test program call words bounds board w → all_seats ≡ seats ++ w.seat ∷ [] → all_blocks ≡ blocks ++ w.blocks →
+  pub one_more : (number : ℕ) (seats all_seats : List SeatRecord) (blocks all_blocks : List BlockOf) (w : WorkerOf)
+      → AreOfWorkers test program call words bounds board number seats blocks →
+      IsWorkerAt test program call words bounds board w → all_seats ≡ seats ++ w.seat ∷ [] → all_blocks ≡ blocks
+      ++ w.blocks →
       AreOfWorkers test program call words bounds board (number + 1) all_seats all_blocks
   one_more number seats all_seats blocks all_blocks w are is seats_are blocks_are = record {
     workers = are.workers ++ w ∷ [];
     are = all_append (IsWorkerAt test program call words bounds board) are.workers (w ∷ []) are.are (is, tt);
     count = length-append are.workers (w ∷ []) ∙ ap (λ (n : ℕ). n + 1) are.count;
-    seats_are = seats_are ∙ ap (λ (ss : List SeatRecord). ss ++ w.seat ∷ []) are.seats_are ∙ sym (map-append (λ (v : WorkerOf). v.seat) are.workers (w ∷ []));
+    seats_are = seats_are ∙ ap (λ (ss : List SeatRecord). ss ++ w.seat ∷ []) are.seats_are
+        ∙ sym (map-append (λ (v : WorkerOf). v.seat) are.workers (w ∷ []));
     blocks_are = blocks_are ∙ ap (λ (bs : List BlockOf). bs ++ w.blocks) are.blocks_are
         ∙ ap (λ (bs : List BlockOf). blocks_of_all are.workers ++ bs) (sym (append-nil w.blocks))
         ∙ sym (flat_map-append (λ (v : WorkerOf). v.blocks) are.workers (w ∷ []));
   }
 
-  each_worker : (workers : List WorkerOf) → AllByRecursion (IsWorkerAt test program call words bounds board) workers → AllByRecursion (IsWorkerOf test program call words bounds) workers
+  each_worker : (workers : List WorkerOf) → AllByRecursion (IsWorkerAt test program call words bounds board) workers
+      → AllByRecursion (IsWorkerOf test program call words bounds) workers
   each_worker [] are = tt
   each_worker (w ∷ workers) are = (are.0.worker, each_worker workers are.1)
 
-  each_board : (workers : List WorkerOf) → AllByRecursion (IsWorkerAt test program call words bounds board) workers → All (λ (s : SeatRecord). s.board ≡ board) (seats_of workers)
+  each_board : (workers : List WorkerOf) → AllByRecursion (IsWorkerAt test program call words bounds board) workers
+      → All (λ (s : SeatRecord). s.board ≡ board) (seats_of workers)
   each_board [] are k d below = absurd (omega arith)
   each_board (w ∷ workers) are zero d below = are.0.at_board
   each_board (w ∷ workers) are (suc k) d below = each_board workers are.1 k d (omega arith)
@@ -78,10 +93,12 @@ module _ (test : Test) (program : Program) (call : LoopCall) (words : List ℕ) 
   length_seats [] = refl
   length_seats (w ∷ workers) = ap (λ (n : ℕ). suc n) (length_seats workers)
 
-  module _ (number : ℕ) (seats : List SeatRecord) (blocks : List BlockOf) (are : AreOfWorkers test program call words bounds board number seats blocks) where
+  module _ (number : ℕ) (seats : List SeatRecord) (blocks : List BlockOf) (are : AreOfWorkers test program call words
+      bounds board number seats blocks) where
     -- their seats are of the board
     pub boards : All (λ (s : SeatRecord). s.board ≡ board) seats
-    boards = subst (λ (ss : List SeatRecord). All (λ (s : SeatRecord). s.board ≡ board) ss) (sym are.seats_are) (each_board are.workers are.are)
+    boards = subst (λ (ss : List SeatRecord). All (λ (s : SeatRecord). s.board ≡ board) ss) (sym are.seats_are)
+        (each_board are.workers are.are)
 
     -- and as many as the workers
     pub count : length seats ≡ number
@@ -89,13 +106,17 @@ module _ (test : Test) (program : Program) (call : LoopCall) (words : List ℕ) 
 
     -- their blocks were run
     pub ran : AllByRecursion (RecordsRun test program call words) blocks
-    ran = subst (λ (bs : List BlockOf). AllByRecursion (RecordsRun test program call words) bs) (sym are.blocks_are) (each_runs test program call words bounds are.workers (each_worker are.workers are.are))
+    ran = subst (λ (bs : List BlockOf). AllByRecursion (RecordsRun test program call words) bs) (sym are.blocks_are)
+        (each_runs test program call words bounds are.workers (each_worker are.workers are.are))
 
     -- and are complete
-    pub complete : WorkersComplete → split_fault bounds call.n ≡ None → call.n ≤ 8388608 → 0 < number → (claimed all : ℕ) → all ≡ blocks_of bounds →
+    pub complete : WorkersComplete → split_fault bounds call.n ≡ None → call.n ≤ 8388608 → 0 < number
+        → (claimed all : ℕ) → all ≡ blocks_of bounds →
         Legal all claimed (histories seats) → gather_fault bounds (map (as_gathered program call words) blocks) ≡ None
     complete law fine few some claimed all same legal =
         ap (λ (bs : List BlockOf). gather_fault bounds (map (as_gathered program call words) bs)) are.blocks_are
-        ∙ law test program call words bounds claimed are.workers fine few (subst (λ (n : ℕ). 0 < n) (sym are.count) some)
-        (subst (λ (n : ℕ). Legal n claimed (histories (seats_of are.workers))) same (subst (λ (ss : List SeatRecord). Legal all claimed (histories ss)) are.seats_are legal))
+        ∙ law test program call words bounds claimed are.workers fine few (subst (λ (n : ℕ). 0 < n) (sym are.count)
+        some)
+        (subst (λ (n : ℕ). Legal n claimed (histories (seats_of are.workers))) same
+        (subst (λ (ss : List SeatRecord). Legal all claimed (histories ss)) are.seats_are legal))
         (each_worker are.workers are.are)

@@ -27,14 +27,17 @@ abbrev pub blocks_of_all : List WorkerOf → List BlockOf
 blocks_of_all workers = flat_map (λ (w : WorkerOf). w.blocks) workers
 
 -- it is one whole worker, at a seat that had done nothing
-pub record IsWorkerOf (test : Test) (program : Program) (call : LoopCall) (words : List ℕ) (bounds : List ℕ) (w : WorkerOf) : Type 0 where
+pub record IsWorkerOf (test : Test) (program : Program) (call : LoopCall) (words : List ℕ) (bounds : List ℕ)
+    (w : WorkerOf) : Type 0 where
   pub worked : Worked bounds (new_seat w.seat.board) w.seat w.blocks
   pub ran : AllByRecursion (RecordsRun test program call words) w.blocks
 
--- workers of a split, one at least, whose histories are legal on a board of its blocks: of the blocks that they ran none
+-- workers of a split, one at least, whose histories are legal on a board of its blocks: of the blocks that they ran
+-- none
 -- is missing, doubled or foreign
 abbrev pub WorkersComplete : Type 0
-WorkersComplete = (test : Test) (program : Program) (call : LoopCall) (words : List ℕ) (bounds : List ℕ) (claimed : ℕ) (workers : List WorkerOf) →
+WorkersComplete = (test : Test) (program : Program) (call : LoopCall) (words : List ℕ) (bounds : List ℕ) (claimed : ℕ)
+    (workers : List WorkerOf) →
     split_fault bounds call.n ≡ None → call.n ≤ 8388608 → 0 < length workers →
     Legal (blocks_of bounds) claimed (histories (seats_of workers)) →
     AllByRecursion (IsWorkerOf test program call words bounds) workers →

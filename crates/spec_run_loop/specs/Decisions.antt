@@ -11,8 +11,13 @@ use Rattle.spec_run_loop.specs.declared.decision.Decision.{Decision}
 use Rattle.spec_run_loop.specs.declared.decision.Decision.TheVariants.{Commit, Discard}
 
 -- a loop call passes from these words, answers this, and leaves as many words
-pub record Passes (test : Test) (program : Program) (call : LoopCall) (words : List ℕ) (answer : ℕ) (left : List ℕ) : Type 0 where
-  pub outcome_is : outcome test program 4096 call words ≡ Ended (record { verdict = Parallel; answer = answer; words = left })
+pub record Passes (test : Test) (program : Program) (call : LoopCall) (words : List ℕ) (answer : ℕ)
+    (left : List ℕ) : Type 0 where
+  pub outcome_is : outcome test program 4096 call words ≡ Ended (record {
+    verdict = Parallel;
+    answer = answer;
+    words = left;
+  })
   pub count : length left ≡ length words
 
 -- it is committed where it passes; else its verdict is told

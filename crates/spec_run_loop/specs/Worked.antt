@@ -51,10 +51,12 @@ pub record Worked (bounds : List ℕ) (old new : SeatRecord) (blocks : List Bloc
   pub intervals : AllByRecursion (StandsIn bounds) blocks
   pub drained : new.history.found_none ≡ true
 
--- a worker that met a want of memory at the last block that it drew: it looked once after each block; of those before the
+-- a worker that met a want of memory at the last block that it drew: it looked once after each block; of those before
+-- the
 -- last it ran those that don't start past the answer, in order; the last doesn't start past its answer, and either it
 -- wasn't run, or it was run and couldn't be kept; what was posted is the breaks of those that were run
-pub record WorkerStopped (test : Test) (program : Program) (call : LoopCall) (words : List ℕ) (bounds : List ℕ) (old new : SeatRecord) : Type 0 where
+pub record WorkerStopped (test : Test) (program : Program) (call : LoopCall) (words : List ℕ) (bounds : List ℕ)
+    (old new : SeatRecord) : Type 0 where
   pub earlier : List ℕ
   pub seen : List ℕ
   pub last : ℕ
@@ -63,14 +65,16 @@ pub record WorkerStopped (test : Test) (program : Program) (call : LoopCall) (wo
   pub did : DidMore old new (earlier ++ last ∷ []) (seen ++ answer ∷ []) (breaks_of blocks)
   pub each_look : length seen ≡ length earlier
   pub on_time : nat_lt answer (start_of bounds last) ≡ false
-  pub numbers : (numbers_of blocks ≡ runs_of bounds earlier seen) ⊎ (numbers_of blocks ≡ runs_of bounds earlier seen ++ last ∷ [])
+  pub numbers : (numbers_of blocks ≡ runs_of bounds earlier seen) ⊎ (numbers_of blocks ≡ runs_of bounds earlier seen
+      ++ last ∷ [])
   pub intervals : AllByRecursion (StandsIn bounds) blocks
   pub ran : AllByRecursion (RecordsRun test program call words) blocks
   pub kept : new.history.found_none ≡ old.history.found_none
 
 -- what a worker does with one block that it drew: it looks once, runs the block unless it starts past the answer, and
 -- posts its break; `taken` is the block, where it was run
-pub record Took (test : Test) (program : Program) (call : LoopCall) (words : List ℕ) (bounds : List ℕ) (number : ℕ) (old new : SeatRecord) (taken : List BlockOf) : Type 0 where
+pub record Took (test : Test) (program : Program) (call : LoopCall) (words : List ℕ) (bounds : List ℕ) (number : ℕ)
+    (old new : SeatRecord) (taken : List BlockOf) : Type 0 where
   pub answer : ℕ
   pub did : DidMore old new [] (answer ∷ []) (breaks_of taken)
   pub kept : new.history.found_none ≡ old.history.found_none

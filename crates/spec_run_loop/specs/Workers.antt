@@ -15,12 +15,14 @@ abbrev pub board_worker : Worker → WorkerOf
 board_worker w = record { seat = w.seat; blocks = map shown w.blocks.items }
 
 -- it is one whole worker at this board
-pub record IsWorkerAt (test : Test) (program : Program) (call : LoopCall) (words : List ℕ) (bounds : List ℕ) (board : BoardId) (w : WorkerOf) : Type 0 where
+pub record IsWorkerAt (test : Test) (program : Program) (call : LoopCall) (words : List ℕ) (bounds : List ℕ)
+    (board : BoardId) (w : WorkerOf) : Type 0 where
   pub worker : IsWorkerOf test program call words bounds w
   pub at_board : w.seat.board ≡ board
 
 -- seats and blocks are those of n whole workers at this board
-pub record AreOfWorkers (test : Test) (program : Program) (call : LoopCall) (words : List ℕ) (bounds : List ℕ) (board : BoardId) (number : ℕ) (seats : List SeatRecord) (blocks : List BlockOf) : Type 0 where
+pub record AreOfWorkers (test : Test) (program : Program) (call : LoopCall) (words : List ℕ) (bounds : List ℕ)
+    (board : BoardId) (number : ℕ) (seats : List SeatRecord) (blocks : List BlockOf) : Type 0 where
   pub workers : List WorkerOf
   pub are : AllByRecursion (IsWorkerAt test program call words bounds board) workers
   pub count : length workers ≡ number

@@ -14,6 +14,7 @@ ghost use Rattle.spec_run_loop.specs.Decisions.{IsDecision};
 use crate::committing::left_words;
 use crate::decision::{Decision, LoopAnswer};
 use crate::error::RunError;
+use crate::law_of_workers;
 use crate::worker::{is_long, run_alone, run_workers};
 use array_maps::Maps;
 use bpf_step::LoopCall;
@@ -25,7 +26,6 @@ use loop_core_gather::{GatherError, Gathered, LoopOutcome, gather};
 use loop_core_model::{Test, Verdict};
 use loop_core_sequential::in_order;
 use loop_core_split::{Gate, Split};
-use crate::law_of_workers;
 use std::alloc::{AllocError, Global};
 use std::thread::Threads;
 
@@ -50,7 +50,8 @@ fn gather_all<'a>(
     requires sizes { start.now.sizes ≡ program.now.sizes }
     requires split { split_fault split.now call.now.n ≡ None }
     requires ran { All (λ b. RecordsRun test program.now call.now start.now.words (shown b)) blocks.items }
-    requires faultless { gather_fault split.now (all_gathered program.now call.now start.now.words (map shown blocks.items)) ≡ None }
+    requires faultless { gather_fault split.now (all_gathered program.now call.now start.now.words
+        (map shown blocks.items)) ≡ None }
     ensures { IfOk result (HasOutcome test program.now call.now start.now.words) }
 {
     match gather(alloc, program, call, start, split, blocks, test) {
@@ -183,7 +184,8 @@ fn run_split<R: Threads + Sync, G: Gate>(
     }
 }
 
-/// How many even blocks a loop is run over, of at most this many. Where the gate holds nobody, only those that are worth what
+/// How many even blocks a loop is run over, of at most this many. Where the gate holds nobody, only those that are
+/// worth what
 /// each of them costs, which keeps marks of all elements: one of a short loop; of a longer one as many as there are
 /// workers, or one for as many iterations as there are elements.
 fn worthwhile_blocks<G: Gate>(
@@ -210,7 +212,8 @@ fn worthwhile_blocks<G: Gate>(
 }
 
 /// Runs a loop call that main of this program made, as `run_loop` does, by 1 to 16 workers over at most n even
-/// blocks, 1 to 64: on these maps themselves, which are of the program's sizes, and change only where it gives an answer.
+/// blocks, 1 to 64: on these maps themselves, which are of the program's sizes, and change only where it gives an
+/// answer.
 #[tactic(auto, using(crate::proofs::EvenLaws::even_is, crate::proofs::EvenLaws::even_plan))]
 pub fn run_loop_evenly<R: Threads + Sync, G: Gate>(
     rt: &R,
@@ -239,7 +242,8 @@ pub fn run_loop_evenly<R: Threads + Sync, G: Gate>(
     run_split(rt, alloc, program, call, maps, &even, workers, gate, test)
 }
 
-/// Runs a loop whose plan is within its limits: over this split where the gate may hold somebody, and else over even blocks.
+/// Runs a loop whose plan is within its limits: over this split where the gate may hold somebody, and else over even
+/// blocks.
 fn run_planned<R: Threads + Sync, G: Gate>(
     rt: &R,
     alloc: Global,
@@ -285,7 +289,8 @@ pub fn run_loop<R: Threads + Sync, G: Gate>(
     requires { OverApproximatesCall program.now call.now }
     ensures outcome { IfOk result (λ o. IsOutcome test program.now call.now start.now o.verdict o.answer o.maps) }
     ensures sizes { (result ≡ Err RunError.Sizes) ↔ (start.now.sizes ≢ program.now.sizes) }
-    ensures plan { (result ≡ Err RunError.Plan) ↔ ((start.now.sizes ≡ program.now.sizes) × (¬ IsLoopPlan workers split.now call.now.n)) }
+    ensures plan { (result ≡ Err RunError.Plan) ↔ ((start.now.sizes ≡ program.now.sizes)
+        × (¬ IsLoopPlan workers split.now call.now.n)) }
 {
     if start.sizes() != program.sizes() {
         return Err(RunError::Sizes);

@@ -14,6 +14,7 @@ ghost use Rattle.loop_core_block.specs.Shown.{shown};
 ghost use Rattle.loop_core_gather.specs.Gathered.{all_gathered};
 ghost use Rattle.spec_run_loop.specs.Workers.{board_worker, IsWorkerAt, AreOfWorkers};
 
+use crate::working::work;
 use array_maps::Maps;
 use bpf_step::LoopCall;
 use bpf_verify::Verified;
@@ -21,7 +22,6 @@ use loop_board::{Board, BoardSeat};
 use loop_core_block::{Block, run_block};
 use loop_core_model::Test;
 use loop_core_split::{Gate, Split};
-use crate::working::work;
 use std::alloc::{AllocError, Global};
 use std::thread;
 use std::thread::Threads;
@@ -53,7 +53,8 @@ fn one_worker<'a, G: Gate>(
     requires split { split_fault split.now call.now.n ≡ None }
     requires seat { seat ≡ new_seat board.now }
     requires blocks { board.now.blocks ≡ blocks_of split.now }
-    ensures { IfOk result (λ w. IsWorkerAt test program.now call.now start.now.words split.now board.now (board_worker w)) }
+    ensures { IfOk result (λ w. IsWorkerAt test program.now call.now start.now.words split.now board.now
+        (board_worker w)) }
 {
     let mut seat = seat;
     let blocks = work(
@@ -81,11 +82,16 @@ fn in_threads<'a, R: Threads + Sync, G: Gate>(
     requires seats { All (λ s. s ≡ new_seat board.now) seats.items }
     requires blocks { board.now.blocks ≡ blocks_of split.now }
     ensures len { IfOk result (λ done. vec_len done ≡ vec_len seats) }
-    ensures each { IfOk result (λ done. All (λ r. IfOk r (λ w. IsWorkerAt test program.now call.now start.now.words split.now board.now (board_worker w))) done.items) }
+    ensures each { IfOk result
+        (λ done. All (λ r. IfOk r (λ w. IsWorkerAt test program.now call.now start.now.words split.now board.now
+        (board_worker w))) done.items) }
 {
     let one = |seat: BoardSeat| -> Result<Worker, AllocError>
-        requires { OverApproximatesCall program.now call.now × (start.now.sizes ≡ program.now.sizes) × (split_fault split.now call.now.n ≡ None) × (seat ≡ new_seat board.now) × (board.now.blocks ≡ blocks_of split.now) }
-        ensures { IfOk result (λ w. IsWorkerAt test program.entry.now call.entry.now start.entry.now.words split.entry.now board.entry.now (board_worker w)) }
+        requires { OverApproximatesCall program.now call.now × (start.now.sizes ≡ program.now.sizes)
+            × (split_fault split.now call.now.n ≡ None) × (seat ≡ new_seat board.now)
+            × (board.now.blocks ≡ blocks_of split.now) }
+        ensures { IfOk result (λ w. IsWorkerAt test program.entry.now call.entry.now start.entry.now.words
+            split.entry.now board.entry.now (board_worker w)) }
     { one_worker(alloc, program, call, start, split, board, seat, gate, test) };
     thread::map_vec(rt, seats, &one)
 }
@@ -95,7 +101,8 @@ fn seats_and_blocks<'a>(
     alloc: Global,
     mut done: Vec<Result<Worker<'a>, AllocError>>,
 ) -> Result<(Vec<BoardSeat>, Vec<Block<'a>>), AllocError>
-    ensures { IfOk result (λ parts. (test : Test) (program : Program) (call : Call) (words bounds : List ℕ) (board : BoardId) →
+    ensures { IfOk result (λ parts. (test : Test) (program : Program) (call : Call) (words bounds : List ℕ)
+        (board : BoardId) →
         All (λ r. IfOk r (λ w. IsWorkerAt test program call words bounds board (board_worker w))) done.entry.items →
         AreOfWorkers test program call words bounds board (vec_len done.entry) parts.0.items (map shown parts.1.items)) }
 {
@@ -136,8 +143,10 @@ pub(crate) fn run_alone<'a, G: Gate>(
     requires sizes { start.now.sizes ≡ program.now.sizes }
     requires split { split_fault split.now call.now.n ≡ None }
     requires alone { blocks_of split.now ≡ 1 }
-    ensures ran { IfOk result (λ blocks. All (λ b. RecordsRun test program.now call.now start.now.words (shown b)) blocks.items) }
-    ensures faultless { IfOk result (λ blocks. gather_fault split.now (all_gathered program.now call.now start.now.words (map shown blocks.items)) ≡ None) }
+    ensures ran { IfOk result (λ blocks. All (λ b. RecordsRun test program.now call.now start.now.words (shown b))
+        blocks.items) }
+    ensures faultless { IfOk result (λ blocks. gather_fault split.now (all_gathered program.now call.now start.now.words
+        (map shown blocks.items)) ≡ None) }
 {
     let block = run_block(alloc, program, call, start, split, 0, gate, test)?;
     let mut blocks = Vec::new(alloc);
@@ -164,7 +173,8 @@ pub(crate) fn run_workers<'a, R: Threads + Sync, G: Gate>(
     requires split { split_fault split.now call.now.n ≡ None }
     requires seats { All (λ s. s ≡ new_seat board.now) seats.items }
     requires blocks { board.now.blocks ≡ blocks_of split.now }
-    ensures { IfOk result (λ parts. AreOfWorkers test program.now call.now start.now.words split.now board.now (vec_len seats) parts.0.items (map shown parts.1.items)) }
+    ensures { IfOk result (λ parts. AreOfWorkers test program.now call.now start.now.words split.now board.now
+        (vec_len seats) parts.0.items (map shown parts.1.items)) }
 {
     let done = in_threads(
         rt, alloc, program, call, start, split, board, seats, gate, test,

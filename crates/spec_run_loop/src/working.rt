@@ -38,7 +38,8 @@ fn take<'a, G: Gate>(
     requires split { split_fault split.now call.now.n ≡ None }
     requires board { seat.old.board ≡ board.now }
     requires within { number < blocks_of split.now }
-    ensures took { IfOk result (λ taken. Took test program.now call.now start.now.words split.now number seat.old seat.new (map shown (option_to_list taken))) }
+    ensures took { IfOk result (λ taken. Took test program.now call.now start.now.words split.now number seat.old
+        seat.new (map shown (option_to_list taken))) }
     ensures not_run { OnErr result (NotRun split.now number seat.old seat.new) }
 {
     if board.look(seat) < split.start(number) {
@@ -76,7 +77,8 @@ pub fn work<'a, G: Gate>(
     requires board { seat.old.board ≡ board.now }
     requires blocks { board.now.blocks ≡ blocks_of split.now }
     ensures worked { IfOk result (λ blocks. Worked split.now seat.old seat.new (map shown blocks.items)) }
-    ensures ran { IfOk result (λ blocks. All (λ b. RecordsRun test program.now call.now start.now.words (shown b)) blocks.items) }
+    ensures ran { IfOk result (λ blocks. All (λ b. RecordsRun test program.now call.now start.now.words (shown b))
+        blocks.items) }
     ensures stopped { OnErr result (WorkerStopped test program.now call.now start.now.words split.now seat.old seat.new) }
 {
     let mut blocks = Vec::new(alloc);

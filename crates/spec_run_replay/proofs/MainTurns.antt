@@ -22,22 +22,28 @@ abbrev pub words_of : MapList → List ℕ
 words_of maps = maps.words
 
 -- a refused call before is one number more
-one_refused : (number : ℕ) (made : LoopMade) → made.call ≡ None → (e : BoundedResult Finished) → mapped (first_of number) (mapped (with_loop made) e) ≡ mapped (first_of (number + 1)) e
+one_refused : (number : ℕ) (made : LoopMade) → made.call ≡ None → (e : BoundedResult Finished)
+    → mapped (first_of number) (mapped (with_loop made) e) ≡ mapped (first_of (number + 1)) e
 one_refused number made refused (Ended f) = rw refused refl
 one_refused number made refused Stuck = refl
 one_refused number made refused Unfinished = refl
 
 -- a valid call is the first, where what comes after it ends
-valid_made : (number : ℕ) (slot : ℕ) (answer : ℤ) (words : List ℕ) (call : LoopCall) (e : BoundedResult Finished) (valid : Option ValidLoop)
-    → mapped (first_of number) (mapped (with_loop (record { slot = slot; answer = answer; words = words; call = Some call })) e) ≡ Ended valid
+valid_made : (number : ℕ) (slot : ℕ) (answer : ℤ) (words : List ℕ) (call : LoopCall) (e : BoundedResult Finished)
+    (valid : Option ValidLoop)
+    → mapped (first_of number)
+    (mapped (with_loop (record { slot = slot; answer = answer; words = words; call = Some call })) e) ≡ Ended valid
     → valid ≡ Some (record { number = number; call = call; words = words })
 valid_made number slot answer words call (Ended f) valid told = cc
 valid_made number slot answer words call Stuck valid told = absurd cc
 valid_made number slot answer words call Unfinished valid told = absurd cc
 
-valid_first : (number : ℕ) (go_on : Machine → List ℕ → BoundedResult Finished) (call : LoopCall) (next : Machine) (words : List ℕ) (e : BoundedResult Looped) (valid : Option ValidLoop)
-    → mapped (first_of number) (followed (after_loop go_on call next words) e) ≡ Ended valid → valid ≡ Some (record { number = number; call = call; words = words })
-valid_first number go_on call next words (Ended l) valid told = valid_made number call.slot _ words call (go_on _ l.words) valid told
+valid_first : (number : ℕ) (go_on : Machine → List ℕ → BoundedResult Finished) (call : LoopCall) (next : Machine)
+    (words : List ℕ) (e : BoundedResult Looped) (valid : Option ValidLoop)
+    → mapped (first_of number) (followed (after_loop go_on call next words) e) ≡ Ended valid
+    → valid ≡ Some (record { number = number; call = call; words = words })
+valid_first number go_on call next words (Ended l) valid told =
+    valid_made number call.slot _ words call (go_on _ l.words) valid told
 valid_first number go_on call next words Stuck valid told = absurd cc
 valid_first number go_on call next words Unfinished valid told = absurd cc
 
@@ -46,29 +52,34 @@ pub record IsTold (program : Program) (argument : ℕ) (words : List ℕ) : Type
   pub valid : Option ValidLoop
   pub told : first_loop program 4096 argument words ≡ Ended valid
 
-told_of : (program : Program) (argument : ℕ) (words : List ℕ) (e : BoundedResult Finished) → program_in_order program 4096 argument words ≡ e → ProgramEnds program e → IsTold program argument words
+told_of : (program : Program) (argument : ℕ) (words : List ℕ) (e : BoundedResult Finished)
+    → program_in_order program 4096 argument words ≡ e → ProgramEnds program e → IsTold program argument words
 told_of program argument words (Ended f) is ends = record { valid = first_of 0 f; told = ap (mapped (first_of 0)) is }
 told_of program argument words Stuck is ends = absurd ends
 told_of program argument words Unfinished is ends = absurd ends
 
-pub is_told : EachProgramEnds → (program : Program) → IsSoundProgram program → (argument : ℕ) → argument < 2 ^ 64 → (words : List ℕ) → AreMapWords program words → IsTold program argument words
+pub is_told : EachProgramEnds → (program : Program) → IsSoundProgram program → (argument : ℕ) → argument < 2 ^ 64
+    → (words : List ℕ) → AreMapWords program words → IsTold program argument words
 is_told laws program sound argument small words fit =
     told_of program argument words (program_in_order program 4096 argument words) refl
     (laws.programs program sound 4096 (few_slots program sound.accepted) argument small words fit)
 
 -- before a turn the program's first valid loop call is the first that main still makes, numbered from here
-pub record StillSeeks (program : Program) (argument : ℕ) (main : MainOf) (first now : MapList) (number : ℕ) : Type 0 where
-  pub same : main.program ≡ program
-  pub m : Machine
-  pub at : IsAt main m
-  pub turns : ℕ
-  pub enough : most_from program main.slot ≤ turns
-  pub few : number + most_from program main.slot ≤ 4096
-  pub rest : first_loop program 4096 argument first.words ≡ mapped (first_of number) (main_from program 4096 turns m now.words)
-  pub fit : AreMapWords program now.words
-  pub sizes : now.sizes ≡ program.sizes
+pub record StillSeeks (program : Program) (argument : ℕ) (main : MainOf) (first now : MapList) (number : ℕ) : Type 0
+  where
+    pub same : main.program ≡ program
+    pub m : Machine
+    pub at : IsAt main m
+    pub turns : ℕ
+    pub enough : most_from program main.slot ≤ turns
+    pub few : number + most_from program main.slot ≤ 4096
+    pub rest : first_loop program 4096 argument first.words ≡ mapped (first_of number) (main_from program 4096 turns m
+        now.words)
+    pub fit : AreMapWords program now.words
+    pub sizes : now.sizes ≡ program.sizes
 
-pub starts : (program : Program) (argument : ℕ) (main : MainOf) (maps : MapList) → IsSoundProgram program → main.program ≡ program → IsAt main (main_entry argument)
+pub starts : (program : Program) (argument : ℕ) (main : MainOf) (maps : MapList) → IsSoundProgram program
+    → main.program ≡ program → IsAt main (main_entry argument)
     → AreMapWords program maps.words → maps.sizes ≡ program.sizes → StillSeeks program argument main maps maps 0
 unfolding program_in_order
 starts program argument main maps sound same at fit sizes = record {
@@ -84,7 +95,8 @@ starts program argument main maps sound same at fit sizes = record {
 }
 
 -- after a turn
-record Came (program : Program) (argument : ℕ) (slot : ℕ) (first : MapList) (turn : StopReason) (words : List ℕ) (number : ℕ) : Type 0 where
+record Came (program : Program) (argument : ℕ) (slot : ℕ) (first : MapList) (turn : StopReason) (words : List ℕ)
+    (number : ℕ) : Type 0 where
   turns : ℕ
   few : most_after program turn ≤ turns
   fewer : most_after program turn < most_from program slot
@@ -99,8 +111,15 @@ record IsLoop (main : MainOf) (turn : StopReason) (call : LoopCall) : Type 0 whe
   filled : IsFilled main.program made call
   known : OverApproximatesCall main.program call
 
-is_loop : (main : MainOf) (turn : StopReason) (call : LoopCall) → StopsAs main turn (turned.Loop call) → IsLoop main turn call
-is_loop main (Loop made next) call turns = record { made = made; next = next; turn_is = refl; filled = turns.0; known = turns.1 }
+is_loop : (main : MainOf) (turn : StopReason) (call : LoopCall) → StopsAs main turn (turned.Loop call)
+    → IsLoop main turn call
+is_loop main (Loop made next) call turns = record {
+  made = made;
+  next = next;
+  turn_is = refl;
+  filled = turns.0;
+  known = turns.1;
+}
 is_loop main (Exit ret) call turns = absurd turns
 is_loop main (Refused slot answer next) call turns = absurd turns
 
@@ -112,8 +131,15 @@ record IsRefused (main : MainOf) (turn : StopReason) : Type 0 where
   turn_is : turn ≡ Refused slot answer next
   at : IsAt main next
 
-is_refused : (main : MainOf) (turn : StopReason) (slot : ℕ) (answer : ℤ) → StopsAs main turn (turned.Refused slot answer) → IsRefused main turn
-is_refused main (Refused slot answer next) at told turns = record { slot = slot; answer = answer; next = next; turn_is = refl; at = turns.2 }
+is_refused : (main : MainOf) (turn : StopReason) (slot : ℕ) (answer : ℤ)
+    → StopsAs main turn (turned.Refused slot answer) → IsRefused main turn
+is_refused main (Refused slot answer next) at told turns = record {
+  slot = slot;
+  answer = answer;
+  next = next;
+  turn_is = refl;
+  at = turns.2;
+}
 is_refused main (Loop made next) at told turns = absurd turns
 is_refused main (Exit ret) at told turns = absurd turns
 
@@ -129,9 +155,11 @@ is_end main (Refused slot answer next) n turns = absurd turns
 
 module _ (program : Program) (argument : ℕ) (main after : MainOf) (first now : MapList) (number : ℕ)
     (still : StillSeeks program argument main first now number) (same : after.program ≡ main.program) where
-  came_with : (m : Machine) (turns : ℕ) (s : RunSegment) → m.slot ≡ main.slot → most_from program m.slot ≤ turns → run program 4096 m now.words ≡ Ended s
+  came_with : (m : Machine) (turns : ℕ) (s : RunSegment) → m.slot ≡ main.slot → most_from program m.slot ≤ turns
+      → run program 4096 m now.words ≡ Ended s
       → (0 < s.steps) × (s.steps + most_after program s.turn ≤ most_from program m.slot)
-      → first_loop program 4096 argument first.words ≡ mapped (first_of number) (main_from program 4096 turns m now.words)
+      → first_loop program 4096 argument first.words ≡ mapped (first_of number) (main_from program 4096 turns m
+      now.words)
       → Came program argument main.slot first s.turn s.words number
   came_with m zero s slot enough told few rest =
       let some = few.0 in
@@ -144,43 +172,56 @@ module _ (program : Program) (argument : ℕ) (main after : MainOf) (first now :
         turns = turns;
         few = omega (arith, some, most, enough);
         fewer = subst (λ (at : ℕ). most_after program s.turn < most_from program at) slot (omega (arith, some, most));
-        rest = rest ∙ ap (λ (e : BoundedResult RunSegment). mapped (first_of number) (followed (after_segment program 4096 (main_from program 4096 turns)) e)) told;
+        rest = rest ∙ ap (λ (e : BoundedResult RunSegment). mapped (first_of number)
+            (followed (after_segment program 4096 (main_from program 4096 turns)) e)) told;
       }
 
-  came : (new : MapList) (turn : Turned) → (ran : RanMain words_of map_effect still.m now turn after new) → Came program argument main.slot first ran.stretch.turn new.words number
+  came : (new : MapList) (turn : Turned) → (ran : RanMain words_of map_effect still.m now turn after new)
+      → Came program argument main.slot first ran.stretch.turn new.words number
   came new turn ran =
       let is = same ∙ still.same in
       let told = subst (λ (p : Program). run p 4096 still.m now.words ≡ Ended ran.stretch) is ran.told in
       let slot = still.at.stands.slot in
-      let few = subst (λ (p : Program). ran.stretch.steps + most_after p ran.stretch.turn ≤ most_from p still.m.slot) is ran.few in
-      subst (λ (words : List ℕ). Came program argument main.slot first ran.stretch.turn words number) (sym ran.words_are)
-      (came_with still.m still.turns ran.stretch (sym slot) (subst (λ (at : ℕ). most_from program at ≤ still.turns) slot still.enough) told (ran.moves, few) still.rest)
+      let few = subst (λ (p : Program). ran.stretch.steps + most_after p ran.stretch.turn ≤ most_from p still.m.slot) is
+      ran.few in
+      subst (λ (words : List ℕ). Came program argument main.slot first ran.stretch.turn words number)
+      (sym ran.words_are)
+      (came_with still.m still.turns ran.stretch (sym slot) (subst (λ (at : ℕ). most_from program at ≤ still.turns) slot
+      still.enough) told (ran.moves, few) still.rest)
 
-  fits : (new : MapList) (turn : Turned) → (ran : RanMain words_of map_effect still.m now turn after new) → AreMapWords program new.words
-  fits new turn ran = subst (λ (ws : List ℕ). AreMapWords program ws) (sym ran.words_are) (subst (λ (p : Program). AreMapWords p ran.stretch.words) (same ∙ still.same) ran.fit)
+  fits : (new : MapList) (turn : Turned) → (ran : RanMain words_of map_effect still.m now turn after new)
+      → AreMapWords program new.words
+  fits new turn ran = subst (λ (ws : List ℕ). AreMapWords program ws) (sym ran.words_are)
+      (subst (λ (p : Program). AreMapWords p ran.stretch.words) (same ∙ still.same) ran.fit)
 
-  sized : (new : MapList) (turn : Turned) → (ran : RanMain words_of map_effect still.m now turn after new) → new.sizes ≡ program.sizes
+  sized : (new : MapList) (turn : Turned) → (ran : RanMain words_of map_effect still.m now turn after new)
+      → new.sizes ≡ program.sizes
   sized new turn ran = sizes_kept now new ran.stretch.accesses ran.effects ∙ still.sizes
 
   -- main ends without a valid loop call
-  pub ends_without : (new : MapList) (ret : ℕ) → RanMain words_of map_effect still.m now (turned.Exit ret) after new → CameToLoop program argument first new None
+  pub ends_without : (new : MapList) (ret : ℕ) → RanMain words_of map_effect still.m now (turned.Exit ret) after new
+      → CameToLoop program argument first new None
   ends_without new ret ran =
       let came = came new (turned.Exit ret) ran in
       let this = is_end after ran.stretch.turn ret ran.turns in
       record {
         valid = None;
-        told = came.rest ∙ ap (λ (t : StopReason). mapped (first_of number) (after_stop program 4096 (main_from program 4096 came.turns) t new.words)) this.turn_is;
+        told = came.rest ∙ ap (λ (t : StopReason). mapped (first_of number)
+            (after_stop program 4096 (main_from program 4096 came.turns) t new.words)) this.turn_is;
         is = tt;
       }
 
   -- a call was refused, and main goes on
-  pub refuses : (new : MapList) (slot : ℕ) (answer : ℤ) → RanMain words_of map_effect still.m now (turned.Refused slot answer) after new
-      → StillSeeks program argument after first new (number + 1) × (most_from program after.slot < most_from program main.slot)
+  pub refuses : (new : MapList) (slot : ℕ) (answer : ℤ) → RanMain words_of map_effect still.m now
+      (turned.Refused slot answer) after new
+      → StillSeeks program argument after first new (number + 1)
+      × (most_from program after.slot < most_from program main.slot)
   refuses new slot answer ran =
       let came = came new (turned.Refused slot answer) ran in
       let this = is_refused after ran.stretch.turn slot answer ran.turns in
       let turns = subst (λ (t : StopReason). most_after program t ≤ came.turns) this.turn_is came.few in
-      let fewer = subst (λ (t : StopReason). most_after program t < most_from program main.slot) this.turn_is came.fewer in
+      let fewer = subst (λ (t : StopReason). most_after program t < most_from program main.slot) this.turn_is came.fewer
+      in
       let few = still.few in
       let slot_is = sym this.at.stands.slot in
       let made : LoopMade = record { slot = this.slot; answer = this.answer; words = new.words; call = None } in (
@@ -192,7 +233,8 @@ module _ (program : Program) (argument : ℕ) (main after : MainOf) (first now :
           enough = subst (λ (at : ℕ). most_from program at ≤ came.turns) slot_is turns;
           few = subst (λ (at : ℕ). number + 1 + most_from program at ≤ 4096) slot_is (omega (arith, fewer, few));
           rest = came.rest
-              ∙ ap (λ (t : StopReason). mapped (first_of number) (after_stop program 4096 (main_from program 4096 came.turns) t new.words)) this.turn_is
+              ∙ ap (λ (t : StopReason). mapped (first_of number)
+              (after_stop program 4096 (main_from program 4096 came.turns) t new.words)) this.turn_is
               ∙ one_refused number made refl (main_from program 4096 came.turns this.next new.words);
           fit = fits new (turned.Refused slot answer) ran;
           sizes = sized new (turned.Refused slot answer) ran;
@@ -201,20 +243,26 @@ module _ (program : Program) (argument : ℕ) (main after : MainOf) (first now :
       )
 
   -- it made its first valid loop call
-  pub calls : IsTold program argument first.words → (new : MapList) (call : LoopCall) → RanMain words_of map_effect still.m now (turned.Loop call) after new
-      → (found : NumberedCall) → found.number ≡ number → found.call ≡ call → CameToLoop program argument first new (Some found)
+  pub calls : IsTold program argument first.words → (new : MapList) (call : LoopCall)
+      → RanMain words_of map_effect still.m now (turned.Loop call) after new
+      → (found : NumberedCall) → found.number ≡ number → found.call ≡ call → CameToLoop program argument first new
+      (Some found)
   calls ends new call ran found is_number is_call =
       let came = came new (turned.Loop call) ran in
       let this = is_loop after ran.stretch.turn call ran.turns in
-      let rest = came.rest ∙ ap (λ (t : StopReason). mapped (first_of number) (after_stop program 4096 (main_from program 4096 came.turns) t new.words)) this.turn_is in
-      let first_is = valid_first number (main_from program 4096 came.turns) this.made this.next new.words (loop_in_order program 4096 this.made new.words) ends.valid (sym rest ∙ ends.told) in
+      let rest = came.rest ∙ ap (λ (t : StopReason). mapped (first_of number)
+      (after_stop program 4096 (main_from program 4096 came.turns) t new.words)) this.turn_is in
+      let first_is = valid_first number (main_from program 4096 came.turns) this.made this.next new.words
+      (loop_in_order program 4096 this.made new.words) ends.valid (sym rest ∙ ends.told) in
       record {
         valid = Some (record { number = number; call = this.made; words = new.words });
         told = ends.told ∙ ap Ended first_is;
         is = record {
           number = is_number;
-          filled = subst (λ (c : LoopCall). IsFilled program this.made c) (sym is_call) (subst (λ (p : Program). IsFilled p this.made call) (same ∙ still.same) this.filled);
-          known = subst (λ (c : LoopCall). OverApproximatesCall program c) (sym is_call) (subst (λ (p : Program). OverApproximatesCall p call) (same ∙ still.same) this.known);
+          filled = subst (λ (c : LoopCall). IsFilled program this.made c) (sym is_call)
+              (subst (λ (p : Program). IsFilled p this.made call) (same ∙ still.same) this.filled);
+          known = subst (λ (c : LoopCall). OverApproximatesCall program c) (sym is_call)
+              (subst (λ (p : Program). OverApproximatesCall p call) (same ∙ still.same) this.known);
           words = refl;
           fit = fits new (turned.Loop call) ran;
           sizes = sized new (turned.Loop call) ran;

@@ -24,7 +24,8 @@ IsFirstLoop program maps (Some valid) (Some found) = IsAtCall program maps valid
 IsFirstLoop program maps _ _ = ⊥
 
 -- main ran on the old maps up to there, which are the new ones then
-pub record CameToLoop (program : Program) (argument : ℕ) (old new : MapList) (found : Option NumberedCall) : Type 0 where
-  pub valid : Option ValidLoop
-  pub told : first_loop program 4096 argument old.words ≡ Ended valid
-  pub is : IsFirstLoop program new valid found
+pub record CameToLoop (program : Program) (argument : ℕ) (old new : MapList) (found : Option NumberedCall) : Type 0
+  where
+    pub valid : Option ValidLoop
+    pub told : first_loop program 4096 argument old.words ≡ Ended valid
+    pub is : IsFirstLoop program new valid found

@@ -31,20 +31,24 @@ with_outcome valid o = record {
 }
 
 -- the loop's outcome where the events are a schedule of it
-abbrev pub of_schedule : ValidLoop → Result (BoundedResult Outcome) ReplayFault → Result (BoundedResult LoopReplay) ReplayRefusal
+abbrev pub of_schedule : ValidLoop → Result (BoundedResult Outcome) ReplayFault
+    → Result (BoundedResult LoopReplay) ReplayRefusal
 of_schedule valid (Err fault) = Err (Schedule fault)
 of_schedule valid (Ok outcome) = Ok (mapped (with_outcome valid) outcome)
 
 -- the same where the bounds are a split of it
-abbrev pub of_split : Result (BoundedResult LoopReplay) ReplayRefusal → Option SplitFault → Result (BoundedResult LoopReplay) ReplayRefusal
+abbrev pub of_split : Result (BoundedResult LoopReplay) ReplayRefusal → Option SplitFault
+    → Result (BoundedResult LoopReplay) ReplayRefusal
 of_split scheduled (Some fault) = Err (Split fault)
 of_split scheduled None = scheduled
 
 -- the replay of a program's first valid loop, if it has one: the refusal by its split comes before that by its schedule
-abbrev pub of_loop : Test → Program → ℕ → (bounds : List ℕ) → List Event → Option ValidLoop → Result (BoundedResult LoopReplay) ReplayRefusal
+abbrev pub of_loop : Test → Program → ℕ → (bounds : List ℕ) → List Event → Option ValidLoop
+    → Result (BoundedResult LoopReplay) ReplayRefusal
 of_loop test program bound bounds events None = Err NoLoop
 of_loop test program bound bounds events (Some valid) =
-    of_split (of_schedule valid (replayed test program bound valid.call valid.words bounds events)) (split_fault bounds valid.call.n)
+    of_split (of_schedule valid (replayed test program bound valid.call valid.words bounds events))
+    (split_fault bounds valid.call.n)
 
 -- what ended with a value, or was refused
 abbrev pub ended_or_refused : {A : Type 0} → Result A ReplayRefusal → Result (BoundedResult A) ReplayRefusal
@@ -52,7 +56,8 @@ ended_or_refused (Ok value) = Ok (Ended value)
 ended_or_refused (Err refusal) = Err refusal
 
 -- from these words a program comes to its first valid loop, or to its end, and the replay to this
-pub record ComesTo (test : Test) (program : Program) (argument : ℕ) (words bounds : List ℕ) (events : List Event) (comes : Result LoopReplay ReplayRefusal) : Type 0 where
+pub record ComesTo (test : Test) (program : Program) (argument : ℕ) (words bounds : List ℕ) (events : List Event)
+    (comes : Result LoopReplay ReplayRefusal) : Type 0 where
   pub valid : Option ValidLoop
   pub first : first_loop program 4096 argument words ≡ Ended valid
   pub replays : of_loop test program 4096 bounds events valid ≡ ended_or_refused comes

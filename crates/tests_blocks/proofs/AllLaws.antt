@@ -12,5 +12,6 @@ pub appended : {X : Type 0} (P : X → Type 0) (xs ys zs : List X) → zs ≡ xs
 appended P xs ys zs same first second = All-same P zs (xs ++ ys) same (All-append P xs ys first second)
 
 -- and of the last of results, and of those before it
-pub popped : {A E : Type 0} (Q : A → Type 0) (xs ys : List (Result A E)) (r : Result A E) → xs ≡ ys ++ r ∷ [] → All (λ s. IfOk s Q) xs → All (λ s. IfOk s Q) ys × IfOk r Q
+pub popped : {A E : Type 0} (Q : A → Type 0) (xs ys : List (Result A E)) (r : Result A E) → xs ≡ ys ++ r ∷ []
+    → All (λ s. IfOk s Q) xs → All (λ s. IfOk s Q) ys × IfOk r Q
 popped Q xs ys r same all = All-pop (λ s. IfOk s Q) xs ys (Some r) same all

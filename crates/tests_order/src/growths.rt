@@ -1,4 +1,5 @@
-//! Under `rt try --test --fail-alloc N` each growth is refused in turn: out of memory is then the answer, the maps are as
+//! Under `rt try --test --fail-alloc N` each growth is refused in turn: out of memory is then the answer, the maps are
+//! as
 //! they were, and a second try has the memory.
 
 use crate::rows::ORDER;

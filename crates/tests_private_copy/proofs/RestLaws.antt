@@ -8,4 +8,6 @@ use Rattle.private_copy.proofs.AccessLaws.{shown_length}
 
 -- an element of the start words is one of those that are seen
 pub within_words : (p : Private) (e : ℕ) → e < length (copy_of p).start → e < length (copy_of p).words
-within_words p e inside = let long = shown_length (λ x. seen_word (cell_at p.pages x) p.begun (slice_index p.start.now x)) (length p.start.now) in omega (arith, inside, long)
+within_words p e inside = let long =
+    shown_length (λ x. seen_word (cell_at p.pages x) p.begun (slice_index p.start.now x)) (length p.start.now) in
+    omega (arith, inside, long)

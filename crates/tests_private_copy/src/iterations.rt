@@ -71,7 +71,8 @@ fn run_iteration(
     Some(())
 }
 
-/// Runs iterations from index 0 on, which are parted by semicolons. It is `None` where an access doesn't tell what it should,
+/// Runs iterations from index 0 on, which are parted by semicolons. It is `None` where an access doesn't tell what it
+/// should,
 /// or for want of memory.
 pub fn run_iterations(
     alloc: Global,

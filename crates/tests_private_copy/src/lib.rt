@@ -1,5 +1,7 @@
-//! Tests of what speculative loops remember: the planes and values of worked loops, halves of elements, refused growths,
-//! and lane kernels against a plain reading. They stand in a crate of their own, since a crate with tests is proved twice.
+//! Tests of what speculative loops remember: the planes and values of worked loops, halves of elements, refused
+//! growths,
+//! and lane kernels against a plain reading. They stand in a crate of their own, since a crate with tests is proved
+//! twice.
 #![tactic(auto)]
 
 #[cfg(test)]

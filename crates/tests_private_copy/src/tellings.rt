@@ -72,7 +72,8 @@ fn tell_conflicts(alloc: Global, text: &mut String, planes: &Planes) -> Result<(
     }
 }
 
-/// The last value of each element that has one, with its partial, where it has one; and the pages in order of first access,
+/// The last value of each element that has one, with its partial, where it has one; and the pages in order of first
+/// access,
 /// where there are several.
 fn tell_values(text: &mut String, copy: &Private, elements: u32) -> Result<(), AllocError>
     requires { elements ≤ length (copy_of copy.now).start }

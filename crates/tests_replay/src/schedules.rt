@@ -11,7 +11,8 @@ use std::alloc::{AllocError, Global};
 use std::process::Abort;
 use std::test::Fail;
 
-/// Has workers 0 and 1 go on as the bits of a word say, the lowest first, and tells whether they have ended then. Where one
+/// Has workers 0 and 1 go on as the bits of a word say, the lowest first, and tells whether they have ended then. Where
+/// one
 /// of them should go on that has stopped they haven't.
 pub fn goes_on(
     row: &Row,
@@ -34,7 +35,8 @@ pub fn goes_on(
     Ok(table.has_ended())
 }
 
-/// Replays each list that has ended, asserts what it comes to, and tells how many there are. None is longer than 17 events:
+/// Replays each list that has ended, asserts what it comes to, and tells how many there are. None is longer than 17
+/// events:
 /// three for each of four blocks, a post, and a claim and a stop of each worker.
 fn schedules_agree(rt: &impl Abort, alloc: Global, row: &Row, test: Test) -> Result<u32, Fail> {
     let stage = Stage::try_new(alloc, row).ok_or("a loop")?;

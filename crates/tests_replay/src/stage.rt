@@ -32,7 +32,12 @@ impl Model for Stage {
 
     ghost view = { λ s. record { program = s.program; call = s.call; start = s.maps; bounds = s.split } };
 
-    ghost invariant = { λ s. IsReplayStage (record { program = s.program; call = s.call; start = s.maps; bounds = s.split }) };
+    ghost invariant = { λ s. IsReplayStage (record {
+      program = s.program;
+      call = s.call;
+      start = s.maps;
+      bounds = s.split;
+    }) };
 }
 
 fn program_of(alloc: Global, unit: &str) -> Option<Verified> {

@@ -7,7 +7,8 @@ use Rattle.bpf_step.specs.Mains.{MainOf}
 use Rattle.bpf_step.specs.Turns.{StopsAs}
 
 -- a call that is told is as is known
-pub known_call : (main : MainOf) (turn : StopReason) (call : LoopCall) → StopsAs main turn (turned.Loop call) → OverApproximatesCall main.program call
+pub known_call : (main : MainOf) (turn : StopReason) (call : LoopCall) → StopsAs main turn (turned.Loop call)
+    → OverApproximatesCall main.program call
 known_call main (Loop made next) call turns = turns.1
 known_call main (Exit ret) call turns = absurd turns
 known_call main (Refused slot answer next) call turns = absurd turns

@@ -1,4 +1,5 @@
-//! What `run` answers to programs with long loops, as users run them: without a gate, by workers in threads of their own, and
+//! What `run` answers to programs with long loops, as users run them: without a gate, by workers in threads of their
+//! own, and
 //! committed by several threads. A row is one of `loops`, in which `3..6` stands for 3 4 5, and `3*6` for 6 6 6.
 //!
 //! The answers are worked out by hand, from the loop in order and from what a conflict is.
@@ -46,7 +47,8 @@ const LINES: &str = "
     run --workers 16 --blocks 64
 ";
 
-/// Iterations write elements of their own, in order of the elements and across all pages; add to their own; and write the same
+/// Iterations write elements of their own, in order of the elements and across all pages; add to their own; and write
+/// the same
 /// elements in turn. They reduce one element by each operator, many elements, and both halves; and read main's frame.
 const PASSES: &str = "
     maps 16384 | mov64 r1, 10000 | LOOP | AT | stx64 [r3+0], r1 | END \
@@ -97,7 +99,8 @@ fn long_loops_end_at_their_least_break(rt: HostRuntime) -> Result<(), Fail> {
     are_run(&rt, alloc, LINES, &with_numbers(alloc, BREAKS)?)
 }
 
-/// Iterations read what the one before wrote, and what the first wrote, by which one decides not to break; and one reads what
+/// Iterations read what the one before wrote, and what the first wrote, by which one decides not to break; and one
+/// reads what
 /// all reduce. Of three loops in turn the last conflicts.
 const CONFLICTS: &str = "
     maps 10001 | mov64 r1, 10000 | LOOP | AT | ldx64 r4, [r3+0] | stx64 [r3+8], r4 | END | %% | map 0: 9 10000*0 \

@@ -1,4 +1,5 @@
-//! What `run` answers: the loops of programs, their verdicts, and maps that are those of the program in order. A row has the
+//! What `run` answers: the loops of programs, their verdicts, and maps that are those of the program in order. A row
+//! has the
 //! lines of an input, in which a few words stand for lines; after `=>` are the exit status and the output.
 
 use crate::program::{are_answered, is_answered};
@@ -7,7 +8,8 @@ use std::process::Abort;
 use std::test::Fail;
 use std::thread::Threads;
 
-/// What stands for often used lines: a loop call without ctx after its number of iterations, the address of element r1 in
+/// What stands for often used lines: a loop call without ctx after its number of iterations, the address of element r1
+/// in
 /// r3, and an end with 0.
 const SHORT: &str = "
     LOOP: ldcode r2, cb | mov64 r3, 0 | mov64 r4, 0 | call 181 | exit | cb:
@@ -101,7 +103,8 @@ fn loops_are_those_in_order_by_any_plan(rt: HostRuntime) -> Result<(), Fail> {
     are_run(&rt, rt.alloc(), LINES, LOOPS)
 }
 
-/// Loops whose reads come before the writes of other iterations: in turn, and all before the last. The tests differ on them.
+/// Loops whose reads come before the writes of other iterations: in turn, and all before the last. The tests differ on
+/// them.
 const READ_AHEAD: &str = "
     maps 5 | mov64 r1, 4 | LOOP | AT | ldx64 r4, [r3+8] | stx64 [r3+0], r4 | END | %% | map 0: 1 2 3 4 5 \
         => 0 return 4 | loop 0 at 5: answer 4, FIRST | map 0: 2 3 4 5 5
@@ -161,7 +164,8 @@ fn each_element_is_committed(rt: HostRuntime) -> Result<(), Fail> {
     is_answered(&rt, alloc, "run --blocks 64 --workers 7", &unit, &wanted)
 }
 
-/// The examples of the repository: prefix sums, in which each iteration reads what the one before it wrote, and a histogram.
+/// The examples of the repository: prefix sums, in which each iteration reads what the one before it wrote, and a
+/// histogram.
 const EXAMPLES: &str = "
     maps 8 | mov64 r1, 7 | LOOP | lsh64 r1, 3 | ldmapval r2, 0, 0 | add64 r2, r1 | ldx64 r3, [r2+0] | ldx64 r4, [r2+8] | \
         add64 r4, r3 | stx64 [r2+8], r4 | END | %% | map 0: 3 1 4 1 5 9 2 6 \

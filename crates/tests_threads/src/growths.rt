@@ -1,4 +1,5 @@
-//! Under `rt try --test --fail-alloc N` each growth is refused in turn: the maps are then as they were, and a second try has
+//! Under `rt try --test --fail-alloc N` each growth is refused in turn: the maps are then as they were, and a second
+//! try has
 //! the memory.
 
 use array_maps::Maps;

@@ -1,4 +1,5 @@
-//! What is told of rows, with any number of workers and blocks. A row has a program with its maps, and after `=>` what is
+//! What is told of rows, with any number of workers and blocks. A row has a program with its maps, and after `=>` what
+//! is
 //! told of it.
 
 ghost use Rattle.bpf_verify_sound.specs.Soundness.{OverApproximatesCall};
@@ -26,7 +27,8 @@ const WAYS: [(u32, u32); 9] = [
     (16, 64),
 ];
 
-/// Asserts what is told of a program in each way: without a gate, so in the calling thread where a loop is short, and with
+/// Asserts what is told of a program in each way: without a gate, so in the calling thread where a loop is short, and
+/// with
 /// one, so on threads by the plan as it is.
 fn program_is_told<R: Threads + Sync + Abort>(
     rt: &R,
@@ -201,7 +203,8 @@ fn a_later_write_is_judged_by_the_test(rt: HostRuntime) -> Result<(), Fail> {
     programs_are_told(&rt, rt.alloc(), Test::Lrpd, BY_LRPD)
 }
 
-/// Iterations that write an element each, and add to one: enough elements that several threads commit them. Behind it is
+/// Iterations that write an element each, and add to one: enough elements that several threads commit them. Behind it
+/// is
 /// what is told but for the elements of map 0, which are the numbers below 4096.
 const MANY_ELEMENTS: &str =
     "maps 4096 1 | mov64 r1, 4096 | LOOP | AT | stx64 [r3+0], r1 | ldmapval r5, 1, 0 | atomic64 add [r5+0], r1 | END \

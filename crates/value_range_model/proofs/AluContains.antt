@@ -46,11 +46,13 @@ low32-contains s x c =
     (exact-contains (s.lo % 2 ^ 32)))
     (λ open_. top-contains W32 (x % 2 ^ 32) (mod_below x (2 ^ 32) (omega arith))))
 
-range_at_width-contains : (width : Width) (s : Span) (x : ℕ) → IsSpan (range_at_width width s) → Contains s x → Contains (range_at_width width s) (x % modulus width)
+range_at_width-contains : (width : Width) (s : Span) (x : ℕ) → IsSpan (range_at_width width s) → Contains s x
+    → Contains (range_at_width width s) (x % modulus width)
 range_at_width-contains W32 s x i c = low32-contains s x c
 range_at_width-contains W64 s x i c = subst (λ (n : ℕ). Contains s n) (sym (mod-eq_of_lt (number-word s x i c))) c
 
-pub operand-contains : (operation : Operation) (width : Width) (s : Span) (x : ℕ) → IsSpan (operand operation width s) → Contains s x →
+pub operand-contains : (operation : Operation) (width : Width) (s : Span) (x : ℕ) → IsSpan (operand operation width s)
+    → Contains s x →
     Contains (operand operation width s) (taken_of operation width x)
 operand-contains (Alu op) width s x i c = range_at_width-contains width s x i c
 operand-contains Neg width s x i c = range_at_width-contains width s x i c
@@ -72,16 +74,19 @@ unfolding alu negated moved_signed
 taken-meant (Alu op) width x y =
     λ i. computed width op (mod-mod x (modulus width) i) (mod-mod y (modulus width) i)
 taken-meant Neg width x y = ap (λ (n : ℕ). (modulus width - n) % modulus width) (mod-mod x (modulus width))
-taken-meant (Movsx bits) width x y = ap (λ (n : ℕ). sign_extended (low_modulus bits) (modulus width) n) (low-taken width bits y)
+taken-meant (Movsx bits) width x y = ap (λ (n : ℕ). sign_extended (low_modulus bits) (modulus width) n)
+    (low-taken width bits y)
 taken-meant (Endian order bits) width x y = refl
 
 -- of exact operands the meaning is that of their words
-both-known : (f : ℕ → ℕ → ℕ) (a b : Span) (x y : ℕ) → (is_exact a && is_exact b) ≡ true → Contains a x → Contains b y → f a.lo b.lo ≡ f x y
+both-known : (f : ℕ → ℕ → ℕ) (a b : Span) (x y : ℕ) → (is_exact a && is_exact b) ≡ true → Contains a x → Contains b y
+    → f a.lo b.lo ≡ f x y
 both-known f a b x y known c d =
     let parts = and_parts (is_exact a) (is_exact b) known in
     λ i. f (sym (exact-number a x parts.0 c) i) (sym (exact-number b y parts.1 d) i)
 
-known-alu : (op : AluOp) (width : Width) (a b : Span) (x y : ℕ) → alu_reads_exact op a b ≡ true → Contains a x → Contains b y →
+known-alu : (op : AluOp) (width : Width) (a b : Span) (x y : ℕ) → alu_reads_exact op a b ≡ true → Contains a x
+    → Contains b y →
     alu width op a.lo b.lo ≡ alu width op x y
 unfolding alu
 known-alu Mov width a b x y known c d = ap (λ (n : ℕ). n % modulus width) (sym (exact-number b y known d))
@@ -99,7 +104,8 @@ known-alu Smod width a b x y known c d = both-known (alu width Smod) a b x y kno
 known-alu Xor width a b x y known c d = both-known (alu width Xor) a b x y known c d
 known-alu Arsh width a b x y known c d = both-known (alu width Arsh) a b x y known c d
 
-known-meant : (operation : Operation) (width : Width) (a b : Span) (x y : ℕ) → reads_exact operation a b ≡ true → Contains a x → Contains b y →
+known-meant : (operation : Operation) (width : Width) (a b : Span) (x y : ℕ) → reads_exact operation a b ≡ true
+    → Contains a x → Contains b y →
     meant operation width a.lo b.lo ≡ meant operation width x y
 known-meant (Alu op) width a b x y known c d = known-alu op width a b x y known c d
 known-meant Neg width a b x y known c d = ap (negated width) (sym (exact-number a x known c))
@@ -107,7 +113,8 @@ known-meant (Movsx bits) width a b x y known c d = ap (moved_signed width bits) 
 known-meant (Endian order bits) width a b x y known c d = ap (in_order order bits) (sym (exact-number a x known c))
 
 -- the rows of one operand
-negative-contains : (width : Width) (a : Span) (x : ℕ) → x < modulus width → Contains a x → Contains (negative width a) (negated width x)
+negative-contains : (width : Width) (a : Span) (x : ℕ) → x < modulus width → Contains a x
+    → Contains (negative width a) (negated width x)
 unfolding negative negated
 negative-contains width a x h c =
     let m = modulus width in
@@ -115,7 +122,8 @@ negative-contains width a x h c =
     subst (λ (n : ℕ). Contains (norm 0 (m - 1) a.zeros) (n % m)) e
     (difference-contains width a.zeros 0 x h (zero-multiple a.zeros) c.multiple)
 
-extended_range-contains : (width : Width) (bits : MovsxBits) (b : Span) (y : ℕ) → moved_signed width bits y < modulus width → Contains b y →
+extended_range-contains : (width : Width) (bits : MovsxBits) (b : Span) (y : ℕ) → moved_signed width bits y
+    < modulus width → Contains b y →
     Contains (extended_range width bits b) (moved_signed width bits y)
 unfolding extended_range moved_signed
 extended_range-contains width bits b y fits d =
@@ -125,14 +133,16 @@ extended_range-contains width bits b y fits d =
     (λ e.
     let small : 2 * y < low = omega (arith, ltb-true b.hi (low / 2) e, d.below) in
     let inside : y < low = omega arith in
-    let plain : y ≡ sign_extended low m y = sym (cond-true (nat_lt (2 * y) low) y (y + (m - low)) (lt-ltb (2 * y) low small)) in
+    let plain : y ≡ sign_extended low m y =
+    sym (cond-true (nat_lt (2 * y) low) y (y + (m - low)) (lt-ltb (2 * y) low small)) in
     subst (λ (n : ℕ). Contains b n) (plain ∙ ap (sign_extended low m) (sym (mod-eq_of_lt inside))) d)
     (λ e. top-contains width (sign_extended low m (y % low)) fits)
 
 top_bits-contains : (bits : EndianBits) (n : ℕ) → n < endian_modulus bits → Contains (top_bits bits) n
 top_bits-contains bits n h = record { above = omega arith; below = omega arith; multiple = multiple-zero n }
 
-little-contains : (bits : EndianBits) (a : Span) (x : ℕ) → x % endian_modulus bits < endian_modulus bits → Contains a x →
+little-contains : (bits : EndianBits) (a : Span) (x : ℕ) → x % endian_modulus bits < endian_modulus bits → Contains a x
+    →
     Contains (little bits a) (x % endian_modulus bits)
 unfolding little
 little-contains bits a x fits c =
@@ -143,7 +153,8 @@ little-contains bits a x fits c =
     subst (λ (n : ℕ). Contains a n) (sym (mod-eq_of_lt small)) c)
     (λ e. top_bits-contains bits (x % m) fits)
 
-ordered-contains : (order : ByteOrder) (bits : EndianBits) (a : Span) (x : ℕ) → in_order order bits x < endian_modulus bits → Contains a x →
+ordered-contains : (order : ByteOrder) (bits : EndianBits) (a : Span) (x : ℕ) → in_order order bits x < endian_modulus
+    bits → Contains a x →
     Contains (ordered order bits a) (in_order order bits x)
 unfolding in_order
 ordered-contains Le bits a x fits c = little-contains bits a x fits c
@@ -171,15 +182,18 @@ row-contains fit Neg width a b x y i j c d =
     negative-contains width a (x % modulus width) (mod_below x (modulus width) (modulus-positive width)) c
 row-contains fit (Movsx bits) width a b x y i j c d =
     extended_range-contains width bits b (y % modulus width) (fit.moved_signed_fits width bits (y % modulus width)) d
-row-contains fit (Endian order bits) width a b x y i j c d = ordered-contains order bits a x (fit.in_order_fits order bits x) c
+row-contains fit (Endian order bits) width a b x y i j c d =
+    ordered-contains order bits a x (fit.in_order_fits order bits x) c
 
-of_operands-contains : ResultsFit → (operation : Operation) (width : Width) (a b : Span) (x y : ℕ) → IsSpan a → IsSpan b →
+of_operands-contains : ResultsFit → (operation : Operation) (width : Width) (a b : Span) (x y : ℕ) → IsSpan a → IsSpan b
+    →
     Contains a (taken_of operation width x) → Contains b (taken_of operation width y) →
     Contains (of_operands operation width a b) (meant operation width x y)
 unfolding of_operands
 of_operands-contains fit operation width a b x y i j c d =
     subst (λ (n : ℕ). Contains (of_operands operation width a b) n) (taken-meant operation width x y)
-    (contains_by_test (meant operation width (taken_of operation width x) (taken_of operation width y)) (exact (meant operation width a.lo b.lo))
+    (contains_by_test (meant operation width (taken_of operation width x) (taken_of operation width y))
+    (exact (meant operation width a.lo b.lo))
     (row operation width a b) (reads_exact operation a b)
     (λ known.
     subst (λ (n : ℕ). Contains (exact (meant operation width a.lo b.lo)) n)

@@ -30,7 +30,8 @@ int-lt-opposite (pos a) (negsuc b) = refl
 int-lt-opposite (negsuc a) (pos b) = refl
 int-lt-opposite (negsuc a) (negsuc b) = grind (arith, nat_tests)
 
-pub opposite_says : (compare : Compare) (width : Width) (a b : ℕ) → says (opposite compare) width a b ≡ not (holds width compare a b)
+pub opposite_says : (compare : Compare) (width : Width) (a b : ℕ) → says (opposite compare) width a b
+    ≡ not (holds width compare a b)
 unfolding holds
 opposite_says Eq width a b = refl
 opposite_says Gt width a b = le-opposite (a % modulus width) (b % modulus width)

@@ -35,15 +35,18 @@ pub zero-multiple : (z : ℕ) → 0 % 2 ^ z ≡ 0
 zero-multiple z = mod-eq-zero_of_dvd (2 ^ z) (dvd-zero (2 ^ z))
 
 pub multiple-add : (z a b : ℕ) → a % 2 ^ z ≡ 0 → b % 2 ^ z ≡ 0 → (a + b) % 2 ^ z ≡ 0
-multiple-add z a b h k = mod-eq-zero_of_dvd (2 ^ z) (dvd-add (2 ^ z) (dvd_of_mod-eq-zero (2 ^ z) h) (dvd_of_mod-eq-zero (2 ^ z) k))
+multiple-add z a b h k = mod-eq-zero_of_dvd (2 ^ z) (dvd-add (2 ^ z) (dvd_of_mod-eq-zero (2 ^ z) h)
+    (dvd_of_mod-eq-zero (2 ^ z) k))
 
 pub multiple-sub : (z a b : ℕ) → a % 2 ^ z ≡ 0 → b % 2 ^ z ≡ 0 → (a - b) % 2 ^ z ≡ 0
-multiple-sub z a b h k = mod-eq-zero_of_dvd (2 ^ z) (dvd-sub (2 ^ z) (dvd_of_mod-eq-zero (2 ^ z) h) (dvd_of_mod-eq-zero (2 ^ z) k))
+multiple-sub z a b h k = mod-eq-zero_of_dvd (2 ^ z) (dvd-sub (2 ^ z) (dvd_of_mod-eq-zero (2 ^ z) h)
+    (dvd_of_mod-eq-zero (2 ^ z) k))
 
 pub multiple-mul : (i j a b : ℕ) → a % 2 ^ i ≡ 0 → b % 2 ^ j ≡ 0 → (a * b) % 2 ^ (i + j) ≡ 0
 multiple-mul i j a b h k =
     subst (λ (p : ℕ). (a * b) % p ≡ 0) (sym (pow-add 2 i j))
-    (mod-eq-zero_of_dvd (2 ^ i * 2 ^ j) (mul-dvd-mul (2 ^ i) (2 ^ j) (dvd_of_mod-eq-zero (2 ^ i) h) (dvd_of_mod-eq-zero (2 ^ j) k)))
+    (mod-eq-zero_of_dvd (2 ^ i * 2 ^ j) (mul-dvd-mul (2 ^ i) (2 ^ j) (dvd_of_mod-eq-zero (2 ^ i) h)
+    (dvd_of_mod-eq-zero (2 ^ j) k)))
 
 -- a power is a multiple of itself
 pub pow-multiple : (z : ℕ) → 2 ^ z % 2 ^ z ≡ 0
@@ -66,7 +69,8 @@ unfolding count_trailing_zeros
 trailing-any zero n = multiple-zero n
 trailing-any (suc k) n = go (n % 2) refl (trailing-any k (n / 2))
   where
-    go : (r : ℕ) → n % 2 ≡ r → n / 2 % 2 ^ count_trailing_zeros k (n / 2) ≡ 0 → n % 2 ^ under r (count_trailing_zeros k (n / 2)) ≡ 0
+    go : (r : ℕ) → n % 2 ≡ r → n / 2 % 2 ^ count_trailing_zeros k (n / 2) ≡ 0
+        → n % 2 ^ under r (count_trailing_zeros k (n / 2)) ≡ 0
     go zero even half =
         let t = count_trailing_zeros k (n / 2) in
         let e : t + 1 ≡ suc t = omega arith in

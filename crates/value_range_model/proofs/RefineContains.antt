@@ -18,7 +18,8 @@ use Rattle.value_range_model.specs.RefineLaw.{RefinedContains}
 use Rattle.value_range_model.specs.RefineRows.{Refined, says, within, equal, without, different, greater, not_less, swapped, tested, refine_row, refined}
 
 -- whichever is chosen, by what the test tells
-has_by_test : (x y : ℕ) (p q : Refined) (b : Bool) → (b ≡ true → RefinedContains p x y) → (b ≡ false → RefinedContains q x y) → RefinedContains (if b then p else q) x y
+has_by_test : (x y : ℕ) (p q : Refined) (b : Bool) → (b ≡ true → RefinedContains p x y)
+    → (b ≡ false → RefinedContains q x y) → RefinedContains (if b then p else q) x y
 has_by_test x y p q true h k = h refl
 has_by_test x y p q false h k = k refl
 
@@ -60,17 +61,20 @@ without-contains n s y i c other =
     contains_by_test y (norm s.lo (s.hi - 2 ^ z) z) s (s.hi == n)
     (λ e.
     let sooner : y < s.hi = omega (arith, eqb-true s.hi n e, c.below, other) in
-    norm-contains s.lo (s.hi - 2 ^ z) z y c.above (omega (arith, apart z y s.hi c.multiple i.hi_multiple sooner)) c.multiple)
+    norm-contains s.lo (s.hi - 2 ^ z) z y c.above (omega (arith, apart z y s.hi c.multiple i.hi_multiple sooner))
+    c.multiple)
     (λ _. c))
 
 -- the rest of the row, where the first isn't exact
 abbrev second-cut : Span → Span → Refined
 second-cut a b = if is_exact b then Some (without b.lo a, b) else Some (a, b)
 
-different-has : (a b : Span) (x y : ℕ) → IsSpan a → IsSpan b → Contains a x → Contains b y → (x ≡ y → ⊥) → RefinedContains (different a b) x y
+different-has : (a b : Span) (x y : ℕ) → IsSpan a → IsSpan b → Contains a x → Contains b y → (x ≡ y → ⊥)
+    → RefinedContains (different a b) x y
 unfolding different
 different-has a b x y i j c d other =
-    has_by_test x y (if a.lo == b.lo then None else Some (a, b)) (if is_exact a then Some (a, without a.lo b) else second-cut a b)
+    has_by_test x y (if a.lo == b.lo then None else Some (a, b)) (if is_exact a then Some (a, without a.lo b)
+    else second-cut a b)
     (is_exact a && is_exact b)
     (λ known.
     let parts = and_parts (is_exact a) (is_exact b) known in
@@ -89,7 +93,8 @@ different-has a b x y i j c d other =
 greater-has : (a b : Span) (x y : ℕ) → Contains a x → Contains b y → y < x → RefinedContains (greater a b) x y
 unfolding greater
 greater-has a b x y c d more =
-    has_by_test x y None (Some (norm (max a.lo (b.lo + 1)) a.hi a.zeros, norm b.lo (min b.hi (a.hi - 1)) b.zeros)) (nat_le a.hi b.lo)
+    has_by_test x y None (Some (norm (max a.lo (b.lo + 1)) a.hi a.zeros, norm b.lo (min b.hi (a.hi - 1)) b.zeros))
+    (nat_le a.hi b.lo)
     (λ e. omega (arith, leb-true a.hi b.lo e, c.below, d.above))
     (λ _. (
       norm-contains (max a.lo (b.lo + 1)) a.hi a.zeros x (max-le c.above (omega (arith, d.above))) c.below c.multiple,
@@ -100,7 +105,8 @@ greater-has a b x y c d more =
 not_less-has : (a b : Span) (x y : ℕ) → Contains a x → Contains b y → y ≤ x → RefinedContains (not_less a b) x y
 unfolding not_less
 not_less-has a b x y c d more =
-    has_by_test x y None (Some (norm (max a.lo b.lo) a.hi a.zeros, norm b.lo (min b.hi a.hi) b.zeros)) (nat_lt a.hi b.lo)
+    has_by_test x y None (Some (norm (max a.lo b.lo) a.hi a.zeros, norm b.lo (min b.hi a.hi) b.zeros))
+    (nat_lt a.hi b.lo)
     (λ e. omega (arith, ltb-true a.hi b.lo e, c.below, d.above))
     (λ _. (
       norm-contains (max a.lo b.lo) a.hi a.zeros x (max-le c.above (omega (arith, d.above))) c.below c.multiple,
@@ -128,18 +134,21 @@ tested-has condition width a b x y c d met =
     (λ _. (c, d))
 
 -- numbers of the width are compared as they are
-plain : (width : Width) (compare : Compare) (x y : ℕ) → x < modulus width → y < modulus width → holds width compare x y ≡ true →
+plain : (width : Width) (compare : Compare) (x y : ℕ) → x < modulus width → y < modulus width → holds width compare x y
+    ≡ true →
     compared width compare x y ≡ true
 unfolding holds
 plain width compare x y h k met =
     (λ i. compared width compare (sym (mod-eq_of_lt h) i) (sym (mod-eq_of_lt k) i)) ∙ met
 
 -- every row
-row-has : (condition : Condition) (width : Width) (a b : Span) (x y : ℕ) → IsSpan a → IsSpan b → x < modulus width → y < modulus width →
+row-has : (condition : Condition) (width : Width) (a b : Span) (x y : ℕ) → IsSpan a → IsSpan b → x < modulus width
+    → y < modulus width →
     Contains a x → Contains b y → says condition width x y ≡ true → RefinedContains (refine_row condition width a b) x y
 row-has (Holds Eq) width a b x y i j h k c d met =
     let same : x ≡ y = eqb-true x y (plain width Eq x y h k met) in
-    subst (λ (n : ℕ). RefinedContains (equal a b) x n) same (equal-has a b x c (subst (λ (n : ℕ). Contains b n) (sym same) d))
+    subst (λ (n : ℕ). RefinedContains (equal a b) x n) same
+    (equal-has a b x c (subst (λ (n : ℕ). Contains b n) (sym same) d))
 row-has (Holds Ne) width a b x y i j h k c d met =
     different-has a b x y i j c d (eqb-false x y (not-true (x == y) (plain width Ne x y h k met)))
 row-has (Holds Gt) width a b x y i j h k c d met = greater-has a b x y c d (ltb-true y x (plain width Gt x y h k met))
@@ -156,13 +165,15 @@ row-has (Holds Slt) width a b x y i j h k c d met = tested-has (Holds Slt) width
 row-has (Holds Sle) width a b x y i j h k c d met = tested-has (Holds Sle) width a b x y c d met
 
 -- at both widths
-pub refined-has : (condition : Condition) (width : Width) (a b : Span) → IsSpan a → IsSpan b → (x y : ℕ) → Contains a x → Contains b y →
+pub refined-has : (condition : Condition) (width : Width) (a b : Span) → IsSpan a → IsSpan b → (x y : ℕ) → Contains a x
+    → Contains b y →
     says condition width x y ≡ true → RefinedContains (refined condition width a b) x y
 unfolding refined
 refined-has condition W64 a b i j x y c d met =
     row-has condition W64 a b x y i j (number-word a x i c) (number-word b y j d) c d met
 refined-has condition W32 a b i j x y c d met =
-    has_by_test x y (refine_row condition W32 a b) (tested condition W32 a b) (nat_lt a.hi (2 ^ 32) && nat_lt b.hi (2 ^ 32))
+    has_by_test x y (refine_row condition W32 a b) (tested condition W32 a b) (nat_lt a.hi (2 ^ 32)
+    && nat_lt b.hi (2 ^ 32))
     (λ e.
     let small = and_parts (nat_lt a.hi (2 ^ 32)) (nat_lt b.hi (2 ^ 32)) e in
     row-has condition W32 a b x y i j (omega (arith, ltb-true a.hi (2 ^ 32) small.0, c.below))
@@ -170,13 +181,17 @@ refined-has condition W32 a b i j x y c d met =
     (λ _. tested-has condition W32 a b x y c d met)
 
 -- so it is where something is left, and nothing is left only where no pair meets the condition
-pub kept : (condition : Condition) (width : Width) (a b : Span) (r : Refined) → r ≡ refined condition width a b → IsSpan a → IsSpan b →
-    IfSome r (λ pair. (x y : ℕ) → Contains a x → Contains b y → says condition width x y ≡ true → Contains pair.0 x × Contains pair.1 y)
+pub kept : (condition : Condition) (width : Width) (a b : Span) (r : Refined) → r ≡ refined condition width a b
+    → IsSpan a → IsSpan b →
+    IfSome r (λ pair. (x y : ℕ) → Contains a x → Contains b y → says condition width x y ≡ true → Contains pair.0 x
+    × Contains pair.1 y)
 kept condition width a b None e i j = tt
 kept condition width a b (Some pair) e i j =
-    λ x y c d met. subst (λ (r : Refined). RefinedContains r x y) (sym e) (refined-has condition width a b i j x y c d met)
+    λ x y c d met. subst (λ (r : Refined). RefinedContains r x y) (sym e) (refined-has condition width a b i j x y c d
+    met)
 
-pub empty : (condition : Condition) (width : Width) (a b : Span) (r : Refined) → r ≡ refined condition width a b → IsSpan a → IsSpan b →
+pub empty : (condition : Condition) (width : Width) (a b : Span) (r : Refined) → r ≡ refined condition width a b
+    → IsSpan a → IsSpan b →
     IfNone r ((x y : ℕ) → Contains a x → Contains b y → says condition width x y ≡ false)
 empty condition width a b None e i j =
     λ x y c d.

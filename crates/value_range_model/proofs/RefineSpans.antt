@@ -54,7 +54,8 @@ without-greatest s i several =
     norm-some s.lo (s.hi - 2 ^ s.zeros) s.zeros s.lo (omega arith) (omega (arith, step-word s i several)) i.lo_multiple
 
 -- whichever is chosen, by what the test tells
-are_by_test : (p q : Refined) (b : Bool) → (b ≡ true → AreSpans p) → (b ≡ false → AreSpans q) → AreSpans (if b then p else q)
+are_by_test : (p q : Refined) (b : Bool) → (b ≡ true → AreSpans p) → (b ≡ false → AreSpans q)
+    → AreSpans (if b then p else q)
 are_by_test p q true h k = h refl
 are_by_test p q false h k = k refl
 
@@ -108,12 +109,14 @@ different-spans a b i j =
 greater-spans : (a b : Span) → IsSpan a → IsSpan b → AreSpans (greater a b)
 unfolding greater
 greater-spans a b i j =
-    are_by_test None (Some (norm (max a.lo (b.lo + 1)) a.hi a.zeros, norm b.lo (min b.hi (a.hi - 1)) b.zeros)) (nat_le a.hi b.lo)
+    are_by_test None (Some (norm (max a.lo (b.lo + 1)) a.hi a.zeros, norm b.lo (min b.hi (a.hi - 1)) b.zeros))
+    (nat_le a.hi b.lo)
     (λ _. tt)
     (λ e.
     let more : b.lo < a.hi = leb-false a.hi b.lo e in (
       norm-span (max a.lo (b.lo + 1)) a.hi a.zeros i.bits i.word (greater-first a b.lo i more),
-      norm-span b.lo (min b.hi (a.hi - 1)) b.zeros j.bits (omega (arith, min-le_left b.hi (a.hi - 1), j.word)) (greater-second b a.hi j more),
+      norm-span b.lo (min b.hi (a.hi - 1)) b.zeros j.bits (omega (arith, min-le_left b.hi (a.hi - 1), j.word))
+          (greater-second b a.hi j more),
     ))
 
 not_less-spans : (a b : Span) → IsSpan a → IsSpan b → AreSpans (not_less a b)
@@ -124,19 +127,23 @@ not_less-spans a b i j =
     (λ e.
     let more : b.lo ≤ a.hi = ltb-false a.hi b.lo e in (
       norm-span (max a.lo b.lo) a.hi a.zeros i.bits i.word (not_less-first a b.lo i more),
-      norm-span b.lo (min b.hi a.hi) b.zeros j.bits (omega (arith, min-le_left b.hi a.hi, j.word)) (not_less-second b a.hi j more),
+      norm-span b.lo (min b.hi a.hi) b.zeros j.bits (omega (arith, min-le_left b.hi a.hi, j.word))
+          (not_less-second b a.hi j more),
     ))
 
 swapped-spans : (r : Refined) → AreSpans r → AreSpans (swapped r)
 swapped-spans None h = h
 swapped-spans (Some pair) h = (h.1, h.0)
 
-tested-spans : (condition : Condition) (width : Width) (a b : Span) → IsSpan a → IsSpan b → AreSpans (tested condition width a b)
+tested-spans : (condition : Condition) (width : Width) (a b : Span) → IsSpan a → IsSpan b
+    → AreSpans (tested condition width a b)
 unfolding tested
 tested-spans condition width a b i j =
-    are_by_test None (Some (a, b)) (is_exact a && is_exact b && not (says condition width a.lo b.lo)) (λ _. tt) (λ _. (i, j))
+    are_by_test None (Some (a, b)) (is_exact a && is_exact b && not (says condition width a.lo b.lo)) (λ _. tt)
+    (λ _. (i, j))
 
-row-spans : (condition : Condition) (width : Width) (a b : Span) → IsSpan a → IsSpan b → AreSpans (refine_row condition width a b)
+row-spans : (condition : Condition) (width : Width) (a b : Span) → IsSpan a → IsSpan b
+    → AreSpans (refine_row condition width a b)
 row-spans (Holds Eq) width a b i j = equal-spans a b i j
 row-spans (Holds Ne) width a b i j = different-spans a b i j
 row-spans (Holds Gt) width a b i j = greater-spans a b i j
@@ -150,7 +157,8 @@ row-spans (Holds Sge) width a b i j = tested-spans (Holds Sge) width a b i j
 row-spans (Holds Slt) width a b i j = tested-spans (Holds Slt) width a b i j
 row-spans (Holds Sle) width a b i j = tested-spans (Holds Sle) width a b i j
 
-pub refined-spans : (condition : Condition) (width : Width) (a b : Span) → IsSpan a → IsSpan b → AreSpans (refined condition width a b)
+pub refined-spans : (condition : Condition) (width : Width) (a b : Span) → IsSpan a → IsSpan b
+    → AreSpans (refined condition width a b)
 unfolding refined
 refined-spans condition W64 a b i j = row-spans condition W64 a b i j
 refined-spans condition W32 a b i j =

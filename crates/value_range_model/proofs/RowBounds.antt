@@ -33,12 +33,14 @@ pub sum-between : (a b : Span) (x y : ℕ) → Contains a x → Contains b y →
 sum-between a b x y c d = record {
   above = omega (arith, c.above, d.above);
   below = omega (arith, c.below, d.below);
-  multiple = multiple-add (min a.zeros b.zeros) x y (min-first a.zeros b.zeros x c.multiple) (min-second a.zeros b.zeros y d.multiple);
+  multiple = multiple-add (min a.zeros b.zeros) x y (min-first a.zeros b.zeros x c.multiple)
+      (min-second a.zeros b.zeros y d.multiple);
 }
 
 pub added_some : (a b : Span) → IsSpan a → IsSpan b → rounded_up (min a.zeros b.zeros) (a.lo + b.lo) ≤ a.hi + b.hi
 added_some a b i j =
-    some-between (a.lo + b.lo) (a.hi + b.hi) (min a.zeros b.zeros) (a.lo + b.lo) (sum-between a b a.lo b.lo (lo-in a i) (lo-in b j))
+    some-between (a.lo + b.lo) (a.hi + b.hi) (min a.zeros b.zeros) (a.lo + b.lo) (sum-between a b a.lo b.lo (lo-in a i)
+    (lo-in b j))
 
 -- differences
 pub difference-between : (a b : Span) (x y : ℕ) → Contains a x → Contains b y →
@@ -46,7 +48,8 @@ pub difference-between : (a b : Span) (x y : ℕ) → Contains a x → Contains 
 difference-between a b x y c d = record {
   above = omega (arith, c.above, d.below);
   below = omega (arith, c.below, d.above);
-  multiple = multiple-sub (min a.zeros b.zeros) x y (min-first a.zeros b.zeros x c.multiple) (min-second a.zeros b.zeros y d.multiple);
+  multiple = multiple-sub (min a.zeros b.zeros) x y (min-first a.zeros b.zeros x c.multiple)
+      (min-second a.zeros b.zeros y d.multiple);
 }
 
 pub subtracted_some : (a b : Span) → IsSpan a → IsSpan b → rounded_up (min a.zeros b.zeros) (a.lo - b.hi) ≤ a.hi - b.lo
@@ -63,7 +66,8 @@ product-between a b x y c d = record {
   multiple = min-first (a.zeros + b.zeros) 64 (x * y) (multiple-mul a.zeros b.zeros x y c.multiple d.multiple);
 }
 
-pub multiplied_some : (a b : Span) → IsSpan a → IsSpan b → rounded_up (min (a.zeros + b.zeros) 64) (a.lo * b.lo) ≤ a.hi * b.hi
+pub multiplied_some : (a b : Span) → IsSpan a → IsSpan b → rounded_up (min (a.zeros + b.zeros) 64) (a.lo * b.lo) ≤ a.hi
+    * b.hi
 multiplied_some a b i j =
     some-between (a.lo * b.lo) (a.hi * b.hi) (min (a.zeros + b.zeros) 64) (a.lo * b.lo)
     (product-between a b a.lo b.lo (lo-in a i) (lo-in b j))
@@ -91,11 +95,21 @@ below-filled x y word h =
 pub or-word : (a b : Span) → IsSpan a → IsSpan b → bit_or a.hi b.hi < 2 ^ 64
 or-word a b i j = or_lt 64 a.hi b.hi i.word j.word
 
-first-below : (a b : Span) (x : ℕ) → IsSpan a → IsSpan b → Contains a x → x < 2 ^ (64 - leading_zeros w64 (bit_or a.hi b.hi))
-first-below a b x i j c = below-filled (bit_or a.hi b.hi) x (or-word a b i j) (omega (arith, le_or_l a.hi b.hi, c.below))
+first-below : (a b : Span) (x : ℕ) → IsSpan a → IsSpan b → Contains a x
+    → x < 2 ^ (64 - leading_zeros w64 (bit_or a.hi b.hi))
+first-below a b x i j c = below-filled (bit_or a.hi b.hi) x (or-word a b i j) (omega (
+  arith,
+  le_or_l a.hi b.hi,
+  c.below,
+))
 
-second-below : (a b : Span) (y : ℕ) → IsSpan a → IsSpan b → Contains b y → y < 2 ^ (64 - leading_zeros w64 (bit_or a.hi b.hi))
-second-below a b y i j d = below-filled (bit_or a.hi b.hi) y (or-word a b i j) (omega (arith, le_or_r a.hi b.hi, d.below))
+second-below : (a b : Span) (y : ℕ) → IsSpan a → IsSpan b → Contains b y
+    → y < 2 ^ (64 - leading_zeros w64 (bit_or a.hi b.hi))
+second-below a b y i j d = below-filled (bit_or a.hi b.hi) y (or-word a b i j) (omega (
+  arith,
+  le_or_r a.hi b.hi,
+  d.below,
+))
 
 -- low bits that are clear in both
 or-multiple : (z x y : ℕ) → x % 2 ^ z ≡ 0 → y % 2 ^ z ≡ 0 → bit_or x y % 2 ^ z ≡ 0
@@ -116,10 +130,12 @@ or-between a b x y i j c d =
     record {
       above = max-le (omega (arith, c.above, le_or_l x y)) (omega (arith, d.above, le_or_r x y));
       below = omega (arith, or_lt k x y (first-below a b x i j c) (second-below a b y i j d));
-      multiple = or-multiple (min a.zeros b.zeros) x y (min-first a.zeros b.zeros x c.multiple) (min-second a.zeros b.zeros y d.multiple);
+      multiple = or-multiple (min a.zeros b.zeros) x y (min-first a.zeros b.zeros x c.multiple)
+          (min-second a.zeros b.zeros y d.multiple);
     }
 
-pub with_bits_some : (a b : Span) → IsSpan a → IsSpan b → rounded_up (min a.zeros b.zeros) (max a.lo b.lo) ≤ filled (bit_or a.hi b.hi)
+pub with_bits_some : (a b : Span) → IsSpan a → IsSpan b → rounded_up (min a.zeros b.zeros) (max a.lo b.lo)
+    ≤ filled (bit_or a.hi b.hi)
 with_bits_some a b i j =
     some-between (max a.lo b.lo) (filled (bit_or a.hi b.hi)) (min a.zeros b.zeros) (bit_or a.lo b.lo)
     (or-between a b a.lo b.lo i j (lo-in a i) (lo-in b j))
@@ -133,7 +149,8 @@ xor-between a b x y i j c d =
     record {
       above = omega arith;
       below = omega (arith, xor_lt k x y (first-below a b x i j c) (second-below a b y i j d));
-      multiple = xor-multiple (min a.zeros b.zeros) x y (min-first a.zeros b.zeros x c.multiple) (min-second a.zeros b.zeros y d.multiple);
+      multiple = xor-multiple (min a.zeros b.zeros) x y (min-first a.zeros b.zeros x c.multiple)
+          (min-second a.zeros b.zeros y d.multiple);
     }
 
 -- the bits of both
@@ -159,7 +176,8 @@ and-between a b x y c d = record {
 }
 
 -- shifts to the left
-pub left-between : (a : Span) (s x : ℕ) → Contains a x → Between (a.lo * 2 ^ s) (a.hi * 2 ^ s) (min (a.zeros + s) 64) (x * 2 ^ s)
+pub left-between : (a : Span) (s x : ℕ) → Contains a x → Between (a.lo * 2 ^ s) (a.hi * 2 ^ s) (min (a.zeros + s) 64)
+    (x * 2 ^ s)
 left-between a s x c = record {
   above = mul-le a.lo (2 ^ s) x (2 ^ s) c.above (omega arith);
   below = mul-le x (2 ^ s) a.hi (2 ^ s) c.below (omega arith);
@@ -185,7 +203,8 @@ right-multiple z s x h =
     ∙ zero-div (2 ^ s))
     (cases_lt z s)
 
-pub right-between : (a : Span) (s x : ℕ) → Contains a x → Between (a.lo / 2 ^ s) (a.hi / 2 ^ s) (a.zeros - s) (x / 2 ^ s)
+pub right-between : (a : Span) (s x : ℕ) → Contains a x → Between (a.lo / 2 ^ s) (a.hi / 2 ^ s) (a.zeros - s)
+    (x / 2 ^ s)
 right-between a s x c = record {
   above = div-mono (2 ^ s) a.lo x (pow_pos s) c.above;
   below = div-mono (2 ^ s) x a.hi (pow_pos s) c.below;

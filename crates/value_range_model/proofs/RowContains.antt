@@ -23,7 +23,8 @@ wrapped-multiple W32 z n h = multiple-wrap z 32 n h
 wrapped-multiple W64 z n h = multiple-wrap z 64 n h
 
 -- so it is among all numbers of the width that have them
-pub wrapped-contains : (width : Width) (z n : ℕ) → n % 2 ^ z ≡ 0 → Contains (norm 0 (modulus width - 1) z) (n % modulus width)
+pub wrapped-contains : (width : Width) (z n : ℕ) → n % 2 ^ z ≡ 0 → Contains (norm 0 (modulus width - 1) z)
+    (n % modulus width)
 wrapped-contains width z n h =
     norm-contains 0 (modulus width - 1) z (n % modulus width) (omega arith)
     (omega (arith, mod_below n (modulus width) (modulus-positive width))) (wrapped-multiple width z n h)
@@ -73,9 +74,11 @@ difference-contains width z x y h first second =
     let scaled : m * 2 ^ z % 2 ^ z ≡ 0 =
     coarser z (0 + z) (m * 2 ^ z) (omega arith) (multiple-mul 0 z m (2 ^ z) (multiple-zero m) (pow-multiple z)) in
     subst (λ (n : ℕ). Contains (norm 0 (m - 1) z) n) (wide-difference m (2 ^ z) x y (pow_pos z) (omega arith))
-    (wrapped-contains width z (x + (m * 2 ^ z - y)) (multiple-add z x (m * 2 ^ z - y) first (multiple-sub z (m * 2 ^ z) y scaled second)))
+    (wrapped-contains width z (x + (m * 2 ^ z - y)) (multiple-add z x (m * 2 ^ z - y) first
+    (multiple-sub z (m * 2 ^ z) y scaled second)))
 
-pub subtracted-contains : (width : Width) (a b : Span) (x y : ℕ) → x < modulus width → y < modulus width → Contains a x → Contains b y →
+pub subtracted-contains : (width : Width) (a b : Span) (x y : ℕ) → x < modulus width → y < modulus width → Contains a x
+    → Contains b y →
     Contains (subtracted width a b) ((x + (modulus width - y)) % modulus width)
 unfolding subtracted
 subtracted-contains width a b x y h k c d =
@@ -87,7 +90,8 @@ subtracted-contains width a b x y h k c d =
     (plain-difference m x y h (omega (arith, leb-true b.hi a.lo e, c.above, d.below)))
     (norm-between (a.lo - b.hi) (a.hi - b.lo) z (x - y) (difference-between a b x y c d)))
     (λ e.
-    difference-contains width z x y k (min-first a.zeros b.zeros x c.multiple) (min-second a.zeros b.zeros y d.multiple))
+    difference-contains width z x y k (min-first a.zeros b.zeros x c.multiple)
+    (min-second a.zeros b.zeros y d.multiple))
 
 pub multiplied-contains : (width : Width) (a b : Span) (x y : ℕ) → Contains a x → Contains b y →
     Contains (multiplied width a b) ((x * y) % modulus width)
@@ -131,7 +135,8 @@ at-positive p q y e = sym (cond-false (y == 0) p q (ne_eqb y 0 e))
 pub divided-contains : (a b : Span) (x y : ℕ) → Contains a x → Contains b y → Contains (divided a b) (quotient x y)
 unfolding divided
 divided-contains a b x y c d =
-    contains_by_test (quotient x y) (if b.lo == 0 then exact 0 else norm (a.lo / b.lo) (a.hi / b.lo) 0) (norm 0 a.hi 0) (is_exact b)
+    contains_by_test (quotient x y) (if b.lo == 0 then exact 0 else norm (a.lo / b.lo) (a.hi / b.lo) 0) (norm 0 a.hi 0)
+    (is_exact b)
     (λ known.
     let same : y ≡ b.lo = exact-number b y known d in
     contains_by_test (quotient x y) (exact 0) (norm (a.lo / b.lo) (a.hi / b.lo) 0) (b.lo == 0)
@@ -163,20 +168,25 @@ left_over-contains a b x y c d =
     subst (λ (n : ℕ). Contains a n) (sym (mod-eq_of_lt small) ∙ is_rest) c)
     (λ l.
     subst (λ (n : ℕ). Contains (norm 0 (b.lo - 1) 0) n) is_rest
-    (norm-contains 0 (b.lo - 1) 0 (x % b.lo) (omega arith) (omega (arith, mod_below x b.lo (omega (arith, other)))) (multiple-zero (x % b.lo))))))
+    (norm-contains 0 (b.lo - 1) 0 (x % b.lo) (omega arith) (omega (arith, mod_below x b.lo (omega (arith, other))))
+    (multiple-zero (x % b.lo))))))
     (λ open_. lesser-contains a x (remainder x y) c (remainder-le x y))
 
-pub with_bits-contains : (a b : Span) (x y : ℕ) → IsSpan a → IsSpan b → Contains a x → Contains b y → Contains (with_bits a b) (bit_or x y)
+pub with_bits-contains : (a b : Span) (x y : ℕ) → IsSpan a → IsSpan b → Contains a x → Contains b y
+    → Contains (with_bits a b) (bit_or x y)
 unfolding with_bits
 with_bits-contains a b x y i j c d =
-    norm-between (max a.lo b.lo) (filled (bit_or a.hi b.hi)) (min a.zeros b.zeros) (bit_or x y) (or-between a b x y i j c d)
+    norm-between (max a.lo b.lo) (filled (bit_or a.hi b.hi)) (min a.zeros b.zeros) (bit_or x y)
+    (or-between a b x y i j c d)
 
-pub common_bits-contains : (a b : Span) (x y : ℕ) → Contains a x → Contains b y → Contains (common_bits a b) (bit_and x y)
+pub common_bits-contains : (a b : Span) (x y : ℕ) → Contains a x → Contains b y
+    → Contains (common_bits a b) (bit_and x y)
 unfolding common_bits
 common_bits-contains a b x y c d =
     norm-between 0 (min a.hi b.hi) (max a.zeros b.zeros) (bit_and x y) (and-between a b x y c d)
 
-pub other_bits-contains : (a b : Span) (x y : ℕ) → IsSpan a → IsSpan b → Contains a x → Contains b y → Contains (other_bits a b) (bit_xor x y)
+pub other_bits-contains : (a b : Span) (x y : ℕ) → IsSpan a → IsSpan b → Contains a x → Contains b y
+    → Contains (other_bits a b) (bit_xor x y)
 unfolding other_bits
 other_bits-contains a b x y i j c d =
     norm-between 0 (filled (bit_or a.hi b.hi)) (min a.zeros b.zeros) (bit_xor x y) (xor-between a b x y i j c d)
@@ -199,7 +209,8 @@ pub shifted_left-contains : (width : Width) (a b : Span) (x y : ℕ) → Contain
     Contains (shifted_left width a b) ((x * 2 ^ shift width y) % modulus width)
 unfolding shifted_left
 shifted_left-contains width a b x y c d =
-    contains_by_test ((x * 2 ^ shift width y) % modulus width) (shifted_left_by width a (shift width b.lo)) (norm 0 (modulus width - 1) a.zeros)
+    contains_by_test ((x * 2 ^ shift width y) % modulus width) (shifted_left_by width a (shift width b.lo))
+    (norm 0 (modulus width - 1) a.zeros)
     (is_exact b)
     (λ known.
     subst (λ (n : ℕ). Contains (shifted_left_by width a (shift width b.lo)) ((x * 2 ^ shift width n) % modulus width))
@@ -207,22 +218,26 @@ shifted_left-contains width a b x y c d =
     (λ open_.
     let s = shift width y in
     wrapped-contains width a.zeros (x * 2 ^ s)
-    (coarser a.zeros (a.zeros + s) (x * 2 ^ s) (omega arith) (multiple-mul a.zeros s x (2 ^ s) c.multiple (pow-multiple s))))
+    (coarser a.zeros (a.zeros + s) (x * 2 ^ s) (omega arith) (multiple-mul a.zeros s x (2 ^ s) c.multiple
+    (pow-multiple s))))
 
 pub shifted_right-contains : (width : Width) (a b : Span) (x y : ℕ) → Contains a x → Contains b y →
     Contains (shifted_right width a b) (x / 2 ^ shift width y)
 unfolding shifted_right
 shifted_right-contains width a b x y c d =
     let s = shift width b.lo in
-    contains_by_test (x / 2 ^ shift width y) (norm (a.lo / 2 ^ s) (a.hi / 2 ^ s) (a.zeros - s)) (norm 0 a.hi 0) (is_exact b)
+    contains_by_test (x / 2 ^ shift width y) (norm (a.lo / 2 ^ s) (a.hi / 2 ^ s) (a.zeros - s)) (norm 0 a.hi 0)
+    (is_exact b)
     (λ known.
     subst (λ (n : ℕ). Contains (norm (a.lo / 2 ^ s) (a.hi / 2 ^ s) (a.zeros - s)) (x / 2 ^ shift width n))
     (sym (exact-number b y known d))
     (norm-between (a.lo / 2 ^ s) (a.hi / 2 ^ s) (a.zeros - s) (x / 2 ^ s) (right-between a s x c)))
     (λ open_. lesser-contains a x (x / 2 ^ shift width y) c (shr_le x (shift width y)))
 
-pub shifted_signed-contains : (width : Width) (a b : Span) (x y : ℕ) → arithmetic_shift (modulus width) x (shift width y) < modulus width →
-    Contains a x → Contains b y → Contains (shifted_signed width a b) (arithmetic_shift (modulus width) x (shift width y))
+pub shifted_signed-contains : (width : Width) (a b : Span) (x y : ℕ) → arithmetic_shift (modulus width) x
+    (shift width y) < modulus width →
+    Contains a x → Contains b y → Contains (shifted_signed width a b) (arithmetic_shift (modulus width) x
+    (shift width y))
 unfolding shifted_signed
 shifted_signed-contains width a b x y fits c d =
     let m = modulus width in
@@ -236,8 +251,10 @@ shifted_signed-contains width a b x y fits c d =
     (λ e. top-contains width (arithmetic_shift m x s) fits)
 
 -- every operator
-pub alu_row-contains : (width : Width) (op : AluOp) (a b : Span) (x y : ℕ) → IsSpan a → IsSpan b → x < modulus width → y < modulus width →
-    computed width op x y < modulus width → Contains a x → Contains b y → Contains (alu_row op width a b) (computed width op x y)
+pub alu_row-contains : (width : Width) (op : AluOp) (a b : Span) (x y : ℕ) → IsSpan a → IsSpan b → x < modulus width
+    → y < modulus width →
+    computed width op x y < modulus width → Contains a x → Contains b y
+    → Contains (alu_row op width a b) (computed width op x y)
 alu_row-contains width Add a b x y i j h k fits c d = added-contains width a b x y c d
 alu_row-contains width Sub a b x y i j h k fits c d = subtracted-contains width a b x y h k c d
 alu_row-contains width Mul a b x y i j h k fits c d = multiplied-contains width a b x y c d

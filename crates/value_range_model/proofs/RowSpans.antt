@@ -24,7 +24,8 @@ use Rattle.value_range_model.proofs.RowBounds.{zero_some, added_some, subtracted
 
 -- those with n trailing zeros
 spread-span : (width : Width) (z : ℕ) → z ≤ 64 → IsSpan (norm 0 (modulus width - 1) z)
-spread-span width z few = norm-span 0 (modulus width - 1) z few (omega (arith, modulus-most width)) (zero_some z (modulus width - 1))
+spread-span width z few = norm-span 0 (modulus width - 1) z few (omega (arith, modulus-most width))
+    (zero_some z (modulus width - 1))
 
 -- those from 0 to a word
 below-span : (hi z : ℕ) → z ≤ 64 → hi < 2 ^ 64 → IsSpan (norm 0 hi z)
@@ -37,7 +38,8 @@ added-span : (width : Width) (a b : Span) → IsSpan a → IsSpan b → IsSpan (
 unfolding added
 added-span width a b i j =
     let z = min a.zeros b.zeros in
-    is_by_test (norm (a.lo + b.lo) (a.hi + b.hi) z) (norm 0 (modulus width - 1) z) (nat_lt (a.hi + b.hi) (modulus width))
+    is_by_test (norm (a.lo + b.lo) (a.hi + b.hi) z) (norm 0 (modulus width - 1) z)
+    (nat_lt (a.hi + b.hi) (modulus width))
     (λ e.
     norm-span (a.lo + b.lo) (a.hi + b.hi) z (lesser-few a b i)
     (omega (arith, ltb-true (a.hi + b.hi) (modulus width) e, modulus-most width)) (added_some a b i j))
@@ -56,7 +58,8 @@ unfolding multiplied
 multiplied-span width a b i j =
     let z = min (a.zeros + b.zeros) 64 in
     let few : z ≤ 64 = min-le_right (a.zeros + b.zeros) 64 in
-    is_by_test (norm (a.lo * b.lo) (a.hi * b.hi) z) (norm 0 (modulus width - 1) z) (nat_lt (a.hi * b.hi) (modulus width))
+    is_by_test (norm (a.lo * b.lo) (a.hi * b.hi) z) (norm 0 (modulus width - 1) z)
+    (nat_lt (a.hi * b.hi) (modulus width))
     (λ e.
     norm-span (a.lo * b.lo) (a.hi * b.hi) z few
     (omega (arith, ltb-true (a.hi * b.hi) (modulus width) e, modulus-most width)) (multiplied_some a b i j))
@@ -100,11 +103,16 @@ with_bits-span a b i j =
 common_bits-span : (a b : Span) → IsSpan a → IsSpan b → IsSpan (common_bits a b)
 unfolding common_bits
 common_bits-span a b i j =
-    below-span (min a.hi b.hi) (max a.zeros b.zeros) (max-le i.bits j.bits) (omega (arith, min-le_left a.hi b.hi, i.word))
+    below-span (min a.hi b.hi) (max a.zeros b.zeros) (max-le i.bits j.bits) (omega (
+      arith,
+      min-le_left a.hi b.hi,
+      i.word,
+    ))
 
 other_bits-span : (a b : Span) → IsSpan a → IsSpan b → IsSpan (other_bits a b)
 unfolding other_bits
-other_bits-span a b i j = below-span (filled (bit_or a.hi b.hi)) (min a.zeros b.zeros) (lesser-few a b i) (filled-word a b i j)
+other_bits-span a b i j = below-span (filled (bit_or a.hi b.hi)) (min a.zeros b.zeros) (lesser-few a b i)
+    (filled-word a b i j)
 
 shifted_left-span : (width : Width) (a b : Span) → IsSpan a → IsSpan (shifted_left width a b)
 unfolding shifted_left shifted_left_by
@@ -114,7 +122,8 @@ shifted_left-span width a b i =
     let few : z ≤ 64 = min-le_right (a.zeros + s) 64 in
     is_by_test (shifted_left_by width a s) (norm 0 (modulus width - 1) a.zeros) (is_exact b)
     (λ _.
-    is_by_test (norm (a.lo * 2 ^ s) (a.hi * 2 ^ s) z) (norm 0 (modulus width - 1) z) (nat_lt (a.hi * 2 ^ s) (modulus width))
+    is_by_test (norm (a.lo * 2 ^ s) (a.hi * 2 ^ s) z) (norm 0 (modulus width - 1) z)
+    (nat_lt (a.hi * 2 ^ s) (modulus width))
     (λ e.
     norm-span (a.lo * 2 ^ s) (a.hi * 2 ^ s) z few
     (omega (arith, ltb-true (a.hi * 2 ^ s) (modulus width) e, modulus-most width)) (shifted_left_some a s i))
@@ -154,9 +163,27 @@ alu_row-span Arsh width a b i j = shifted_signed-span width a b i
 alu_row-span Mov width a b i j = j
 
 top_bits-span : (bits : EndianBits) → IsSpan (top_bits bits)
-top_bits-span B16 = record { ordered = omega arith; word = omega arith; bits = omega arith; lo_multiple = refl; hi_multiple = refl }
-top_bits-span B32 = record { ordered = omega arith; word = omega arith; bits = omega arith; lo_multiple = refl; hi_multiple = refl }
-top_bits-span B64 = record { ordered = omega arith; word = omega arith; bits = omega arith; lo_multiple = refl; hi_multiple = refl }
+top_bits-span B16 = record {
+  ordered = omega arith;
+  word = omega arith;
+  bits = omega arith;
+  lo_multiple = refl;
+  hi_multiple = refl;
+}
+top_bits-span B32 = record {
+  ordered = omega arith;
+  word = omega arith;
+  bits = omega arith;
+  lo_multiple = refl;
+  hi_multiple = refl;
+}
+top_bits-span B64 = record {
+  ordered = omega arith;
+  word = omega arith;
+  bits = omega arith;
+  lo_multiple = refl;
+  hi_multiple = refl;
+}
 
 ordered-span : (order : ByteOrder) (bits : EndianBits) (a : Span) → IsSpan a → IsSpan (ordered order bits a)
 unfolding little
@@ -198,11 +225,13 @@ operand-span (Movsx bits) width s i = range_at_width-span width s i
 operand-span (Endian order bits) width s i = i
 
 -- and so is what an operation leaves
-pub span_of-span : ResultsFit → (operation : Operation) (width : Width) (a b : Span) → IsSpan a → IsSpan b → IsSpan (span_of operation width a b)
+pub span_of-span : ResultsFit → (operation : Operation) (width : Width) (a b : Span) → IsSpan a → IsSpan b
+    → IsSpan (span_of operation width a b)
 unfolding of_operands
 span_of-span fit operation width a b i j =
     let first = operand operation width a in
     let second = operand operation width b in
-    is_by_test (exact (meant operation width first.lo second.lo)) (row operation width first second) (reads_exact operation first second)
+    is_by_test (exact (meant operation width first.lo second.lo)) (row operation width first second)
+    (reads_exact operation first second)
     (λ _. exact-span (meant operation width first.lo second.lo) (meant-word fit operation width first.lo second.lo))
     (λ _. row-span operation width first second (operand-span operation width a i) (operand-span operation width b j))

@@ -47,8 +47,20 @@ pub top-contains : (width : Width) (x : ℕ) → x < modulus width → Contains 
 top-contains width x h = record { above = omega arith; below = omega arith; multiple = multiple-zero x }
 
 pub top-span : (width : Width) → IsSpan (top width)
-top-span W32 = record { ordered = omega arith; word = omega arith; bits = omega arith; lo_multiple = refl; hi_multiple = refl }
-top-span W64 = record { ordered = omega arith; word = omega arith; bits = omega arith; lo_multiple = refl; hi_multiple = refl }
+top-span W32 = record {
+  ordered = omega arith;
+  word = omega arith;
+  bits = omega arith;
+  lo_multiple = refl;
+  hi_multiple = refl;
+}
+top-span W64 = record {
+  ordered = omega arith;
+  word = omega arith;
+  bits = omega arith;
+  lo_multiple = refl;
+  hi_multiple = refl;
+}
 
 -- what is between the bounds stays between the rounded bounds
 pub norm-contains : (lo hi z x : ℕ) → lo ≤ x → x ≤ hi → x % 2 ^ z ≡ 0 → Contains (norm lo hi z) x
@@ -63,7 +75,11 @@ norm-contains lo hi z x above below multiple =
     down = down-least z hi x multiple below
 
     go : (b : Bool) → (rounded_up z lo == rounded_down z hi) ≡ b →
-        Contains (if b then exact (rounded_up z lo) else record { lo = rounded_up z lo; hi = rounded_down z hi; zeros = z }) x
+        Contains (if b then exact (rounded_up z lo) else record {
+          lo = rounded_up z lo;
+          hi = rounded_down z hi;
+          zeros = z;
+        }) x
     go true e =
         let same : rounded_up z lo ≡ x = omega (arith, eqb-true (rounded_up z lo) (rounded_down z hi) e, up, down) in
         subst (λ (n : ℕ). Contains (exact (rounded_up z lo)) n) same (exact-contains (rounded_up z lo))
@@ -76,7 +92,11 @@ norm-span lo hi z bits word some =
     go (rounded_up z lo == rounded_down z hi) refl
   where
     go : (b : Bool) → (rounded_up z lo == rounded_down z hi) ≡ b →
-        IsSpan (if b then exact (rounded_up z lo) else record { lo = rounded_up z lo; hi = rounded_down z hi; zeros = z })
+        IsSpan (if b then exact (rounded_up z lo) else record {
+          lo = rounded_up z lo;
+          hi = rounded_down z hi;
+          zeros = z;
+        })
     go true e = exact-span (rounded_up z lo) (omega arith)
     go false e = record {
       ordered = down-least z hi (rounded_up z lo) (up-multiple z lo) some;
@@ -110,22 +130,27 @@ lesser-multiple i j a b x h k e =
     e
 
 pub min-one : (a b : ℕ) → (min a b ≡ a) ⊎ (min a b ≡ b)
-min-one a b = ⊎_elim (λ (l : a < b). inl (min-eq_left (omega arith))) (λ (l : b ≤ a). inr (min-eq_right l)) (cases_lt a b)
+min-one a b = ⊎_elim (λ (l : a < b). inl (min-eq_left (omega arith))) (λ (l : b ≤ a). inr (min-eq_right l))
+    (cases_lt a b)
 
 pub max-one : (a b : ℕ) → (max a b ≡ a) ⊎ (max a b ≡ b)
-max-one a b = ⊎_elim (λ (l : a < b). inr (max-eq_right (omega arith))) (λ (l : b ≤ a). inl (max-eq_left l)) (cases_lt a b)
+max-one a b = ⊎_elim (λ (l : a < b). inr (max-eq_right (omega arith))) (λ (l : b ≤ a). inl (max-eq_left l))
+    (cases_lt a b)
 
 pub join-span : (a b : Span) → IsSpan a → IsSpan b → IsSpan (join a b)
 join-span a b i j = record {
   ordered = omega (arith, min-le_left a.lo b.lo, le-max_left a.hi b.hi, i.ordered);
   word = omega (arith, max-one a.hi b.hi, i.word, j.word);
   bits = omega (arith, min-le_left a.zeros b.zeros, i.bits);
-  lo_multiple = lesser-multiple a.zeros b.zeros a.lo b.lo (min a.lo b.lo) i.lo_multiple j.lo_multiple (min-one a.lo b.lo);
-  hi_multiple = lesser-multiple a.zeros b.zeros a.hi b.hi (max a.hi b.hi) i.hi_multiple j.hi_multiple (max-one a.hi b.hi);
+  lo_multiple = lesser-multiple a.zeros b.zeros a.lo b.lo (min a.lo b.lo) i.lo_multiple j.lo_multiple
+      (min-one a.lo b.lo);
+  hi_multiple = lesser-multiple a.zeros b.zeros a.hi b.hi (max a.hi b.hi) i.hi_multiple j.hi_multiple
+      (max-one a.hi b.hi);
 }
 
 -- rounded bounds, as computed
-pub rounded-span : (lo hi z least greatest : ℕ) → z ≤ 64 → hi < 2 ^ 64 → rounded_up z lo ≤ hi → least ≡ rounded_up z lo →
+pub rounded-span : (lo hi z least greatest : ℕ) → z ≤ 64 → hi < 2 ^ 64 → rounded_up z lo ≤ hi → least ≡ rounded_up z lo
+    →
     greatest ≡ rounded_down z hi → IsSpan (record { lo = least; hi = greatest; zeros = z })
 rounded-span lo hi z least greatest bits word some is_least is_greatest =
     rw (is_least, is_greatest) (record {

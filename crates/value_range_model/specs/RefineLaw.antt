@@ -18,6 +18,8 @@ RefinedContains (Some pair) x y = Contains pair.0 x × Contains pair.1 y
 
 -- a condition leaves spans, and in them each pair of words that meets it
 pub record RefineLaw : Type 0 where
-  pub are_spans : (condition : Condition) (width : Width) (a b : Span) → IsSpan a → IsSpan b → AreSpans (refined condition width a b)
+  pub are_spans : (condition : Condition) (width : Width) (a b : Span) → IsSpan a → IsSpan b
+      → AreSpans (refined condition width a b)
   pub keeps : (condition : Condition) (width : Width) (a b : Span) → IsSpan a → IsSpan b →
-      (x y : ℕ) → Contains a x → Contains b y → says condition width x y ≡ true → RefinedContains (refined condition width a b) x y
+      (x y : ℕ) → Contains a x → Contains b y → says condition width x y ≡ true
+      → RefinedContains (refined condition width a b) x y

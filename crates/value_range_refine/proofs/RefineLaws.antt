@@ -21,7 +21,8 @@ equal-none a b z lo hi h is_z is_lo is_hi is_h empty =
 
 -- what is left of the bounds has a multiple between them
 pub equal-within : (z lo hi h : ℕ) → h ≡ rounded_down z hi → lo ≤ h → rounded_up z lo ≤ h
-equal-within z lo hi h is_h more = up-most z lo h (subst (λ (n : ℕ). n % 2 ^ z ≡ 0) (sym is_h) (down-multiple z hi)) more
+equal-within z lo hi h is_h more = up-most z lo h (subst (λ (n : ℕ). n % 2 ^ z ≡ 0) (sym is_h) (down-multiple z hi))
+    more
 
 pub equal-some : (a b r : Span) (z lo hi h : ℕ) → z ≡ max a.zeros b.zeros → lo ≡ max a.lo b.lo → hi ≡ min a.hi b.hi →
     h ≡ rounded_down z hi → lo ≤ h → r ≡ norm lo h z → Some (r, r) ≡ equal a b

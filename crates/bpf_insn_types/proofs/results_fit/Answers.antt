@@ -50,19 +50,30 @@ computed-fits : (width : Width) (op : AluOp) (a b : ℕ) → a < modulus width �
 computed-fits width Add a b h k = mod_below (a + b) (modulus width) (modulus-positive width)
 computed-fits width Sub a b h k = mod_below (a + (modulus width - b)) (modulus width) (modulus-positive width)
 computed-fits width Mul a b h k = mod_below (a * b) (modulus width) (modulus-positive width)
-computed-fits width Div a b h k = chosen (b == 0) (modulus width) 0 (a / b) (modulus-positive width) (below (modulus width) a (a / b) (div-le_self a b) h)
+computed-fits width Div a b h k = chosen (b == 0) (modulus width) 0 (a / b) (modulus-positive width)
+    (below (modulus width) a (a / b) (div-le_self a b) h)
 computed-fits width Sdiv a b h k =
     let z : ℤ = int_div (signed width a) (signed width b) in
-    let small : unsigned_abs z ≤ half width = omega (arith, div-abs (signed width a) (signed width b), signed-abs width a h) in
-    chosen (b == 0) (modulus width) 0 (cast_unsigned (integers width) z) (modulus-positive width) (cast-fits width z small)
+    let small : unsigned_abs z ≤ half width = omega (
+      arith,
+      div-abs (signed width a) (signed width b),
+      signed-abs width a h,
+    ) in
+    chosen (b == 0) (modulus width) 0 (cast_unsigned (integers width) z) (modulus-positive width)
+    (cast-fits width z small)
 computed-fits width Or a b h k = or-fits width a b h k
 computed-fits width And a b h k = below (modulus width) a _ (and_le_l a b) h
 computed-fits width Lsh a b h k = mod_below (a * 2 ^ shift width b) (modulus width) (modulus-positive width)
 computed-fits width Rsh a b h k = below (modulus width) a _ (div-le_self a (2 ^ shift width b)) h
-computed-fits width Mod a b h k = chosen (b == 0) (modulus width) a (a % b) h (below (modulus width) a (a % b) (rem-le a b) h)
+computed-fits width Mod a b h k =
+    chosen (b == 0) (modulus width) a (a % b) h (below (modulus width) a (a % b) (rem-le a b) h)
 computed-fits width Smod a b h k =
     let z : ℤ = int_rem (signed width a) (signed width b) in
-    let small : unsigned_abs z ≤ half width = omega (arith, rem-abs (signed width a) (signed width b), signed-abs width a h) in
+    let small : unsigned_abs z ≤ half width = omega (
+      arith,
+      rem-abs (signed width a) (signed width b),
+      signed-abs width a h,
+    ) in
     chosen (b == 0) (modulus width) a (cast_unsigned (integers width) z) h (cast-fits width z small)
 computed-fits width Xor a b h k = xor-fits width a b h k
 computed-fits width Mov a b h k = k
@@ -74,7 +85,8 @@ computed-fits width Arsh a b h k =
 alu-fits : (width : Width) (op : AluOp) (a b : ℕ) → alu width op a b < modulus width
 unfolding alu
 alu-fits width op a b =
-    computed-fits width op (a % modulus width) (b % modulus width) (mod_below a (modulus width) (modulus-positive width))
+    computed-fits width op (a % modulus width) (b % modulus width)
+    (mod_below a (modulus width) (modulus-positive width))
     (mod_below b (modulus width) (modulus-positive width))
 
 negated-fits : (width : Width) (a : ℕ) → negated width a < modulus width
@@ -102,7 +114,8 @@ extended m n x h k = chosen (nat_lt (2 * x) m) n x (x + (n - m)) (omega arith) (
 moved-fits : (width : Width) (bits : MovsxBits) (b : ℕ) → moved_signed width bits b < modulus width
 unfolding moved_signed
 moved-fits width bits b =
-    extended (low_modulus bits) (modulus width) (b % low_modulus bits) (mod_below b (low_modulus bits) (low-positive bits))
+    extended (low_modulus bits) (modulus width) (b % low_modulus bits) (mod_below b (low_modulus bits)
+    (low-positive bits))
     (low-most width bits)
 
 low-fits : (bits : EndianBits) (a : ℕ) → a % endian_modulus bits < endian_modulus bits

@@ -9,8 +9,12 @@ use Rattle.bpf_verify_sound.proofs.law_of_steps.Goals as goal
 
 pub returns : goal.returns
 returns c = record {
-  entry = λ program sound argument h. record { sound = entry-sound program argument h; contained = main-contained program argument sound.accepted h };
+  entry = λ program sound argument h. record {
+    sound = entry-sound program argument h;
+    contained = main-contained program argument sound.accepted h;
+  };
   step = step-known c.results_fit.ensures;
   machines = record { main = entry-sound; callbacks = call-sound; steps = step-sound c.results_fit.ensures };
-  states = λ program sound slot. incoming-known c.results_fit.ensures program (accepted-sizes program sound.accepted) sound.fits slot slot;
+  states = λ program sound slot. incoming-known c.results_fit.ensures program (accepted-sizes program sound.accepted)
+      sound.fits slot slot;
 }

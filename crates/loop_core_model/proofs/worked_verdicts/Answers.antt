@@ -14,13 +14,39 @@ use Rattle.loop_core_model.proofs.worked_verdicts.Goals as goal
 
 parallel : (test : Test) → ParallelRows test
 unfolding program_in_order iteration step alu holds combined half_of with_half halves_added
-parallel Lrpd = record { none = refl; one_operator = refl; each_its_own = refl; written_first = refl; least_break = refl; ands = refl }
-parallel Flow = record { none = refl; one_operator = refl; each_its_own = refl; written_first = refl; least_break = refl; ands = refl }
+parallel Lrpd = record {
+  none = refl;
+  one_operator = refl;
+  each_its_own = refl;
+  written_first = refl;
+  least_break = refl;
+  ands = refl;
+}
+parallel Flow = record {
+  none = refl;
+  one_operator = refl;
+  each_its_own = refl;
+  written_first = refl;
+  least_break = refl;
+  ands = refl;
+}
 
 conflict : (test : Test) → ConflictVerdictRows test
 unfolding program_in_order iteration step alu holds combined half_of with_half halves_added
-conflict Lrpd = record { carried_right = refl; two_operators = refl; no_break_in_order = refl; fetched = refl; last_element = refl }
-conflict Flow = record { carried_right = refl; two_operators = refl; no_break_in_order = refl; fetched = refl; last_element = refl }
+conflict Lrpd = record {
+  carried_right = refl;
+  two_operators = refl;
+  no_break_in_order = refl;
+  fetched = refl;
+  last_element = refl;
+}
+conflict Flow = record {
+  carried_right = refl;
+  two_operators = refl;
+  no_break_in_order = refl;
+  fetched = refl;
+  last_element = refl;
+}
 
 ahead_by_lrpd : AheadRows Lrpd (Conflict 3 1) (Conflict 1 0)
 unfolding program_in_order iteration step alu holds combined half_of with_half halves_added
@@ -41,4 +67,11 @@ calls Lrpd = record { refused = refl; two = refl }
 calls Flow = record { refused = refl; two = refl }
 
 pub returns : goal.returns
-returns c = record { parallel = parallel; conflict = conflict; ahead_by_lrpd = ahead_by_lrpd; ahead_by_flow = ahead_by_flow; halves = halves; calls = calls }
+returns c = record {
+  parallel = parallel;
+  conflict = conflict;
+  ahead_by_lrpd = ahead_by_lrpd;
+  ahead_by_flow = ahead_by_flow;
+  halves = halves;
+  calls = calls;
+}

@@ -9,4 +9,5 @@ pub returns-clause-found : goal.returns-clause-found
 returns-clause-found c = if_found c.args.bytes.now c.all.result (λ i. omega (arith, c.type_inv.bytes i)) c.all.ensures
 
 pub returns-clause-only : goal.returns-clause-only
-returns-clause-only c = λ insns fits e. subst (λ r. MatchesUnlessMemory codec_refusal (λ v. v.items) c.all.result r) (reading_again insns c.args.bytes.now fits e) c.all.ensures
+returns-clause-only c = λ insns fits e. subst (λ r. MatchesUnlessMemory codec_refusal (λ v. v.items) c.all.result r)
+    (reading_again insns c.args.bytes.now fits e) c.all.ensures

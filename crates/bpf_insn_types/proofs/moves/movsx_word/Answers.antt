@@ -15,12 +15,14 @@ sign-set low top x h = grind (arith, nat_tests)
 pub returns-then-number-low : goal.returns-then-number-low
 unfolding moved_signed
 returns-then-number-low c =
-    sign-clear c.greatest_low-low.result (modulus c.args.width) (c.args.b % (c.greatest_low-low.result + 1)) c.if-number-low.true
+    sign-clear c.greatest_low-low.result (modulus c.args.width) (c.args.b % (c.greatest_low-low.result + 1))
+    c.if-number-low.true
     ∙ ap (λ m. sign_extended m (modulus c.args.width) (c.args.b % m)) c.greatest_low-low.ensures
 
 pub returns-else-number-low : goal.returns-else-number-low
 unfolding moved_signed
 returns-else-number-low c =
-    sign-set c.greatest_low-low.result c.greatest.result (c.args.b % (c.greatest_low-low.result + 1)) c.if-number-low.false
+    sign-set c.greatest_low-low.result c.greatest.result (c.args.b % (c.greatest_low-low.result + 1))
+    c.if-number-low.false
     ∙ ap (λ m. sign_extended m (c.greatest.result + 1) (c.args.b % m)) c.greatest_low-low.ensures
     ∙ ap (λ n. sign_extended (low_modulus c.args.bits) n (c.args.b % low_modulus c.args.bits)) c.greatest.ensures

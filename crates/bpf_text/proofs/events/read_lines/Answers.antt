@@ -20,9 +20,11 @@ loop-line-preserved c =
     let more = c.in_ok-more.more.items in
     let line = c.in-Some.line in
     let lines = c.next.new.self in
-    let grown : c.extend_from_slice.new.self.items ≡ before ++ more = c.in_ok-extend_from_slice.ensures.items ∙ ap (λ m. before ++ m) c.deref.ensures.value in
+    let grown : c.extend_from_slice.new.self.items ≡ before ++ more = c.in_ok-extend_from_slice.ensures.items
+    ∙ ap (λ m. before ++ m) c.deref.ensures.value in
     let step = events_behind-line before (line.number, line.content.now) lines more c.in_ok-more.ensures in
     rw grown (sym step ∙ ap (events_behind before) (sym c.in-Some.ensures.some) ∙ c.loop-line.invariant)
 
 pub returns : goal.returns
-returns c = sym c.loop-line.invariant ∙ ap (events_behind c.loop-line.events.items) c.in_default.ensures.none ∙ events_behind-end c.loop-line.events.items
+returns c = sym c.loop-line.invariant ∙ ap (events_behind c.loop-line.events.items) c.in_default.ensures.none
+    ∙ events_behind-end c.loop-line.events.items

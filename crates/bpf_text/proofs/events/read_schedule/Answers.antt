@@ -5,7 +5,8 @@ use Rattle.bpf_text.proofs.EventLaws.{no_bounds, bounds_fail, events_fail, event
 use Rattle.bpf_text.proofs.events.read_schedule.Goals as goal
 
 pub returns-in_default : goal.returns-in_default
-returns-in_default c = rw c.at.ensures (no_bounds (contents_of c.args.text.now) (sym c.of-lines.ensures.lines ∙ c.in_default.ensures.none))
+returns-in_default c = rw c.at.ensures (no_bounds (contents_of c.args.text.now) (sym c.of-lines.ensures.lines
+    ∙ c.in_default.ensures.none))
 
 pub returns-in_err-bounds : goal.returns-in_err-bounds
 returns-in_err-bounds c =

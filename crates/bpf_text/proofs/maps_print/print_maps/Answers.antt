@@ -11,7 +11,8 @@ loop-number-preserved c =
     let values = c.index-maps-number.result.items in
     let out = string_bytes c.loop-number.out in
     let rest = drop (number + 1) (lists maps) in
-    let front : drop number (lists maps) ≡ values ∷ rest = rw add-one (drop-lists maps number c.index-maps-number.result c.loop-number-test.true c.index-maps-number.is) in
+    let front : drop number (lists maps) ≡ values ∷ rest =
+    rw add-one (drop-lists maps number c.index-maps-number.result c.loop-number-test.true c.index-maps-number.is) in
     let added : string_bytes c.print_map.new.out ≡ out ++ map_spelling number values =
     c.in_ok-print_map.ensures ∙ ap (λ vs. out ++ map_spelling number vs) c.deref.ensures.value in
     ap (λ bytes. bytes ++ map_spellings_from (number + 1) rest) added

@@ -6,7 +6,8 @@ use Rattle.bpf_text_asm.proofs.label.read_labels.Given as goal
 
 abbrev pub invariant-loop-line : goal.invariant-loop-line
 invariant-loop-line l = record {
-  same : (name : List ℕ) → option_or (label_named l.labels name) (labels_from l.slot l.lines name) ≡ labels_from 0 l.initial.lines name;
+  same : (name : List ℕ) → option_or (label_named l.labels name) (labels_from l.slot l.lines name) ≡ labels_from 0
+      l.initial.lines name;
   room : l.slot + 2 * length l.lines ≤ 2097152;
 }
 

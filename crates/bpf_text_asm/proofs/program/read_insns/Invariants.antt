@@ -6,7 +6,8 @@ use Rattle.bpf_text_asm.proofs.program.read_insns.Given as goal
 
 abbrev pub invariant-loop-line : goal.invariant-loop-line
 invariant-loop-line l = record {
-  so_far : insns_behind (label_named l.labels) l.insns.items l.lines ≡ insns_behind (label_named l.labels) [] l.initial.lines;
+  so_far : insns_behind (label_named l.labels) l.insns.items l.lines ≡ insns_behind (label_named l.labels) []
+      l.initial.lines;
   slot : l.slot ≡ slot_count l.insns.items;
   room : l.slot ≤ 4096;
 }

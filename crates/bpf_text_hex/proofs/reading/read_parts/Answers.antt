@@ -5,7 +5,8 @@ use Rattle.bpf_text_hex.proofs.HexLaws.{no_head, head_fails, bytes_fail, bytes_r
 use Rattle.bpf_text_hex.proofs.reading.read_parts.Goals as goal
 
 pub returns-in_default : goal.returns-in_default
-returns-in_default c = rw c.at.ensures (no_head (contents_of c.args.text.now) (sym c.of-lines.ensures.lines ∙ c.in_default.ensures.none))
+returns-in_default c = rw c.at.ensures (no_head (contents_of c.args.text.now) (sym c.of-lines.ensures.lines
+    ∙ c.in_default.ensures.none))
 
 pub returns-in_err-sizes : goal.returns-in_err-sizes
 returns-in_err-sizes c =

@@ -5,8 +5,22 @@ use Rattle.bpf_verify.proofs.counting.counts_of.Goals as goal
 
 pub behind-requires : goal.behind-requires
 behind-requires c = λ k.
-    omega (arith, ap (λ (l : List ℕ). get_or l k 0) c.as_slice.ensures.value, c.in_ok-longest.ensures.ok.at k, longest-small c.args.insns.now (slot_count c.args.insns.now) k, c.requires.slots, c.requires.few)
+    omega (
+      arith,
+      ap (λ (l : List ℕ). get_or l k 0) c.as_slice.ensures.value,
+      c.in_ok-longest.ensures.ok.at k,
+      longest-small c.args.insns.now (slot_count c.args.insns.now) k,
+      c.requires.slots,
+      c.requires.few,
+    )
 
 pub behind-requires-in-loop-start : goal.behind-requires-in-loop-start
 behind-requires-in-loop-start c = λ k.
-    omega (arith, ap (λ (l : List ℕ). get_or l k 0) c.as_slice-in-loop-start.ensures.value, c.in_ok-longest.ensures.ok.at k, longest-small c.args.insns.now (slot_count c.args.insns.now) k, c.requires.slots, c.requires.few)
+    omega (
+      arith,
+      ap (λ (l : List ℕ). get_or l k 0) c.as_slice-in-loop-start.ensures.value,
+      c.in_ok-longest.ensures.ok.at k,
+      longest-small c.args.insns.now (slot_count c.args.insns.now) k,
+      c.requires.slots,
+      c.requires.few,
+    )

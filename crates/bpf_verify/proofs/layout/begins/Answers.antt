@@ -8,7 +8,14 @@ use Rattle.bpf_verify.proofs.layout.begins.Goals as goal
 
 pub overflow_add-slot : goal.overflow_add-slot
 overflow_add-slot c =
-    omega (arith, slot_count-front c.args.insns.now c.loop-insn.insn-index c.insn-item.result c.loop-insn-test.true c.insn-item.is, c.slots-slot.ensures, c.loop-insn.invariant.low, c.requires.slots)
+    omega (
+      arith,
+      slot_count-front c.args.insns.now c.loop-insn.insn-index c.insn-item.result c.loop-insn-test.true
+          c.insn-item.is,
+      c.slots-slot.ensures,
+      c.loop-insn.invariant.low,
+      c.requires.slots,
+    )
 
 pub loop-insn-preserved : goal.loop-insn-preserved
 loop-insn-preserved c =
@@ -16,12 +23,27 @@ loop-insn-preserved c =
     let marks : c.mark.new.marks.items ≡ set c.loop-insn.marks.items slot true =
     c.mark.ensures ∙ ap (λ (s : ℕ). set c.loop-insn.marks.items s true) c.loop-insn.invariant.low in
     let inside : slot < length c.loop-insn.marks.items =
-    omega (arith, slot_count-front c.args.insns.now c.loop-insn.insn-index c.insn-item.result c.loop-insn-test.true c.insn-item.is, slots_some c.insn-item.result, c.requires.slots, c.loop-insn.invariant.size) in
+    omega (
+      arith,
+      slot_count-front c.args.insns.now c.loop-insn.insn-index c.insn-item.result c.loop-insn-test.true
+          c.insn-item.is,
+      slots_some c.insn-item.result,
+      c.requires.slots,
+      c.loop-insn.invariant.size,
+    ) in
     record {
-      low = omega (arith, slot_count-more c.args.insns.now c.loop-insn.insn-index c.insn-item.result c.loop-insn-test.true c.insn-item.is, c.slots-slot.ensures, c.loop-insn.invariant.low);
+      low = omega (
+        arith,
+        slot_count-more c.args.insns.now c.loop-insn.insn-index c.insn-item.result
+            c.loop-insn-test.true c.insn-item.is,
+        c.slots-slot.ensures,
+        c.loop-insn.invariant.low,
+      );
       size = ap length marks ∙ length-set c.loop-insn.marks.items slot true ∙ c.loop-insn.invariant.size;
       so_far = λ k.
           ap (λ (m : List Bool). get_or m k false) marks
-          ∙ begin-step (take c.loop-insn.insn-index c.args.insns.now) c.insn-item.result c.loop-insn.marks.items c.loop-insn.invariant.so_far inside k
-          ∙ sym (ap (λ (xs : List Insn). is_some (insn_at xs k)) (take-more c.args.insns.now c.loop-insn.insn-index c.insn-item.result c.loop-insn-test.true c.insn-item.is));
+          ∙ begin-step (take c.loop-insn.insn-index c.args.insns.now) c.insn-item.result c.loop-insn.marks.items
+          c.loop-insn.invariant.so_far inside k
+          ∙ sym (ap (λ (xs : List Insn). is_some (insn_at xs k)) (take-more c.args.insns.now c.loop-insn.insn-index
+          c.insn-item.result c.loop-insn-test.true c.insn-item.is));
     }

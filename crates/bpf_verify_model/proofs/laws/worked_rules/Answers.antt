@@ -19,7 +19,8 @@ unfolding known_behind known_main_entry none_written
 stores = record { marked = refl; below = refl; above = refl }
 
 ways : EdgeRows
-unfolding flow known_main_entry refined greater not_less equal different without norm rounded_up rounded_down count_trailing_zeros
+unfolding flow known_main_entry refined greater not_less equal different without norm rounded_up rounded_down
+    count_trailing_zeros
 ways = record { greater = refl; never_greater = refl; equal = refl }
 
 null_checks : NullRows
@@ -35,4 +36,11 @@ unfolding state_fault known_main_entry
 bounds = record { last_of_frame = refl; past_frame = refl; last_of_map = refl; past_map = refl }
 
 pub returns : goal.returns
-returns c = record { joins = joins; stores = stores; ways = ways; null_checks = null_checks; ends = ends; bounds = bounds }
+returns c = record {
+  joins = joins;
+  stores = stores;
+  ways = ways;
+  null_checks = null_checks;
+  ends = ends;
+  bounds = bounds;
+}

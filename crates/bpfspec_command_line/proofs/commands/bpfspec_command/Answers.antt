@@ -9,4 +9,5 @@ returns c =
     let three = with_command two c.in_ok-run_command.ensures c.in_ok-subcommand-3.ensures in
     let four = with_command three c.in_ok-replay_command.ensures c.in_ok-subcommand-4.ensures in
     let five = with_command four c.new_command.ensures c.in_ok-subcommand-5.ensures in
-    IfOk-weaker c.subcommand-6.result _ _ (λ command adds. with_command five c.new_command-2.ensures adds) c.subcommand-6.ensures
+    IfOk-weaker c.subcommand-6.result _ _ (λ command adds. with_command five c.new_command-2.ensures adds)
+    c.subcommand-6.ensures

@@ -6,4 +6,5 @@ pub returns : goal.returns
 returns c =
     let one = with_arg c.hex_flag.result c.new_command.ensures c.hex_flag.ensures c.in_ok-arg.ensures in
     let two = with_arg c.arg_option.result one c.arg_option.ensures c.in_ok-arg-2.ensures in
-    IfOk-weaker c.arg-3.result _ _ (λ command adds. with_arg c.test_option.result two c.test_option.ensures adds) c.arg-3.ensures
+    IfOk-weaker c.arg-3.result _ _ (λ command adds. with_arg c.test_option.result two c.test_option.ensures adds)
+    c.arg-3.ensures

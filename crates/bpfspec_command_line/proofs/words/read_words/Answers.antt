@@ -9,5 +9,6 @@ use Rattle.bpfspec_command_line.proofs.words.read_words.Goals as goal
 pub returns-in-Err-clause-help : goal.returns-in-Err-clause-help
 returns-in-Err-clause-help g c = λ help.
     let words = map g.S.AsStr.text c.args.words.now in
-    let fails = subst (λ (app : App). is_simple_and_free app ≡ true → FailsBy {T = ArgMatches} (fault_of app words) (Err c.in-Err.error)) c.in_ok-command.ensures.app_is c.in-Err.ensures.kinds in
+    let fails = subst (λ (app : App). is_simple_and_free app ≡ true → FailsBy {T = ArgMatches} (fault_of app words)
+    (Err c.in-Err.error)) c.in_ok-command.ensures.app_is c.in-Err.ensures.kinds in
     asked (fault_of bpfspec_app words) _ (fails refl) (c.fault_of.ensures.help help)

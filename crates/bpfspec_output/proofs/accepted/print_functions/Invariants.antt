@@ -6,4 +6,5 @@ use Rattle.bpfspec_output.proofs.accepted.print_functions.Given as goal
 
 abbrev pub invariant-loop-number : goal.invariant-loop-number
 invariant-loop-number l =
-    string_bytes l.out ++ numbered_lines function_line l.number (drop l.number l.functions) ≡ string_bytes l.initial.out ++ numbered_lines function_line 0 l.functions
+    string_bytes l.out ++ numbered_lines function_line l.number (drop l.number l.functions) ≡ string_bytes l.initial.out
+    ++ numbered_lines function_line 0 l.functions

@@ -6,4 +6,5 @@ use Rattle.bpfspec_output.proofs.report.values_of.Given as goal
 
 abbrev pub invariant-loop-map : goal.invariant-loop-map
 invariant-loop-map l =
-    lists l.values.items ++ values_of (drop l.map l.maps.sizes) (drop (base_of l.maps.sizes l.map) l.maps.words) ≡ values_of l.maps.sizes l.maps.words
+    lists l.values.items ++ values_of (drop l.map l.maps.sizes) (drop (base_of l.maps.sizes l.map) l.maps.words)
+    ≡ values_of l.maps.sizes l.maps.words

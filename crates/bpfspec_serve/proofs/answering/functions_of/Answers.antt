@@ -12,10 +12,13 @@ loop-callback-preserved c =
     let number : 0 + (c.loop-callback.callback + 1) ≡ c.loop-callback.callback + 1 = grind arith in
     c.in_ok-push-2.ensures.items
     ∙ ap (λ (fs : List Function). fs ++ c.function_of-in-loop-callback.result ∷ []) c.loop-callback.invariant
-    ∙ ap (λ (f : Function). map (function_numbered insns) (range_with_len 0 (c.loop-callback.callback + 1)) ++ f ∷ []) c.function_of-in-loop-callback.ensures
-    ∙ sym (map-range_with_len_more (function_numbered insns) 0 (c.loop-callback.callback + 1) (c.loop-callback.callback + 1) number)
+    ∙ ap (λ (f : Function). map (function_numbered insns) (range_with_len 0 (c.loop-callback.callback + 1)) ++ f ∷ [])
+    c.function_of-in-loop-callback.ensures
+    ∙ sym (map-range_with_len_more (function_numbered insns) 0 (c.loop-callback.callback + 1) (c.loop-callback.callback
+    + 1) number)
 
 pub returns : goal.returns
 returns c =
     let all : c.loop-callback.callback ≡ length (callback_starts c.args.program.now.insns) = grind arith in
-    c.loop-callback.invariant ∙ ap (λ (n : ℕ). map (function_numbered c.args.program.now.insns) (range_with_len 0 (n + 1))) all
+    c.loop-callback.invariant
+    ∙ ap (λ (n : ℕ). map (function_numbered c.args.program.now.insns) (range_with_len 0 (n + 1))) all

@@ -8,9 +8,17 @@ use Rattle.bpfspec_serve.proofs.answering.run_on.Goals as goal
 pub returns-in-Ok : goal.returns-in-Ok
 returns-in-Ok g c =
     let ran = c.in-Ok.ensures.headline.gives in
-    let told : Reported = record { ret = c.in-Ok.report.ret; loops = c.in-Ok.report.loops.items; words = c.run.new.maps.words } in
+    let told : Reported = record {
+      ret = c.in-Ok.report.ret;
+      loops = c.in-Ok.report.loops.items;
+      words = c.run.new.maps.words;
+    } in
     let is = c.in_ok-print_report-in-Ok.ensures
-    ∙ ap (λ (loops : List LoopReport). report_text c.run.new.maps.sizes (record { ret = c.in-Ok.report.ret; loops = loops; words = c.run.new.maps.words })) c.deref.ensures.value in (
+    ∙ ap (λ (loops : List LoopReport). report_text c.run.new.maps.sizes (record {
+      ret = c.in-Ok.report.ret;
+      loops = loops;
+      words = c.run.new.maps.words;
+    })) c.deref.ensures.value in (
       (λ within. printed c.args.program.now _ told c.run.new.maps.sizes _ ran.told (ran.kept ∙ ran.sizes) is),
       (λ outside. absurd cc (c.in-Ok.ensures.plan.1 (c.requires, outside))),
     )

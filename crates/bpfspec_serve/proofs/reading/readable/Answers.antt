@@ -6,4 +6,5 @@ pub returns-in-Ok : goal.returns-in-Ok
 returns-in-Ok c = ap Ok c.in-Ok.ensures.cases.0 ∙ reads_text c.args.input.now (grind arith) c.in-Ok.ensures.cases.1
 
 pub returns-in-Err : goal.returns-in-Err
-returns-in-Err c = rw c.unit_refusal-in-Err.ensures (refuses_bytes c.args.input.now (grind arith) c.in-Err.ensures.cases.0)
+returns-in-Err c = rw c.unit_refusal-in-Err.ensures (refuses_bytes c.args.input.now (grind arith)
+    c.in-Err.ensures.cases.0)

@@ -9,21 +9,32 @@ loop-at-init c = record { section = refl; rest = refl; boundary = IsCharBoundary
 
 pub loop-at-preserved : goal.loop-at-preserved
 loop-at-preserved c =
-    let rest = left_behind c.as_bytes-bytes.result.now c.loop-at.at ∙ ap (drop c.loop-at.at) c.as_bytes-bytes.ensures.value in
+    let rest = left_behind c.as_bytes-bytes.result.now c.loop-at.at
+    ∙ ap (drop c.loop-at.at) c.as_bytes-bytes.ensures.value in
     record {
-      section = section_goes_on c.args.text.now _ c.loop-at.at c.line_length-length.result rest c.line_length-length.ensures.line (sym c.if-is_mark.ensures) c.loop-at.invariant.section;
-      rest = rest_goes_on c.args.text.now _ c.loop-at.at c.line_length-length.result rest c.line_length-length.ensures.line (sym c.if-is_mark.ensures) c.loop-at.invariant.rest;
-      boundary = line_boundary c.args.text.now _ c.loop-at.at c.line_length-length.result c.utf8.text rest c.loop-at.invariant.boundary.0 c.line_length-length.ensures.some c.line_length-length.ensures.within c.line_length-length.ensures.newline;
+      section = section_goes_on c.args.text.now _ c.loop-at.at c.line_length-length.result rest
+          c.line_length-length.ensures.line (sym c.if-is_mark.ensures) c.loop-at.invariant.section;
+      rest = rest_goes_on c.args.text.now _ c.loop-at.at c.line_length-length.result rest
+          c.line_length-length.ensures.line (sym c.if-is_mark.ensures) c.loop-at.invariant.rest;
+      boundary = line_boundary c.args.text.now _ c.loop-at.at c.line_length-length.result c.utf8.text rest
+          c.loop-at.invariant.boundary.0 c.line_length-length.ensures.some c.line_length-length.ensures.within
+          c.line_length-length.ensures.newline;
     }
 
 pub range_from-requires : goal.range_from-requires
 range_from-requires c = λ _.
-    let rest = left_behind c.as_bytes-bytes.result.now c.loop-at.at ∙ ap (drop c.loop-at.at) c.as_bytes-bytes.ensures.value in
-    line_boundary c.args.text.now _ c.loop-at.at c.line_length-length.result c.utf8.text rest c.loop-at.invariant.boundary.0 c.line_length-length.ensures.some c.line_length-length.ensures.within c.line_length-length.ensures.newline
+    let rest = left_behind c.as_bytes-bytes.result.now c.loop-at.at
+    ∙ ap (drop c.loop-at.at) c.as_bytes-bytes.ensures.value in
+    line_boundary c.args.text.now _ c.loop-at.at c.line_length-length.result c.utf8.text rest
+    c.loop-at.invariant.boundary.0 c.line_length-length.ensures.some c.line_length-length.ensures.within
+    c.line_length-length.ensures.newline
 
 pub returns-then-is_mark-clause-text : goal.returns-then-is_mark-clause-text
 returns-then-is_mark-clause-text c =
-    let rest = left_behind c.as_bytes-bytes.result.now c.loop-at.at ∙ ap (drop c.loop-at.at) c.as_bytes-bytes.ensures.value in
-    let begins = rest_begins c.args.text.now _ c.loop-at.at c.line_length-length.result rest c.line_length-length.ensures.line (sym c.if-is_mark.ensures) c.loop-at.invariant.rest in
-    let cut : c.range_from.result.now ≡ drop (c.loop-at.at + c.line_length-length.result) c.args.text.now = search rules in
+    let rest = left_behind c.as_bytes-bytes.result.now c.loop-at.at
+    ∙ ap (drop c.loop-at.at) c.as_bytes-bytes.ensures.value in
+    let begins = rest_begins c.args.text.now _ c.loop-at.at c.line_length-length.result rest
+    c.line_length-length.ensures.line (sym c.if-is_mark.ensures) c.loop-at.invariant.rest in
+    let cut : c.range_from.result.now ≡ drop (c.loop-at.at + c.line_length-length.result) c.args.text.now =
+    search rules in
     text_of_lines c.range_from.result.now (behind_mark (whole_lines c.args.text.now)) (ap whole_lines cut ∙ sym begins)

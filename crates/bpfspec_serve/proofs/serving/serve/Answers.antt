@@ -10,6 +10,8 @@ returns-in-Ok-clause-answer g c =
     let job = Serve c.args.mode.now in
     served_as
     (λ answer told.
-    answers_reader job (g.R.Source.left c.args.source.now) _ c.in-Ok.input.items answer c.in-Ok.ensures.bytes c.in-Ok.ensures.whole
-    (subst (λ bytes. Answers job bytes answer) c.deref.ensures.value (told_answers string_bytes job _ c.outcome.result answer c.outcome.ensures told)))
+    answers_reader job (g.R.Source.left c.args.source.now) _ c.in-Ok.input.items answer c.in-Ok.ensures.bytes
+    c.in-Ok.ensures.whole
+    (subst (λ bytes. Answers job bytes answer) c.deref.ensures.value (told_answers string_bytes job _ c.outcome.result
+    answer c.outcome.ensures told)))
     (omega (arith, c.in-Ok.ensures.ok)) c.tell.ensures

@@ -5,4 +5,5 @@ use Rattle.bpfspec_streams.proofs.reading.read_all.Goals as goal
 pub returns-in-Err-clause-consumed : goal.returns-in-Err-clause-consumed
 returns-in-Err-clause-consumed g c =
     let so_far = c.pieces.invariant in
-    consumes_at_most _ _ _ c.pieces.bytes.items (vec_len c.pieces.bytes) c.args.limit (search rules) so_far.0 so_far.2 c.in-Err.ensures.consumed
+    consumes_at_most _ _ _ c.pieces.bytes.items (vec_len c.pieces.bytes) c.args.limit (search rules) so_far.0 so_far.2
+    c.in-Err.ensures.consumed

@@ -6,7 +6,8 @@ abbrev pub invariant-loop-at : goal.invariant-loop-at
 invariant-loop-at g l = record {
   order : l.first ≤ l.at;
   within : l.at ≤ l.past;
-  words : Writes (λ i. bit_or (bit_or (slice_index l.fn.into i) (slice_index l.from i)) (bit_and (slice_index l.written i) (slice_index l.also_written i))) l.first l.at l.fn.into l.into;
+  words : Writes (λ i. bit_or (bit_or (slice_index l.fn.into i) (slice_index l.from i))
+      (bit_and (slice_index l.written i) (slice_index l.also_written i))) l.first l.at l.fn.into l.into;
 }
 
 abbrev pub decreases-loop-at : goal.decreases-loop-at
@@ -16,7 +17,8 @@ abbrev pub invariant-loop-at-2 : goal.invariant-loop-at-2
 invariant-loop-at-2 g l = record {
   order : l.first ≤ l.at;
   within : l.at ≤ l.past;
-  words : Writes (λ i. bit_or (bit_or (slice_index l.fn.into i) (slice_index l.from i)) (bit_and (slice_index l.written i) (slice_index l.also_written i))) l.first l.at l.fn.into l.into;
+  words : Writes (λ i. bit_or (bit_or (slice_index l.fn.into i) (slice_index l.from i))
+      (bit_and (slice_index l.written i) (slice_index l.also_written i))) l.first l.at l.fn.into l.into;
 }
 
 abbrev pub decreases-loop-at-2 : goal.decreases-loop-at-2

@@ -28,4 +28,5 @@ returns-clause-words g c =
 
 pub returns-clause-fit : goal.returns-clause-fit
 returns-clause-fit g c i =
-    or_lt 64 _ _ (or_lt 64 _ _ (or_lt 64 _ _ (or_lt 64 _ _ (c.words_at-add.ensures.fit i) (c.words_at-or.ensures.fit i)) (c.words_at-and.ensures.fit i)) (c.words_at-xor.ensures.fit i)) (c.words_at-addh.ensures.fit i)
+    or_lt 64 _ _ (or_lt 64 _ _ (or_lt 64 _ _ (or_lt 64 _ _ (c.words_at-add.ensures.fit i) (c.words_at-or.ensures.fit i))
+    (c.words_at-and.ensures.fit i)) (c.words_at-xor.ensures.fit i)) (c.words_at-addh.ensures.fit i)

@@ -5,7 +5,8 @@ use Rattle.lane_planes.proofs.conflict.lrpd_into.Given as goal
 abbrev pub invariant-loop-at : goal.invariant-loop-at
 invariant-loop-at g l = record {
   within : l.at ≤ length l.into;
-  words : Writes (λ i. bit_or (bit_and (slice_index l.read_only i) (slice_index l.written i)) (bit_and (slice_index l.read_and_written i) (slice_index l.written_by_two i))) 0 l.at l.fn.into l.into;
+  words : Writes (λ i. bit_or (bit_and (slice_index l.read_only i) (slice_index l.written i))
+      (bit_and (slice_index l.read_and_written i) (slice_index l.written_by_two i))) 0 l.at l.fn.into l.into;
 }
 
 abbrev pub decreases-loop-at : goal.decreases-loop-at
@@ -14,7 +15,8 @@ decreases-loop-at g l = length l.initial.into - l.at
 abbrev pub invariant-loop-at-2 : goal.invariant-loop-at-2
 invariant-loop-at-2 g l = record {
   within : l.at ≤ length l.into;
-  words : Writes (λ i. bit_or (bit_and (slice_index l.read_only i) (slice_index l.written i)) (bit_and (slice_index l.read_and_written i) (slice_index l.written_by_two i))) 0 l.at l.fn.into l.into;
+  words : Writes (λ i. bit_or (bit_and (slice_index l.read_only i) (slice_index l.written i))
+      (bit_and (slice_index l.read_and_written i) (slice_index l.written_by_two i))) 0 l.at l.fn.into l.into;
 }
 
 abbrev pub decreases-loop-at-2 : goal.decreases-loop-at-2

@@ -4,19 +4,22 @@ use Rattle.lane_planes.proofs.counting.count_bits.Goals as goal
 
 pub ones_in-count-requires : goal.ones_in-count-requires
 ones_in-count-requires g c =
-    let here = vector_at g.row.N _ _ _ _ c.as_chunks.ensures.front c.as_chunks.ensures.front_len c.loop-vector-test.true c.vector-item.is in
+    let here = vector_at g.row.N _ _ _ _ c.as_chunks.ensures.front c.as_chunks.ensures.front_len c.loop-vector-test.true
+    c.vector-item.is in
     (omega (arith, c.requires.lanes), (c.requires.lanes.1, vector_fits _ _ _ _ c.type_inv.words here))
 
 pub overflow_add-count : goal.overflow_add-count
 overflow_add-count g c =
-    let here = vector_at g.row.N _ _ _ _ c.as_chunks.ensures.front c.as_chunks.ensures.front_len c.loop-vector-test.true c.vector-item.is in
+    let here = vector_at g.row.N _ _ _ _ c.as_chunks.ensures.front c.as_chunks.ensures.front_len c.loop-vector-test.true
+    c.vector-item.is in
     let parts = vector_counted _ _ _ _ here in
     let few = all_few c.args.words.now c.type_inv.words in
     record { fits = omega (arith, c.loop-vector.invariant, c.ones_in-count.ensures, c.requires.few) }
 
 pub loop-vector-preserved : goal.loop-vector-preserved
 loop-vector-preserved g c =
-    let here = vector_at g.row.N _ _ _ _ c.as_chunks.ensures.front c.as_chunks.ensures.front_len c.loop-vector-test.true c.vector-item.is in
+    let here = vector_at g.row.N _ _ _ _ c.as_chunks.ensures.front c.as_chunks.ensures.front_len c.loop-vector-test.true
+    c.vector-item.is in
     let parts = vector_counted _ _ _ _ here in
     omega (arith, c.loop-vector.invariant, c.ones_in-count.ensures)
 

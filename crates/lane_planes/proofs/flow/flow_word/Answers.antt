@@ -8,7 +8,8 @@ loop-at-preserved g c =
     let stands = stands_at c.args.first.now c.args.last.now in
     record {
       within = c.loop-at-test.true;
-      bits = bits_joined (λ k. stands (c.args.from + k)) c.loop-at.at g.row.N _ _ (omega (arith, c.requires.few)) c.loop-at.invariant.bits
+      bits = bits_joined (λ k. stands (c.args.from + k)) c.loop-at.at g.row.N _ _ (omega (arith, c.requires.few))
+          c.loop-at.invariant.bits
           (bits_same g.row.N _ _ _ (λ k. ap stands (add_assoc c.args.from c.loop-at.at k)) c.flow_bits.ensures);
     }
 
@@ -17,6 +18,8 @@ loop-at-2-preserved g c =
     let stands = stands_at c.args.first.now c.args.last.now in
     record {
       within = omega arith;
-      bits = bits_joined (λ k. stands (c.args.from + k)) c.loop-at-2.at 1 _ _ (omega (arith, c.requires.few)) c.loop-at-2.invariant.bits
-          (bits_same 1 _ _ _ (λ k. ap stands (add_assoc c.args.from c.loop-at-2.at k)) c.flow_bits-in-loop-at-2.ensures);
+      bits = bits_joined (λ k. stands (c.args.from + k)) c.loop-at-2.at 1 _ _ (omega (arith, c.requires.few))
+          c.loop-at-2.invariant.bits
+          (bits_same 1 _ _ _ (λ k. ap stands (add_assoc c.args.from c.loop-at-2.at k))
+          c.flow_bits-in-loop-at-2.ensures);
     }

@@ -7,7 +7,8 @@ abbrev pub invariant-loop-at : goal.invariant-loop-at
 invariant-loop-at g l = record {
   order : 64 * l.first ≤ l.at;
   within : l.at ≤ l.end;
-  words : Writes (λ i. kept_of l.kept (slice_index l.fn.into i) (slice_index l.from i)) (64 * l.first) l.at l.fn.into l.into;
+  words : Writes (λ i. kept_of l.kept (slice_index l.fn.into i) (slice_index l.from i)) (64 * l.first) l.at l.fn.into
+      l.into;
 }
 
 abbrev pub decreases-loop-at : goal.decreases-loop-at
@@ -17,7 +18,8 @@ abbrev pub invariant-loop-at-2 : goal.invariant-loop-at-2
 invariant-loop-at-2 g l = record {
   order : 64 * l.first ≤ l.at;
   within : l.at ≤ l.end;
-  words : Writes (λ i. kept_of l.kept (slice_index l.fn.into i) (slice_index l.from i)) (64 * l.first) l.at l.fn.into l.into;
+  words : Writes (λ i. kept_of l.kept (slice_index l.fn.into i) (slice_index l.from i)) (64 * l.first) l.at l.fn.into
+      l.into;
 }
 
 abbrev pub decreases-loop-at-2 : goal.decreases-loop-at-2

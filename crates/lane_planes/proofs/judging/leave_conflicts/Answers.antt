@@ -8,38 +8,64 @@ as_long : {slice plane : List ℕ} {n m : ℕ} → slice ≡ plane → length pl
 as_long is count words = words ∙ sym count ∙ sym (ap length is)
 
 pub clear_reductions-requires-clause-same_add : goal.clear_reductions-requires-clause-same_add
-clear_reductions-requires-clause-same_add g c = as_long c.reduction_planes-reductions.ensures.add (c.requires.whole.by Add).count c.requires.words
+clear_reductions-requires-clause-same_add g c = as_long c.reduction_planes-reductions.ensures.add
+    (c.requires.whole.by Add).count c.requires.words
 
 pub clear_reductions-requires-clause-same_or : goal.clear_reductions-requires-clause-same_or
-clear_reductions-requires-clause-same_or g c = as_long c.reduction_planes-reductions.ensures.or (c.requires.whole.by Or).count c.requires.words
+clear_reductions-requires-clause-same_or g c = as_long c.reduction_planes-reductions.ensures.or
+    (c.requires.whole.by Or).count c.requires.words
 
 pub clear_reductions-requires-clause-same_and : goal.clear_reductions-requires-clause-same_and
-clear_reductions-requires-clause-same_and g c = as_long c.reduction_planes-reductions.ensures.and (c.requires.whole.by And).count c.requires.words
+clear_reductions-requires-clause-same_and g c = as_long c.reduction_planes-reductions.ensures.and
+    (c.requires.whole.by And).count c.requires.words
 
 pub clear_reductions-requires-clause-same_xor : goal.clear_reductions-requires-clause-same_xor
-clear_reductions-requires-clause-same_xor g c = as_long c.reduction_planes-reductions.ensures.xor (c.requires.whole.by Xor).count c.requires.words
+clear_reductions-requires-clause-same_xor g c = as_long c.reduction_planes-reductions.ensures.xor
+    (c.requires.whole.by Xor).count c.requires.words
 
 pub clear_reductions-requires-clause-same_addh : goal.clear_reductions-requires-clause-same_addh
-clear_reductions-requires-clause-same_addh g c = as_long c.reduction_planes-reductions.ensures.addh (c.requires.whole.by AddH).count c.requires.words
+clear_reductions-requires-clause-same_addh g c = as_long c.reduction_planes-reductions.ensures.addh
+    (c.requires.whole.by AddH).count c.requires.words
 
 pub returns-clause-words : goal.returns-clause-words
 returns-clause-words g c =
     let slices = c.reduction_planes-reductions.ensures in
-    let are : AreSlices c.args.planes.now _ _ _ _ _ _ = record { plain_is = slices.plain; add_is = slices.add; or_is = slices.or; and_is = slices.and; xor_is = slices.xor; addh_is = slices.addh } in
-    slices_cleared c.args.planes.now _ _ _ _ _ _ c.args.into.now c.args.into.now _ are refl c.requires.failing c.clear_reductions.ensures.words
+    let are : AreSlices c.args.planes.now _ _ _ _ _ _ = record {
+      plain_is = slices.plain;
+      add_is = slices.add;
+      or_is = slices.or;
+      and_is = slices.and;
+      xor_is = slices.xor;
+      addh_is = slices.addh;
+    } in
+    slices_cleared c.args.planes.now _ _ _ _ _ _ c.args.into.now c.args.into.now _ are refl c.requires.failing
+    c.clear_reductions.ensures.words
 
 pub returns-clause-marks : goal.returns-clause-marks
 returns-clause-marks g c =
     let slices = c.reduction_planes-reductions.ensures in
-    let are : AreSlices c.args.planes.now _ _ _ _ _ _ = record { plain_is = slices.plain; add_is = slices.add; or_is = slices.or; and_is = slices.and; xor_is = slices.xor; addh_is = slices.addh } in
+    let are : AreSlices c.args.planes.now _ _ _ _ _ _ = record {
+      plain_is = slices.plain;
+      add_is = slices.add;
+      or_is = slices.or;
+      and_is = slices.and;
+      xor_is = slices.xor;
+      addh_is = slices.addh;
+    } in
     conflict_at c.args.planes.now _ c.requires.whole (omega (arith, c.requires.words, c.clear_reductions.auto.into))
-    (slices_fit c.args.planes.now _ _ _ _ _ _ _ _ are c.clear_reductions.auto.into c.clear_reductions.ensures.fit) c.requires.fit (returns-clause-words g c)
+    (slices_fit c.args.planes.now _ _ _ _ _ _ _ _ are c.clear_reductions.auto.into c.clear_reductions.ensures.fit)
+    c.requires.fit (returns-clause-words g c)
 
 pub returns-clause-plane : goal.returns-clause-plane
 returns-clause-plane g c = record {
   count = omega (arith, c.requires.words, c.clear_reductions.auto.into);
-  past = conflict_past c.args.planes.now _ c.requires.whole (omega (arith, c.requires.words, c.clear_reductions.auto.into)) (returns-clause-words g c);
+  past = conflict_past c.args.planes.now _ c.requires.whole (omega (
+    arith,
+    c.requires.words,
+    c.clear_reductions.auto.into,
+  )) (returns-clause-words g c);
 }
 
 pub returns-clause-elements : goal.returns-clause-elements
-returns-clause-elements g c = conflict_elements c.args.planes.now _ (returns-clause-plane g c).count (returns-clause-marks g c) (returns-clause-plane g c).past
+returns-clause-elements g c = conflict_elements c.args.planes.now _ (returns-clause-plane g c).count
+    (returns-clause-marks g c) (returns-clause-plane g c).past

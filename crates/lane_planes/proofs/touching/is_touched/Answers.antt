@@ -47,8 +47,13 @@ returns c unset =
     let within = c.requires.within in
     untouched_by_words planes page _ _ _ _ _ _ unset
     (c.index.ensures ∙ get_or_default planes.plain.items page c.index.result.now 0 (omega (arith, plain, within)))
-    (c.index-2.ensures ∙ get_or_default planes.operators.add.items page c.index-2.result.now 0 (omega (arith, add, within)))
-    (c.index-3.ensures ∙ get_or_default planes.operators.or.items page c.index-3.result.now 0 (omega (arith, or, within)))
-    (c.index-4.ensures ∙ get_or_default planes.operators.and.items page c.index-4.result.now 0 (omega (arith, and, within)))
-    (c.index-5.ensures ∙ get_or_default planes.operators.xor.items page c.index-5.result.now 0 (omega (arith, xor, within)))
-    (c.index-6.ensures ∙ get_or_default planes.operators.addh.items page c.index-6.result.now 0 (omega (arith, addh, within)))
+    (c.index-2.ensures ∙ get_or_default planes.operators.add.items page c.index-2.result.now 0
+    (omega (arith, add, within)))
+    (c.index-3.ensures ∙ get_or_default planes.operators.or.items page c.index-3.result.now 0
+    (omega (arith, or, within)))
+    (c.index-4.ensures ∙ get_or_default planes.operators.and.items page c.index-4.result.now 0
+    (omega (arith, and, within)))
+    (c.index-5.ensures ∙ get_or_default planes.operators.xor.items page c.index-5.result.now 0
+    (omega (arith, xor, within)))
+    (c.index-6.ensures ∙ get_or_default planes.operators.addh.items page c.index-6.result.now 0
+    (omega (arith, addh, within)))

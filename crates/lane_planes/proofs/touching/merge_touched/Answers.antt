@@ -9,7 +9,8 @@ use Rattle.lane_planes.proofs.touching.merge_touched.Goals as goal
 
 pub merge_pages-requires-clause-mine : goal.merge_pages-requires-clause-mine
 merge_pages-requires-clause-mine g c =
-    (merge_keeps 0 c.loop-page.page _ _ _ c.requires.mine c.requires.theirs.stand.whole c.requires.elements c.loop-page.invariant.words).whole
+    (merge_keeps 0 c.loop-page.page _ _ _ c.requires.mine c.requires.theirs.stand.whole c.requires.elements
+    c.loop-page.invariant.words).whole
 
 pub loop-page-preserved-then-is_touched : goal.loop-page-preserved-then-is_touched
 loop-page-preserved-then-is_touched g c =
@@ -20,7 +21,8 @@ loop-page-preserved-then-is_touched g c =
     let start : 64 * c.loop-page.page ≤ c.args.into.now.elements = omega (arith, order, within, c.requires.elements) in
     record {
       within = within;
-      words = merged_on page past (omega (arith, order)) c.args.into.now c.args.from.now c.loop-page.into c.merge_pages.new.into c.requires.mine start c.loop-page.invariant.words c.merge_pages.ensures;
+      words = merged_on page past (omega (arith, order)) c.args.into.now c.args.from.now c.loop-page.into
+          c.merge_pages.new.into c.requires.mine start c.loop-page.invariant.words c.merge_pages.ensures;
     }
 
 pub loop-page-preserved : goal.loop-page-preserved
@@ -28,12 +30,15 @@ loop-page-preserved g c =
     let page = c.loop-page.page in
     let count = c.requires.theirs.stand.whole.plain.count in
     let long = c.args.from.now.plain.ok.0 in
-    let below : c.loop-page.page < words_for c.args.from.now.elements = first_of (search rules, omega (arith, count, long, c.loop-page-test.true)) in
+    let below : c.loop-page.page < words_for c.args.from.now.elements =
+    first_of (search rules, omega (arith, count, long, c.loop-page-test.true)) in
     let start : 64 * c.loop-page.page ≤ c.args.into.now.elements = omega (arith, below, c.requires.elements) in
-    let idle = untouched_idle c.args.from.now page c.requires.theirs (c.is_touched.ensures c.if-is_touched.false) c.have_words.ensures in
+    let idle = untouched_idle c.args.from.now page c.requires.theirs (c.is_touched.ensures c.if-is_touched.false)
+    c.have_words.ensures in
     record {
       within = omega (arith, below);
-      words = merged_idle page c.args.into.now c.args.from.now c.loop-page.into c.requires.mine c.requires.theirs.stand.whole c.requires.elements start c.are_firsts.ensures idle c.loop-page.invariant.words;
+      words = merged_idle page c.args.into.now c.args.from.now c.loop-page.into c.requires.mine
+          c.requires.theirs.stand.whole c.requires.elements start c.are_firsts.ensures idle c.loop-page.invariant.words;
     }
 
 pub returns-clause-words : goal.returns-clause-words
@@ -41,14 +46,17 @@ returns-clause-words g c =
     let count = c.requires.theirs.stand.whole.plain.count in
     let long = c.args.from.now.plain.ok.0 in
     let within = c.loop-page.invariant.within in
-    let all : c.loop-page.page ≡ words_for c.args.into.now.elements = first_of (search rules, omega (arith, count, long, within, c.requires.elements, c.loop-page-test.false)) in
+    let all : c.loop-page.page ≡ words_for c.args.into.now.elements =
+    first_of (search rules, omega (arith, count, long, within, c.requires.elements, c.loop-page-test.false)) in
     subst (λ n. MergedPages 0 n c.args.into.now c.args.from.now c.loop-page.into) all c.loop-page.invariant.words
 
 pub returns-clause-shape : goal.returns-clause-shape
-returns-clause-shape g c = merge_keeps 0 c.loop-page.page _ _ _ c.requires.mine c.requires.theirs.stand.whole c.requires.elements c.loop-page.invariant.words
+returns-clause-shape g c = merge_keeps 0 c.loop-page.page _ _ _ c.requires.mine c.requires.theirs.stand.whole
+    c.requires.elements c.loop-page.invariant.words
 
 pub returns-clause-marks : goal.returns-clause-marks
-returns-clause-marks g c = merged_at _ _ _ c.requires.mine (returns-clause-words g c) c.are_firsts.ensures c.are_firsts-2.ensures
+returns-clause-marks g c = merged_at _ _ _ c.requires.mine (returns-clause-words g c) c.are_firsts.ensures
+    c.are_firsts-2.ensures
 
 pub returns-clause-visits : goal.returns-clause-visits
 returns-clause-visits g c = joined_stand _ _ _ c.requires.elements (returns-clause-shape g c) (returns-clause-marks g c)

@@ -6,7 +6,8 @@ use Rattle.loop_core_batch.proofs.site.all_commute.Goals as goal
 pub returns-then-not-commutes_behind : goal.returns-then-not-commutes_behind
 returns-then-not-commutes_behind c = (
   λ never. absurd (cc),
-  λ all. c.if-not-commutes_behind.ensures.1 (all_pairs_at (Commute c.args.lanes) c.args.sites.now c.loop-k.k _ c.loop-k-test.true all),
+  λ all. c.if-not-commutes_behind.ensures.1 (all_pairs_at (Commute c.args.lanes) c.args.sites.now c.loop-k.k _
+      c.loop-k-test.true all),
 )
 
 pub loop-k-preserved : goal.loop-k-preserved

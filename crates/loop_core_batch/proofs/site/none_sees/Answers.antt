@@ -14,12 +14,14 @@ returns-then-not-is_unseen_by c = (
 
 pub loop-writer-preserved : goal.loop-writer-preserved
 loop-writer-preserved c =
-    All-more (λ (writer : Site). All (λ (reader : Site). Unseen c.args.lanes writer reader) c.args.sites.now) c.args.sites.now c.loop-writer.writer-index _
+    All-more (λ (writer : Site). All (λ (reader : Site). Unseen c.args.lanes writer reader) c.args.sites.now)
+    c.args.sites.now c.loop-writer.writer-index _
     c.loop-writer-test.true c.loop-writer.invariant (c.is_unseen_by.ensures.0 c.if-not-is_unseen_by.false)
 
 pub returns : goal.returns
 returns c = (
-  λ always. all_taken (λ (writer : Site). All (λ (reader : Site). Unseen c.args.lanes writer reader) c.args.sites.now) c.args.sites.now
+  λ always. all_taken (λ (writer : Site). All (λ (reader : Site). Unseen c.args.lanes writer reader) c.args.sites.now)
+      c.args.sites.now
       c.loop-writer.writer-index c.loop-writer-test.false c.loop-writer.invariant,
   λ all. refl,
 )

@@ -5,13 +5,15 @@ use Rattle.loop_core_block.proofs.runner.most_instructions.Goals as goal
 
 pub returns-then-start-slot-clause-enough : goal.returns-then-start-slot-clause-enough
 returns-then-start-slot-clause-enough c =
-    let same = count_is c.args.program.now c.loop-function.function c.args.slot (sym c.start.ensures ∙ c.if-start-slot.true) in
+    let same = count_is c.args.program.now c.loop-function.function c.args.slot (sym c.start.ensures
+    ∙ c.if-start-slot.true) in
     let count = c.count.ensures in
     omega (arith, same, count)
 
 pub returns-then-start-slot-clause-few : goal.returns-then-start-slot-clause-few
 returns-then-start-slot-clause-few c =
-    let same = count_is c.args.program.now c.loop-function.function c.args.slot (sym c.start.ensures ∙ c.if-start-slot.true) in
+    let same = count_is c.args.program.now c.loop-function.function c.args.slot (sym c.start.ensures
+    ∙ c.if-start-slot.true) in
     let count = c.count.ensures in
     let few = few_steps c.args.program.now c.args.slot c.unit-unit.ensures.accepted in
     omega (arith, same, count, few)

@@ -6,7 +6,8 @@ use Rattle.loop_core_block.proofs.running.run_block.Goals as goal
 
 pub run-requires-clause-within : goal.run-requires-clause-within
 run-requires-clause-within g c κs within =
-    let ends : last_bound 0 c.args.split.now ≡ c.args.call.now.n = ends_at c.args.split.now c.args.call.now.n c.requires.split in
+    let ends : last_bound 0 c.args.split.now ≡ c.args.call.now.n =
+    ends_at c.args.split.now c.args.call.now.n c.requires.split in
     let n = ap (λ (call : LoopCall). call.n) c.in_ok-runner.ensures.call in
     let past = c.end-past.ensures.within in
     omega (arith, ends, n, past)

@@ -15,7 +15,11 @@ loop-i-preserved c =
     let inside : c.loop-i.i < length c.args.places.now = omega arith in
     let within = c.requires.places i 0 inside in
     c.loop-i.invariant
-    ∙ combined_next c.args.e (map shown blocks) places i c.loop-i.value (shown b) (chosen_next blocks places i b inside within c.index-blocks-place.is)
-    ∙ ap (λ (v : ℕ). committed_of_kept true (map (kept_of c.args.e) (chosen (drop (i + 1) places) (map shown blocks))) v)
-    (sym (c.combined_with-value.ensures ∙ applied_by c.has_bit.result c.loop-i.value (combination ((shown b).copy.reduction c.args.e))
-    (λ unset. (c.requires.touched i (shown b) inside (shown_there blocks (get_or places i 0) b within c.index-blocks-place.is) (sym c.has_bit.ensures ∙ unset)).partial)))
+    ∙ combined_next c.args.e (map shown blocks) places i c.loop-i.value (shown b) (chosen_next blocks places i b inside
+    within c.index-blocks-place.is)
+    ∙ ap (λ (v : ℕ). committed_of_kept true (map (kept_of c.args.e) (chosen (drop (i + 1) places) (map shown blocks)))
+    v)
+    (sym (c.combined_with-value.ensures ∙ applied_by c.has_bit.result c.loop-i.value
+    (combination ((shown b).copy.reduction c.args.e))
+    (λ unset. (c.requires.touched i (shown b) inside (shown_there blocks (get_or places i 0) b within
+    c.index-blocks-place.is) (sym c.has_bit.ensures ∙ unset)).partial)))

@@ -10,5 +10,6 @@ pub returns-clause-elements : goal.returns-clause-elements
 returns-clause-elements c visits stand =
     let count = c.conflicts_touched.ensures.plane.count in
     let long = c.in_ok-plane.ensures.len in
-    ap elements_in_plane (taken c.conflicts_touched.new.into (drop (length c.conflicts_touched.new.into) c.in_ok-plane.plane.items) c.in_ok-plane.plane.len (omega (arith, count, long)))
+    ap elements_in_plane (taken c.conflicts_touched.new.into (drop (length c.conflicts_touched.new.into)
+    c.in_ok-plane.plane.items) c.in_ok-plane.plane.len (omega (arith, count, long)))
     ∙ c.conflicts_touched.ensures.elements visits stand

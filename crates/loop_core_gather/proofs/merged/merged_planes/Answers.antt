@@ -16,14 +16,19 @@ loop-place-preserved c =
     let b = c.index-blocks-place.result in
     let inside : c.loop-place.place-index < length c.args.places.now = omega arith in
     let within = c.requires.places i 0 inside in
-    let some : StandForSome (shown b).planes = subst (λ (held : Held). StandForSome (shown held).planes) (sym c.index-blocks-place.is) (c.requires.planes (get_or places i 0) b within).stand in
-    merged_next c.args.elements c.args.test (map shown blocks) places c.loop-place.planes c.merge_touched.new.into i (shown b) c.loop-place.invariant some
+    let some : StandForSome (shown b).planes = subst (λ (held : Held). StandForSome (shown held).planes)
+    (sym c.index-blocks-place.is) (c.requires.planes (get_or places i 0) b within).stand in
+    merged_next c.args.elements c.args.test (map shown blocks) places c.loop-place.planes c.merge_touched.new.into i
+    (shown b) c.loop-place.invariant some
     (chosen_next blocks places i b inside within c.index-blocks-place.is)
-    (λ each all. all_at (λ other. StandFor other.planes (each other)) blocks (get_or places i 0) b within c.index-blocks-place.is all)
+    (λ each all. all_at (λ other. StandFor other.planes (each other)) blocks (get_or places i 0) b within
+    c.index-blocks-place.is all)
     c.merge_touched.ensures.shape
-    (λ mine theirs stand also. c.merge_touched.ensures.visits mine theirs stand (subst (λ (p : Planes). StandFor p theirs) (sym c.planes.ensures) also))
+    (λ mine theirs stand also. c.merge_touched.ensures.visits mine theirs stand
+    (subst (λ (p : Planes). StandFor p theirs) (sym c.planes.ensures) also))
 
 pub returns-clause-visits : goal.returns-clause-visits
 returns-clause-visits c each all =
     let past : length c.args.places.now ≤ c.loop-place.place-index = omega arith in
-    merged_all c.args.elements c.args.test (map shown c.args.blocks.now) c.args.places.now c.loop-place.planes c.loop-place.place-index past c.loop-place.invariant each all
+    merged_all c.args.elements c.args.test (map shown c.args.blocks.now) c.args.places.now c.loop-place.planes
+    c.loop-place.place-index past c.loop-place.invariant each all

@@ -6,4 +6,5 @@ use Rattle.loop_core_gather.proofs.order.has_foreign.Given as goal
 
 -- none is before
 abbrev pub invariant-loop-block : goal.invariant-loop-block
-invariant-loop-block l = list_any (λ s. not (stands_told l.split s)) l.blocks ≡ list_any (λ s. not (stands_told l.split s)) (drop l.block-index l.blocks)
+invariant-loop-block l = list_any (λ s. not (stands_told l.split s)) l.blocks
+    ≡ list_any (λ s. not (stands_told l.split s)) (drop l.block-index l.blocks)

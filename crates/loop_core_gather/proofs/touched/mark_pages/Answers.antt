@@ -7,4 +7,5 @@ pub returns : goal.returns
 returns c =
     let count = c.pages-k-end.ensures in
     let all : length (shown c.args.block.now).copy.pages ≡ c.loop-k.k = omega (arith, count) in
-    all_pages c.args.touched.now c.loop-k.touched (shown c.args.block.now).copy.pages c.args.bit c.loop-k.k all c.loop-k.invariant
+    all_pages c.args.touched.now c.loop-k.touched (shown c.args.block.now).copy.pages c.args.bit c.loop-k.k all
+    c.loop-k.invariant

@@ -15,7 +15,8 @@ returns-then-run-eq1 c =
     let test = c.loop-index-test.true in
     let n = c.n-index-end.ensures in
     let below : c.loop-index.index < c.args.call.now.n = omega (arith, test, n) in
-    breaks c.args.program.now c.args.call.now c.loop-index.callback c.args.maps.now c.loop-index.maps c.loop-index.index c.loop-index.invariant
+    breaks c.args.program.now c.args.call.now c.loop-index.callback c.args.maps.now c.loop-index.maps c.loop-index.index
+    c.loop-index.invariant
     below c.run.result.ret c.run.result.steps c.run.new.store c.run.ensures.ran c.if-run-eq1.true
 
 pub loop-index-preserved : goal.loop-index-preserved
@@ -23,5 +24,7 @@ loop-index-preserved c =
     let test = c.loop-index-test.true in
     let n = c.n-index-end.ensures in
     let below : c.loop-index.index < c.args.call.now.n = omega (arith, test, n) in
-    next c.args.program.now c.args.call.now c.loop-index.callback c.args.maps.now c.loop-index.maps c.loop-index.index c.loop-index.invariant
-    below c.run.result.ret c.run.result.steps c.run.new.store c.run.ensures.ran c.if-run-eq1.false c.run.new.self c.run.ensures.same
+    next c.args.program.now c.args.call.now c.loop-index.callback c.args.maps.now c.loop-index.maps c.loop-index.index
+    c.loop-index.invariant
+    below c.run.result.ret c.run.result.steps c.run.new.store c.run.ensures.ran c.if-run-eq1.false c.run.new.self
+    c.run.ensures.same

@@ -13,7 +13,8 @@ loop-call-init c =
       counts = c.law_of_accepted_runs.ensures.counts;
       sound = record { accepted = c.unit-unit.ensures.accepted; fits = c.unit-unit.ensures.fit };
     } in
-    starts loop_report_in_order c.args.program.now c.args.argument c.new-main.result c.args.maps.now laws c.new-main.ensures.program c.new-main.ensures.at
+    starts loop_report_in_order c.args.program.now c.args.argument c.new-main.result c.args.maps.now laws
+    c.new-main.ensures.program c.new-main.ensures.at
     c.requires c.sizes-sizes.ensures.words c.words_fit.ensures c.new-loops.ensures.items
 
 pub next-requires-clause-served : goal.next-requires-clause-served
@@ -29,7 +30,8 @@ loop-call-preserved-in-Continue-1 c =
     (to_z-of_z w64 c.from.result (search rules) ∙ c.from.ensures) c.in_ok-push-in-Loop.ensures.items
 
 pub loop-call-smaller-in-Continue-1 : goal.loop-call-smaller-in-Continue-1
-loop-call-smaller-in-Continue-1 c = loop_lessens c.loop-call.invariant c.next.ensures.program c.in-Loop.ensures.ran c.resume.ensures.at
+loop-call-smaller-in-Continue-1 c = loop_lessens c.loop-call.invariant c.next.ensures.program c.in-Loop.ensures.ran
+    c.resume.ensures.at
 
 pub loop-call-preserved : goal.loop-call-preserved
 loop-call-preserved c =
@@ -41,12 +43,16 @@ loop-call-smaller c = refusal_lessens c.loop-call.invariant c.next.ensures.progr
 
 pub returns-in-Exit : goal.returns-in-Exit
 returns-in-Exit c =
-    let end = exits c.loop-call.invariant c.next.ensures.program c.in-Exit.ensures.ran (record { ret = c.in-Exit.ret; loops = c.loop-call.loops }) refl refl in
+    let end = exits c.loop-call.invariant c.next.ensures.program c.in-Exit.ensures.ran (record {
+      ret = c.in-Exit.ret;
+      loops = c.loop-call.loops;
+    }) refl refl in
     let laws = c.loop-call.invariant.laws in
     record {
       sizes = end.sizes;
       kept = end.kept;
       told = end.told;
-      calls = program_ends laws c.args.argument (search rules) c.args.maps.now c.requires c.sizes-sizes.ensures.words c.words_fit.ensures;
+      calls = program_ends laws c.args.argument (search rules) c.args.maps.now c.requires c.sizes-sizes.ensures.words
+          c.words_fit.ensures;
       ends = iterations_end laws.loops laws.counts c.args.program.now laws.sound;
     }

@@ -13,7 +13,8 @@ loop-call-init g c =
       counts = c.law_of_accepted_runs.ensures.counts;
       sound = record { accepted = c.unit-unit.ensures.accepted; fits = c.unit-unit.ensures.fit };
     } in
-    starts (loop_report c.args.plan.now.test c.args.program.now 4096) c.args.program.now c.args.argument c.new-main.result c.args.maps.now laws c.new-main.ensures.program c.new-main.ensures.at
+    starts (loop_report c.args.plan.now.test c.args.program.now 4096) c.args.program.now c.args.argument
+    c.new-main.result c.args.maps.now laws c.new-main.ensures.program c.new-main.ensures.at
     c.requires.sizes c.sizes-sizes.ensures.words c.words_fit.ensures c.new-loops.ensures.items
 
 pub next-requires-clause-served : goal.next-requires-clause-served
@@ -25,12 +26,14 @@ run_loop_evenly-requires-clause-sizes g c κs outlives = call_sizes c.loop-call.
 pub loop-call-preserved-in-Continue-branch-2 : goal.loop-call-preserved-in-Continue-branch-2
 loop-call-preserved-in-Continue-branch-2 g c =
     loops c.loop-call.invariant c.next.ensures.program c.in-Loop.ensures.ran
-    (call_by_test c.law_of_filled_calls.ensures c.loop-call.invariant.laws.sound c.in_ok-answered-in-Loop.ensures.outcome)
+    (call_by_test c.law_of_filled_calls.ensures c.loop-call.invariant.laws.sound
+    c.in_ok-answered-in-Loop.ensures.outcome)
     c.resume.ensures.program c.resume.ensures.at c.slot.ensures
     (to_z-of_z w64 c.from.result (search rules) ∙ c.from.ensures) c.in_ok-push-in-Loop.ensures.items
 
 pub loop-call-smaller-in-Continue-branch-2 : goal.loop-call-smaller-in-Continue-branch-2
-loop-call-smaller-in-Continue-branch-2 g c = loop_lessens c.loop-call.invariant c.next.ensures.program c.in-Loop.ensures.ran c.resume.ensures.at
+loop-call-smaller-in-Continue-branch-2 g c = loop_lessens c.loop-call.invariant c.next.ensures.program
+    c.in-Loop.ensures.ran c.resume.ensures.at
 
 pub loop-call-preserved : goal.loop-call-preserved
 loop-call-preserved g c =
@@ -42,12 +45,16 @@ loop-call-smaller g c = refusal_lessens c.loop-call.invariant c.next.ensures.pro
 
 pub returns-in-Exit : goal.returns-in-Exit
 returns-in-Exit g c =
-    let end = exits c.loop-call.invariant c.next.ensures.program c.in-Exit.ensures.ran (record { ret = c.in-Exit.ret; loops = c.loop-call.loops }) refl refl in
+    let end = exits c.loop-call.invariant c.next.ensures.program c.in-Exit.ensures.ran (record {
+      ret = c.in-Exit.ret;
+      loops = c.loop-call.loops;
+    }) refl refl in
     let laws = c.loop-call.invariant.laws in
     record {
       sizes = end.sizes;
       kept = end.kept;
       told = end.told;
-      calls = program_ends laws c.args.argument (search rules) c.args.maps.now c.requires.sizes c.sizes-sizes.ensures.words c.words_fit.ensures;
+      calls = program_ends laws c.args.argument (search rules) c.args.maps.now c.requires.sizes
+          c.sizes-sizes.ensures.words c.words_fit.ensures;
       ends = iterations_end laws.loops laws.counts c.args.program.now laws.sound;
     }

@@ -5,5 +5,6 @@ use Rattle.spec_run_loop.proofs.looping.run_loop.Goals as goal
 
 pub returns-clause-outcome : goal.returns-clause-outcome
 returns-clause-outcome g c =
-    subst (λ (start : MapList). IsOutcome c.args.test c.args.program.now c.args.call.now start c.in_ok-verdict.field-0.verdict c.in_ok-verdict.field-0.answer c.run_planned.new.maps)
+    subst (λ (start : MapList). IsOutcome c.args.test c.args.program.now c.args.call.now start
+    c.in_ok-verdict.field-0.verdict c.in_ok-verdict.field-0.answer c.run_planned.new.maps)
     c.in_ok-maps.ensures c.in_ok-verdict.ensures

@@ -8,18 +8,24 @@ use Rattle.spec_run_loop.proofs.looping.speculate_by_workers.Goals as goal
 
 pub gather-requires : goal.gather-requires
 gather-requires g c =
-    boards c.args.test c.args.program.now c.args.call.now c.args.start.now.words c.args.split.now c.in-Ok.board (vec_len c.in-Ok.seats)
+    boards c.args.test c.args.program.now c.args.call.now c.args.start.now.words c.args.split.now c.in-Ok.board
+    (vec_len c.in-Ok.seats)
     c.in_ok-seats.seats.items (map shown c.in_ok-seats.blocks.items) c.in_ok-seats.ensures
 
 pub gather_all-requires-clause-ran : goal.gather_all-requires-clause-ran
 gather_all-requires-clause-ran g c =
-    all_images (RecordsRun c.args.test c.args.program.now c.args.call.now c.args.start.now.words) shown c.in_ok-seats.blocks.items
-    (ran c.args.test c.args.program.now c.args.call.now c.args.start.now.words c.args.split.now c.in-Ok.board (vec_len c.in-Ok.seats)
+    all_images (RecordsRun c.args.test c.args.program.now c.args.call.now c.args.start.now.words) shown
+    c.in_ok-seats.blocks.items
+    (ran c.args.test c.args.program.now c.args.call.now c.args.start.now.words c.args.split.now c.in-Ok.board
+    (vec_len c.in-Ok.seats)
     c.in_ok-seats.seats.items (map shown c.in_ok-seats.blocks.items) c.in_ok-seats.ensures)
 
 pub gather_all-requires-clause-faultless : goal.gather_all-requires-clause-faultless
 gather_all-requires-clause-faultless g c =
     let few : 0 < vec_len c.in-Ok.seats = first_of (search rules, grind (arith, common_steps)) in
-    complete c.args.test c.args.program.now c.args.call.now c.args.start.now.words c.args.split.now c.in-Ok.board (vec_len c.in-Ok.seats)
-    c.in_ok-seats.seats.items (map shown c.in_ok-seats.blocks.items) c.in_ok-seats.ensures c.law_of_workers.ensures c.requires.plan.split c.requires.known.sound.iterations few
-    c.in-Ok-gather._tally.claimed c.in-Ok.board.blocks (c.in-Ok.ensures.board.0 ∙ c.blocks-2.ensures.blocks) c.in-Ok-gather.ensures.legal
+    complete c.args.test c.args.program.now c.args.call.now c.args.start.now.words c.args.split.now c.in-Ok.board
+    (vec_len c.in-Ok.seats)
+    c.in_ok-seats.seats.items (map shown c.in_ok-seats.blocks.items) c.in_ok-seats.ensures c.law_of_workers.ensures
+    c.requires.plan.split c.requires.known.sound.iterations few
+    c.in-Ok-gather._tally.claimed c.in-Ok.board.blocks (c.in-Ok.ensures.board.0 ∙ c.blocks-2.ensures.blocks)
+    c.in-Ok-gather.ensures.legal

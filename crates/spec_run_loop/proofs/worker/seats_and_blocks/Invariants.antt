@@ -13,7 +13,8 @@ invariant-loop-worker l = record {
   parts : (test : Test) (program : Program) (call : LoopCall) (words bounds : List ℕ) (board : BoardId) →
       All (λ r. IfOk r (λ w. IsWorkerAt test program call words bounds board (board_worker w))) l.fn.done.items →
       All (λ r. IfOk r (λ w. IsWorkerAt test program call words bounds board (board_worker w))) l.done.items
-      × AreOfWorkers test program call words bounds board (vec_len l.fn.done - vec_len l.done) l.seats.items (map shown l.blocks.items);
+      × AreOfWorkers test program call words bounds board (vec_len l.fn.done - vec_len l.done) l.seats.items
+      (map shown l.blocks.items);
 }
 
 abbrev pub decreases-loop-worker : goal.decreases-loop-worker

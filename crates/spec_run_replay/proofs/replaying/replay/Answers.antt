@@ -23,19 +23,34 @@ returns-in-Ok-replay_loop-clause-replayed c =
     let bounds = c.args.bounds.items in
     let found = c.in-Some.first in
     let new = c.first_loop.new.maps in
-    let sound : IsSoundProgram program = record { accepted = c.unit-unit.ensures.accepted; fits = c.unit-unit.ensures.fit } in
+    let sound : IsSoundProgram program = record {
+      accepted = c.unit-unit.ensures.accepted;
+      fits = c.unit-unit.ensures.fit;
+    } in
     let came : CameToLoop program c.args.argument c.args.maps new (Some found) =
-    subst (λ (r : Option NumberedCall). CameToLoop program c.args.argument c.args.maps new r) c.in-Some.is c.first_loop.ensures in
-    let split : split_fault bounds found.call.n ≡ None = ap (split_fault bounds) (sym c.n.ensures) ∙ c.in-Ok.ensures.split in
+    subst (λ (r : Option NumberedCall). CameToLoop program c.args.argument c.args.maps new r) c.in-Some.is
+    c.first_loop.ensures in
+    let split : split_fault bounds found.call.n ≡ None = ap (split_fault bounds) (sym c.n.ensures)
+    ∙ c.in-Ok.ensures.split in
     let left = c.in-Ok-replay_loop.outcome in
     let o : Outcome = record { verdict = left.verdict; answer = left.answer; words = left.maps.words } in
-    let ended = ap (λ (b : List ℕ). replayed c.args.test program 4096 found.call new.words b c.args.events.now) (sym c.in-Ok.ensures.ok) ∙ c.in-Ok-replay_loop.ensures.outcome in
+    let ended = ap (λ (b : List ℕ). replayed c.args.test program 4096 found.call new.words b c.args.events.now)
+    (sym c.in-Ok.ensures.ok) ∙ c.in-Ok-replay_loop.ensures.outcome in
     let small : left.answer < 2 ^ 32 = search rules in
     let answer : cast_signed w64 (cast_unsigned w64 c.from.result) ≡ pos left.answer =
     ap (λ (z : ℤ). cast_signed w64 (cast_unsigned w64 z)) c.from.ensures ∙ sym (word_kept left.answer small) in
-    let told : LoopReport = record { slot = c.slot.result; answer = cast_signed w64 (cast_unsigned w64 c.from.result); verdict = left.verdict } in
-    loop_replayed c.args.test program c.args.argument c.args.maps new bounds c.args.events.now found c.law_of_filled_calls.ensures sound split came o ended told
-    (ap (λ (s : ℕ). record { slot = s; answer = cast_signed w64 (cast_unsigned w64 c.from.result); verdict = left.verdict }) c.slot.ensures
+    let told : LoopReport = record {
+      slot = c.slot.result;
+      answer = cast_signed w64 (cast_unsigned w64 c.from.result);
+      verdict = left.verdict;
+    } in
+    loop_replayed c.args.test program c.args.argument c.args.maps new bounds c.args.events.now found
+    c.law_of_filled_calls.ensures sound split came o ended told
+    (ap (λ (s : ℕ). record {
+      slot = s;
+      answer = cast_signed w64 (cast_unsigned w64 c.from.result);
+      verdict = left.verdict;
+    }) c.slot.ensures
     ∙ ap (λ (z : ℤ). record { slot = found.call.slot; answer = z; verdict = left.verdict }) answer)
 
 pub returns-in-Err-Fault-clause-replayed : goal.returns-in-Err-Fault-clause-replayed
@@ -44,11 +59,19 @@ returns-in-Err-Fault-clause-replayed c =
     let bounds = c.args.bounds.items in
     let found = c.in-Some.first in
     let new = c.first_loop.new.maps in
-    let sound : IsSoundProgram program = record { accepted = c.unit-unit.ensures.accepted; fits = c.unit-unit.ensures.fit } in
+    let sound : IsSoundProgram program = record {
+      accepted = c.unit-unit.ensures.accepted;
+      fits = c.unit-unit.ensures.fit;
+    } in
     let came : CameToLoop program c.args.argument c.args.maps new (Some found) =
-    subst (λ (r : Option NumberedCall). CameToLoop program c.args.argument c.args.maps new r) c.in-Some.is c.first_loop.ensures in
-    let split : split_fault bounds found.call.n ≡ None = ap (split_fault bounds) (sym c.n.ensures) ∙ c.in-Ok.ensures.split in
-    let amiss = ap (λ (b : List ℕ). replayed c.args.test program 4096 found.call new.words b c.args.events.now) (sym c.in-Ok.ensures.ok)
+    subst (λ (r : Option NumberedCall). CameToLoop program c.args.argument c.args.maps new r) c.in-Some.is
+    c.first_loop.ensures in
+    let split : split_fault bounds found.call.n ≡ None = ap (split_fault bounds) (sym c.n.ensures)
+    ∙ c.in-Ok.ensures.split in
+    let amiss = ap (λ (b : List ℕ). replayed c.args.test program 4096 found.call new.words b c.args.events.now)
+    (sym c.in-Ok.ensures.ok)
     ∙ c.in-Err-Fault.ensures.fault c.in-Err-Fault.fault (ap Err c.in-Err-Fault.field-0-is) in
-    subst (λ (fault : ReplayFault). ComesTo c.args.test program c.args.argument c.args.maps.words bounds c.args.events.now (Err (Schedule fault))) (sym c.in-Err-Fault.fault-is)
-    (schedule_refused c.args.test program c.args.argument c.args.maps new bounds c.args.events.now found c.law_of_filled_calls.ensures sound split came c.in-Err-Fault.fault amiss)
+    subst (λ (fault : ReplayFault). ComesTo c.args.test program c.args.argument c.args.maps.words bounds
+    c.args.events.now (Err (Schedule fault))) (sym c.in-Err-Fault.fault-is)
+    (schedule_refused c.args.test program c.args.argument c.args.maps new bounds c.args.events.now found
+    c.law_of_filled_calls.ensures sound split came c.in-Err-Fault.fault amiss)

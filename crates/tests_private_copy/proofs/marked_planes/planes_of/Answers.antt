@@ -8,7 +8,8 @@ loop-turn-preserved c =
     let shape = c.end_iteration.ensures.shape in
     record {
       whole = shape.whole;
-      stand = one_ended c.loop-turn.planes c.end_iteration.new.self c.mark_some.new.flags _ before.stand c.mark_some.ensures.marked c.end_iteration.ensures.visits;
+      stand = one_ended c.loop-turn.planes c.end_iteration.new.self c.mark_some.new.flags _ before.stand
+          c.mark_some.ensures.marked c.end_iteration.ensures.visits;
       elements = shape.elements ∙ before.elements;
       test = shape.test ∙ before.test;
       flags = c.end_iteration.ensures.same_elements ∙ c.mark_some.ensures.elements;

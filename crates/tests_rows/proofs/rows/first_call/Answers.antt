@@ -20,10 +20,14 @@ returns-in-Loop-clause-sizes c =
 pub returns-in-Loop-clause-known : goal.returns-in-Loop-clause-known
 returns-in-Loop-clause-known c =
     let ran = c.in-Loop.ensures.ran (main_entry 0) c.new-main.ensures.at in
-    subst (λ (program : Program). OverApproximatesCall program c.in-Loop.call) (c.next.ensures.program ∙ c.new-main.ensures.program)
+    subst (λ (program : Program). OverApproximatesCall program c.in-Loop.call) (c.next.ensures.program
+    ∙ c.new-main.ensures.program)
     (known_call c.next.new.self ran.stretch.turn c.in-Loop.call ran.turns)
 
 pub returns-in_default : goal.returns-in_default
 returns-in_default c =
     let ran = c.next.ensures.ran (main_entry 0) c.new-main.ensures.at in
-    record { sizes = sizes_kept c.args.maps.now c.next.new.store ran.stretch.accesses ran.effects ∙ c.requires; known = tt }
+    record {
+      sizes = sizes_kept c.args.maps.now c.next.new.store ran.stretch.accesses ran.effects ∙ c.requires;
+      known = tt;
+    }

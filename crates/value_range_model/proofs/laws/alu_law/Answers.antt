@@ -7,5 +7,6 @@ pub returns : goal.returns
 returns c = record {
   is_span = span_of-span c.results_fit.ensures;
   contains = λ operation width a b i j.
-      span_of-contains c.results_fit.ensures operation width a b (operand-span operation width a i) (operand-span operation width b j);
+      span_of-contains c.results_fit.ensures operation width a b (operand-span operation width a i)
+      (operand-span operation width b j);
 }

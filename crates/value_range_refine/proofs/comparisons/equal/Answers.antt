@@ -13,11 +13,13 @@ returns-then-hi-lo c =
 
 pub norm-common-requires-clause-some : goal.norm-common-requires-clause-some
 norm-common-requires-clause-some c =
-    equal-within c.max-zeros.result c.max-lo.result c.min.result c.round_down-hi.result c.round_down-hi.ensures c.if-hi-lo.false
+    equal-within c.max-zeros.result c.max-lo.result c.min.result c.round_down-hi.result c.round_down-hi.ensures
+    c.if-hi-lo.false
 
 pub returns : goal.returns
 returns c =
-    equal-some c.args.a c.args.b c.norm-common.result c.max-zeros.result c.max-lo.result c.min.result c.round_down-hi.result
+    equal-some c.args.a c.args.b c.norm-common.result c.max-zeros.result c.max-lo.result c.min.result
+    c.round_down-hi.result
     (c.max-zeros.ensures ∙ (λ i. max (c.zeros.ensures.number i) (c.zeros-2.ensures.number i)))
     (c.max-lo.ensures ∙ (λ i. max (c.lo.ensures.number i) (c.lo-2.ensures.number i)))
     (c.min.ensures ∙ (λ i. min (c.hi.ensures.number i) (c.hi-2.ensures.number i)))

@@ -6,5 +6,10 @@ use Rattle.value_range_rows.proofs.quotients.divided.Goals as goal
 pub norm-requires-else-lo-eq0-clause-some : goal.norm-requires-else-lo-eq0-clause-some
 norm-requires-else-lo-eq0-clause-some c =
     let positive : 0 < c.args.b.lo = omega (arith, c.if-lo-eq0.false, c.lo-else-lo-hi.ensures.number) in
-    rw (c.lo-else-lo-eq0.ensures.number, c.lo-else-lo-eq0-2.ensures.number, c.hi-else-lo-eq0.ensures.number, c.lo-else-lo-eq0-3.ensures.number)
+    rw (
+      c.lo-else-lo-eq0.ensures.number,
+      c.lo-else-lo-eq0-2.ensures.number,
+      c.hi-else-lo-eq0.ensures.number,
+      c.lo-else-lo-eq0-3.ensures.number,
+    )
     (divided_some c.args.a c.args.b.lo positive c.lo-else-lo-eq0.ensures.span)

@@ -15,11 +15,16 @@ loop-map-preserved c =
           ∙ ap (λ ws. c.loop-map.words.items ++ ws) c.as_slice-values.ensures.value
           ∙ ap (λ ws. ws ++ c.map-item.result.items) c.loop-map.invariant.so_far
           ∙ sym (one_map_more c.args.values.now c.loop-map.map-index c.map-item.result (grind arith) c.map-item.is);
-      fit = subst AreWords (sym more) (All-append (λ word. word < 2 ^ 64) c.loop-map.words.items values c.loop-map.invariant.fit c.are_words.ensures);
+      fit = subst AreWords (sym more) (All-append (λ word. word < 2 ^ 64) c.loop-map.words.items values
+          c.loop-map.invariant.fit c.are_words.ensures);
     }
 
 pub invariant_of-result : goal.invariant_of-result
 invariant_of-result c =
     let words : c.loop-map.words.items ≡ concat (lists c.args.values.now) =
-    c.loop-map.invariant.so_far ∙ ap (λ vs. concat (lists vs)) (take_all c.loop-map.map-index c.args.values.now (grind arith)) in
-    (search rules, ap length words ∙ length_concat (lists c.args.values.now) ∙ ap sum (sym c.in_ok-sizes.ensures.ok), c.loop-map.invariant.fit)
+    c.loop-map.invariant.so_far ∙ ap (λ vs. concat (lists vs)) (take_all c.loop-map.map-index c.args.values.now
+    (grind arith)) in (
+      search rules,
+      ap length words ∙ length_concat (lists c.args.values.now) ∙ ap sum (sym c.in_ok-sizes.ensures.ok),
+      c.loop-map.invariant.fit,
+    )

@@ -12,7 +12,9 @@ returns c = λ other.
     let before = c.args.self.now in
     let label = c.args.label in
     let value = c.or_insert.result.now in
-    let kept : value ≡ unwrap_or (label_named before name) label = c.or_insert.ensures.value ∙ ap (λ v. unwrap_or v label) c.in_ok-self.ensures.value in
+    let kept : value ≡ unwrap_or (label_named before name) label = c.or_insert.ensures.value
+    ∙ ap (λ v. unwrap_or v label) c.in_ok-self.ensures.value in
     let whole = defined_once (label_named before) name label other value _ kept
-    (btree_map_updates_str name before.places (map_with_value c.in_ok-self.field-0 value) _ (c.in_ok-self.ensures.update.0 value) other) in
+    (btree_map_updates_str name before.places (map_with_value c.in_ok-self.field-0 value) _
+    (c.in_ok-self.ensures.update.0 value) other) in
     search (rules, whole)

@@ -21,9 +21,14 @@ returns-then-self-at-eq0 c =
     let words : List ℕ = c.self.inside.words in
     let at : ℕ = c.loop-at.at in
     let none : get_or (marks_in_words words) at false ≡ false =
-    get_or-marks_in_words words at (omega (arith, c.requires)) ∙ unmarked words at (rw c.mark.ensures at c.if-self-at-eq0.true) in
+    get_or-marks_in_words words at (omega (arith, c.requires))
+    ∙ unmarked words at (rw c.mark.ensures at c.if-self-at-eq0.true) in
     sym (ap (λ (l : List Bool). all_written l c.args.position c.args.size) (sym c.self.view_is)
-    ∙ all_written-no (marks_in_words words) c.args.position c.args.size at (omega (arith, c.requires, length-marks_in_words words))
+    ∙ all_written-no (marks_in_words words) c.args.position c.args.size at (omega (
+      arith,
+      c.requires,
+      length-marks_in_words words,
+    ))
     c.loop-at.auto.at c.loop-at-test.true none)
 
 pub returns : goal.returns

@@ -11,7 +11,8 @@ loop-row-init c = sym (met_to-none bit_and c.self.inside.words c.others.inside.w
 
 pub loop-row-preserved : goal.loop-row-preserved
 loop-row-preserved c =
-    met_to-step bit_and c.self.inside.words c.loop-row.self-inside.words c.others.inside.words c.others.inside.words c.loop-row.row 0 0
+    met_to-step bit_and c.self.inside.words c.loop-row.self-inside.words c.others.inside.words c.others.inside.words
+    c.loop-row.row 0 0
     (bit_and (get_or c.loop-row.self-inside.words c.loop-row.row 0) (get_or c.others.inside.words c.loop-row.row 0))
     c.loop-row.invariant refl (omega (arith, c.self.invariant.count)) (omega (arith, c.others.invariant.count)) refl
 

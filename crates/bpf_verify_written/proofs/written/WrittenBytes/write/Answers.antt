@@ -8,7 +8,11 @@ use Rattle.bpf_verify_written.proofs.WriteLaws.{written_from-none, written_from-
 use Rattle.bpf_verify_written.proofs.written.WrittenBytes.write.Goals as goal
 
 pub loop-at-init : goal.loop-at-init
-loop-at-init c = (c.self.invariant, sym (written_from-none _ c.args.position (c.args.position - c.args.position) (omega arith)))
+loop-at-init c = (
+  c.self.invariant,
+  sym (written_from-none _ c.args.position (c.args.position - c.args.position)
+      (omega arith)),
+)
 
 pub loop-at-preserved : goal.loop-at-preserved
 unfolding with_mark

@@ -5,4 +5,6 @@ use Rattle.bpf_verify_written.proofs.written.WrittenBytes.write.Given as goal
 
 abbrev pub invariant-loop-at : goal.invariant-loop-at
 invariant-loop-at l =
-    AreMarkWords l.self-inside.words × (marks_in_words l.self-inside.words ≡ written_from (marks_in_words l.initial.self-inside.words) l.position (l.at - l.position))
+    AreMarkWords l.self-inside.words
+    × (marks_in_words l.self-inside.words ≡ written_from (marks_in_words l.initial.self-inside.words) l.position
+    (l.at - l.position))

@@ -11,6 +11,7 @@ fetch_add-found-requires c =
     let never : c.seat.inside.seat.me.0.nones ≡ 0 = never_before _ _ c.seat.invariant.1 c.if-seat.false in (
       ap (λ (b : BoardId). b.table) here,
       subst (λ (n : ℕ). 0 < n) (sym board.words) (omega arith),
-      claims _ (subst (λ (e : Extent). e.blocks ≤ 64) (sym board.same) board.limits.few_blocks) (subst (λ (e : Extent). e.workers ≤ 16) (sym board.same) board.limits.few_workers)
+      claims _ (subst (λ (e : Extent). e.blocks ≤ 64) (sym board.same) board.limits.few_blocks)
+          (subst (λ (e : Extent). e.workers ≤ 16) (sym board.same) board.limits.few_workers)
           _ _ _ c.seat.invariant.1.parts never _ (omega arith),
     )

@@ -5,7 +5,8 @@ use Rattle.loop_core_batch.proofs.elements.Elements.may_meet.Goals.{in_default-v
 
 pub returns-then-other-base : goal.returns-then-other-base
 returns-then-other-base c =
-    runs_answer c.args.self c.args.later c.in-Run-Run.base c.in-Run-Run.other c.args.lanes c.in-Run-Run.is-0 c.in-Run-Run.is-1 c.if-other-base.true
+    runs_answer c.args.self c.args.later c.in-Run-Run.base c.in-Run-Run.other c.args.lanes c.in-Run-Run.is-0
+    c.in-Run-Run.is-1 c.if-other-base.true
 
 pub returns-in_default : goal.returns-in_default
 returns-in_default c =
@@ -14,6 +15,8 @@ returns-in_default c =
       | in_default-via-in-Run+in_default w ↦ not_second c.args.self c.args.later w.in_default.not-Run-1
       | in_default-via-in_default w ↦ not_first c.args.self c.args.later w.in_default.not-Run-0
     ] in
-    others_answer c.args.self c.args.later c.args.lanes c.least.result c.least-in_default.result c.greatest.result c.greatest-in_default.result
-    c.max-low.result c.min-high.result (omega (arith, c.if-lanes-lt2.false)) not_runs c.least.ensures c.least-in_default.ensures c.max-low.ensures
+    others_answer c.args.self c.args.later c.args.lanes c.least.result c.least-in_default.result c.greatest.result
+    c.greatest-in_default.result
+    c.max-low.result c.min-high.result (omega (arith, c.if-lanes-lt2.false)) not_runs c.least.ensures
+    c.least-in_default.ensures c.max-low.ensures
     c.greatest.ensures c.greatest-in_default.ensures c.min-high.ensures

@@ -5,11 +5,13 @@ use Rattle.loop_core_block.proofs.runner.Runner.iterate.Goals as goal
 pub end-requires-clause-under_way : goal.end-requires-clause-under_way
 end-requires-clause-under_way c =
     let ran = c.run-done.ensures.ran in
-    still_under_way c.begin.new.self c.run-done.new.store ran.iterated.accesses ran.effects ∙ c.in_ok-begin.ensures.ok.under_way
+    still_under_way c.begin.new.self c.run-done.new.store ran.iterated.accesses ran.effects
+    ∙ c.in_ok-begin.ensures.ok.under_way
 
 pub returns : goal.returns
 returns c = record {
-  ran = one_more c.law_of_accesses.ensures c.args.self.now _ c.args.index c.begin.new.self c.run-done.new.store c.run-done.result.ret c.run-done.result.steps
+  ran = one_more c.law_of_accesses.ensures c.args.self.now _ c.args.index c.begin.new.self c.run-done.new.store
+      c.run-done.result.ret c.run-done.result.steps
       c.in_ok-begin.ensures.ok c.in_ok-begin.ensures.stands c.run-done.ensures.ran c.run-done.ensures.same refl
       c.end.ensures.ended c.end.ensures.shape c.end.ensures.planes c.end.ensures.stands;
 }

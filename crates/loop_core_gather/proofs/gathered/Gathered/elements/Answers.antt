@@ -8,4 +8,5 @@ use Rattle.loop_core_gather.proofs.gathered.Gathered.elements.Goals as goal
 pub returns : goal.returns
 returns c =
     let held = c.self.inside in
-    sym (held_length held.planes (chosen held.counting.items (map shown held.blocks.items)) held.start.now) ∙ ap (λ (o : Outcome). length o.words) c.self.view_is
+    sym (held_length held.planes (chosen held.counting.items (map shown held.blocks.items)) held.start.now)
+    ∙ ap (λ (o : Outcome). length o.words) c.self.view_is

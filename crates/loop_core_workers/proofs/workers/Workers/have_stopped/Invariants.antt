@@ -7,4 +7,5 @@ use Rattle.loop_core_workers.proofs.workers.Workers.have_stopped.Given as goal
 -- what is left has stopped if the whole has
 abbrev pub invariant-loop-event : goal.invariant-loop-event
 invariant-loop-event l =
-    list_all (λ e. is_stopped (worker_of (state l.self []) e.worker)) l.events ≡ list_all (λ e. is_stopped (worker_of (state l.self []) e.worker)) (drop l.event-index l.events)
+    list_all (λ e. is_stopped (worker_of (state l.self []) e.worker)) l.events
+    ≡ list_all (λ e. is_stopped (worker_of (state l.self []) e.worker)) (drop l.event-index l.events)

@@ -16,13 +16,16 @@ invariant_of-self-in-Some-pop-2 c =
     let long = ap total_of c.self.view_is in
     let all = length-map table cells_of in
     let within : c.args.number < length table = omega (arith, c.requires.within, long, all) in
-    let absent : has_page (take c.self.inside.placed keys) c.args.number ≡ false = ap (λ (v : PlacedPages). has_page v.order c.args.number) c.self.view_is ∙ c.requires.absent in
-    let stands = where_stands keys c.self.inside.placed c.args.number c.in-Some.at (sym c.get_index_of.ensures.index ∙ c.in-Some.is) absent in
+    let absent : has_page (take c.self.inside.placed keys) c.args.number ≡ false =
+    ap (λ (v : PlacedPages). has_page v.order c.args.number) c.self.view_is ∙ c.requires.absent in
+    let stands = where_stands keys c.self.inside.placed c.args.number c.in-Some.at (sym c.get_index_of.ensures.index
+    ∙ c.in-Some.is) absent in
     let many = vec_len c.self.inside.spare in
     let long_spare : many ≡ length spares = search rules in
     let spare = ap (λ (v : PlacedPages). v.spare) c.self.view_is in
     let left : 0 < many = omega (arith, c.requires.spare, spare, long_spare) in
-    let blank = spare_blank spares c.in-Some-pop.page many long_spare c.self.invariant.blank left (sym c.in-Some-pop.is ∙ c.pop.ensures.value None left) in
+    let blank = spare_blank spares c.in-Some-pop.page many long_spare c.self.invariant.blank left (sym c.in-Some-pop.is
+    ∙ c.pop.ensures.value None left) in
     let placed = c.self.inside.placed in
     let page = c.in-Some-pop.page in
     let after = length-set table c.args.number page in
@@ -32,13 +35,16 @@ invariant_of-self-in-Some-pop-2 c =
     record {
       most = omega (arith, c.self.invariant.most, after);
       numbers = swapped ∙ c.self.invariant.numbers ∙ sym after;
-      all = λ other inside. c.swap_indices.ensures.reordered.2 other ∙ c.self.invariant.all other (omega (arith, inside, after));
+      all = λ other inside. c.swap_indices.ensures.reordered.2 other
+          ∙ c.self.invariant.all other (omega (arith, inside, after));
       within = omega (arith, stands.behind, stands.within, swapped);
       placed = λ other inside.
-          agree_more keys placed c.args.number c.in-Some.at table page stands within (blank_is_some page blank) c.self.invariant.placed other inside
+          agree_more keys placed c.args.number c.in-Some.at table page stands within (blank_is_some page blank)
+          c.self.invariant.placed other inside
           ∙ ap (λ l. has_page (take (placed + 1) l) other) (sym c.swap_indices.ensures.keys);
       blank = λ k inside.
-          subst IsBlank (sym (ap (λ l. get_or l k None) c.pop.ensures.rest ∙ get_or-take (many - 1) spares k None (omega (arith, inside, rest, few))))
+          subst IsBlank (sym (ap (λ l. get_or l k None) c.pop.ensures.rest ∙ get_or-take (many - 1) spares k None
+          (omega (arith, inside, rest, few))))
           (c.self.invariant.blank k (omega (arith, inside, rest, few, long_spare)));
     }
 
@@ -50,13 +56,16 @@ returns-in-Some-pop-clause-pages c =
     let long = ap total_of c.self.view_is in
     let all = length-map table cells_of in
     let within : c.args.number < length table = omega (arith, c.requires.within, long, all) in
-    let absent : has_page (take c.self.inside.placed keys) c.args.number ≡ false = ap (λ (v : PlacedPages). has_page v.order c.args.number) c.self.view_is ∙ c.requires.absent in
+    let absent : has_page (take c.self.inside.placed keys) c.args.number ≡ false =
+    ap (λ (v : PlacedPages). has_page v.order c.args.number) c.self.view_is ∙ c.requires.absent in
     let many = vec_len c.self.inside.spare in
     let long_spare : many ≡ length spares = search rules in
     let spare = ap (λ (v : PlacedPages). v.spare) c.self.view_is in
     let left : 0 < many = omega (arith, c.requires.spare, spare, long_spare) in
-    let blank = spare_blank spares c.in-Some-pop.page many long_spare c.self.invariant.blank left (sym c.in-Some-pop.is ∙ c.pop.ensures.value None left) in
-    let stay = cells_stay table c.args.number c.in-Some-pop.page blank (c.self.invariant.placed c.args.number within ∙ absent)
+    let blank = spare_blank spares c.in-Some-pop.page many long_spare c.self.invariant.blank left (sym c.in-Some-pop.is
+    ∙ c.pop.ensures.value None left) in
+    let stay = cells_stay table c.args.number c.in-Some-pop.page blank (c.self.invariant.placed c.args.number within
+    ∙ absent)
     ∙ ap (λ (v : PlacedPages). v.pages) c.self.view_is in
     elim c.match-index_mut-page.branch [
       | in-Some-1 w ↦ ap (λ (v : PlacedPages). v.pages) w.self-is ∙ stay
@@ -71,10 +80,13 @@ returns-in-Some-pop-clause-order c =
     let long = ap total_of c.self.view_is in
     let all = length-map table cells_of in
     let within : c.args.number < length table = omega (arith, c.requires.within, long, all) in
-    let absent : has_page (take c.self.inside.placed keys) c.args.number ≡ false = ap (λ (v : PlacedPages). has_page v.order c.args.number) c.self.view_is ∙ c.requires.absent in
-    let stands = where_stands keys c.self.inside.placed c.args.number c.in-Some.at (sym c.get_index_of.ensures.index ∙ c.in-Some.is) absent in
+    let absent : has_page (take c.self.inside.placed keys) c.args.number ≡ false =
+    ap (λ (v : PlacedPages). has_page v.order c.args.number) c.self.view_is ∙ c.requires.absent in
+    let stands = where_stands keys c.self.inside.placed c.args.number c.in-Some.at (sym c.get_index_of.ensures.index
+    ∙ c.in-Some.is) absent in
     let placed = c.self.inside.placed in
-    let last = ap (λ l. take (placed + 1) l) c.swap_indices.ensures.keys ∙ take_swap keys placed c.args.number c.in-Some.at stands
+    let last = ap (λ l. take (placed + 1) l) c.swap_indices.ensures.keys ∙ take_swap keys placed c.args.number
+    c.in-Some.at stands
     ∙ ap (λ (v : PlacedPages). v.order ++ c.args.number ∷ []) c.self.view_is in
     elim c.match-index_mut-page.branch [
       | in-Some-1 w ↦ ap (λ (v : PlacedPages). v.order) w.self-is ∙ last

@@ -18,7 +18,8 @@ returns-in-Some-clause-others c other differ =
     let long = ap total_of c.self.view_is in
     let all = length-map c.self.inside.table.items cells_of in
     let within : c.args.e / 64 < length c.self.inside.table.items = omega (arith, c.requires.within, long, all) in
-    let was = get_or_default c.self.inside.table.items (c.args.e / 64) None c.index_mut.result.now within ∙ sym c.index_mut.ensures.value ∙ c.in-Some.is in
+    let was = get_or_default c.self.inside.table.items (c.args.e / 64) None c.index_mut.result.now within
+    ∙ sym c.index_mut.ensures.value ∙ c.in-Some.is in
     set_others c.self.inside.table.items c.args.e other c.args.cell (Some c.in-Some.page) _ within was
     (ap (λ (page : Page). set page.cells (c.args.e % 64) c.args.cell) c.deref_mut.ensures.value) differ
     ∙ ap (λ v. cell_at v other) c.self.view_is

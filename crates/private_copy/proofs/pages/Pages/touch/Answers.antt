@@ -12,11 +12,13 @@ place-requires-clause-spare c =
     let long = ap total_of c.self.view_is in
     let all = length-map c.self.inside.table.items cells_of in
     let within : c.args.e / 64 < length c.self.inside.table.items = omega (arith, c.requires.within, long, all) in
-    let none = ap is_some (get_or_default c.self.inside.table.items (c.args.e / 64) None c.index.result.now within ∙ sym c.index.ensures)
+    let none = ap is_some (get_or_default c.self.inside.table.items (c.args.e / 64) None c.index.result.now within
+    ∙ sym c.index.ensures)
     ∙ c.is_none.ensures ∙ ap not c.if-is_none.true in
     let absent : has_page (take c.self.inside.placed c.self.inside.order.keys) (c.args.e / 64) ≡ false =
     sym (c.self.invariant.placed (c.args.e / 64) within) ∙ none in
-    let left = some_left c.self.inside.order.keys c.self.inside.placed (c.args.e / 64) (c.self.invariant.all (c.args.e / 64) within) absent in
+    let left = some_left c.self.inside.order.keys c.self.inside.placed (c.args.e / 64)
+    (c.self.invariant.all (c.args.e / 64) within) absent in
     let ordered = ap (λ (v : PlacedPages). length v.order) c.self.view_is in
     let taken = length-take c.self.inside.placed c.self.inside.order.keys in
     let spare = ap (λ (v : PlacedPages). v.spare) c.self.view_is in

@@ -10,7 +10,8 @@ loop-number-preserved c =
     let keys = c.loop-number.order.keys in
     let number = c.loop-number.number in
     let held = c.loop-number.invariant in
-    let added = number_added keys c.insert.new.self.keys number (held.2 number (omega arith)) c.in_ok-insert.ensures.keys in
+    let added = number_added keys c.insert.new.self.keys number (held.2 number (omega arith))
+    c.in_ok-insert.ensures.keys in
     let longer = ap length added ∙ length-append keys (number ∷ []) in (
       omega (arith, longer, held.0),
       λ p below. ap (λ l. has_page l p) added ∙ noted_before keys number held.1 p below,
@@ -35,4 +36,5 @@ invariant_of-result c =
 
 pub returns-clause-cells : goal.returns-clause-cells
 returns-clause-cells c e =
-    unplaced_cell c.loop-number.table.items e (ap (λ l. get_or l (e / 64) None) c.loop-number.invariant.3 ∙ none_placed c.loop-number.number (e / 64) None refl)
+    unplaced_cell c.loop-number.table.items e (ap (λ l. get_or l (e / 64) None) c.loop-number.invariant.3
+    ∙ none_placed c.loop-number.number (e / 64) None refl)

@@ -9,12 +9,14 @@ pub returns-then-cell-self-clause-word : goal.returns-then-cell-self-clause-word
 returns-then-cell-self-clause-word c =
     let word = slice_index c.args.self.now.start.now c.args.e in
     sym (seen_own c.get-cell.result c.args.self.now.begun word c.if-cell-self.true)
-    ∙ ap (λ (cell : Cell). seen_word cell c.args.self.now.begun word) (c.get-cell.ensures ∙ same_cell c.touch.new.self c.args.self.now.pages c.args.e c.touch.ensures.pages)
+    ∙ ap (λ (cell : Cell). seen_word cell c.args.self.now.begun word) (c.get-cell.ensures
+    ∙ same_cell c.touch.new.self c.args.self.now.pages c.args.e c.touch.ensures.pages)
     ∙ sym (word_is c.args.self.now c.args.e c.requires.within)
 
 pub returns-else-cell-self-clause-word : goal.returns-else-cell-self-clause-word
 returns-else-cell-self-clause-word c =
     let word = slice_index c.args.self.now.start.now c.args.e in
     sym (seen_start c.get-cell.result c.args.self.now.begun word c.if-cell-self.false)
-    ∙ ap (λ (cell : Cell). seen_word cell c.args.self.now.begun word) (c.get-cell.ensures ∙ same_cell c.touch.new.self c.args.self.now.pages c.args.e c.touch.ensures.pages)
+    ∙ ap (λ (cell : Cell). seen_word cell c.args.self.now.begun word) (c.get-cell.ensures
+    ∙ same_cell c.touch.new.self c.args.self.now.pages c.args.e c.touch.ensures.pages)
     ∙ sym (word_is c.args.self.now c.args.e c.requires.within)

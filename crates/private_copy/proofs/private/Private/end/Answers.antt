@@ -10,5 +10,6 @@ returns-clause-visits c visits runs accesses within = c.end_iteration.ensures.vi
 
 pub returns-clause-planes : goal.returns-clause-planes
 returns-clause-planes c first runs accesses is within stand =
-    subst (λ (v : ℕ → List Visit). StandFor c.end_iteration.new.self v) (visits_more first runs accesses c.args.index is)
+    subst (λ (v : ℕ → List Visit). StandFor c.end_iteration.new.self v) (visits_more first runs accesses c.args.index
+    is)
     (c.end_iteration.ensures.visits (visits_of first runs) _ within.flags stand)

@@ -13,6 +13,9 @@ admit-old-requires-clause-within c = in_range c.args.self.now c.args.e c.require
 pub returns-clause-done : goal.returns-clause-done
 returns-clause-done c =
     let word = slice_index (copy_of c.args.self.now).words c.args.e in
-    leaves c.args.self.now c.admit-old.new.self c.leave.new.self c.args.e Both (ReadWrite word (exchanged c.args.part c.args.rmw word c.args.value c.args.compare)) (left_cell c.exchange.result c.admit-old.new.self.begun)
+    leaves c.args.self.now c.admit-old.new.self c.leave.new.self c.args.e Both
+    (ReadWrite word (exchanged c.args.part c.args.rmw word c.args.value c.args.compare))
+    (left_cell c.exchange.result c.admit-old.new.self.begun)
     c.admit-old.ensures.admitted c.leave.ensures c.requires.within refl refl refl
-    (c.exchange.ensures ∙ ap (λ w. exchanged c.args.part c.args.rmw w c.args.value c.args.compare) c.admit-old.ensures.word) refl
+    (c.exchange.ensures ∙ ap (λ w. exchanged c.args.part c.args.rmw w c.args.value c.args.compare)
+    c.admit-old.ensures.word) refl

@@ -10,6 +10,7 @@ admit-requires-clause-within c = in_range c.args.self.now c.args.e c.requires.wi
 
 pub returns : goal.returns
 returns c = record {
-  done = leaves c.args.self.now c.admit.new.self c.leave.new.self c.args.e Writes (Write c.args.value) (left_cell c.args.value c.admit.new.self.begun) c.admit.ensures.admitted c.leave.ensures
+  done = leaves c.args.self.now c.admit.new.self c.leave.new.self c.args.e Writes (Write c.args.value)
+      (left_cell c.args.value c.admit.new.self.begun) c.admit.ensures.admitted c.leave.ensures
       c.requires.within refl refl refl refl refl;
 }

@@ -15,7 +15,9 @@ pub returns : goal.returns
 returns c =
     let word = slice_index (copy_of c.args.self.now).words c.args.e in
     record {
-      done = leaves c.args.self.now c.admit-word.new.self c.leave.new.self c.args.e Both (ReadWrite word (with_half c.args.half word c.args.value)) (left_cell c.with_half.result c.admit-word.new.self.begun)
+      done = leaves c.args.self.now c.admit-word.new.self c.leave.new.self c.args.e Both
+          (ReadWrite word (with_half c.args.half word c.args.value))
+          (left_cell c.with_half.result c.admit-word.new.self.begun)
           c.admit-word.ensures.admitted c.leave.ensures c.requires.within refl refl refl
           (c.with_half.ensures ∙ ap (λ w. with_half c.args.half w c.args.value) c.admit-word.ensures.word) refl;
     }

@@ -9,7 +9,8 @@ fold-requires c = operators_have c.args.self.now.elements _ c.args.e c.requires.
 
 pub returns : goal.returns
 returns c =
-    parts_fold c.args.self.now _ c.args.e c.args.index (flags_in c.args.kept) c.requires.whole c.requires.in_range c.requires.index
+    parts_fold c.args.self.now _ c.args.e c.args.index (flags_in c.args.kept) c.requires.whole c.requires.in_range
+    c.requires.index
     (record {
       elements = refl;
       plain = grind (arith, common_steps);
