@@ -1,18 +1,16 @@
 -- Reading a unit's lines one after the other, as loops do.
-use Rattle.std.proofs.Common.{◌≡◌, ℕ, ◌+◌, List, [], ◌∷◌, ◌++◌, Option, Some, None, Result, Ok, Err, refl, sym, ap, ◌∙◌, subst}
+use Rattle.std.proofs.Common.{◌≡◌, ℕ, ◌+◌, List, [], ◌∷◌, ◌++◌, Option, Some, None, Result, Ok, refl, sym, ap, ◌∙◌, subst}
 use Rattle.bpf_insn_types.specs.declared.insn.Insn.{Insn}
-use Rattle.bpf_text_lex.specs.Words.{words_of}
-use Rattle.bpf_text_lex.specs.declared.text_error.TextFault.TheVariants as faults
 use Rattle.bpf_text_lex.specs.declared.text_error.TextError.{TextError}
-use Rattle.bpf_text_lex.specs.declared.text_error.TextError.TheVariants as errors
 use Rattle.bpf_insn_types.specs.Outcome.{RefusalMatches}
 use Rattle.bpf_text_lex.specs.Refusals.{at_line, ◌>>=◌, text_refusal}
 use Rattle.bpf_text_lex.specs.Head.{head_of}
 use Rattle.bpf_text_lex.proofs.RefusalLaws.{bind_fails}
+use Rattle.bpf_text_lex.proofs.HeadLaws.{ReadsHeadFirst}
 use Rattle.bpf_text_operands.specs.declared.labels.Label.{Label}
 use Rattle.std.specs.Option.{option_or}
 use Rattle.bpf_text_operands.proofs.LabelLaws.{option_or-none}
-use Rattle.bpf_insn_types.specs.Program.{slot_count, Program}
+use Rattle.bpf_insn_types.specs.Program.{slot_count}
 use Rattle.bpf_text_asm.specs.AssemblerText.{line_slots, line_label, labels_from, line_at, insns_behind, unit_of}
 
 -- ---- labels
@@ -69,45 +67,15 @@ insns_behind-end labels before = refl
 
 -- ---- the first line and those after it
 
-pub no_head : (contents : List (ℕ × List ℕ)) → contents ≡ [] → unit_of contents ≡ Err (errors.Refused faults.Form 0)
+-- the first line has the sizes, and those after it have the instructions, with their labels
+pub reads : ReadsHeadFirst head_of (λ lines. insns_behind (labels_from 0 lines) [] lines)
+    (λ sizes insns. record { sizes = sizes; insns = insns }) unit_of
 unfolding unit_of
-no_head contents none = rw none refl
+reads = record { nothing = refl; lines = λ line lines. refl }
 
-pub head_fails : (e : TextError) (contents : List (ℕ × List ℕ)) (line : ℕ × List ℕ) (lines : List (ℕ × List ℕ))
-    → contents ≡ line ∷ lines →
-    RefusalMatches (text_refusal e) (at_line line.0 (head_of (words_of line.1)))
-    → RefusalMatches (text_refusal e) (unit_of contents)
-unfolding unit_of
-head_fails e contents line lines same fails =
-    rw same (bind_fails e (at_line line.0 (head_of (words_of line.1))) _ fails)
-
--- the unit whose sizes are read
-abbrev with_insns : List ℕ → Result (List Insn) TextError → Result Program TextError
-with_insns sizes read = read >>= λ insns. Ok (record { sizes = sizes; insns = insns })
-
-head_read : (contents : List (ℕ × List ℕ)) (line : ℕ × List ℕ) (lines : List (ℕ × List ℕ)) (sizes : List ℕ)
-    (labels : List ℕ → Option Label) → contents ≡ line ∷ lines →
-    at_line line.0 (head_of (words_of line.1)) ≡ Ok sizes → ((name : List ℕ) → labels name ≡ labels_from 0 lines name)
-    → unit_of contents ≡ with_insns sizes (insns_behind labels [] lines)
-unfolding unit_of
-head_read contents line lines sizes labels same read table =
-    rw same (ap (λ (r : Result (List ℕ) TextError). r >>= λ s. with_insns s (insns_behind (labels_from 0 lines) []
-    lines)) read)
-    ∙ ap (λ (t : List ℕ → Option Label). with_insns sizes (insns_behind t [] lines)) (sym (λ i name. table name i))
-
-pub insns_fail : (e : TextError) (contents : List (ℕ × List ℕ)) (line : ℕ × List ℕ) (lines : List (ℕ × List ℕ))
-    (sizes : List ℕ) (labels : List ℕ → Option Label) → contents ≡ line ∷ lines →
-    at_line line.0 (head_of (words_of line.1)) ≡ Ok sizes → ((name : List ℕ) → labels name ≡ labels_from 0 lines name)
-    → RefusalMatches (text_refusal e) (insns_behind labels [] lines)
-    → RefusalMatches (text_refusal e) (unit_of contents)
-insns_fail e contents line lines sizes labels same read table fails =
-    let P : Result Program TextError → Type 0 = λ r. RefusalMatches (text_refusal e) r in
-    subst P (sym (head_read contents line lines sizes labels same read table))
-    (bind_fails e (insns_behind labels [] lines) (λ insns. Ok (record { sizes = sizes; insns = insns })) fails)
-
-pub insns_read : (contents : List (ℕ × List ℕ)) (line : ℕ × List ℕ) (lines : List (ℕ × List ℕ)) (sizes : List ℕ)
-    (insns : List Insn) (labels : List ℕ → Option Label) → contents ≡ line ∷ lines →
-    at_line line.0 (head_of (words_of line.1)) ≡ Ok sizes → ((name : List ℕ) → labels name ≡ labels_from 0 lines name)
-    → insns_behind labels [] lines ≡ Ok insns → unit_of contents ≡ Ok (record { sizes = sizes; insns = insns })
-insns_read contents line lines sizes insns labels same read table rest =
-    head_read contents line lines sizes labels same read table ∙ ap (with_insns sizes) rest
+-- a table of the labels serves as well
+pub by_table : (labels : List ℕ → Option Label) (lines : List (ℕ × List ℕ))
+    → ((name : List ℕ) → labels name ≡ labels_from 0 lines name)
+    → insns_behind (labels_from 0 lines) [] lines ≡ insns_behind labels [] lines
+by_table labels lines table =
+    ap (λ (t : List ℕ → Option Label). insns_behind t [] lines) (sym (λ i name. table name i))

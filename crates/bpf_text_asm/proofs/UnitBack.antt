@@ -24,7 +24,8 @@ use Rattle.bpf_text_asm.specs.AssemblerText.{name_of, is_label, labels_from, lab
 use Rattle.bpf_insn_types.specs.Limits.{IsUnit}
 use Rattle.bpf_text_asm.specs.AssemblerForm.{assembler_lines, assembler_form}
 use Rattle.bpf_insn_types.proofs.ProgramLaws.{slots_some, slot_count-append}
-use Rattle.bpf_text_asm.proofs.ReadingLaws.{insns_behind-line, insns_behind-end, insns_read}
+use Rattle.bpf_text_lex.proofs.HeadLaws.{all_read}
+use Rattle.bpf_text_asm.proofs.ReadingLaws.{insns_behind-line, insns_behind-end, reads}
 use Rattle.bpf_text_mnemonics.proofs.PrintedInsns.{insn_is_line}
 use Rattle.bpf_text_mnemonics.proofs.LineLaws.{contents-line}
 use Rattle.bpf_text_asm.proofs.PrintedLabels.{no_label}
@@ -111,11 +112,10 @@ whole_back : (p : Program) → IsUnit p → Spelled p.insns → unit_of (content
 whole_back p u spelled =
     let lines = numbered 2 p.insns in
     let few = u.slots in
-    insns_read (contents_of (assembler_lines p)) (1, head_spelling p.sizes) lines p.sizes p.insns (labels_from 0 lines)
+    all_read reads (contents_of (assembler_lines p)) (1, head_spelling p.sizes) lines p.sizes p.insns
     (contents-line 1 (head_spelling p.sizes) (flat_map insn_line p.insns) (head_is_line p.sizes u.sizes)
     ∙ ap (λ (ls : List (ℕ × List ℕ)). (1, head_spelling p.sizes) ∷ ls) (contents_of-insns 2 p.insns u.insns))
     (ap (at_line 1) (head_back p.sizes u.sizes))
-    (λ name. refl)
     (insns_back (labels_from 0 lines) [] p.insns 2 u.insns spelled (omega (arith, few)))
 
 pub unit_back : (p : Program) (text : List ℕ) → IsUnit p → assembler_form p ≡ Ok text → assembler_text text ≡ Ok p

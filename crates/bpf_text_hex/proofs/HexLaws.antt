@@ -1,12 +1,11 @@
 -- Reading lines of hex digits one after the other, as a loop does.
-use Rattle.std.proofs.Common.{◌≡◌, ℕ, List, [], ◌∷◌, ◌++◌, length, Result, Ok, Err, refl, sym, ap, ◌∙◌, subst}
+use Rattle.std.proofs.Common.{◌≡◌, ℕ, List, [], ◌∷◌, ◌++◌, length, Result, Ok, refl, ap, subst}
 use Rattle.bpf_text_lex.specs.Words.{words_of}
-use Rattle.bpf_text_lex.specs.declared.text_error.TextFault.TheVariants as faults
 use Rattle.bpf_text_lex.specs.declared.text_error.TextError.{TextError}
-use Rattle.bpf_text_lex.specs.declared.text_error.TextError.TheVariants as errors
 use Rattle.bpf_insn_types.specs.Outcome.{RefusalMatches}
 use Rattle.bpf_text_lex.specs.Refusals.{at_line, ◌>>=◌, text_refusal}
 use Rattle.bpf_text_lex.proofs.RefusalLaws.{bind_fails}
+use Rattle.bpf_text_lex.proofs.HeadLaws.{ReadsHeadFirst}
 use Rattle.bpf_text_hex.specs.SizesAndBytes.{SizesAndBytes}
 use Rattle.bpf_text_hex.specs.HexText.{bytes_of_lines, bytes_behind, hex_parts_of}
 use Rattle.bpf_text_lex.specs.Head.{head_of}
@@ -34,45 +33,11 @@ pub bytes_behind-end : (before : List ℕ) → bytes_behind before [] ≡ Ok bef
 unfolding bytes_behind
 bytes_behind-end before = refl
 
--- ---- the first line and those after it
+-- what sizes and bytes make
+abbrev pub parts : (sizes bytes : List ℕ) → SizesAndBytes
+parts sizes bytes = record { sizes = sizes; bytes = bytes }
 
-pub no_head : (contents : List (ℕ × List ℕ)) → contents ≡ []
-    → hex_parts_of contents ≡ Err (errors.Refused faults.Form 0)
+-- the first line has the sizes, and those after it have the bytes
+pub reads : ReadsHeadFirst head_of (bytes_behind []) parts hex_parts_of
 unfolding hex_parts_of
-no_head contents none = rw none refl
-
-pub head_fails : (e : TextError) (contents : List (ℕ × List ℕ)) (line : ℕ × List ℕ) (lines : List (ℕ × List ℕ))
-    → contents ≡ line ∷ lines →
-    RefusalMatches (text_refusal e) (at_line line.0 (head_of (words_of line.1)))
-    → RefusalMatches (text_refusal e) (hex_parts_of contents)
-unfolding hex_parts_of
-head_fails e contents line lines same fails =
-    rw same (bind_fails e (at_line line.0 (head_of (words_of line.1))) _ fails)
-
--- the parts of a unit whose sizes are read
-abbrev with_bytes : List ℕ → Result (List ℕ) TextError → Result SizesAndBytes TextError
-with_bytes sizes read = read >>= λ bytes. Ok (record { sizes = sizes; bytes = bytes })
-
-pub head_read : (contents : List (ℕ × List ℕ)) (line : ℕ × List ℕ) (lines : List (ℕ × List ℕ)) (sizes : List ℕ)
-    → contents ≡ line ∷ lines →
-    at_line line.0 (head_of (words_of line.1)) ≡ Ok sizes → hex_parts_of contents ≡ with_bytes sizes
-    (bytes_behind [] lines)
-unfolding hex_parts_of
-head_read contents line lines sizes same read =
-    rw same (ap (λ (r : Result (List ℕ) TextError). r >>= λ s. with_bytes s (bytes_behind [] lines)) read)
-
-pub bytes_fail : (e : TextError) (contents : List (ℕ × List ℕ)) (line : ℕ × List ℕ) (lines : List (ℕ × List ℕ))
-    (sizes : List ℕ) → contents ≡ line ∷ lines →
-    at_line line.0 (head_of (words_of line.1)) ≡ Ok sizes → RefusalMatches (text_refusal e) (bytes_behind [] lines)
-    → RefusalMatches (text_refusal e) (hex_parts_of contents)
-bytes_fail e contents line lines sizes same read fails =
-    let P : Result SizesAndBytes TextError → Type 0 = λ r. RefusalMatches (text_refusal e) r in
-    subst P (sym (head_read contents line lines sizes same read)) (bind_fails e (bytes_behind [] lines)
-    (λ bytes. Ok (record { sizes = sizes; bytes = bytes })) fails)
-
-pub bytes_read : (contents : List (ℕ × List ℕ)) (line : ℕ × List ℕ) (lines : List (ℕ × List ℕ)) (sizes bytes : List ℕ)
-    → contents ≡ line ∷ lines →
-    at_line line.0 (head_of (words_of line.1)) ≡ Ok sizes → bytes_behind [] lines ≡ Ok bytes
-    → hex_parts_of contents ≡ Ok (record { sizes = sizes; bytes = bytes })
-bytes_read contents line lines sizes bytes same read rest = head_read contents line lines sizes same read
-    ∙ ap (with_bytes sizes) rest
+reads = record { nothing = refl; lines = λ line lines. refl }

@@ -3,5 +3,6 @@ pub mod WordLaws
 pub mod NumberLaws
 pub mod SpellingLaws
 pub mod RefusalLaws
+pub mod HeadLaws
 pub mod FieldLaws
 pub mod ResultLaws
