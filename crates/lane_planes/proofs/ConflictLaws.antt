@@ -17,7 +17,7 @@ use Rattle.shadow_marks.specs.declared.planes.Planes.{Planes}
 use Rattle.shadow_marks.specs.Standing.{ArePlanes, AreTested, StandAt, StandFor, TestedStandAt, test_of, words_for}
 use Rattle.lane_planes.specs.Words.{stands_at, in_some, without_reductions}
 use Rattle.lane_planes.specs.Writes.{Writes}
-use Rattle.lane_planes.specs.Conflicts.{FailingWords, LastsFit, OperatorWordsFit, ConflictWords}
+use Rattle.lane_planes.specs.Conflicts.{FailingWords, LastsFit, OperatorWordsFit, ConflictWords, IsConflictPlane}
 use Rattle.lane_planes.proofs.BitMeaning.{bit, bit-and, bit-or}
 use Rattle.lane_planes.proofs.MergeLaws.{word_within}
 use Rattle.lane_planes.proofs.ReductionLaws.{marked_bit, clear_bit}
@@ -133,7 +133,7 @@ slices_cleared planes plain add or and xor addh old failing words are same fails
       (same_by planes plain add or and xor addh i are);
 }
 
-pub conflict_at : (planes : Planes) (words : List ℕ) → ArePlanes planes → length words ≡ words_for planes.elements
+conflict_at : (planes : Planes) (words : List ℕ) → ArePlanes planes → length words ≡ words_for planes.elements
     → OperatorWordsFit planes (length words) → LastsFit planes.tested → ConflictWords planes words →
     (e : ℕ) (marks : Marks) → e < planes.elements → StandAt planes e marks
     → bit_of words e ≡ marked_conflict (test_of planes.tested) marks
@@ -150,7 +150,7 @@ conflict_at planes words whole long words_fit lasts_fit are e marks below at =
     marks below long whole.tested lasts_fit are.fails at.tested)
     ∙ and_comm (marked_fails (test_of planes.tested) marks) (not (marked_reduction marks))
 
-pub conflict_past : (planes : Planes) (words : List ℕ) → ArePlanes planes → length words ≡ words_for planes.elements
+conflict_past : (planes : Planes) (words : List ℕ) → ArePlanes planes → length words ≡ words_for planes.elements
     → ConflictWords planes words → (e : ℕ) → planes.elements ≤ e → bit_of words e ≡ false
 conflict_past planes words whole long are e out =
     ⊎_elim
@@ -167,7 +167,7 @@ conflict_past planes words whole long are e out =
     ∙ ap (λ x. x == 1) (bit_at-zero (e % 64)))
     (cases_lt (e / 64) (length words))
 
-pub conflict_elements : (planes : Planes) (words : List ℕ) → length words ≡ words_for planes.elements →
+conflict_elements : (planes : Planes) (words : List ℕ) → length words ≡ words_for planes.elements →
     ((e : ℕ) (marks : Marks) → e < planes.elements → StandAt planes e marks
     → bit_of words e ≡ marked_conflict (test_of planes.tested) marks) →
     ((e : ℕ) → planes.elements ≤ e → bit_of words e ≡ false) → (visits : ℕ → List Visit) → StandFor planes visits →
@@ -177,3 +177,16 @@ conflict_elements planes words long each past visits stand =
     let room : planes.elements ≤ 64 * length words = omega arith in
     plane_has_elements words (λ e. marked_conflict (test_of planes.tested) (marks_of (visits e))) planes.elements room
     (λ e below. each e (marks_of (visits e)) below (stand.marks e below)) (λ e out within. past e out)
+
+pub conflict_plane : (planes : Planes) (words : List ℕ) → ArePlanes planes → length words ≡ words_for planes.elements
+    → OperatorWordsFit planes (length words) → LastsFit planes.tested → ConflictWords planes words
+    → IsConflictPlane planes words
+conflict_plane planes words whole long words_fit lasts_fit are =
+    let marks = conflict_at planes words whole long words_fit lasts_fit are in
+    let past = conflict_past planes words whole long are in
+    record {
+      words = are;
+      marks = marks;
+      plane = record { count = long; past = past };
+      elements = conflict_elements planes words long marks past;
+    }

@@ -1,4 +1,4 @@
--- Merged planes are whole.
+-- Merged planes are whole, and stand for what both stood for.
 use Rattle.std.proofs.Common.{◌≡◌, ℕ, ◌/◌, ◌%◌, ◌<◌, ◌≤◌, false, List, refl, sym, ◌∙◌, ap, subst, ⊎_elim}
 use Rattle.std.specs.Prelude.{slice_index}
 use Rattle.std.proofs.lemmas.Bool.{cases_lt}
@@ -8,11 +8,11 @@ use Rattle.shadow_marks.specs.declared.planes.OperatorPlanes.{OperatorPlanes}
 use Rattle.shadow_marks.specs.declared.planes.Tested.{Tested}
 use Rattle.shadow_marks.specs.declared.planes.Tested.TheVariants.{Lrpd, Flow}
 use Rattle.shadow_marks.specs.declared.planes.Planes.{Planes}
-use Rattle.shadow_marks.specs.Standing.{IsBitPlane, ArePlanes, AreTested, plane_by, test_of}
+use Rattle.shadow_marks.specs.Standing.{IsBitPlane, ArePlanes, AreTested, plane_by, test_of, words_for}
 use Rattle.shadow_marks.specs.Ending.{KeepsShape}
-use Rattle.lane_planes.specs.Merged.{Ored, WrittenByTwo, MergedOperators, MergedPages, MergedTested}
+use Rattle.lane_planes.specs.Merged.{Ored, WrittenByTwo, FirstsFit, MergedOperators, MergedPages, MergedPlanes, MergedTested, IsMerge}
 use Rattle.lane_planes.proofs.BitMeaning.{bit}
-use Rattle.lane_planes.proofs.MergeLaws.{ored_at, two_at}
+use Rattle.lane_planes.proofs.MergeLaws.{ored_at, two_at, merged_at, joined_stand}
 
 -- a page stands before some pages, among them, or past them
 by_page : (page at upto : ℕ) (P : ℕ → Type 0) → (page < at → P page) → (at ≤ page → page < upto → P page)
@@ -94,3 +94,10 @@ merge_keeps at upto mine theirs joined a b same words = record {
   elements = words.elements;
   test = same_test at upto mine.tested theirs.tested joined.tested words.tested;
 }
+
+pub merges : (mine theirs joined : Planes) → ArePlanes mine → ArePlanes theirs → mine.elements ≡ theirs.elements
+    → FirstsFit mine.tested → FirstsFit theirs.tested → MergedPlanes mine theirs joined → IsMerge mine theirs joined
+merges mine theirs joined a b same fit_a fit_b words =
+    let shape = merge_keeps 0 (words_for mine.elements) mine theirs joined a b same words in
+    let marks = merged_at mine theirs joined a words fit_a fit_b in
+    record { words = words; shape = shape; marks = marks; visits = joined_stand mine theirs joined same shape marks }

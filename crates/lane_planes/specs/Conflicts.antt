@@ -1,10 +1,14 @@
 -- What a plane of conflicts is, word by word.
 use Rattle.std.specs.Prelude.{◌≡◌, ℕ, ◌+◌, ◌/◌, ◌^◌, ◌<◌, ◌≤◌, List, [], ◌∷◌, length, slice_index, bit_and, bit_or}
+use Rattle.std.specs.List.{filter, range_with_len}
+use Rattle.loop_core_model.specs.Marks.{Visit, Marks, marks_of, marked_conflict}
+use Rattle.loop_core_model.specs.Planes.{bit_of, elements_in_plane}
 use Rattle.shadow_marks.specs.declared.planes.LrpdPlanes.{LrpdPlanes}
 use Rattle.shadow_marks.specs.declared.planes.FlowPlanes.{FlowPlanes}
 use Rattle.shadow_marks.specs.declared.planes.Tested.{Tested}
 use Rattle.shadow_marks.specs.declared.planes.Tested.TheVariants.{Lrpd, Flow}
 use Rattle.shadow_marks.specs.declared.planes.Planes.{Planes}
+use Rattle.shadow_marks.specs.Standing.{IsBitPlane, StandAt, StandFor, test_of}
 use Rattle.lane_planes.specs.Words.{in_some, without_reductions, FlowWords}
 
 -- by the LRPD test: a reader that doesn't write and a writer, or a reader that writes and another writer
@@ -49,6 +53,16 @@ pub record ConflictWords (planes : Planes) (words : List ℕ) : Type 0 where
   pub failing : List ℕ
   pub fails : FailingWords planes.tested (length words) failing
   pub each : (i : ℕ) → i < length words → slice_index words i ≡ cleared_word planes (slice_index failing i) i
+
+-- the plane of conflicts: what each word is; a bit for each element, by the marks that the planes have there, and none
+-- past the last; and where the planes stand for visits, its elements are those whose visits conflict, rising
+pub record IsConflictPlane (planes : Planes) (told : List ℕ) : Type 0 where
+  pub words : ConflictWords planes told
+  pub marks : (e : ℕ) (marks : Marks) → e < planes.elements → StandAt planes e marks
+      → bit_of told e ≡ marked_conflict (test_of planes.tested) marks
+  pub plane : IsBitPlane planes.elements told
+  pub elements : (visits : ℕ → List Visit) → StandFor planes visits → elements_in_plane told
+      ≡ filter (λ e. marked_conflict (test_of planes.tested) (marks_of (visits e))) (range_with_len 0 planes.elements)
 
 -- last readers, and the words of the operators' planes, are numbers of 32 and of 64 bits
 abbrev pub LastsFit : Tested → Type 0

@@ -3,14 +3,15 @@
 -- bits, and up to 64 of the numbers.
 use Rattle.std.specs.Prelude.{◌≡◌, ℕ, ◌*◌, ◌^◌, ◌<◌, ◌≤◌, min, max, List, ◌++◌, length, slice_index, bit_and, bit_or}
 use Rattle.array_maps.specs.declared.access.Op.{Op}
-use Rattle.loop_core_model.specs.Marks.{Visit}
+use Rattle.loop_core_model.specs.Marks.{Visit, Marks, merged}
 use Rattle.shadow_marks.specs.declared.planes.LrpdPlanes.{LrpdPlanes}
 use Rattle.shadow_marks.specs.declared.planes.FlowPlanes.{FlowPlanes}
 use Rattle.shadow_marks.specs.declared.planes.Tested.{Tested}
 use Rattle.shadow_marks.specs.declared.planes.Tested.TheVariants.{Lrpd, Flow}
 use Rattle.shadow_marks.specs.declared.planes.OperatorPlanes.{OperatorPlanes}
 use Rattle.shadow_marks.specs.declared.planes.Planes.{Planes}
-use Rattle.shadow_marks.specs.Standing.{StandFor, plane_by, words_for}
+use Rattle.shadow_marks.specs.Standing.{StandAt, StandFor, plane_by, words_for}
+use Rattle.shadow_marks.specs.Ending.{KeepsShape}
 use Rattle.lane_planes.specs.Writes.{Writes}
 
 -- in the pages from one up to another each word is the one or the other
@@ -135,6 +136,16 @@ MergedPlanes mine theirs joined = MergedPages 0 (words_for mine.elements) mine t
 -- at each element the visits of the one and then those of the other
 abbrev pub joined_visits : (mine theirs : ℕ → List Visit) → ℕ → List Visit
 joined_visits mine theirs e = mine e ++ theirs e
+
+-- planes after a merge: what each word is; as many elements and the same test as before; at each element the marks of
+-- both, merged; and where both stood for visits, they stand for the visits of both
+pub record IsMerge (mine theirs joined : Planes) : Type 0 where
+  pub words : MergedPlanes mine theirs joined
+  pub shape : KeepsShape mine joined
+  pub marks : (e : ℕ) (a b : Marks) → e < mine.elements → StandAt mine e a → StandAt theirs e b
+      → StandAt joined e (merged a b)
+  pub visits : (my their : ℕ → List Visit) → StandFor mine my → StandFor theirs their
+      → StandFor joined (joined_visits my their)
 
 -- planes stand for some iterations, whatever they are
 pub record StandForSome (planes : Planes) : Type 0 where

@@ -1,11 +1,8 @@
 //! The plane of conflicts.
 
-ghost use Rattle.std.specs.Prelude.{◌≡◌, ◌<◌, ◌≤◌, ℕ, List, length};
-ghost use Rattle.std.specs.List.{filter, range_with_len};
-ghost use Rattle.loop_core_model.specs.Marks.{Visit, Marks, marks_of, marked_conflict};
-ghost use Rattle.loop_core_model.specs.Planes.{bit_of, elements_in_plane};
-ghost use Rattle.shadow_marks.specs.Standing.{ArePlanes, IsBitPlane, StandAt, StandFor, test_of, words_for};
-ghost use Rattle.lane_planes.specs.Conflicts.{ConflictWords, FailingWords, LastsFit, TestedFit};
+ghost use Rattle.std.specs.Prelude.{◌≡◌, ◌<◌, ◌≤◌, length};
+ghost use Rattle.shadow_marks.specs.Standing.{ArePlanes, words_for};
+ghost use Rattle.lane_planes.specs.Conflicts.{IsConflictPlane, FailingWords, LastsFit, TestedFit};
 
 use crate::conflict::{ReductionPlanes, clear_reductions, lrpd_into};
 use crate::flow::flow_into;
@@ -17,13 +14,7 @@ pub fn conflicts<const N: usize>(planes: &Planes, into: &mut [u64])
     requires lanes { (0 < N) × (N ≤ 64) }
     requires whole { ArePlanes planes.now }
     requires words { length into.old ≡ words_for planes.now.elements }
-    ensures words { ConflictWords planes.now into.new }
-    ensures marks { (e : ℕ) (marks : Marks) → e < planes.now.elements → StandAt planes.now e marks
-        → bit_of into.new e ≡ marked_conflict (test_of planes.now.tested) marks }
-    ensures plane { IsBitPlane planes.now.elements into.new }
-    ensures elements { (visits : ℕ → List Visit) → StandFor planes.now visits → elements_in_plane into.new
-        ≡ filter (λ e. marked_conflict (test_of planes.now.tested) (marks_of (visits e)))
-        (range_with_len 0 planes.now.elements) }
+    ensures { IsConflictPlane planes.now into.new }
 {
     failing_into::<N>(&planes.tested, into);
     leave_conflicts::<N>(planes, into);
@@ -36,13 +27,7 @@ pub(crate) fn leave_conflicts<const N: usize>(planes: &Planes, into: &mut [u64])
     requires words { length into.old ≡ words_for planes.now.elements }
     requires failing { FailingWords planes.now.tested (length into.old) into.old }
     requires fit { LastsFit planes.now.tested }
-    ensures words { ConflictWords planes.now into.new }
-    ensures marks { (e : ℕ) (marks : Marks) → e < planes.now.elements → StandAt planes.now e marks
-        → bit_of into.new e ≡ marked_conflict (test_of planes.now.tested) marks }
-    ensures plane { IsBitPlane planes.now.elements into.new }
-    ensures elements { (visits : ℕ → List Visit) → StandFor planes.now visits → elements_in_plane into.new
-        ≡ filter (λ e. marked_conflict (test_of planes.now.tested) (marks_of (visits e)))
-        (range_with_len 0 planes.now.elements) }
+    ensures { IsConflictPlane planes.now into.new }
 {
     let reductions = reduction_planes(planes);
     clear_reductions::<N>(into, reductions);

@@ -1,10 +1,8 @@
 //! Planes of two disjoint sets of iterations, merged.
 
-ghost use Rattle.std.specs.Prelude.{◌≡◌, ◌*◌, ◌<◌, ◌≤◌, ℕ, List, length};
-ghost use Rattle.loop_core_model.specs.Marks.{Visit, Marks, merged};
-ghost use Rattle.shadow_marks.specs.Standing.{ArePlanes, test_of, StandAt, StandFor, words_for};
-ghost use Rattle.shadow_marks.specs.Ending.{KeepsShape};
-ghost use Rattle.lane_planes.specs.Merged.{joined_visits, MergedOperators, MergedLrpd, MergedFlow, MergedTested, MergedPages, MergedPlanes, SameOperators, SameTested, SameLrpd, SameFlow, OperatorsReach, TestedReach, LrpdReach, FlowReach, FirstsFit};
+ghost use Rattle.std.specs.Prelude.{◌≡◌, ◌*◌, ◌<◌, ◌≤◌};
+ghost use Rattle.shadow_marks.specs.Standing.{ArePlanes, test_of, words_for};
+ghost use Rattle.lane_planes.specs.Merged.{IsMerge, MergedOperators, MergedLrpd, MergedFlow, MergedTested, MergedPages, SameOperators, SameTested, SameLrpd, SameFlow, OperatorsReach, TestedReach, LrpdReach, FlowReach, FirstsFit};
 
 use crate::bits::{or_into, written_by_two_into};
 use crate::indices::keep_into;
@@ -20,12 +18,7 @@ pub fn merge<const N: usize>(into: &mut Planes, from: &Planes)
     requires theirs { ArePlanes from.now }
     requires elements { into.old.elements ≡ from.now.elements }
     requires test { test_of into.old.tested ≡ test_of from.now.tested }
-    ensures words { MergedPlanes into.old from.now into.new }
-    ensures shape { KeepsShape into.old into.new }
-    ensures marks { (e : ℕ) (a b : Marks) → e < into.old.elements → StandAt into.old e a → StandAt from.now e b
-        → StandAt into.new e (merged a b) }
-    ensures visits { (mine theirs : ℕ → List Visit) → StandFor into.old mine → StandFor from.now theirs
-        → StandFor into.new (joined_visits mine theirs) }
+    ensures { IsMerge into.old from.now into.new }
 {
     are_firsts(&into.tested);
     are_firsts(&from.tested);

@@ -1,15 +1,11 @@
 //! Planes merged and judged where they were touched.
 
-ghost use Rattle.std.specs.Prelude.{◌≡◌, ◌+◌, ◌-◌, ◌*◌, ◌<◌, ◌≤◌, ℕ, false, min, List, length, slice_index};
-ghost use Rattle.std.specs.List.{filter, range_with_len};
-ghost use Rattle.loop_core_model.specs.Marks.{Visit, Marks, marks_of, marked_conflict, merged};
-ghost use Rattle.loop_core_model.specs.Planes.{bit_of, elements_in_plane};
+ghost use Rattle.std.specs.Prelude.{◌≡◌, ◌+◌, ◌-◌, ◌*◌, ◌<◌, ◌≤◌, ℕ, false, min, length, slice_index};
 ghost use Rattle.shadow_marks.specs.declared.planes.Tested.TheVariants.{Flow};
-ghost use Rattle.shadow_marks.specs.Standing.{ArePlanes, IsBitPlane, test_of, StandAt, StandFor, words_for};
-ghost use Rattle.shadow_marks.specs.Ending.{KeepsShape};
+ghost use Rattle.shadow_marks.specs.Standing.{ArePlanes, test_of, words_for};
 ghost use Rattle.lane_planes.specs.Words.{FlowWords, HasBits, stands_at};
-ghost use Rattle.lane_planes.specs.Merged.{joined_visits, MergedPlanes, StandForSome, IsUntouchedPage, WordsFit};
-ghost use Rattle.lane_planes.specs.Conflicts.{ConflictWords, FailingWords, LastsFit};
+ghost use Rattle.lane_planes.specs.Merged.{IsMerge, StandForSome, IsUntouchedPage, WordsFit};
+ghost use Rattle.lane_planes.specs.Conflicts.{IsConflictPlane};
 
 use crate::flow::flow_word;
 use crate::judging::{failing_into, leave_conflicts};
@@ -26,12 +22,7 @@ pub fn merge_touched<const N: usize>(into: &mut Planes, from: &Planes)
     requires theirs { StandForSome from.now }
     requires elements { into.old.elements ≡ from.now.elements }
     requires test { test_of into.old.tested ≡ test_of from.now.tested }
-    ensures words { MergedPlanes into.old from.now into.new }
-    ensures shape { KeepsShape into.old into.new }
-    ensures marks { (e : ℕ) (a b : Marks) → e < into.old.elements → StandAt into.old e a → StandAt from.now e b
-        → StandAt into.new e (merged a b) }
-    ensures visits { (mine theirs : ℕ → List Visit) → StandFor into.old mine → StandFor from.now theirs
-        → StandFor into.new (joined_visits mine theirs) }
+    ensures { IsMerge into.old from.now into.new }
 {
     are_firsts(&into.tested);
     are_firsts(&from.tested);
@@ -54,13 +45,7 @@ pub fn conflicts_touched<const N: usize>(planes: &Planes, into: &mut [u64])
     requires lanes { (0 < N) × (N ≤ 64) }
     requires stand { StandForSome planes.now }
     requires words { length into.old ≡ words_for planes.now.elements }
-    ensures words { ConflictWords planes.now into.new }
-    ensures marks { (e : ℕ) (marks : Marks) → e < planes.now.elements → StandAt planes.now e marks
-        → bit_of into.new e ≡ marked_conflict (test_of planes.now.tested) marks }
-    ensures plane { IsBitPlane planes.now.elements into.new }
-    ensures elements { (visits : ℕ → List Visit) → StandFor planes.now visits → elements_in_plane into.new
-        ≡ filter (λ e. marked_conflict (test_of planes.now.tested) (marks_of (visits e)))
-        (range_with_len 0 planes.now.elements) }
+    ensures { IsConflictPlane planes.now into.new }
 {
     match &planes.tested {
         Tested::Lrpd(_) => failing_into::<N>(&planes.tested, into),

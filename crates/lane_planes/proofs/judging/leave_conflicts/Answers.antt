@@ -1,6 +1,6 @@
 use Rattle.std.proofs.Common.{◌≡◌, ℕ, List, length, refl, sym, ap, ◌∙◌, arith}
 use Rattle.array_maps.specs.declared.access.Op.TheVariants.{Add, Or, And, Xor, AddH}
-use Rattle.lane_planes.proofs.ConflictLaws.{AreSlices, conflict_at, conflict_past, conflict_elements, slices_fit, slices_cleared}
+use Rattle.lane_planes.proofs.ConflictLaws.{AreSlices, conflict_plane, slices_fit, slices_cleared}
 use Rattle.lane_planes.proofs.judging.leave_conflicts.Goals as goal
 
 -- a plane's slice is as long as the plane of conflicts
@@ -27,8 +27,8 @@ pub clear_reductions-requires-clause-same_addh : goal.clear_reductions-requires-
 clear_reductions-requires-clause-same_addh g c = as_long c.reduction_planes-reductions.ensures.addh
     (c.requires.whole.by AddH).count c.requires.words
 
-pub returns-clause-words : goal.returns-clause-words
-returns-clause-words g c =
+pub returns : goal.returns
+returns g c =
     let slices = c.reduction_planes-reductions.ensures in
     let are : AreSlices c.args.planes.now _ _ _ _ _ _ = record {
       plain_is = slices.plain;
@@ -38,34 +38,7 @@ returns-clause-words g c =
       xor_is = slices.xor;
       addh_is = slices.addh;
     } in
-    slices_cleared c.args.planes.now _ _ _ _ _ _ c.args.into.now c.args.into.now _ are refl c.requires.failing
-    c.clear_reductions.ensures.words
-
-pub returns-clause-marks : goal.returns-clause-marks
-returns-clause-marks g c =
-    let slices = c.reduction_planes-reductions.ensures in
-    let are : AreSlices c.args.planes.now _ _ _ _ _ _ = record {
-      plain_is = slices.plain;
-      add_is = slices.add;
-      or_is = slices.or;
-      and_is = slices.and;
-      xor_is = slices.xor;
-      addh_is = slices.addh;
-    } in
-    conflict_at c.args.planes.now _ c.requires.whole (omega (arith, c.requires.words, c.clear_reductions.auto.into))
+    conflict_plane c.args.planes.now _ c.requires.whole (omega (arith, c.requires.words, c.clear_reductions.auto.into))
     (slices_fit c.args.planes.now _ _ _ _ _ _ _ _ are c.clear_reductions.auto.into c.clear_reductions.ensures.fit)
-    c.requires.fit (returns-clause-words g c)
-
-pub returns-clause-plane : goal.returns-clause-plane
-returns-clause-plane g c = record {
-  count = omega (arith, c.requires.words, c.clear_reductions.auto.into);
-  past = conflict_past c.args.planes.now _ c.requires.whole (omega (
-    arith,
-    c.requires.words,
-    c.clear_reductions.auto.into,
-  )) (returns-clause-words g c);
-}
-
-pub returns-clause-elements : goal.returns-clause-elements
-returns-clause-elements g c = conflict_elements c.args.planes.now _ (returns-clause-plane g c).count
-    (returns-clause-marks g c) (returns-clause-plane g c).past
+    c.requires.fit (slices_cleared c.args.planes.now _ _ _ _ _ _ c.args.into.now c.args.into.now _ are refl
+    c.requires.failing c.clear_reductions.ensures.words)

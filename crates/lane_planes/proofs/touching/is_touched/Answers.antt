@@ -1,38 +1,33 @@
-use Rattle.std.proofs.Common.{◌∙◌, arith}
+use Rattle.std.proofs.Common.{◌≡◌, ℕ, ◌<◌, List, length, ◌∙◌, arith}
 use Rattle.std.proofs.lemmas.List.{get_or_default}
 use Rattle.array_maps.specs.declared.access.Op.TheVariants.{Add, Or, And, Xor, AddH}
 use Rattle.lane_planes.proofs.IdleLaws.{untouched_by_words}
 use Rattle.lane_planes.proofs.touching.is_touched.Goals as goal
 
+-- a page is within each plane
+in_plane : (words : List ℕ) (count pages page : ℕ) → length words ≡ pages → count ≡ length words → page < pages
+    → page < count
+in_plane words count pages page many long inside = omega (arith, many, long, inside)
+
 pub index-requires-2 : goal.index-requires-2
-index-requires-2 c =
-    let count = (c.requires.whole.by Add).count in
-    let long = c.args.planes.now.operators.add.ok.0 in
-    omega (arith, count, long, c.requires.within)
+index-requires-2 c = in_plane _ _ _ _ (c.requires.whole.by Add).count c.args.planes.now.operators.add.ok.0
+    c.requires.within
 
 pub index-requires-3 : goal.index-requires-3
-index-requires-3 c =
-    let count = (c.requires.whole.by Or).count in
-    let long = c.args.planes.now.operators.or.ok.0 in
-    omega (arith, count, long, c.requires.within)
+index-requires-3 c = in_plane _ _ _ _ (c.requires.whole.by Or).count c.args.planes.now.operators.or.ok.0
+    c.requires.within
 
 pub index-requires-4 : goal.index-requires-4
-index-requires-4 c =
-    let count = (c.requires.whole.by And).count in
-    let long = c.args.planes.now.operators.and.ok.0 in
-    omega (arith, count, long, c.requires.within)
+index-requires-4 c = in_plane _ _ _ _ (c.requires.whole.by And).count c.args.planes.now.operators.and.ok.0
+    c.requires.within
 
 pub index-requires-5 : goal.index-requires-5
-index-requires-5 c =
-    let count = (c.requires.whole.by Xor).count in
-    let long = c.args.planes.now.operators.xor.ok.0 in
-    omega (arith, count, long, c.requires.within)
+index-requires-5 c = in_plane _ _ _ _ (c.requires.whole.by Xor).count c.args.planes.now.operators.xor.ok.0
+    c.requires.within
 
 pub index-requires-6 : goal.index-requires-6
-index-requires-6 c =
-    let count = (c.requires.whole.by AddH).count in
-    let long = c.args.planes.now.operators.addh.ok.0 in
-    omega (arith, count, long, c.requires.within)
+index-requires-6 c = in_plane _ _ _ _ (c.requires.whole.by AddH).count c.args.planes.now.operators.addh.ok.0
+    c.requires.within
 
 pub returns : goal.returns
 returns c unset =

@@ -1,8 +1,7 @@
 use Rattle.std.proofs.Common.{◌≡◌, ◌*◌, ◌<◌, ◌≤◌, rules, subst, arith}
 use Rattle.shadow_marks.specs.Standing.{words_for}
 use Rattle.lane_planes.specs.Merged.{MergedPages}
-use Rattle.lane_planes.proofs.MergeLaws.{merged_at, joined_stand}
-use Rattle.lane_planes.proofs.WholeLaws.{merge_keeps}
+use Rattle.lane_planes.proofs.WholeLaws.{merge_keeps, merges}
 use Rattle.lane_planes.proofs.PageLaws.{merged_on, merged_idle}
 use Rattle.lane_planes.proofs.IdleLaws.{untouched_idle}
 use Rattle.lane_planes.proofs.touching.merge_touched.Goals as goal
@@ -41,22 +40,14 @@ loop-page-preserved g c =
           c.requires.theirs.stand.whole c.requires.elements start c.are_firsts.ensures idle c.loop-page.invariant.words;
     }
 
-pub returns-clause-words : goal.returns-clause-words
-returns-clause-words g c =
+pub returns : goal.returns
+returns g c =
+    let theirs = c.requires.theirs.stand.whole in
     let count = c.requires.theirs.stand.whole.plain.count in
     let long = c.args.from.now.plain.ok.0 in
     let within = c.loop-page.invariant.within in
     let all : c.loop-page.page ≡ words_for c.args.into.now.elements =
     first_of (search rules, omega (arith, count, long, within, c.requires.elements, c.loop-page-test.false)) in
-    subst (λ n. MergedPages 0 n c.args.into.now c.args.from.now c.loop-page.into) all c.loop-page.invariant.words
-
-pub returns-clause-shape : goal.returns-clause-shape
-returns-clause-shape g c = merge_keeps 0 c.loop-page.page _ _ _ c.requires.mine c.requires.theirs.stand.whole
-    c.requires.elements c.loop-page.invariant.words
-
-pub returns-clause-marks : goal.returns-clause-marks
-returns-clause-marks g c = merged_at _ _ _ c.requires.mine (returns-clause-words g c) c.are_firsts.ensures
-    c.are_firsts-2.ensures
-
-pub returns-clause-visits : goal.returns-clause-visits
-returns-clause-visits g c = joined_stand _ _ _ c.requires.elements (returns-clause-shape g c) (returns-clause-marks g c)
+    merges c.args.into.now c.args.from.now c.loop-page.into c.requires.mine theirs c.requires.elements
+    c.are_firsts.ensures c.are_firsts-2.ensures
+    (subst (λ n. MergedPages 0 n c.args.into.now c.args.from.now c.loop-page.into) all c.loop-page.invariant.words)
