@@ -15,8 +15,8 @@ use crate::fields::only_its_fields;
 use crate::form::{AluCode, Form, form_of};
 use crate::slot::Slot;
 use bpf_insn_types::{
-    AluOp, AtomicOp, ByteOrder, Callee, EndianBits, ImmKind, Insn, MovsxBits, Operand, Reg,
-    SimpleOp, Width, slots,
+    AluOp, AtomicOp, ByteOrder, Callee, Compare, EndianBits, ImmKind, Insn, MovsxBits, Operand,
+    Reg, SimpleOp, Width, slots,
 };
 use std::alloc::Global;
 
@@ -237,6 +237,19 @@ fn load_imm(src: u8, dst: Reg, imm: i32, next: Option<Slot>) -> Result<Insn, Cod
     })
 }
 
+/// A jump by a test.
+fn jump(width: Width, compare: Compare, dst: Reg, operand: Operand, offset: i16) -> Insn
+    ensures { result ≡ Insn.Jump width compare dst operand offset }
+{
+    Insn::Jump {
+        width,
+        compare,
+        dst,
+        operand,
+        offset,
+    }
+}
+
 /// The instruction of a form whose registers and unused fields stand; next is the slot after it.
 fn insn_of_form(
     form: Form,
@@ -255,24 +268,8 @@ fn insn_of_form(
         Form::Endian(order) => endian(order, dst, imm),
         Form::Ja => Ok(Insn::Ja { offset }),
         Form::Ja32 => Ok(Insn::Ja32 { imm }),
-        Form::JumpImm(width, compare) => {
-            Ok(Insn::Jump {
-                width,
-                compare,
-                dst,
-                operand: Operand::Imm(imm),
-                offset,
-            })
-        }
-        Form::JumpReg(width, compare) => {
-            Ok(Insn::Jump {
-                width,
-                compare,
-                dst,
-                operand: Operand::Reg(src),
-                offset,
-            })
-        }
+        Form::JumpImm(width, compare) => Ok(jump(width, compare, dst, Operand::Imm(imm), offset)),
+        Form::JumpReg(width, compare) => Ok(jump(width, compare, dst, Operand::Reg(src), offset)),
         Form::Call => call(src.number(), imm),
         Form::Exit => Ok(Insn::Exit),
         Form::Load(size) => Ok(Insn::Load {
