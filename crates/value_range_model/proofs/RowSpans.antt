@@ -1,5 +1,5 @@
 -- Each row leaves a span.
-use Rattle.std.proofs.Common.{◌≡◌, ℕ, ◌+◌, ◌-◌, ◌*◌, ◌/◌, ◌%◌, ◌^◌, ◌<◌, ◌≤◌, min, max, refl, arith}
+use Rattle.std.proofs.Common.{◌≡◌, ℕ, ◌+◌, ◌-◌, ◌*◌, ◌/◌, ◌%◌, ◌^◌, ◌<◌, ◌≤◌, min, max, arith}
 use Rattle.std.specs.Prelude.{◌==◌, nat_lt, nat_le, if◌then◌else◌, bit_or}
 use Rattle.std.proofs.Math.Nat.{div-le_self, min-le_left, min-le_right, max-le}
 use Rattle.std.proofs.lemmas.Nat.{shr_le}
@@ -16,7 +16,7 @@ use Rattle.bpf_insn_types.specs.Words.{modulus, shift, low_modulus, endian_modul
 use Rattle.bpf_insn_types.specs.WordBounds.{ResultsFit}
 use Rattle.bpf_insn_types.proofs.WordLaws.{modulus-most}
 use Rattle.value_range_model.specs.Spans.{Span, IsSpan, is_exact, exact, top, norm}
-use Rattle.value_range_model.proofs.SpanLaws.{is_by_test, exact-span, norm-span, top-span}
+use Rattle.value_range_model.proofs.SpanLaws.{is_by_test, exact-span, norm-span, up_to-span, top-span}
 use Rattle.value_range_model.specs.declared.operation.Operation.{Operation}
 use Rattle.value_range_model.specs.declared.operation.Operation.TheVariants.{Alu, Neg, Movsx, Endian}
 use Rattle.value_range_model.specs.AluRows.{meant, low32, range_at_width, operand, filled, added, subtracted, multiplied, divided_by, divided, left_over_by, left_over, with_bits, common_bits, other_bits, shifted_left_by, shifted_left, shifted_right_by, shifted_right, shifted_signed, negative, extended_range, top_bits, little, ordered, alu_row, row, reads_exact, of_operands, span_of}
@@ -163,27 +163,9 @@ alu_row-span Arsh width a b i j = shifted_signed-span width a b i
 alu_row-span Mov width a b i j = j
 
 top_bits-span : (bits : EndianBits) → IsSpan (top_bits bits)
-top_bits-span B16 = record {
-  ordered = omega arith;
-  word = omega arith;
-  bits = omega arith;
-  lo_multiple = refl;
-  hi_multiple = refl;
-}
-top_bits-span B32 = record {
-  ordered = omega arith;
-  word = omega arith;
-  bits = omega arith;
-  lo_multiple = refl;
-  hi_multiple = refl;
-}
-top_bits-span B64 = record {
-  ordered = omega arith;
-  word = omega arith;
-  bits = omega arith;
-  lo_multiple = refl;
-  hi_multiple = refl;
-}
+top_bits-span B16 = up_to-span (endian_modulus B16 - 1) (omega arith)
+top_bits-span B32 = up_to-span (endian_modulus B32 - 1) (omega arith)
+top_bits-span B64 = up_to-span (endian_modulus B64 - 1) (omega arith)
 
 ordered-span : (order : ByteOrder) (bits : EndianBits) (a : Span) → IsSpan a → IsSpan (ordered order bits a)
 unfolding little

@@ -1,5 +1,5 @@
 -- What spans contain, and that they are spans.
-use Rattle.std.proofs.Common.{◌≡◌, ◌∙◌, ℕ, ◌%◌, ◌^◌, ◌<◌, ◌≤◌, min, max, Bool, true, false, refl, sym, ap, subst, arith, inl, inr, ⊎_elim}
+use Rattle.std.proofs.Common.{◌≡◌, ◌∙◌, ℕ, ◌-◌, ◌%◌, ◌^◌, ◌<◌, ◌≤◌, min, max, Bool, true, false, refl, sym, ap, subst, arith, inl, inr, ⊎_elim}
 use Rattle.std.specs.Prelude.{◌⊎◌, ◌==◌, if◌then◌else◌}
 use Rattle.std.proofs.lemmas.Bool.{eqb-true, eq-eqb, ne_eqb, cond-true, cond-false, cond_both, cases_lt}
 use Rattle.std.proofs.Math.Nat.{min-le_left, min-le_right, le-max_left, le-max_right, min-eq_left, min-eq_right, max-eq_left, max-eq_right}
@@ -46,21 +46,19 @@ exact-number s x e c = omega (arith, eqb-true s.lo s.hi e, c.above, c.below)
 pub top-contains : (width : Width) (x : ℕ) → x < modulus width → Contains (top width) x
 top-contains width x h = record { above = omega arith; below = omega arith; multiple = multiple-zero x }
 
+-- every number up to a word
+pub up_to-span : (hi : ℕ) → hi < 2 ^ 64 → IsSpan (record { lo = 0; hi = hi; zeros = 0 })
+up_to-span hi word = record {
+  ordered = omega arith;
+  word = word;
+  bits = omega arith;
+  lo_multiple = refl;
+  hi_multiple = multiple-zero hi;
+}
+
 pub top-span : (width : Width) → IsSpan (top width)
-top-span W32 = record {
-  ordered = omega arith;
-  word = omega arith;
-  bits = omega arith;
-  lo_multiple = refl;
-  hi_multiple = refl;
-}
-top-span W64 = record {
-  ordered = omega arith;
-  word = omega arith;
-  bits = omega arith;
-  lo_multiple = refl;
-  hi_multiple = refl;
-}
+top-span W32 = up_to-span (modulus W32 - 1) (omega arith)
+top-span W64 = up_to-span (modulus W64 - 1) (omega arith)
 
 -- what is between the bounds stays between the rounded bounds
 pub norm-contains : (lo hi z x : ℕ) → lo ≤ x → x ≤ hi → x % 2 ^ z ≡ 0 → Contains (norm lo hi z) x
