@@ -22,7 +22,7 @@ use Rattle.bpf_verify_model.specs.declared.state.State.{State}
 use Rattle.bpf_verify_model.specs.States.{known_register, with_known}
 use Rattle.bpf_verify_model.specs.Values.{is_number_value}
 use Rattle.bpf_verify_model.specs.Accesses.{has_unwritten_byte, is_ctx}
-use Rattle.bpf_verify_model.specs.Rules.{fetches_into_r10, compares_with_no_number, place_fault, bytes_fault}
+use Rattle.bpf_verify_model.specs.Rules.{fetches_into_r10, compares_with_no_number}
 use Rattle.bpf_verify_model.specs.Flow.{with_fetched, ahead_outflow, flow, known_behind}
 use Rattle.bpf_step_model.specs.State.{Value, Word, Machine, register, advanced, with_register, with_frame}
 use Rattle.bpf_step_model.specs.Memory.{Place, InFrame, InMap, written_at, number_at, place}
@@ -35,12 +35,13 @@ use Rattle.bpf_verify_sound.specs.Standing.{KeepsRules}
 use Rattle.bpf_verify_sound.specs.Ways.{GoesBy, StepFlows}
 use Rattle.bpf_verify_sound.proofs.RegisterLaws.{contain-set}
 use Rattle.bpf_verify_sound.proofs.ByteLaws.{IsNumberOf, write-unknown}
-use Rattle.bpf_verify_sound.proofs.PlaceLaws.{PlaceIs, place-rules, place-is}
-use Rattle.bpf_verify_sound.proofs.Operands.{register-known, register-span}
+use Rattle.bpf_verify_sound.proofs.PlaceLaws.{PlaceIs}
+use Rattle.bpf_verify_sound.proofs.AccessLaws.{accesses}
+use Rattle.bpf_verify_sound.proofs.Operands.{register-known}
 use Rattle.bpf_verify_sound.proofs.Loads.{part-below, own-number}
 use Rattle.bpf_verify_sound.proofs.Stores.{same-ahead}
 use Rattle.bpf_verify_sound.proofs.Moves.{follows-on, ahead-goes}
-use Rattle.bpf_verify_sound.proofs.Tests.{not-not-true, or-left, or-right, or_else-one, or_else-two, test-fails, test-later}
+use Rattle.bpf_verify_sound.proofs.Tests.{not-not-true, or-left, or-right, test-fails, test-later}
 
 -- a number of an atomic operation's size is one of its width
 of-width : (width : Width) (n : ℕ) → n < 256 ^ atomic_bytes width → n < modulus width
@@ -182,8 +183,7 @@ unfolding flow known_behind
 atomic-flows program m state width op dst src offset keeps sound c =
     let x = known_register state dst in
     let access : MemoryAccess = record { kind = Changes; base = dst; offset = offset; size = atomic_bytes width } in
-    let place_none = or_else-one (place_fault program.sizes access x) (bytes_fault state access x) keeps.access in
-    let bytes_none = or_else-two (place_fault program.sizes access x) (bytes_fault state access x) keeps.access in
+    let a = accesses program m state access keeps.access keeps.spans c in
     let unread = not (is_number_value (known_register state src)) in
     let operand = number-word_of (known_register state src) (register m src)
     (not-not-true (is_number_value (known_register state src)) (or-left unread (compares_with_no_number state op)
@@ -196,8 +196,7 @@ atomic-flows program m state width op dst src offset keeps sound c =
     (subst (λ (v : Value). StepFlows program m.slot out (changes m width op src (Word operand.0) v at)) (sym compare.1)
     (change-words program m state width op src operand.0 compare.0 offset x at
     (follows-on program.insns m.slot (Atomic width op dst src offset) refl keeps.falls) c keeps.spans sound
-    (test-fails (is_ctx x) _ _ (test-later (has_unwritten_byte state (atomic_bytes width) offset x) _ _ bytes_none))
-    (place-is program x (register m dst) offset (atomic_bytes width) (register-span state dst keeps.spans)
-    (register-known state m dst c) (place-rules program.sizes access x place_none))
-    (test-fails (has_unwritten_byte state (atomic_bytes width) offset x) _ _ bytes_none)
+    (test-fails (is_ctx x) _ _ (test-later (has_unwritten_byte state (atomic_bytes width) offset x) _ _ a.bytes_none))
+    a.place_is
+    (test-fails (has_unwritten_byte state (atomic_bytes width) offset x) _ _ a.bytes_none)
     (may_tell op src) (after_request-kept op src keeps.frame_pointer)))

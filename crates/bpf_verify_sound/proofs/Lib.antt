@@ -8,6 +8,7 @@ pub mod NumberLaws
 pub mod CompareLaws
 pub mod ByteLaws
 pub mod PlaceLaws
+pub mod AccessLaws
 pub mod Moves
 pub mod Arithmetic
 pub mod Jumps

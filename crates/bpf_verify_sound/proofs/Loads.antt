@@ -26,7 +26,6 @@ use Rattle.bpf_verify_model.specs.declared.memory_access.AccessKind.TheVariants.
 use Rattle.bpf_verify_model.specs.declared.state.State.{State}
 use Rattle.bpf_verify_model.specs.States.{known_register, with_known}
 use Rattle.bpf_verify_model.specs.Accesses.{lacks_bytes, caller_lacks, has_unwritten_byte}
-use Rattle.bpf_verify_model.specs.Rules.{place_fault, bytes_fault}
 use Rattle.bpf_verify_model.specs.Flow.{number_of_size, ahead_outflow, flow, known_behind}
 use Rattle.bpf_step_model.specs.State.{Word, Bytes, Machine, register, advanced, with_register}
 use Rattle.bpf_step_model.specs.Memory.{Place, InFrame, InCaller, InMap, number_at, place}
@@ -38,10 +37,10 @@ use Rattle.bpf_verify_sound.specs.KnownStates.{HasCallerCount, IsWellFormedState
 use Rattle.bpf_verify_sound.specs.Standing.{KeepsRules}
 use Rattle.bpf_verify_sound.specs.Ways.{FollowsValue, StepFlows}
 use Rattle.bpf_verify_sound.proofs.ByteLaws.{IsNumberOf, number-known}
-use Rattle.bpf_verify_sound.proofs.PlaceLaws.{PlaceIs, place-rules, place-is}
-use Rattle.bpf_verify_sound.proofs.Operands.{register-known, register-span}
+use Rattle.bpf_verify_sound.proofs.PlaceLaws.{PlaceIs}
+use Rattle.bpf_verify_sound.proofs.AccessLaws.{accesses}
 use Rattle.bpf_verify_sound.proofs.Moves.{follows-on, ahead-goes, set-contained, sets-flows}
-use Rattle.bpf_verify_sound.proofs.Tests.{not-not-true, or_else-one, or_else-two, test-fails}
+use Rattle.bpf_verify_sound.proofs.Tests.{not-not-true, test-fails}
 
 -- a loaded number is known by its size
 loaded-follows : (ext : Extension) (size : ℕ) (y : AbstractValue)
@@ -168,18 +167,13 @@ pub load-flows : (program : Program) (m : Machine) (state : State) (size : Size)
 unfolding flow known_behind
 load-flows program m state size dst src offset keeps sound c =
     let access : MemoryAccess = record { kind = Reads; base = src; offset = offset; size = bytes_of size } in
-    let place_none = or_else-one (place_fault program.sizes access (known_register state src))
-    (bytes_fault state access (known_register state src)) keeps.access in
-    let bytes_none = or_else-two (place_fault program.sizes access (known_register state src))
-    (bytes_fault state access (known_register state src)) keeps.access in
+    let a = accesses program m state access keeps.access keeps.spans c in
     loads-flow program m state Zeros dst (bytes_of size) offset (number_of_size size) (known_register state src)
     (place program (register m src) offset (bytes_of size))
     (follows-on program.insns m.slot (LoadInsn size dst src offset) refl keeps.falls) keeps.frame_pointer c keeps.spans
     sound (zeros-known size)
-    (place-is program (known_register state src) (register m src) offset (bytes_of size)
-    (register-span state src keeps.spans) (register-known state m src c)
-    (place-rules program.sizes access (known_register state src) place_none))
-    (test-fails (has_unwritten_byte state (bytes_of size) offset (known_register state src)) _ _ bytes_none)
+    a.place_is
+    (test-fails (has_unwritten_byte state (bytes_of size) offset (known_register state src)) _ _ a.bytes_none)
 
 pub load_sx-flows : (program : Program) (m : Machine) (state : State) (size : Size) (dst src : ℕ) (offset : ℤ) →
     KeepsRules program m.slot (LoadSx size dst src offset) state → SoundMachine program m → Contained state m →
@@ -188,15 +182,10 @@ pub load_sx-flows : (program : Program) (m : Machine) (state : State) (size : Si
 unfolding flow known_behind
 load_sx-flows program m state size dst src offset keeps sound c =
     let access : MemoryAccess = record { kind = Reads; base = src; offset = offset; size = bytes_of size } in
-    let place_none = or_else-one (place_fault program.sizes access (known_register state src))
-    (bytes_fault state access (known_register state src)) keeps.access in
-    let bytes_none = or_else-two (place_fault program.sizes access (known_register state src))
-    (bytes_fault state access (known_register state src)) keeps.access in
+    let a = accesses program m state access keeps.access keeps.spans c in
     loads-flow program m state Signs dst (bytes_of size) offset (known.Number (top W64)) (known_register state src)
     (place program (register m src) offset (bytes_of size))
     (follows-on program.insns m.slot (LoadSx size dst src offset) refl keeps.falls) keeps.frame_pointer c keeps.spans
     sound (signs-known size)
-    (place-is program (known_register state src) (register m src) offset (bytes_of size)
-    (register-span state src keeps.spans) (register-known state m src c)
-    (place-rules program.sizes access (known_register state src) place_none))
-    (test-fails (has_unwritten_byte state (bytes_of size) offset (known_register state src)) _ _ bytes_none)
+    a.place_is
+    (test-fails (has_unwritten_byte state (bytes_of size) offset (known_register state src)) _ _ a.bytes_none)

@@ -18,7 +18,6 @@ use Rattle.bpf_verify_model.specs.declared.state.State.{State}
 use Rattle.bpf_verify_model.specs.States.{known_register}
 use Rattle.bpf_verify_model.specs.Values.{is_number_value}
 use Rattle.bpf_verify_model.specs.Accesses.{is_ctx}
-use Rattle.bpf_verify_model.specs.Rules.{place_fault, bytes_fault}
 use Rattle.bpf_verify_model.specs.Flow.{with_own, with_written, with_store, ahead_outflow, flow, known_behind}
 use Rattle.bpf_step_model.specs.State.{Value, Word, Machine, register, advanced, with_frame}
 use Rattle.bpf_step_model.specs.Memory.{Place, InFrame, InMap, written_at, place}
@@ -30,10 +29,11 @@ use Rattle.bpf_verify_sound.specs.KnownStates.{IsWellFormedState}
 use Rattle.bpf_verify_sound.specs.Standing.{KeepsRules}
 use Rattle.bpf_verify_sound.specs.Ways.{GoesBy, StepFlows}
 use Rattle.bpf_verify_sound.proofs.ByteLaws.{write-known}
-use Rattle.bpf_verify_sound.proofs.PlaceLaws.{PlaceIs, place-rules, place-is}
-use Rattle.bpf_verify_sound.proofs.Operands.{register-known, register-span}
+use Rattle.bpf_verify_sound.proofs.PlaceLaws.{PlaceIs}
+use Rattle.bpf_verify_sound.proofs.AccessLaws.{accesses}
+use Rattle.bpf_verify_sound.proofs.Operands.{register-known}
 use Rattle.bpf_verify_sound.proofs.Moves.{follows-on, ahead-goes}
-use Rattle.bpf_verify_sound.proofs.Tests.{not-not-true, or_else-one, or_else-two, test-fails}
+use Rattle.bpf_verify_sound.proofs.Tests.{not-not-true, test-fails}
 
 -- a store to the frame marks its bytes
 frame-store : (program : Program) (m : Machine) (state : State) (size n p : ℕ)
@@ -104,17 +104,12 @@ pub store_imm-flows : (program : Program) (m : Machine) (state : State) (size : 
 unfolding flow known_behind
 store_imm-flows program m state size dst offset imm keeps sound c =
     let access : MemoryAccess = record { kind = Writes; base = dst; offset = offset; size = bytes_of size } in
-    let place_none = or_else-one (place_fault program.sizes access (known_register state dst))
-    (bytes_fault state access (known_register state dst)) keeps.access in
-    let bytes_none = or_else-two (place_fault program.sizes access (known_register state dst))
-    (bytes_fault state access (known_register state dst)) keeps.access in
+    let a = accesses program m state access keeps.access keeps.spans c in
     stores-flow program m state (bytes_of size) (word_of imm) offset (known_register state dst)
     (place program (register m dst) offset (bytes_of size))
     (follows-on program.insns m.slot (StoreImm size dst offset imm) refl keeps.falls) c keeps.spans sound
-    (test-fails (is_ctx (known_register state dst)) _ _ bytes_none)
-    (place-is program (known_register state dst) (register m dst) offset (bytes_of size)
-    (register-span state dst keeps.spans) (register-known state m dst c)
-    (place-rules program.sizes access (known_register state dst) place_none))
+    (test-fails (is_ctx (known_register state dst)) _ _ a.bytes_none)
+    a.place_is
 
 pub store-flows : (program : Program) (m : Machine) (state : State) (size : Size) (dst src : ℕ) (offset : ℤ) →
     KeepsRules program m.slot (StoreInsn size dst src offset) state → SoundMachine program m → Contained state m →
@@ -123,15 +118,10 @@ pub store-flows : (program : Program) (m : Machine) (state : State) (size : Size
 unfolding flow known_behind
 store-flows program m state size dst src offset keeps sound c =
     let access : MemoryAccess = record { kind = Writes; base = dst; offset = offset; size = bytes_of size } in
-    let place_none = or_else-one (place_fault program.sizes access (known_register state dst))
-    (bytes_fault state access (known_register state dst)) keeps.access in
-    let bytes_none = or_else-two (place_fault program.sizes access (known_register state dst))
-    (bytes_fault state access (known_register state dst)) keeps.access in
+    let a = accesses program m state access keeps.access keeps.spans c in
     stored-flow program m state (bytes_of size) offset (known_register state dst) (known_register state src)
     (register m src) (place program (register m dst) offset (bytes_of size))
     (follows-on program.insns m.slot (StoreInsn size dst src offset) refl keeps.falls) c keeps.spans sound
-    (test-fails (is_ctx (known_register state dst)) _ _ bytes_none)
-    (place-is program (known_register state dst) (register m dst) offset (bytes_of size)
-    (register-span state dst keeps.spans) (register-known state m dst c)
-    (place-rules program.sizes access (known_register state dst) place_none))
+    (test-fails (is_ctx (known_register state dst)) _ _ a.bytes_none)
+    a.place_is
     (not-not-true (is_number_value (known_register state src)) keeps.stored) (register-known state m src c)
