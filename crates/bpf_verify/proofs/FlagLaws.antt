@@ -1,5 +1,5 @@
 -- Marks of slots, by the instructions of a list.
-use Rattle.std.proofs.Common.{◌≡◌, ◌≢◌, ℕ, ◌<◌, Bool, true, false, ◌||◌, List, [], ◌∷◌, ◌++◌, length, get_or, set, refl, ap, sym, ◌∙◌, subst, arith, Option, Some, None, is_some}
+use Rattle.std.proofs.Common.{◌≡◌, ◌≢◌, ℕ, ◌+◌, ◌<◌, ◌≤◌, Bool, true, false, ◌||◌, List, [], ◌∷◌, ◌++◌, length, get_or, set, take, refl, ap, sym, ◌∙◌, subst, arith, Option, Some, None, is_some}
 use Rattle.std.specs.Prelude.{nat_eq}
 use Rattle.std.specs.List.{list_any, cons_option}
 use Rattle.std.proofs.lemmas.Bool.Decides.{nat_tests}
@@ -8,8 +8,15 @@ use Rattle.std.proofs.lemmas.List.Folds.{list_any-append}
 use Rattle.std.proofs.Math.ListN.{length-set}
 use Rattle.bpf_insn_types.specs.declared.insn.Insn.{Insn}
 use Rattle.bpf_insn_types.specs.Program.{slot_count, insn_at}
-use Rattle.bpf_insn_types.proofs.ProgramLaws.{insn_at-front, starts-push}
+use Rattle.bpf_insn_types.specs.Slots.{slots_of}
+use Rattle.bpf_insn_types.proofs.ProgramLaws.{slot_count-front, insn_at-front, starts-push}
 use Rattle.bpf_verify.specs.SlotFlags.{slot_flagged}
+
+-- an instruction at a slot ends within the list
+pub ends-within : (insns : List Insn) (i slot size count : ℕ) (x : Insn) → i < length insns → x ≡ get_or insns i x
+    → slot ≡ slot_count (take i insns) → size ≡ slots_of x → slot_count insns ≡ count → slot + size ≤ count
+ends-within insns i slot size count x inside is low long whole =
+    omega (arith, slot_count-front insns i x inside is, low, long, whole)
 
 -- the marks of a front with one instruction more
 pub begin-step : (xs : List Insn) (x : Insn) (marks : List Bool)

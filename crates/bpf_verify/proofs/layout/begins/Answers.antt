@@ -3,19 +3,15 @@ use Rattle.std.proofs.Math.ListN.{length-set}
 use Rattle.bpf_insn_types.specs.declared.insn.Insn.{Insn}
 use Rattle.bpf_insn_types.specs.Program.{slot_count, insn_at}
 use Rattle.bpf_insn_types.proofs.ProgramLaws.{slots_some, slot_count-more, slot_count-front, take-more}
-use Rattle.bpf_verify.proofs.FlagLaws.{begin-step}
+use Rattle.bpf_verify.proofs.FlagLaws.{ends-within, begin-step}
 use Rattle.bpf_verify.proofs.layout.begins.Goals as goal
 
 pub overflow_add-slot : goal.overflow_add-slot
 overflow_add-slot c =
-    omega (
-      arith,
-      slot_count-front c.args.insns.now c.loop-insn.insn-index c.insn-item.result c.loop-insn-test.true
-          c.insn-item.is,
-      c.slots-slot.ensures,
-      c.loop-insn.invariant.low,
-      c.requires.slots,
-    )
+    let within = ends-within c.args.insns.now c.loop-insn.insn-index c.loop-insn.slot c.slots-slot.result c.args.count
+    c.insn-item.result c.loop-insn-test.true c.insn-item.is c.loop-insn.invariant.low c.slots-slot.ensures
+    c.requires.slots in
+    omega (arith, within)
 
 pub loop-insn-preserved : goal.loop-insn-preserved
 loop-insn-preserved c =

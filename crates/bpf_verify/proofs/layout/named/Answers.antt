@@ -4,7 +4,7 @@ use Rattle.std.specs.List.{list_any, cons_option}
 use Rattle.bpf_insn_types.specs.declared.insn.Insn.{Insn}
 use Rattle.bpf_insn_types.specs.Program.{slot_count, named_by, named_from}
 use Rattle.bpf_insn_types.proofs.ProgramLaws.{slot_count-more, slot_count-front, take-more, named_from-push}
-use Rattle.bpf_verify.proofs.FlagLaws.{named-marked, length-marked}
+use Rattle.bpf_verify.proofs.FlagLaws.{ends-within, named-marked, length-marked}
 use Rattle.bpf_verify.proofs.layout.named.Goals as goal
 
 pub named_by-requires : goal.named_by-requires
@@ -19,14 +19,10 @@ named_by-requires c =
 
 pub overflow_add-slot : goal.overflow_add-slot
 overflow_add-slot c =
-    omega (
-      arith,
-      slot_count-front c.args.insns.now c.loop-insn.insn-index c.insn-item.result c.loop-insn-test.true
-          c.insn-item.is,
-      c.slots-slot.ensures,
-      c.loop-insn.invariant.low,
-      c.requires.slots,
-    )
+    let within = ends-within c.args.insns.now c.loop-insn.insn-index c.loop-insn.slot c.slots-slot.result c.args.count
+    c.insn-item.result c.loop-insn-test.true c.insn-item.is c.loop-insn.invariant.low c.slots-slot.ensures
+    c.requires.slots in
+    omega (arith, within)
 
 pub loop-insn-preserved : goal.loop-insn-preserved
 loop-insn-preserved c =

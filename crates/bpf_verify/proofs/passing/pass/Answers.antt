@@ -8,6 +8,7 @@ use Rattle.bpf_insn_types.proofs.ProgramLaws.{take-whole}
 use Rattle.bpf_verify.specs.Passing.{program_of, Passed, Translated}
 use Rattle.bpf_verify.proofs.PassLaws.{passed-none, passed-over, at-index, At, fault-later}
 use Rattle.bpf_verify.proofs.OpLaws.{translated-none, translated-more, are-ops}
+use Rattle.bpf_verify.proofs.passing.pass.Goals.{After-insn-item}
 use Rattle.bpf_verify.proofs.passing.pass.Goals as goal
 
 pub loop-insn-init : goal.loop-insn-init
@@ -22,73 +23,49 @@ loop-insn-init c = record {
   translated = translated-none (program_of c.args.code.now) c.args.count c.in_ok-ops.ops.items c.in_ok-ops.ensures.ok;
 }
 
+-- the instruction stands at its slot
+stands : (c : After-insn-item) → At c.args.code.now.insns.now c.args.code.now.layout.now c.args.count c.loop-insn.slot
+    c.loop-insn.insn-index c.insn-item.result
+stands c = at-index c.args.code.now.insns.now c.args.code.now.insns.now c.args.code.now.layout.now c.args.count
+    c.loop-insn.slot c.loop-insn.insn-index c.insn-item.result c.requires.layout c.requires.slots c.requires.few refl
+    c.loop-insn-test.true c.insn-item.is c.loop-insn.invariant.low
+
 pub visit-requires-clause-stands : goal.visit-requires-clause-stands
 visit-requires-clause-stands c =
-    (at-index c.args.code.now.insns.now c.args.code.now.insns.now c.args.code.now.layout.now c.args.count
-    c.loop-insn.slot c.loop-insn.insn-index c.insn-item.result
-    c.requires.layout c.requires.slots c.requires.few refl c.loop-insn-test.true c.insn-item.is
-    c.loop-insn.invariant.low).stands
+    (stands (goal.at.visit-requires-clause-stands c).After-insn-item).stands
 
 pub visit-requires-clause-here : goal.visit-requires-clause-here
 visit-requires-clause-here c =
-    (at-index c.args.code.now.insns.now c.args.code.now.insns.now c.args.code.now.layout.now c.args.count
-    c.loop-insn.slot c.loop-insn.insn-index c.insn-item.result
-    c.requires.layout c.requires.slots c.requires.few refl c.loop-insn-test.true c.insn-item.is
-    c.loop-insn.invariant.low).here
+    (stands (goal.at.visit-requires-clause-here c).After-insn-item).here
 
 pub visit-requires-clause-within : goal.visit-requires-clause-within
 visit-requires-clause-within c =
-    let at : At c.args.code.now.insns.now c.args.code.now.layout.now c.args.count c.loop-insn.slot
-    c.loop-insn.insn-index c.insn-item.result =
-    at-index c.args.code.now.insns.now c.args.code.now.insns.now c.args.code.now.layout.now c.args.count
-    c.loop-insn.slot c.loop-insn.insn-index c.insn-item.result
-    c.requires.layout c.requires.slots c.requires.few refl c.loop-insn-test.true c.insn-item.is
-    c.loop-insn.invariant.low in
+    let at = stands (goal.at.visit-requires-clause-within c).After-insn-item in
     let within : c.loop-insn.slot < length c.loop-insn.table.items =
     omega (arith, at.inside, at.some, c.loop-insn.invariant.size) in
     within
 
 pub visit-requires-clause-room : goal.visit-requires-clause-room
 visit-requires-clause-room c =
-    let at : At c.args.code.now.insns.now c.args.code.now.layout.now c.args.count c.loop-insn.slot
-    c.loop-insn.insn-index c.insn-item.result =
-    at-index c.args.code.now.insns.now c.args.code.now.insns.now c.args.code.now.layout.now c.args.count
-    c.loop-insn.slot c.loop-insn.insn-index c.insn-item.result
-    c.requires.layout c.requires.slots c.requires.few refl c.loop-insn-test.true c.insn-item.is
-    c.loop-insn.invariant.low in
+    let at = stands (goal.at.visit-requires-clause-room c).After-insn-item in
     let within : c.loop-insn.slot < length c.loop-insn.ops.items =
     omega (arith, at.inside, at.some, c.loop-insn.invariant.room) in
     within
 
 pub returns-in-Err-clause-err : goal.returns-in-Err-clause-err
 returns-in-Err-clause-err c =
-    let at : At c.args.code.now.insns.now c.args.code.now.layout.now c.args.count c.loop-insn.slot
-    c.loop-insn.insn-index c.insn-item.result =
-    at-index c.args.code.now.insns.now c.args.code.now.insns.now c.args.code.now.layout.now c.args.count
-    c.loop-insn.slot c.loop-insn.insn-index c.insn-item.result
-    c.requires.layout c.requires.slots c.requires.few refl c.loop-insn-test.true c.insn-item.is
-    c.loop-insn.invariant.low in
+    let at = stands (goal.at.returns-in-Err-clause-err c).After-insn-item in
     fault-later (program_of c.args.code.now) (c.loop-insn.slot + 1) c.args.count c.in-Err.error c.in-Err.ensures.err
     (omega (arith, at.inside, at.some))
 
 pub overflow_add-slot : goal.overflow_add-slot
 overflow_add-slot c =
-    let at : At c.args.code.now.insns.now c.args.code.now.layout.now c.args.count c.loop-insn.slot
-    c.loop-insn.insn-index c.insn-item.result =
-    at-index c.args.code.now.insns.now c.args.code.now.insns.now c.args.code.now.layout.now c.args.count
-    c.loop-insn.slot c.loop-insn.insn-index c.insn-item.result
-    c.requires.layout c.requires.slots c.requires.few refl c.loop-insn-test.true c.insn-item.is
-    c.loop-insn.invariant.low in
+    let at = stands (goal.at.overflow_add-slot c).After-insn-item in
     omega (arith, at.inside, c.requires.few, c.slots-slot.ensures)
 
 pub loop-insn-preserved : goal.loop-insn-preserved
 loop-insn-preserved c =
-    let at : At c.args.code.now.insns.now c.args.code.now.layout.now c.args.count c.loop-insn.slot
-    c.loop-insn.insn-index c.insn-item.result =
-    at-index c.args.code.now.insns.now c.args.code.now.insns.now c.args.code.now.layout.now c.args.count
-    c.loop-insn.slot c.loop-insn.insn-index c.insn-item.result
-    c.requires.layout c.requires.slots c.requires.few refl c.loop-insn-test.true c.insn-item.is
-    c.loop-insn.invariant.low in
+    let at = stands (goal.at.loop-insn-preserved c).After-insn-item in
     record {
       low = ap (λ (n : ℕ). c.loop-insn.slot + n) c.slots-slot.ensures ∙ at.more;
       size = c.in-Ok.ensures.size ∙ c.loop-insn.invariant.size;
