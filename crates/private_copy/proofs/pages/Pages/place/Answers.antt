@@ -4,30 +4,48 @@ use Rattle.std.proofs.lemmas.List.Edits.{length-swap}
 use Rattle.std.proofs.lemmas.List.{length-map}
 use Rattle.private_copy.specs.Cells.{PlacedPages, total_of, cells_of, IsBlank}
 use Rattle.private_copy.specs.Touched.{has_page}
-use Rattle.private_copy.proofs.PageLaws.{where_stands, take_swap, cells_stay, agree_more, spare_blank, blank_is_some}
+use Rattle.private_copy.proofs.PageLaws.{Stands, where_stands, take_swap, cells_stay, agree_more, spare_blank, blank_is_some}
+use Rattle.private_copy.proofs.pages.Pages.place.Goals.{In-Some, In-Some-pop, in-Some-1, in-None-1}
 use Rattle.private_copy.proofs.pages.Pages.place.Goals as goal
-use Rattle.private_copy.proofs.pages.Pages.place.Goals.{in-Some-1, in-None-1}
+
+-- the page has a place in the table
+within : (c : In-Some) → c.args.number < length c.self.inside.table.items
+within c =
+    let long = ap total_of c.self.view_is in
+    let all = length-map c.self.inside.table.items cells_of in
+    omega (arith, c.requires.within, long, all)
+
+-- and isn't placed
+absent : (c : In-Some) → has_page (take c.self.inside.placed c.self.inside.order.keys) c.args.number ≡ false
+absent c = ap (λ (v : PlacedPages). has_page v.order c.args.number) c.self.view_is ∙ c.requires.absent
+
+-- so it stands among those that aren't
+stands : (c : In-Some) → Stands c.self.inside.order.keys c.self.inside.placed c.args.number c.in-Some.at
+stands c = where_stands c.self.inside.order.keys c.self.inside.placed c.args.number c.in-Some.at
+    (sym c.get_index_of.ensures.index ∙ c.in-Some.is) (absent c)
+
+-- the last of the spare pages is taken, and is blank
+long_spare : (c : In-Some-pop) → vec_len c.self.inside.spare ≡ length c.self.inside.spare.items
+long_spare c = search rules
+
+blank : (c : In-Some-pop) → IsBlank c.in-Some-pop.page
+blank c =
+    let many = vec_len c.self.inside.spare in
+    let spare = ap (λ (v : PlacedPages). v.spare) c.self.view_is in
+    let left : 0 < many = omega (arith, c.requires.spare, spare, long_spare c) in
+    spare_blank c.self.inside.spare.items c.in-Some-pop.page many (long_spare c) c.self.invariant.blank left
+    (sym c.in-Some-pop.is ∙ c.pop.ensures.value None left)
 
 pub invariant_of-self-in-Some-pop-2 : goal.invariant_of-self-in-Some-pop-2
 invariant_of-self-in-Some-pop-2 c =
+    let at = goal.at.invariant_of-self-in-Some-pop-2 c in
     let keys = c.self.inside.order.keys in
     let table = c.self.inside.table.items in
     let spares = c.self.inside.spare.items in
-    let long = ap total_of c.self.view_is in
-    let all = length-map table cells_of in
-    let within : c.args.number < length table = omega (arith, c.requires.within, long, all) in
-    let absent : has_page (take c.self.inside.placed keys) c.args.number ≡ false =
-    ap (λ (v : PlacedPages). has_page v.order c.args.number) c.self.view_is ∙ c.requires.absent in
-    let stands = where_stands keys c.self.inside.placed c.args.number c.in-Some.at (sym c.get_index_of.ensures.index
-    ∙ c.in-Some.is) absent in
-    let many = vec_len c.self.inside.spare in
-    let long_spare : many ≡ length spares = search rules in
-    let spare = ap (λ (v : PlacedPages). v.spare) c.self.view_is in
-    let left : 0 < many = omega (arith, c.requires.spare, spare, long_spare) in
-    let blank = spare_blank spares c.in-Some-pop.page many long_spare c.self.invariant.blank left (sym c.in-Some-pop.is
-    ∙ c.pop.ensures.value None left) in
     let placed = c.self.inside.placed in
     let page = c.in-Some-pop.page in
+    let many = vec_len c.self.inside.spare in
+    let stand = stands at.In-Some in
     let after = length-set table c.args.number page in
     let swapped = ap length c.swap_indices.ensures.keys ∙ length-swap keys c.in-Some.at placed in
     let rest = ap length c.pop.ensures.rest in
@@ -37,35 +55,23 @@ invariant_of-self-in-Some-pop-2 c =
       numbers = swapped ∙ c.self.invariant.numbers ∙ sym after;
       all = λ other inside. c.swap_indices.ensures.reordered.2 other
           ∙ c.self.invariant.all other (omega (arith, inside, after));
-      within = omega (arith, stands.behind, stands.within, swapped);
+      within = omega (arith, stand.behind, stand.within, swapped);
       placed = λ other inside.
-          agree_more keys placed c.args.number c.in-Some.at table page stands within (blank_is_some page blank)
-          c.self.invariant.placed other inside
+          agree_more keys placed c.args.number c.in-Some.at table page stand (within at.In-Some)
+          (blank_is_some page (blank at.In-Some-pop)) c.self.invariant.placed other inside
           ∙ ap (λ l. has_page (take (placed + 1) l) other) (sym c.swap_indices.ensures.keys);
       blank = λ k inside.
           subst IsBlank (sym (ap (λ l. get_or l k None) c.pop.ensures.rest ∙ get_or-take (many - 1) spares k None
           (omega (arith, inside, rest, few))))
-          (c.self.invariant.blank k (omega (arith, inside, rest, few, long_spare)));
+          (c.self.invariant.blank k (omega (arith, inside, rest, few, long_spare at.In-Some-pop)));
     }
 
 pub returns-in-Some-pop-clause-pages : goal.returns-in-Some-pop-clause-pages
 returns-in-Some-pop-clause-pages c =
-    let keys = c.self.inside.order.keys in
+    let at = goal.at.returns-in-Some-pop-clause-pages c in
     let table = c.self.inside.table.items in
-    let spares = c.self.inside.spare.items in
-    let long = ap total_of c.self.view_is in
-    let all = length-map table cells_of in
-    let within : c.args.number < length table = omega (arith, c.requires.within, long, all) in
-    let absent : has_page (take c.self.inside.placed keys) c.args.number ≡ false =
-    ap (λ (v : PlacedPages). has_page v.order c.args.number) c.self.view_is ∙ c.requires.absent in
-    let many = vec_len c.self.inside.spare in
-    let long_spare : many ≡ length spares = search rules in
-    let spare = ap (λ (v : PlacedPages). v.spare) c.self.view_is in
-    let left : 0 < many = omega (arith, c.requires.spare, spare, long_spare) in
-    let blank = spare_blank spares c.in-Some-pop.page many long_spare c.self.invariant.blank left (sym c.in-Some-pop.is
-    ∙ c.pop.ensures.value None left) in
-    let stay = cells_stay table c.args.number c.in-Some-pop.page blank (c.self.invariant.placed c.args.number within
-    ∙ absent)
+    let stay = cells_stay table c.args.number c.in-Some-pop.page (blank at.In-Some-pop)
+    (c.self.invariant.placed c.args.number (within at.In-Some) ∙ absent at.In-Some)
     ∙ ap (λ (v : PlacedPages). v.pages) c.self.view_is in
     elim c.match-index_mut-page.branch [
       | in-Some-1 w ↦ ap (λ (v : PlacedPages). v.pages) w.self-is ∙ stay
@@ -75,18 +81,9 @@ returns-in-Some-pop-clause-pages c =
 pub returns-in-Some-pop-clause-order : goal.returns-in-Some-pop-clause-order
 returns-in-Some-pop-clause-order c =
     let keys = c.self.inside.order.keys in
-    let table = c.self.inside.table.items in
-    let spares = c.self.inside.spare.items in
-    let long = ap total_of c.self.view_is in
-    let all = length-map table cells_of in
-    let within : c.args.number < length table = omega (arith, c.requires.within, long, all) in
-    let absent : has_page (take c.self.inside.placed keys) c.args.number ≡ false =
-    ap (λ (v : PlacedPages). has_page v.order c.args.number) c.self.view_is ∙ c.requires.absent in
-    let stands = where_stands keys c.self.inside.placed c.args.number c.in-Some.at (sym c.get_index_of.ensures.index
-    ∙ c.in-Some.is) absent in
     let placed = c.self.inside.placed in
     let last = ap (λ l. take (placed + 1) l) c.swap_indices.ensures.keys ∙ take_swap keys placed c.args.number
-    c.in-Some.at stands
+    c.in-Some.at (stands (goal.at.returns-in-Some-pop-clause-order c).In-Some)
     ∙ ap (λ (v : PlacedPages). v.order ++ c.args.number ∷ []) c.self.view_is in
     elim c.match-index_mut-page.branch [
       | in-Some-1 w ↦ ap (λ (v : PlacedPages). v.order) w.self-is ∙ last
