@@ -9,15 +9,13 @@ use Rattle.std.proofs.Math.Seq.{drop-cons}
 use Rattle.std.proofs.lemmas.Nat.Bits.{bit_at-zero}
 use Rattle.std.proofs.lemmas.Option.{slice_get_within, slice_get_read, slice_get-map, get_or_from_slice_get}
 use Rattle.std.proofs.lemmas.List.Elements.{All-nil, All-cons}
-use Rattle.array_maps.specs.declared.access.Op.{Op}
 use Rattle.loop_core_model.specs.Marks.{Visit}
 use Rattle.loop_core_model.specs.Gather.{Block}
 use Rattle.loop_core_model.specs.Kept.{Kept, applied, last_of, committed_of_kept}
-use Rattle.private_copy.specs.Reductions.{combination}
 use Rattle.loop_core_block.specs.declared.block.Block.{Block as Held}
 use Rattle.loop_core_block.specs.Blocks.{BlockOf}
 use Rattle.loop_core_block.specs.Shown.{shown}
-use Rattle.loop_core_gather.specs.Held.{chosen, visits_at, kept_of, TellsUntouched}
+use Rattle.loop_core_gather.specs.Held.{chosen, visits_at, kept_of, IsUntouchedElement, TellsUntouched}
 
 -- the block at a place
 pub shown_there : (blocks : List Held) (place : ℕ) (b : Held) → place < length blocks → b ≡ get_or blocks place b
@@ -26,15 +24,10 @@ shown_there blocks place b within is = slice_get-map shown blocks place
     ∙ ap (option_map shown) (slice_get_read blocks (length blocks) place b refl within is)
 
 -- what is done only by a bit is done where nothing changes without it
-pub applied_by : (touched : Bool) (value : ℕ) (p : Option (Op × ℕ)) → (touched ≡ false → p ≡ None)
-    → (if touched then applied value p else value) ≡ applied value p
-applied_by true value p none = refl
-applied_by false value p none = ap (applied value) (sym (none refl))
-
-pub written_by : (touched : Bool) (value : ℕ) (o : Option ℕ) → (touched ≡ false → o ≡ None)
-    → (if touched then unwrap_or o value else value) ≡ unwrap_or o value
-written_by true value o none = refl
-written_by false value o none = ap (λ (p : Option ℕ). unwrap_or p value) (sym (none refl))
+by_bit : (touched : Bool) (before after : ℕ) → (touched ≡ false → after ≡ before)
+    → (if touched then after else before) ≡ after
+by_bit true before after same = refl
+by_bit false before after same = sym (same refl)
 
 -- the block at a place, and those after it
 pub chosen_next : (blocks : List Held) (places : List ℕ) (i : ℕ) (b : Held) → i < length places
@@ -59,72 +52,61 @@ all_at P blocks place b within is all =
     subst P (get_or_from_slice_get (map shown blocks) place (shown b) (shown b) there)
     (all place (shown b) (slice_get_within (map shown blocks) place (shown b) there))
 
--- a partial more
-pub combined_next : (e : ℕ) (blocks : List BlockOf) (places : List ℕ) (i value : ℕ) (b : BlockOf)
-    → chosen (drop i places) blocks ≡ b ∷ chosen (drop (i + 1) places) blocks →
-    committed_of_kept true (map (kept_of e) (chosen (drop i places) blocks)) value
-    ≡ committed_of_kept true (map (kept_of e) (chosen (drop (i + 1) places) blocks))
-    (applied value (combination (b.copy.reduction e)))
-combined_next e blocks places i value b is = ap (λ bs. committed_of_kept true (map (kept_of e) bs) value) is
+-- what a block more leaves of a value
+abbrev left_by : (reduced : Bool) → ℕ → Kept → ℕ
+left_by true value k = applied value k.partial
+left_by false value k = unwrap_or k.last_value value
 
--- a last value more
-last_more : (rest : List (Option ℕ)) (o : Option ℕ) (value : ℕ) → unwrap_or (last_of (o ∷ rest)) value
-    ≡ unwrap_or (last_of rest) (unwrap_or o value)
-last_more rest o value = go (last_of rest)
+kept_first : (reduced : Bool) (k : Kept) (later : List Kept) (value : ℕ)
+    → committed_of_kept reduced (k ∷ later) value ≡ committed_of_kept reduced later (left_by reduced value k)
+kept_first true k later value = refl
+kept_first false k later value = go (last_of (map (λ (k : Kept). k.last_value) later))
   where
-    go : (later : Option ℕ) → unwrap_or (option_or later o) value ≡ unwrap_or later (unwrap_or o value)
+    go : (o : Option ℕ) → unwrap_or (option_or o k.last_value) value ≡ unwrap_or o (unwrap_or k.last_value value)
     go None = refl
     go (Some x) = refl
 
-pub last_next : (e : ℕ) (blocks : List BlockOf) (places : List ℕ) (i value : ℕ) (b : BlockOf)
-    → chosen (drop i places) blocks ≡ b ∷ chosen (drop (i + 1) places) blocks →
-    committed_of_kept false (map (kept_of e) (chosen (drop i places) blocks)) value
-    ≡ committed_of_kept false (map (kept_of e) (chosen (drop (i + 1) places) blocks)) (unwrap_or (b.copy.last e) value)
-last_next e blocks places i value b is =
-    ap (λ bs. committed_of_kept false (map (kept_of e) bs) value) is
-    ∙ last_more (map (λ (k : Kept). k.last_value) (map (kept_of e) (chosen (drop (i + 1) places) blocks)))
-    (b.copy.last e) value
-
 -- a block of which nothing is kept leaves the value
+unchanged : (reduced : Bool) (value e : ℕ) (b : BlockOf) → IsUntouchedElement e b
+    → left_by reduced value (kept_of e b) ≡ value
+unchanged true value e b none = ap (applied value) none.partial
+unchanged false value e b none = ap (λ (o : Option ℕ). unwrap_or o value) none.last_value
+
+-- the value after one block more, if the block's bit is set, says what is left after the blocks that follow
+pub kept_next : (reduced : Bool) (word e : ℕ) (blocks : List Held) (places : List ℕ) (i value left : ℕ) (b : Held)
+    (touched : Bool) (next : ℕ) → TellsUntouched word e (map shown blocks) places →
+    i < length places → get_or places i 0 < length blocks → b ≡ get_or blocks (get_or places i 0) b →
+    touched ≡ (bit_at word i == 1) → next ≡ (if touched then left_by reduced value (kept_of e (shown b)) else value) →
+    left ≡ committed_of_kept reduced (map (kept_of e) (chosen (drop i places) (map shown blocks))) value →
+    left ≡ committed_of_kept reduced (map (kept_of e) (chosen (drop (i + 1) places) (map shown blocks))) next
+kept_next reduced word e blocks places i value left b touched next untouched inside within is bit made so_far =
+    let later = map (kept_of e) (chosen (drop (i + 1) places) (map shown blocks)) in
+    let after = left_by reduced value (kept_of e (shown b)) in
+    let same : touched ≡ false → after ≡ value = λ unset. unchanged reduced value e (shown b) (untouched i (shown b)
+    inside (shown_there blocks (get_or places i 0) b within is) (sym bit ∙ unset)) in
+    so_far
+    ∙ ap (λ bs. committed_of_kept reduced (map (kept_of e) bs) value) (chosen_next blocks places i b inside within is)
+    ∙ kept_first reduced (kept_of e (shown b)) later value
+    ∙ ap (λ v. committed_of_kept reduced later v) (sym (made ∙ by_bit touched value after same))
+
+-- a block whose bit isn't set leaves the value
 module _ (word e : ℕ) (blocks : List BlockOf) (places : List ℕ) (untouched : TellsUntouched word e blocks places) where
-  combined_skip : (i value : ℕ) → i < length places → (bit_at word i == 1) ≡ false →
-      committed_of_kept true (map (kept_of e) (chosen (drop i places) blocks)) value
-      ≡ committed_of_kept true (map (kept_of e) (chosen (drop (i + 1) places) blocks)) value
-  combined_skip i value inside bit =
-      ap (λ ps. committed_of_kept true (map (kept_of e) (chosen ps blocks)) value) (drop-cons places i 0 inside)
-      ∙ go (slice_get blocks (get_or places i 0)) refl
-      ∙ ap (λ n. committed_of_kept true (map (kept_of e) (chosen (drop n places) blocks)) value) (sym (add-one i))
-    where
-      go : (o : Option BlockOf) → slice_get blocks (get_or places i 0) ≡ o →
-          committed_of_kept true (map (kept_of e) (cons_option o (chosen (drop (suc i) places) blocks))) value
-          ≡ committed_of_kept true (map (kept_of e) (chosen (drop (suc i) places) blocks)) value
-      go None is = refl
-      go (Some b) is = ap (λ p. committed_of_kept true (map (kept_of e) (chosen (drop (suc i) places) blocks))
-          (applied value p)) (untouched i b inside is bit).partial
-
-  last_skip : (i value : ℕ) → i < length places → (bit_at word i == 1) ≡ false →
-      committed_of_kept false (map (kept_of e) (chosen (drop i places) blocks)) value
-      ≡ committed_of_kept false (map (kept_of e) (chosen (drop (i + 1) places) blocks)) value
-  last_skip i value inside bit =
-      ap (λ ps. committed_of_kept false (map (kept_of e) (chosen ps blocks)) value) (drop-cons places i 0 inside)
-      ∙ go (slice_get blocks (get_or places i 0)) refl
-      ∙ ap (λ n. committed_of_kept false (map (kept_of e) (chosen (drop n places) blocks)) value) (sym (add-one i))
-    where
-      go : (o : Option BlockOf) → slice_get blocks (get_or places i 0) ≡ o →
-          committed_of_kept false (map (kept_of e) (cons_option o (chosen (drop (suc i) places) blocks))) value
-          ≡ committed_of_kept false (map (kept_of e) (chosen (drop (suc i) places) blocks)) value
-      go None is = refl
-      go (Some b) is =
-          last_more (map (λ (k : Kept). k.last_value) (map (kept_of e) (chosen (drop (suc i) places) blocks)))
-          (b.copy.last e) value
-          ∙ ap (λ (o : Option ℕ). committed_of_kept false (map (kept_of e) (chosen (drop (suc i) places) blocks))
-          (unwrap_or o value)) (untouched i b inside is bit).last_value
-
   skip : (reduced : Bool) (i value : ℕ) → i < length places → (bit_at word i == 1) ≡ false →
       committed_of_kept reduced (map (kept_of e) (chosen (drop i places) blocks)) value
       ≡ committed_of_kept reduced (map (kept_of e) (chosen (drop (i + 1) places) blocks)) value
-  skip true = combined_skip
-  skip false = last_skip
+  skip reduced i value inside bit =
+      ap (λ ps. committed_of_kept reduced (map (kept_of e) (chosen ps blocks)) value) (drop-cons places i 0 inside)
+      ∙ go (slice_get blocks (get_or places i 0)) refl
+      ∙ ap (λ n. committed_of_kept reduced (map (kept_of e) (chosen (drop n places) blocks)) value) (sym (add-one i))
+    where
+      go : (o : Option BlockOf) → slice_get blocks (get_or places i 0) ≡ o →
+          committed_of_kept reduced (map (kept_of e) (cons_option o (chosen (drop (suc i) places) blocks))) value
+          ≡ committed_of_kept reduced (map (kept_of e) (chosen (drop (suc i) places) blocks)) value
+      go None is = refl
+      go (Some b) is =
+          let later = map (kept_of e) (chosen (drop (suc i) places) blocks) in
+          kept_first reduced (kept_of e b) later value
+          ∙ ap (λ v. committed_of_kept reduced later v) (unchanged reduced value e b (untouched i b inside is bit))
 
   nothing_left : (reduced : Bool) (value : ℕ) → committed_of_kept reduced (map (kept_of e) (chosen [] blocks)) value
       ≡ value

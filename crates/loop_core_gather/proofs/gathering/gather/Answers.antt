@@ -5,6 +5,7 @@ use Rattle.loop_core_block.specs.declared.block.Block.{Block as Held}
 use Rattle.loop_core_block.specs.Shown.{shown}
 use Rattle.loop_core_gather.specs.Held.{told_of}
 use Rattle.loop_core_gather.proofs.GatheringLaws.{faulty, faultless, places_at, same_stand, answer_fits, are_held, all_tell}
+use Rattle.loop_core_gather.proofs.gathering.gather.Goals.{In-Ok}
 use Rattle.loop_core_gather.proofs.gathering.gather.Goals as goal
 
 pub returns-in-Err-clause-fault : goal.returns-in-Err-clause-fault
@@ -16,39 +17,36 @@ returns-in-Err-clause-fault c fault is =
     c.deref-2.result.now c.requires.ran made c.in-Err.fault c.in-Err.ensures.fault
     ∙ ap Some same
 
+-- what is asked is what the blocks tell
+made : (c : In-Ok) → c.deref-2.result.now ≡ map told_of (map shown c.args.blocks.items)
+made c = c.deref-2.ensures.value ∙ c.in_ok-summaries.ensures ∙ ap (λ (bs : List Held). map told_of (map shown bs))
+    c.deref.ensures.value
+
 pub merged_planes-requires-clause-places : goal.merged_planes-requires-clause-places
 merged_planes-requires-clause-places c =
-    let made = c.deref-2.ensures.value ∙ c.in_ok-summaries.ensures ∙ ap (λ (bs : List Held). map told_of (map shown bs))
-    c.deref.ensures.value in
     places_at c.args.test c.args.program.now c.args.call.now c.args.start.now.words c.args.split.now c.args.blocks.items
-    c.deref-2.result.now c.requires.ran made c.in-Ok.counting.least
+    c.deref-2.result.now c.requires.ran (made (goal.at.merged_planes-requires-clause-places c).In-Ok) c.in-Ok.counting.least
     c.in-Ok.counting.places.items c.requires.split c.in-Ok.ensures.counts c.deref-3.result.now c.deref-4.result.now
     c.deref-3.ensures.value c.deref-4.ensures.0
 
 pub counted-requires : goal.counted-requires
 counted-requires c =
-    let made = c.deref-2.ensures.value ∙ c.in_ok-summaries.ensures ∙ ap (λ (bs : List Held). map told_of (map shown bs))
-    c.deref.ensures.value in
     subst (λ (n : ℕ). count_to n c.in-Ok.counting.least ≤ n) (sym c.n.ensures)
     (answer_fits c.args.test c.args.program.now c.args.call.now c.args.start.now.words c.args.split.now
-    c.args.blocks.items c.deref-2.result.now c.requires.ran made c.in-Ok.counting.least
+    c.args.blocks.items c.deref-2.result.now c.requires.ran (made (goal.at.counted-requires c).In-Ok) c.in-Ok.counting.least
     c.in-Ok.counting.places.items c.requires.split c.in-Ok.ensures.counts)
 
 pub touched_pages-requires-clause-places : goal.touched_pages-requires-clause-places
 touched_pages-requires-clause-places c =
-    let made = c.deref-2.ensures.value ∙ c.in_ok-summaries.ensures ∙ ap (λ (bs : List Held). map told_of (map shown bs))
-    c.deref.ensures.value in
     places_at c.args.test c.args.program.now c.args.call.now c.args.start.now.words c.args.split.now c.args.blocks.items
-    c.deref-2.result.now c.requires.ran made c.in-Ok.counting.least
+    c.deref-2.result.now c.requires.ran (made (goal.at.touched_pages-requires-clause-places c).In-Ok) c.in-Ok.counting.least
     c.in-Ok.counting.places.items c.requires.split c.in-Ok.ensures.counts c.deref-5.result.now c.deref-6.result.now
     c.deref-5.ensures.value c.deref-6.ensures.0
 
 pub invariant_of-result : goal.invariant_of-result
 invariant_of-result c =
-    let made = c.deref-2.ensures.value ∙ c.in_ok-summaries.ensures ∙ ap (λ (bs : List Held). map told_of (map shown bs))
-    c.deref.ensures.value in
     are_held c.args.test c.args.program.now c.args.call.now c.args.start.now.words c.args.split.now c.args.blocks.items
-    c.deref-2.result.now c.requires.ran made c.in-Ok.counting.least
+    c.deref-2.result.now c.requires.ran (made (goal.at.invariant_of-result c).In-Ok) c.in-Ok.counting.least
     c.in-Ok.counting.places.items c.requires.split c.in-Ok.ensures.counts c.in_ok-planes.planes c.words-words.result.now
     c.in_ok-touched.touched.items c.deref-5.result.now
     c.deref-6.result.now c.words-words.ensures.words c.words-words.ensures.limits c.in_ok-planes.ensures.whole
@@ -57,24 +55,20 @@ invariant_of-result c =
 
 pub returns-clause-faultless : goal.returns-clause-faultless
 returns-clause-faultless c =
-    let made = c.deref-2.ensures.value ∙ c.in_ok-summaries.ensures ∙ ap (λ (bs : List Held). map told_of (map shown bs))
-    c.deref.ensures.value in
     faultless c.args.test c.args.program.now c.args.call.now c.args.start.now.words c.args.split.now c.args.blocks.items
-    c.deref-2.result.now c.requires.ran made c.in-Ok.counting.least
+    c.deref-2.result.now c.requires.ran (made (goal.at.returns-clause-faultless c).In-Ok) c.in-Ok.counting.least
     c.in-Ok.counting.places.items c.requires.split c.in-Ok.ensures.counts
 
 pub returns-clause-told : goal.returns-clause-told
 returns-clause-told c =
-    let made = c.deref-2.ensures.value ∙ c.in_ok-summaries.ensures ∙ ap (λ (bs : List Held). map told_of (map shown bs))
-    c.deref.ensures.value in
     let stand =
     same_stand c.args.test c.args.program.now c.args.call.now c.args.start.now.words c.args.split.now
-    c.args.blocks.items c.deref-2.result.now c.requires.ran made c.in-Ok.counting.least
+    c.args.blocks.items c.deref-2.result.now c.requires.ran (made (goal.at.returns-clause-told c).In-Ok) c.in-Ok.counting.least
     c.in-Ok.counting.places.items c.requires.split c.in-Ok.ensures.counts c.in_ok-planes.planes c.deref-3.result.now
     c.deref-4.result.now c.deref-3.ensures.value c.deref-4.ensures.0
     c.in_ok-planes.ensures.visits in
     all_tell c.args.test c.args.program.now c.args.call.now c.args.start.now.words c.args.split.now c.args.blocks.items
-    c.deref-2.result.now c.requires.ran made c.in-Ok.counting.least
+    c.deref-2.result.now c.requires.ran (made (goal.at.returns-clause-told c).In-Ok) c.in-Ok.counting.least
     c.in-Ok.counting.places.items c.requires.split c.in-Ok.ensures.counts c.in_ok-planes.planes
     c.in_ok-conflicting.conflicting.items c.verdict_of.result c.counted.result
     c.words-words.result.now (c.in_ok-planes.ensures.elements ∙ ap length c.words-words.ensures.words)
