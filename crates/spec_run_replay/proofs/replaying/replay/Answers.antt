@@ -11,27 +11,33 @@ use Rattle.spec_run_replay.specs.ProgramReplay.{ComesTo}
 use Rattle.spec_run_replay.specs.declared.first_loop.NumberedCall.{NumberedCall}
 use Rattle.spec_run_replay.specs.declared.replaying.ReplayRefusal.TheVariants.{Schedule}
 use Rattle.spec_run_replay.proofs.ReplayLaws.{schedule_refused, loop_replayed}
+use Rattle.spec_run_replay.proofs.replaying.replay.Goals.{After-unit-unit}
 use Rattle.spec_run_replay.proofs.replaying.replay.Goals as goal
 
 -- an answer is kept as a signed number
 word_kept : (n : ℕ) → n < 2 ^ 32 → pos n ≡ cast_signed w64 (cast_unsigned w64 (pos n))
 word_kept n small = grind (arith, ints)
 
+sound : (c : After-unit-unit) → IsSoundProgram c.args.program.now
+sound c = record { accepted = c.unit-unit.ensures.accepted; fits = c.unit-unit.ensures.fit }
+
+-- the program came to the loop
+came : (c : After-unit-unit)
+    → CameToLoop c.args.program.now c.args.argument c.args.maps c.first_loop.new.maps (Some c.in-Some.first)
+came c = subst (λ (r : Option NumberedCall). CameToLoop c.args.program.now c.args.argument c.args.maps
+    c.first_loop.new.maps r) c.in-Some.is c.first_loop.ensures
+
+-- whose iterations the bounds split
+split : (c : After-unit-unit) → split_fault c.args.bounds.items c.in-Some.first.call.n ≡ None
+split c = ap (split_fault c.args.bounds.items) (sym c.n.ensures) ∙ c.in-Ok.ensures.split
+
 pub returns-in-Ok-replay_loop-clause-replayed : goal.returns-in-Ok-replay_loop-clause-replayed
 returns-in-Ok-replay_loop-clause-replayed c =
+    let at = (goal.at.returns-in-Ok-replay_loop-clause-replayed c).After-unit-unit in
     let program = c.args.program.now in
     let bounds = c.args.bounds.items in
     let found = c.in-Some.first in
     let new = c.first_loop.new.maps in
-    let sound : IsSoundProgram program = record {
-      accepted = c.unit-unit.ensures.accepted;
-      fits = c.unit-unit.ensures.fit;
-    } in
-    let came : CameToLoop program c.args.argument c.args.maps new (Some found) =
-    subst (λ (r : Option NumberedCall). CameToLoop program c.args.argument c.args.maps new r) c.in-Some.is
-    c.first_loop.ensures in
-    let split : split_fault bounds found.call.n ≡ None = ap (split_fault bounds) (sym c.n.ensures)
-    ∙ c.in-Ok.ensures.split in
     let left = c.in-Ok-replay_loop.outcome in
     let o : Outcome = record { verdict = left.verdict; answer = left.answer; words = left.maps.words } in
     let ended = ap (λ (b : List ℕ). replayed c.args.test program 4096 found.call new.words b c.args.events.now)
@@ -45,7 +51,7 @@ returns-in-Ok-replay_loop-clause-replayed c =
       verdict = left.verdict;
     } in
     loop_replayed c.args.test program c.args.argument c.args.maps new bounds c.args.events.now found
-    c.law_of_filled_calls.ensures sound split came o ended told
+    c.law_of_filled_calls.ensures (sound at) (split at) (came at) o ended told
     (ap (λ (s : ℕ). record {
       slot = s;
       answer = cast_signed w64 (cast_unsigned w64 c.from.result);
@@ -55,23 +61,15 @@ returns-in-Ok-replay_loop-clause-replayed c =
 
 pub returns-in-Err-Fault-clause-replayed : goal.returns-in-Err-Fault-clause-replayed
 returns-in-Err-Fault-clause-replayed c =
+    let at = (goal.at.returns-in-Err-Fault-clause-replayed c).After-unit-unit in
     let program = c.args.program.now in
     let bounds = c.args.bounds.items in
     let found = c.in-Some.first in
     let new = c.first_loop.new.maps in
-    let sound : IsSoundProgram program = record {
-      accepted = c.unit-unit.ensures.accepted;
-      fits = c.unit-unit.ensures.fit;
-    } in
-    let came : CameToLoop program c.args.argument c.args.maps new (Some found) =
-    subst (λ (r : Option NumberedCall). CameToLoop program c.args.argument c.args.maps new r) c.in-Some.is
-    c.first_loop.ensures in
-    let split : split_fault bounds found.call.n ≡ None = ap (split_fault bounds) (sym c.n.ensures)
-    ∙ c.in-Ok.ensures.split in
     let amiss = ap (λ (b : List ℕ). replayed c.args.test program 4096 found.call new.words b c.args.events.now)
     (sym c.in-Ok.ensures.ok)
     ∙ c.in-Err-Fault.ensures.fault c.in-Err-Fault.fault (ap Err c.in-Err-Fault.field-0-is) in
     subst (λ (fault : ReplayFault). ComesTo c.args.test program c.args.argument c.args.maps.words bounds
     c.args.events.now (Err (Schedule fault))) (sym c.in-Err-Fault.fault-is)
     (schedule_refused c.args.test program c.args.argument c.args.maps new bounds c.args.events.now found
-    c.law_of_filled_calls.ensures sound split came c.in-Err-Fault.fault amiss)
+    c.law_of_filled_calls.ensures (sound at) (split at) (came at) c.in-Err-Fault.fault amiss)
