@@ -19,6 +19,11 @@ enum StopsAfter {
 
 const NO_POST: u32 = 4_294_967_295;
 
+/// What is gathered of this many claims and this least post.
+fn tally(claimed: u32, least: u32) -> Tally {
+    Tally { claimed, least }
+}
+
 #[test]
 fn a_look_sees_what_another_seat_posted(rt: HostRuntime) -> Result<(), Fail> {
     let (board, mut seats) = Board::new(rt.alloc(), 4, 2)?;
@@ -27,13 +32,7 @@ fn a_look_sees_what_another_seat_posted(rt: HostRuntime) -> Result<(), Fail> {
     board.post(&mut seats[1], 3);
     let after = board.look(&mut seats[0]);
     assert_eq!(rt; [before, after], [NO_POST, 3]);
-    assert_eq!(rt;
-        board.gather(seats)?,
-        Tally {
-            claimed: 0,
-            least: 3
-        }
-    );
+    assert_eq!(rt; board.gather(seats)?, tally(0, 3));
     Ok(())
 }
 
@@ -49,13 +48,7 @@ fn claims_are_the_blocks_in_turn(rt: HostRuntime) -> Result<(), Fail> {
         board.claim(&mut seats[1]),
     ];
     assert_eq!(rt; claims, [Some(0), Some(1), None, None, None]);
-    assert_eq!(rt;
-        board.gather(seats)?,
-        Tally {
-            claimed: 2,
-            least: NO_POST
-        }
-    );
+    assert_eq!(rt; board.gather(seats)?, tally(2, NO_POST));
     Ok(())
 }
 
@@ -70,13 +63,7 @@ fn limits_are_refused(rt: HostRuntime) -> Result<(), Fail> {
     }
     let (board, seats) = Board::new(rt.alloc(), 64, 16)?;
     assert_eq!(rt; seats.len(), 16);
-    assert_eq!(rt;
-        board.gather(seats)?,
-        Tally {
-            claimed: 0,
-            least: NO_POST
-        }
-    );
+    assert_eq!(rt; board.gather(seats)?, tally(0, NO_POST));
     Ok(())
 }
 
@@ -105,13 +92,7 @@ fn a_refused_growth_leaves_nothing_behind(rt: HostRuntime) -> Result<(), Fail> {
     let claim = board.claim(&mut seats[1]);
     board.post(&mut seats[1], 8_388_607);
     assert_eq!(rt; claim, Some(0));
-    assert_eq!(rt;
-        board.gather(seats)?,
-        Tally {
-            claimed: 1,
-            least: 8_388_607
-        }
-    );
+    assert_eq!(rt; board.gather(seats)?, tally(1, 8_388_607));
     Ok(())
 }
 
@@ -153,13 +134,7 @@ fn four_threads_share_64_blocks(rt: HostRuntime) -> Result<(), Fail> {
             drain_and_post(shared, seat, break_of(number));
         },
     );
-    assert_eq!(rt;
-        board.gather(seats)?,
-        Tally {
-            claimed: 64,
-            least: 10
-        }
-    );
+    assert_eq!(rt; board.gather(seats)?, tally(64, 10));
     Ok(())
 }
 
@@ -218,8 +193,8 @@ fn one_of_three_threads_stops(rt: HostRuntime) -> Result<(), Fail> {
         (StopsAfter::Look, 20),
         (StopsAfter::Post, 10),
     ] {
-        let tally = tally_where_one_stops(&rt, rt.alloc(), stops)?;
-        assert_eq!(rt; tally, Tally { claimed: 4, least });
+        let gathered = tally_where_one_stops(&rt, rt.alloc(), stops)?;
+        assert_eq!(rt; gathered, tally(4, least));
     }
     Ok(())
 }
