@@ -35,10 +35,15 @@ pub fn goes_on(
     Ok(table.has_ended())
 }
 
-/// Replays each list that has ended, asserts what it comes to, and tells how many there are. None is longer than 17
-/// events:
+/// Replays each list that has ended, asserts what it comes to, and how many there are. None is longer than 17 events:
 /// three for each of four blocks, a post, and a claim and a stop of each worker.
-fn schedules_agree(rt: &impl Abort, alloc: Global, row: &Row, test: Test) -> Result<u32, Fail> {
+fn schedules_agree(
+    rt: &impl Abort,
+    alloc: Global,
+    row: &Row,
+    test: Test,
+    wanted: u32,
+) -> Result<(), Fail> {
     let stage = Stage::try_new(alloc, row).ok_or("a loop")?;
     let mut events = Vec::new(alloc);
     let mut ended = 0u32;
@@ -51,33 +56,26 @@ fn schedules_agree(rt: &impl Abort, alloc: Global, row: &Row, test: Test) -> Res
             }
         }
     }
-    Ok(ended)
+    assert_eq!(rt; ended, wanted);
+    Ok(())
 }
 
 #[test]
 fn schedules_of_a_conflict_agree_by_flow(rt: HostRuntime) -> Result<(), Fail> {
-    let ended = schedules_agree(&rt, rt.alloc(), &A_BREAK_THAT_IS_NONE, Test::Flow)?;
-    assert_eq!(rt; ended, 27_498);
-    Ok(())
+    schedules_agree(&rt, rt.alloc(), &A_BREAK_THAT_IS_NONE, Test::Flow, 27_498)
 }
 
 #[test]
 fn schedules_of_a_conflict_agree_by_pairs(rt: HostRuntime) -> Result<(), Fail> {
-    let ended = schedules_agree(&rt, rt.alloc(), &A_BREAK_THAT_IS_NONE, Test::Lrpd)?;
-    assert_eq!(rt; ended, 27_498);
-    Ok(())
+    schedules_agree(&rt, rt.alloc(), &A_BREAK_THAT_IS_NONE, Test::Lrpd, 27_498)
 }
 
 #[test]
 fn schedules_with_skipped_blocks_agree_by_flow(rt: HostRuntime) -> Result<(), Fail> {
-    let ended = schedules_agree(&rt, rt.alloc(), &AN_EARLY_BREAK, Test::Flow)?;
-    assert_eq!(rt; ended, 17_430);
-    Ok(())
+    schedules_agree(&rt, rt.alloc(), &AN_EARLY_BREAK, Test::Flow, 17_430)
 }
 
 #[test]
 fn schedules_with_skipped_blocks_agree_by_pairs(rt: HostRuntime) -> Result<(), Fail> {
-    let ended = schedules_agree(&rt, rt.alloc(), &AN_EARLY_BREAK, Test::Lrpd)?;
-    assert_eq!(rt; ended, 17_430);
-    Ok(())
+    schedules_agree(&rt, rt.alloc(), &AN_EARLY_BREAK, Test::Lrpd, 17_430)
 }
