@@ -6,7 +6,7 @@ ghost use Rattle.bpf_verify_sound.specs.Soundness.{OverApproximatesCall};
 
 use crate::loops::Row;
 use array_maps::Maps;
-use bpf_step::{LoopCall, Main, Turned};
+use bpf_step::LoopCall;
 use bpf_text_asm::parse_unit;
 use bpf_verify::{Verified, verify};
 use loop_core_event::Event;
@@ -15,6 +15,7 @@ use loop_core_replay::{ReplayError, replay_loop};
 use loop_core_split::Split;
 use std::alloc::Global;
 use std::marker::Model;
+use tests_rows::first_call;
 
 /// A loop of an accepted program at its call.
 #[derive(Drop)]
@@ -46,22 +47,8 @@ fn program_of(alloc: Global, unit: &str) -> Option<Verified> {
     verify(alloc, unit).ok()
 }
 
-/// The loop call that main comes to first.
-fn first_call(program: &Verified, maps: &mut Maps) -> Option<LoopCall>
-    requires { maps.old.sizes ≡ program.now.sizes }
-    ensures sizes { maps.new.sizes ≡ program.now.sizes }
-    ensures known { IfSome result (OverApproximatesCall program.now) }
-{
-    let _unit = program.unit();
-    let _sizes = maps.sizes();
-    let mut main = Main::new(program, 0);
-    match main.next(maps) {
-        Turned::Loop(call) => Some(call),
-        _ => None,
-    }
-}
-
-/// That call, and the split of its iterations by these bounds, unless there is no memory or something is amiss.
+/// The loop call that main makes first, and the split of its iterations by these bounds, unless there is no memory or
+/// something is amiss.
 fn call_and_split(
     alloc: Global,
     program: &Verified,

@@ -5,4 +5,4 @@ mod meeting;
 mod rows;
 
 pub use meeting::{Holds, Meeting, MeetingGate, OpenGate};
-pub use rows::{FirstLoop, Row, first_loop, read_row, spelled_out};
+pub use rows::{FirstLoop, Row, first_call, first_loop, read_row, spelled_out};

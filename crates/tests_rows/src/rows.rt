@@ -69,8 +69,8 @@ pub fn read_row(alloc: Global, row: &str) -> Option<Row>
     Some(Row { program, maps })
 }
 
-/// The loop call that main makes at its first turn.
-fn first_call(program: &Verified, maps: &mut Maps) -> Option<LoopCall>
+/// The loop call that main makes at its first turn; `None` where it makes no valid one.
+pub fn first_call(program: &Verified, maps: &mut Maps) -> Option<LoopCall>
     requires { maps.old.sizes ≡ program.now.sizes }
     ensures sizes { maps.new.sizes ≡ program.now.sizes }
     ensures known { IfSome result (OverApproximatesCall program.now) }
