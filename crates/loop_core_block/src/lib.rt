@@ -5,6 +5,8 @@
 mod block;
 mod runner;
 mod running;
+mod speculative_loop;
 
 pub use block::Block;
 pub use running::run_block;
+pub use speculative_loop::SpeculativeLoop;

@@ -2,14 +2,13 @@
 
 ghost use Rattle.std.specs.Prelude.{◌≡◌, ◌<◌, ◌≤◌, ℕ, List, [], IfOk};
 ghost use Rattle.bpf_step_model.specs.Iteration.{Iterated};
-ghost use Rattle.bpf_verify_sound.specs.Soundness.{OverApproximatesCall, most_from};
+ghost use Rattle.bpf_verify_sound.specs.Soundness.{most_from};
 ghost use Rattle.shadow_marks.specs.Standing.{test_of};
 ghost use Rattle.loop_core_block.specs.Runs.{start_words, IsReady, RunnerHasRun, RanOneMore, RanUpTo};
 
-use array_maps::Maps;
-use bpf_step::{Callback, LoopCall};
+use crate::speculative_loop::SpeculativeLoop;
+use bpf_step::Callback;
 use bpf_verify::Verified;
-use loop_core_model::Test;
 use loop_core_split::Gate;
 use private_copy::{MAX_ACCESSES, Private, law_of_accesses};
 use shadow_marks::Planes;
@@ -41,32 +40,23 @@ fn most_instructions(program: &Verified, slot: u32) -> u32
 }
 
 impl<'c, 'a> Runner<'c, 'a> {
-    /// A runner of a loop call that main of this program made, which has run no iteration. The maps are of the
-    /// program's sizes.
-    pub(crate) fn try_new(
-        alloc: Global,
-        program: &'c Verified,
-        call: &'c LoopCall,
-        start: &'a Maps,
-        test: Test,
-    ) -> Result<Runner<'c, 'a>, AllocError>
-        requires known { OverApproximatesCall program.now call.now }
-        requires sizes { start.now.sizes ≡ program.now.sizes }
+    /// A runner of a loop's iterations, which has run none.
+    pub(crate) fn try_new(of: &SpeculativeLoop<'c, 'a>) -> Result<Runner<'c, 'a>, AllocError>
         ensures ready { IfOk result IsReady }
-        ensures program { IfOk result (λ r. r.callback.program ≡ program.now) }
-        ensures call { IfOk result (λ r. r.callback.call ≡ call.now) }
-        ensures start { IfOk result (λ r. start_words r ≡ start.now.words) }
-        ensures test { IfOk result (λ r. test_of r.planes.tested ≡ test) }
+        ensures program { IfOk result (λ r. r.callback.program ≡ of.now.program) }
+        ensures call { IfOk result (λ r. r.callback.call ≡ of.now.call) }
+        ensures start { IfOk result (λ r. start_words r ≡ of.now.start.words) }
+        ensures test { IfOk result (λ r. test_of r.planes.tested ≡ of.now.test) }
         ensures none { IfOk result (λ r. (first : ℕ) → RunnerHasRun first first [] r) }
     {
         // This tells the proof how many words the maps have.
-        let _sizes = start.sizes();
-        let elements = start.words().len() as u32;
+        let _sizes = of.start.sizes();
+        let elements = of.start.words().len() as u32;
         Ok(Runner {
-            callback: Callback::new(program, call),
-            most: most_instructions(program, call.callback()),
-            copy: Private::try_new(alloc, start)?,
-            planes: Planes::try_new(alloc, elements, test)?,
+            callback: Callback::new(of.program, of.call),
+            most: most_instructions(of.program, of.call.callback()),
+            copy: Private::try_new(of.alloc, of.start)?,
+            planes: Planes::try_new(of.alloc, elements, of.test)?,
         })
     }
 

@@ -6,15 +6,42 @@ ghost use Rattle.loop_core_model.specs.Split.{split_fault};
 ghost use Rattle.loop_core_model.specs.Intervals.{blocks_of, start_of, end_of};
 ghost use Rattle.loop_core_block.specs.Shown.{shown};
 ghost use Rattle.loop_core_block.specs.Ran.{RecordsRun};
+ghost use Rattle.loop_core_block.specs.LoopBlocks.{IsBlockOf};
 
 use crate::block::Block;
 use crate::runner::Runner;
+use crate::speculative_loop::SpeculativeLoop;
 use array_maps::Maps;
 use bpf_step::LoopCall;
 use bpf_verify::Verified;
 use loop_core_model::Test;
 use loop_core_split::{Gate, Split};
 use std::alloc::{AllocError, Global};
+
+impl<'l, 'a> SpeculativeLoop<'l, 'a> {
+    /// Runs the block of a number, which the split has: its iterations from its start on, up to the first that
+    /// returns 1, or all, each on the start maps. The gate's `turn` is called before each iteration.
+    ///
+    /// It fails where there is no memory.
+    pub fn run_block<G: Gate>(&self, number: u32, gate: &G) -> Result<Block<'a>, AllocError>
+        requires { number < blocks_of self.now.bounds }
+        ensures { IfOk result (λ b. IsBlockOf self.now number (shown b)) }
+    {
+        let first = self.split.start(number);
+        let past = self.split.end(number);
+        let mut runner = Runner::try_new(self)?;
+        let broke = runner.run(self.alloc, first, past, gate)?;
+        let Runner { copy, planes, .. } = runner;
+        Ok(Block {
+            number,
+            first,
+            past,
+            broke,
+            planes,
+            copy,
+        })
+    }
+}
 
 /// Runs a block of a loop call that main of this program made: its iterations from its start on, up to the first
 /// that returns 1, or all, each on the start maps. The gate's `turn` is called before each iteration. The maps are
@@ -38,17 +65,13 @@ pub fn run_block<'a, G: Gate>(
     ensures past { IfOk result (λ b. (shown b).past ≡ end_of split.now number) }
     ensures ran { IfOk result (λ b. RecordsRun test program.now call.now start.now.words (shown b)) }
 {
-    let first = split.start(number);
-    let past = split.end(number);
-    let mut runner = Runner::try_new(alloc, program, call, start, test)?;
-    let broke = runner.run(alloc, first, past, gate)?;
-    let Runner { copy, planes, .. } = runner;
-    Ok(Block {
-        number,
-        first,
-        past,
-        broke,
-        planes,
-        copy,
-    })
+    let speculative = SpeculativeLoop {
+        alloc,
+        program,
+        call,
+        start,
+        split,
+        test,
+    };
+    speculative.run_block(number, gate)
 }

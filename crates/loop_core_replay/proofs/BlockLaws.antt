@@ -9,8 +9,9 @@ use Rattle.loop_core_model.specs.Intervals.{blocks_of, end_of}
 use Rattle.loop_core_block.specs.declared.block.Block.{Block}
 use Rattle.loop_core_block.specs.Blocks.{BlockOf}
 use Rattle.loop_core_block.specs.Shown.{shown}
-use Rattle.loop_core_replay.specs.Settings.{SettingOf}
-use Rattle.loop_core_replay.specs.Replays.{BlocksOf, block_numbers, IsBlockOf, IfBlockOf, AreBlocks, IsUnderWay, BreaksAt, BlockHasRun}
+use Rattle.loop_core_block.specs.Loops.{LoopOf}
+use Rattle.loop_core_block.specs.LoopBlocks.{IsBlockOf}
+use Rattle.loop_core_replay.specs.Replays.{BlocksOf, block_numbers, IfBlockOf, AreBlocks, IsUnderWay, BreaksAt, BlockHasRun}
 
 none_at : (n k : ℕ) (nothing : Option Block) → slice_index_or (replicate n nothing) k nothing ≡ nothing
 none_at zero k nothing = refl
@@ -18,7 +19,7 @@ none_at (suc n) zero nothing = refl
 none_at (suc n) (suc k) nothing = none_at n k nothing
 
 -- none at first
-pub none_begun : (s : SettingOf) (blocks : BlocksOf) → blocks.under_way ≡ replicate (blocks_of s.bounds) None
+pub none_begun : (s : LoopOf) (blocks : BlocksOf) → blocks.under_way ≡ replicate (blocks_of s.bounds) None
     → blocks.ran ≡ [] → AreBlocks s blocks
 none_begun s blocks nothing empty = record {
   count = ap length nothing ∙ length-replicate (blocks_of s.bounds) None;
@@ -29,7 +30,7 @@ none_begun s blocks nothing empty = record {
 }
 
 -- one place of a table changed
-changed : (s : SettingOf) (us : List (Option Block)) (number : ℕ) (new : Option Block) → number < length us
+changed : (s : LoopOf) (us : List (Option Block)) (number : ℕ) (new : Option Block) → number < length us
     → IfBlockOf s number new →
     ((k : ℕ) → IfBlockOf s k (slice_index_or us k None)) → (k : ℕ)
     → IfBlockOf s k (slice_index_or (slice_set us number new) k None)
@@ -42,8 +43,8 @@ changed s us number new within fits each k = go (cases_eq k number)
     go (inr other) = subst (IfBlockOf s k) (sym (get_or-set_other us number k new None other)) (each k)
 
 -- a block was begun
-pub begun : (s : SettingOf) (old new : BlocksOf) (number : ℕ) (b : Block) → AreBlocks s old
-    → IsBlockOf s number (shown b) →
+pub begun : (s : LoopOf) (old new : BlocksOf) (number : ℕ) (b : Block) → AreBlocks s old → IsBlockOf s number (shown b)
+    →
     new.under_way ≡ slice_set old.under_way number (Some b) → new.ran ≡ old.ran → AreBlocks s new
 begun s old new number b are is set same =
     let count = are.count in
@@ -55,7 +56,7 @@ begun s old new number b are is set same =
       ran = subst (AllByRecursion (λ (b : Block). IsBlockOf s (shown b).number (shown b))) (sym same) are.ran;
     }
 
-pub is_begun : (s : SettingOf) (old new : BlocksOf) (number : ℕ) (b : Block) → AreBlocks s old
+pub is_begun : (s : LoopOf) (old new : BlocksOf) (number : ℕ) (b : Block) → AreBlocks s old
     → IsBlockOf s number (shown b) →
     new.under_way ≡ slice_set old.under_way number (Some b) → IsUnderWay new number
 is_begun s old new number b are is set =
@@ -70,7 +71,7 @@ is_begun s old new number b are is set =
     }
 
 -- it has ended
-pub ended : (s : SettingOf) (old new : BlocksOf) (number : ℕ) (b : Block) → number < length old.under_way
+pub ended : (s : LoopOf) (old new : BlocksOf) (number : ℕ) (b : Block) → number < length old.under_way
     → slice_index_or old.under_way number None ≡ Some b →
     new.under_way ≡ slice_set old.under_way number None → new.ran ≡ insert old.ran 0 b → AreBlocks s old
     → BlockHasRun s number old new
@@ -93,7 +94,7 @@ ended s old new number b within there set pushed are =
     }
 
 -- where a block breaks
-pub breaks : (s : SettingOf) (number : ℕ) (b : BlockOf) → IsBlockOf s number b → BreaksAt s number b.broke
+pub breaks : (s : LoopOf) (number : ℕ) (b : BlockOf) → IsBlockOf s number b → BreaksAt s number b.broke
 breaks s number b is = record {
   ran = is.ran.ran;
   told =
@@ -103,7 +104,7 @@ breaks s number b is = record {
 }
 
 -- one that is there
-pub breaks_there : (s : SettingOf) (blocks : BlocksOf) (number : ℕ) (b : Block) → AreBlocks s blocks
+pub breaks_there : (s : LoopOf) (blocks : BlocksOf) (number : ℕ) (b : Block) → AreBlocks s blocks
     → slice_index_or blocks.under_way number None ≡ Some b → BreaksAt s number (shown b).broke
 breaks_there s blocks number b are there =
     breaks s number (shown b) (subst (IfBlockOf s number) there (are.under_way number))
@@ -124,7 +125,7 @@ module _ (us : List (Option Block)) (ran : List Block) (old : BlocksOf) (number 
   under_way = us;
   ran = ran;
 } ≡ old) where
-  pub begun_in : (s : SettingOf) (b : Block) → AreBlocks s old → IsBlockOf s number (shown b)
+  pub begun_in : (s : LoopOf) (b : Block) → AreBlocks s old → IsBlockOf s number (shown b)
       → AreBlocks s (record { under_way = slice_set us number (Some b); ran = ran })
   begun_in s b are is =
       begun s (record { under_way = us; ran = ran }) (record { under_way = slice_set us number (Some b); ran = ran })
@@ -132,7 +133,7 @@ module _ (us : List (Option Block)) (ran : List Block) (old : BlocksOf) (number 
 
   pub ended_in : (was taken slot : Option Block) (b : Block) (longer : List Block) → IsUnderWay old number
       → was ≡ slice_index_or us number was → taken ≡ was → taken ≡ Some b →
-      slot ≡ None → longer ≡ insert ran 0 b → (s : SettingOf) → AreBlocks s old
+      slot ≡ None → longer ≡ insert ran 0 b → (s : LoopOf) → AreBlocks s old
       → BlockHasRun s number old (record { under_way = slice_set us number slot; ran = longer })
   ended_in was taken slot b longer under_way there took is empty pushed s are =
       let within : number < length us = subst (λ (o : BlocksOf). number < length o.under_way) (sym seen_as)

@@ -17,15 +17,16 @@ use Rattle.loop_core_block.specs.Ran.{as_gathered, iterations_of, RecordsRun}
 use Rattle.loop_core_block.specs.Shown.{shown}
 use Rattle.loop_core_gather.specs.Gathered.{all_gathered}
 use Rattle.loop_core_workers.specs.Standing.{state}
-use Rattle.loop_core_replay.specs.Settings.{SettingOf, IsSetting}
-use Rattle.loop_core_replay.specs.Replays.{block_numbers, IsBlockOf, IsLeft}
+use Rattle.loop_core_block.specs.Loops.{LoopOf, IsSpeculative}
+use Rattle.loop_core_block.specs.LoopBlocks.{IsBlockOf}
+use Rattle.loop_core_replay.specs.Replays.{block_numbers, IsLeft}
 
 bound_at : (bounds : List ℕ) (k : ℕ) → k < length bounds → is_bound (slice_get bounds k) (slice_index bounds k) ≡ true
 bound_at [] k h = absurd (omega (arith, h))
 bound_at (bound ∷ bounds) zero h = eq-eqb bound bound refl
 bound_at (bound ∷ bounds) (suc k) h = bound_at bounds k (omega (arith, h))
 
-module _ (s : SettingOf) where
+module _ (s : LoopOf) where
   abbrev AreOwn : List Block → Type 0
   AreOwn blocks = AllByRecursion (λ (b : Block). IsBlockOf s (shown b).number (shown b)) blocks
 
@@ -65,8 +66,8 @@ module _ (s : SettingOf) where
       blocks own.0.ran (all_run blocks own.1)
 
   -- they are gathered
-  pub no_fault : EndedSchedulesComplete → IsSetting s → (events : List Event) (ran : List Block) → IsLeft s events ran
-      → gather_fault s.bounds (gathered_of ran) ≡ None
+  pub no_fault : EndedSchedulesComplete → IsSpeculative s → (events : List Event) (ran : List Block)
+      → IsLeft s events ran → gather_fault s.bounds (gathered_of ran) ≡ None
   no_fault law is events ran left =
       ((law s.program 4096 s.call s.start.words s.bounds events (state left.standing (block_numbers ran)) is.split
       left.ended).complete (gathered_of ran)
@@ -80,7 +81,7 @@ module _ (s : SettingOf) where
       ∙ ap Ok is
 
 -- so no fault is met
-pub meets_none : {G E : Type 0} → EndedSchedulesComplete → (s : SettingOf) → IsSetting s
+pub meets_none : {G E : Type 0} → EndedSchedulesComplete → (s : LoopOf) → IsSpeculative s
     → (events : List Event) (ran : List Block) → IsLeft s events ran →
     (result : Result G E) (wrap : GatherFault → E) (error : E) (fault : GatherFault) → result ≡ Err error
     → error ≡ wrap fault →

@@ -23,17 +23,17 @@ use Rattle.loop_core_workers.specs.declared.worker.Step.TheVariants as steps
 use Rattle.loop_core_workers.specs.Steps.{Leads, Faults, StepFollows, IsBefore, IterationFinished}
 use Rattle.loop_core_workers.specs.InTurn.{LeadTo, EventsInTurn}
 use Rattle.loop_core_workers.proofs.StandingLaws.{seen_at, at_is}
-use Rattle.loop_core_replay.specs.Settings.{SettingOf, IsSetting, setting_breaks}
-use Rattle.loop_core_replay.specs.Replays.{BlocksOf, ReplayOf, block_numbers, state_of, AreBlocks, BreaksAt, BlockHasRun, HasCome}
+use Rattle.loop_core_block.specs.Loops.{LoopOf, IsSpeculative}
+use Rattle.loop_core_replay.specs.Replays.{BlocksOf, ReplayOf, loop_breaks, block_numbers, state_of, AreBlocks, BreaksAt, BlockHasRun, HasCome}
 
 -- a state that events lead to is sound
-sound_of : (s : SettingOf) → IsSetting s → (events : List Event) (place : ℕ) (now : ScheduleState)
-    → LeadTo (setting_breaks s) s.bounds events place now → Sound (setting_breaks s) s.bounds now
+sound_of : (s : LoopOf) → IsSpeculative s → (events : List Event) (place : ℕ) (now : ScheduleState)
+    → LeadTo (loop_breaks s) s.bounds events place now → Sound (loop_breaks s) s.bounds now
 sound_of s is events place now led =
     let rises = (faultless s.call.n s.bounds is.split).rises in
-    (subst (AllOk (setting_breaks s) s.bounds rises (take place events) at_first) led
-    (events_ok (setting_breaks s) s.bounds rises (take place events) 0 at_first (sound_at_first (setting_breaks s)
-    s.bounds rises))).0
+    (subst (AllOk (loop_breaks s) s.bounds rises (take place events) at_first) led
+    (events_ok (loop_breaks s) s.bounds rises (take place events) 0 at_first (sound_at_first (loop_breaks s) s.bounds
+    rises))).0
 
 -- of the indices from one on the first that breaks isn't below it
 not_below : (breaks : ℕ → Bool) (left from index : ℕ) → index < from → is_bound (first_break breaks left from) index
@@ -58,35 +58,35 @@ first_is breaks (suc left) index some_left = go (breaks index)
     go false = not_below breaks left (index + 1) index (omega arith)
 
 -- a worker's iteration breaks where its block does
-pub next_breaks : (s : SettingOf) → IsSetting s → (events : List Event) (place : ℕ) (r : ReplayOf)
+pub next_breaks : (s : LoopOf) → IsSpeculative s → (events : List Event) (place : ℕ) (r : ReplayOf)
     → HasCome s events place r → (turn : PendingIteration) → IsBefore r.workers turn →
-    (broke : Option ℕ) → BreaksAt s turn.block broke → is_bound broke turn.index ≡ setting_breaks s turn.index
+    (broke : Option ℕ) → BreaksAt s turn.block broke → is_bound broke turn.index ≡ loop_breaks s turn.index
 next_breaks s is events place r come turn before broke at =
     let sound = sound_of s is events place (state_of r) come.led in
     let here : worker_of (state_of r) turn.worker ≡ InBlock turn.block turn.index =
     seen_at r.workers.workers turn.worker
     ∙ ap schedule_worker (at_is r.workers.workers turn.worker (Running turn.block turn.index) before) in
-    let runs : RunsFrom (setting_breaks s) s.bounds turn.block turn.index =
-    subst (WorkerIsSound (setting_breaks s) s.bounds r.workers.shared.next) here (sound.fits turn.worker) in
+    let runs : RunsFrom (loop_breaks s) s.bounds turn.block turn.index =
+    subst (WorkerIsSound (loop_breaks s) s.bounds r.workers.shared.next) here (sound.fits turn.worker) in
     let end = runs.before_end in
     ap (λ (o : Option ℕ). is_bound o turn.index)
     (at.broke_is
     ∙ (scan_break (λ (index : ℕ). iteration s.program 4096 s.call index s.start.words) (end_of s.bounds turn.block
     - start_of s.bounds turn.block) (start_of s.bounds turn.block) at.ran at.told
     ∙ runs.no_break))
-    ∙ first_is (setting_breaks s) (end_of s.bounds turn.block - turn.index) turn.index (omega (arith, end))
+    ∙ first_is (loop_breaks s) (end_of s.bounds turn.block - turn.index) turn.index (omega (arith, end))
 
-module _ (law : EventsInTurn) (s : SettingOf) (is : IsSetting s) (events : List Event) (place : ℕ) (old new : ReplayOf)
+module _ (law : EventsInTurn) (s : LoopOf) (is : IsSpeculative s) (events : List Event) (place : ℕ) (old new : ReplayOf)
     (come : HasCome s events place old) (fits : WorkersFit s.bounds new.workers) where
   -- an event with which no block was run
   pub done : (e : Event) → slice_get events place ≡ Some e → new.blocks ≡ old.blocks
       → Leads s.bounds e place old.workers new.workers [] → HasCome s events (place + 1) new
   done e there same leads = record {
-    led = subst (λ (ns : List ℕ). LeadTo (setting_breaks s) s.bounds events (place + 1) (state new.workers ns))
+    led = subst (λ (ns : List ℕ). LeadTo (loop_breaks s) s.bounds events (place + 1) (state new.workers ns))
         (sym (ap (λ b. block_numbers b.ran) same))
-        (law.next (setting_breaks s) s.bounds events place e (state_of old)
+        (law.next (loop_breaks s) s.bounds events place e (state_of old)
         (state new.workers (block_numbers old.blocks.ran)) there come.led
-        (leads (setting_breaks s) (block_numbers old.blocks.ran)));
+        (leads (loop_breaks s) (block_numbers old.blocks.ran)));
     fits = fits;
     blocks = subst (AreBlocks s) (sym same) come.blocks;
   }
@@ -96,11 +96,11 @@ module _ (law : EventsInTurn) (s : SettingOf) (is : IsSetting s) (events : List 
       → Leads s.bounds e place old.workers new.workers (number ∷ []) →
       HasCome s events (place + 1) new
   passed e there number run leads = record {
-    led = subst (λ (ns : List ℕ). LeadTo (setting_breaks s) s.bounds events (place + 1) (state new.workers ns))
+    led = subst (λ (ns : List ℕ). LeadTo (loop_breaks s) s.bounds events (place + 1) (state new.workers ns))
         (sym run.numbers)
-        (law.next (setting_breaks s) s.bounds events place e (state_of old)
+        (law.next (loop_breaks s) s.bounds events place e (state_of old)
         (state new.workers (number ∷ block_numbers old.blocks.ran)) there come.led
-        (leads (setting_breaks s) (block_numbers old.blocks.ran)));
+        (leads (loop_breaks s) (block_numbers old.blocks.ran)));
     fits = fits;
     blocks = run.blocks;
   }
@@ -113,12 +113,12 @@ module _ (law : EventsInTurn) (s : SettingOf) (is : IsSetting s) (events : List 
       block_numbers new.blocks.ran ≡ option_to_list ran ++ block_numbers old.blocks.ran
       → HasCome s events (place + 1) new
   turned turn there before broke at b is_b ran turns blocks numbers = record {
-    led = subst (λ (ns : List ℕ). LeadTo (setting_breaks s) s.bounds events (place + 1) (state new.workers ns))
+    led = subst (λ (ns : List ℕ). LeadTo (loop_breaks s) s.bounds events (place + 1) (state new.workers ns))
         (sym numbers)
-        (law.next (setting_breaks s) s.bounds events place (record { kind = kinds.Turn; worker = turn.worker })
+        (law.next (loop_breaks s) s.bounds events place (record { kind = kinds.Turn; worker = turn.worker })
         (state_of old)
         (state new.workers (option_to_list ran ++ block_numbers old.blocks.ran)) there come.led
-        (turns (setting_breaks s) (block_numbers old.blocks.ran) place
+        (turns (loop_breaks s) (block_numbers old.blocks.ran) place
         (sym (is_b ∙ next_breaks s is events place old come turn before broke at))));
     fits = fits;
     blocks = blocks;
@@ -129,22 +129,22 @@ pub on_ok : {A B : Type 0} (P Q : Type 0) → (r : Result A B) → (P → Q) →
 on_ok P Q (Ok a) go h = go h
 on_ok P Q (Err b) go h = h
 
--- the same of a replay and a setting that are seen as their fields
-module _ (law : EventsInTurn) (given s : SettingOf) (same : given ≡ s) (is : IsSetting given) (events : List Event)
+-- the same of a replay and a loop that are seen as their fields
+module _ (law : EventsInTurn) (given s : LoopOf) (same : given ≡ s) (is : IsSpeculative given) (events : List Event)
     (place : ℕ) (old : ReplayOf)
     (workers : Standing) (blocks : BlocksOf) (seen_as : record { workers = workers; blocks = blocks } ≡ old)
     (come : HasCome s events place old)
     (after : Standing) (fits : WorkersFit given.bounds after) where
-  setting : IsSetting s
-  setting = subst IsSetting same is
+  setting : IsSpeculative s
+  setting = subst IsSpeculative same is
 
   fits_so : WorkersFit s.bounds after
-  fits_so = subst (λ (o : SettingOf). WorkersFit o.bounds after) same fits
+  fits_so = subst (λ (o : LoopOf). WorkersFit o.bounds after) same fits
 
   leads_so : (e : Event) (ran : List ℕ) → Leads given.bounds e place workers after ran
       → Leads s.bounds e place old.workers after ran
   leads_so e ran leads =
-      subst (λ (o : SettingOf). Leads o.bounds e place old.workers after ran) same
+      subst (λ (o : LoopOf). Leads o.bounds e place old.workers after ran) same
       (subst (λ (r : ReplayOf). Leads given.bounds e place r.workers after ran) seen_as leads)
 
   pub step_done : (e : Event) → slice_get events place ≡ Some e → (step : Step) → step ≡ steps.Done
@@ -172,7 +172,7 @@ module _ (law : EventsInTurn) (given s : SettingOf) (same : given ≡ s) (is : I
       workers after ran) where
     turns_so : IterationFinished s.bounds turn b old.workers after ran
     turns_so =
-        subst (λ (o : SettingOf). IterationFinished o.bounds turn b old.workers after ran) same
+        subst (λ (o : LoopOf). IterationFinished o.bounds turn b old.workers after ran) same
         (subst (λ (r : ReplayOf). IterationFinished given.bounds turn b r.workers after ran) seen_as turns)
 
     kept_so : begun.ran ≡ old.blocks.ran
@@ -194,14 +194,14 @@ module _ (law : EventsInTurn) (given s : SettingOf) (same : given ≡ s) (is : I
         ∙ ap (λ (o : Option ℕ). option_to_list o ++ block_numbers old.blocks.ran) (sym is_some)))
 
 -- an event that has a fault
-pub step_refused : (law : EventsInTurn) (given s : SettingOf) → given ≡ s
+pub step_refused : (law : EventsInTurn) (given s : LoopOf) → given ≡ s
     → (events : List Event) (place : ℕ) (old : ReplayOf) (workers : Standing) (blocks : BlocksOf) →
     record { workers = workers; blocks = blocks } ≡ old → HasCome s events place old → (e : Event)
     → slice_get events place ≡ Some e → (met fault : ReplayFault) → met ≡ fault →
-    Faults given.bounds e place workers met → replay (setting_breaks s) s.bounds events ≡ Err fault
+    Faults given.bounds e place workers met → replay (loop_breaks s) s.bounds events ≡ Err fault
 step_refused law given s same events place old workers blocks seen_as come e there met fault is faults =
     let so : Faults s.bounds e place old.workers met =
-    subst (λ (o : SettingOf). Faults o.bounds e place old.workers met) same
+    subst (λ (o : LoopOf). Faults o.bounds e place old.workers met) same
     (subst (λ (r : ReplayOf). Faults given.bounds e place r.workers met) seen_as faults) in
-    law.fault (setting_breaks s) s.bounds events place e (state_of old) met there come.led
-    (so (setting_breaks s) (block_numbers old.blocks.ran)) ∙ ap Err is
+    law.fault (loop_breaks s) s.bounds events place e (state_of old) met there come.led
+    (so (loop_breaks s) (block_numbers old.blocks.ran)) ∙ ap Err is

@@ -1,2 +1,1 @@
-pub mod Settings
 pub mod Replays

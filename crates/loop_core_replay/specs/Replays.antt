@@ -1,19 +1,20 @@
 -- How a replay stands while a list of events goes by.
-use Rattle.std.specs.Prelude.{◌≡◌, ℕ, ◌<◌, true, List, ◌∷◌, map, length, slice_index_or, Option, Some, None, is_some, Ok}
+use Rattle.std.specs.Prelude.{◌≡◌, ℕ, ◌<◌, Bool, true, List, ◌∷◌, map, length, slice_index_or, Option, Some, None, is_some, Ok}
 use Rattle.std.specs.List.{AllByRecursion}
 use Rattle.bpf_step_model.specs.Run.{Ended}
 use Rattle.bpf_step_model.specs.Iteration.{Iterated}
 use Rattle.loop_core_model.specs.Block.{block_run, break_from}
 use Rattle.loop_core_event.specs.declared.event.Event.{Event}
 use Rattle.loop_core_model.specs.Intervals.{blocks_of, start_of, end_of}
+use Rattle.loop_core_model.specs.Outcome.{breaks_at}
 use Rattle.loop_core_model.specs.Schedule.{ScheduleState, replay}
 use Rattle.loop_core_workers.specs.Standing.{Standing, WorkersFit, state}
 use Rattle.loop_core_workers.specs.InTurn.{LeadTo}
 use Rattle.loop_core_block.specs.declared.block.Block.{Block}
 use Rattle.loop_core_block.specs.Blocks.{BlockOf}
-use Rattle.loop_core_block.specs.Ran.{RecordsRun}
+use Rattle.loop_core_block.specs.Loops.{LoopOf}
+use Rattle.loop_core_block.specs.LoopBlocks.{IsBlockOf}
 use Rattle.loop_core_block.specs.Shown.{shown}
-use Rattle.loop_core_replay.specs.Settings.{SettingOf, setting_breaks}
 
 -- the blocks that are under way, by number, and those that were run, the latest first
 pub record BlocksOf : Type 0 where
@@ -25,6 +26,10 @@ pub record ReplayOf : Type 0 where
   pub workers : Standing
   pub blocks : BlocksOf
 
+-- which iterations of a loop break on its start words
+abbrev pub loop_breaks : LoopOf → ℕ → Bool
+loop_breaks l = breaks_at l.program 4096 l.call l.start.words
+
 -- the numbers of blocks
 abbrev pub block_numbers : List Block → List ℕ
 block_numbers blocks = map (λ b. (shown b).number) blocks
@@ -33,21 +38,13 @@ block_numbers blocks = map (λ b. (shown b).number) blocks
 abbrev pub state_of : ReplayOf → ScheduleState
 state_of r = state r.workers (block_numbers r.blocks.ran)
 
--- the block of this number, run on the start words
-pub record IsBlockOf (s : SettingOf) (number : ℕ) (b : BlockOf) : Type 0 where
-  pub within : number < blocks_of s.bounds
-  pub number_is : b.number ≡ number
-  pub first_is : b.first ≡ start_of s.bounds number
-  pub past_is : b.past ≡ end_of s.bounds number
-  pub ran : RecordsRun s.test s.program s.call s.start.words b
-
--- the same, where it is there
-abbrev pub IfBlockOf : SettingOf → ℕ → Option Block → Type 0
+-- the loop's block of this number, where it is there
+abbrev pub IfBlockOf : LoopOf → ℕ → Option Block → Type 0
 IfBlockOf s number None = Unit {0}
 IfBlockOf s number (Some b) = IsBlockOf s number (shown b)
 
 -- they are blocks of the split
-pub record AreBlocks (s : SettingOf) (blocks : BlocksOf) : Type 0 where
+pub record AreBlocks (s : LoopOf) (blocks : BlocksOf) : Type 0 where
   pub count : length blocks.under_way ≡ blocks_of s.bounds
   pub under_way : (number : ℕ) → IfBlockOf s number (slice_index_or blocks.under_way number None)
   pub ran : AllByRecursion (λ b. IsBlockOf s (shown b).number (shown b)) blocks.ran
@@ -58,25 +55,25 @@ pub record IsUnderWay (blocks : BlocksOf) (number : ℕ) : Type 0 where
   pub there : is_some (slice_index_or blocks.under_way number None) ≡ true
 
 -- a block breaks here on the start words, or not at all
-pub record BreaksAt (s : SettingOf) (number : ℕ) (broke : Option ℕ) : Type 0 where
+pub record BreaksAt (s : LoopOf) (number : ℕ) (broke : Option ℕ) : Type 0 where
   pub ran : List Iterated
   pub told : block_run s.program 4096 s.call s.start.words (start_of s.bounds number) (end_of s.bounds number)
       ≡ Ended ran
   pub broke_is : broke ≡ break_from (start_of s.bounds number) ran
 
 -- a block was run more
-pub record BlockHasRun (s : SettingOf) (number : ℕ) (old new : BlocksOf) : Type 0 where
+pub record BlockHasRun (s : LoopOf) (number : ℕ) (old new : BlocksOf) : Type 0 where
   pub blocks : AreBlocks s new
   pub numbers : block_numbers new.ran ≡ number ∷ block_numbers old.ran
 
 -- the events before this place lead to how it stands
-pub record HasCome (s : SettingOf) (events : List Event) (place : ℕ) (r : ReplayOf) : Type 0 where
-  pub led : LeadTo (setting_breaks s) s.bounds events place (state_of r)
+pub record HasCome (s : LoopOf) (events : List Event) (place : ℕ) (r : ReplayOf) : Type 0 where
+  pub led : LeadTo (loop_breaks s) s.bounds events place (state_of r)
   pub fits : WorkersFit s.bounds r.workers
   pub blocks : AreBlocks s r.blocks
 
 -- the list has ended, and these blocks were run
-pub record IsLeft (s : SettingOf) (events : List Event) (ran : List Block) : Type 0 where
+pub record IsLeft (s : LoopOf) (events : List Event) (ran : List Block) : Type 0 where
   pub standing : Standing
-  pub ended : replay (setting_breaks s) s.bounds events ≡ Ok (state standing (block_numbers ran))
+  pub ended : replay (loop_breaks s) s.bounds events ≡ Ok (state standing (block_numbers ran))
   pub blocks : AllByRecursion (λ b. IsBlockOf s (shown b).number (shown b)) ran

@@ -3,11 +3,11 @@
 ghost use Rattle.std.specs.Prelude.{◌≡◌, ◌<◌, [], ◌∷◌, replicate, None, IfOk, OnOk};
 ghost use Rattle.loop_core_model.specs.Intervals.{blocks_of};
 ghost use Rattle.loop_core_block.specs.Shown.{shown};
-ghost use Rattle.loop_core_replay.specs.Settings.{SettingOf};
-ghost use Rattle.loop_core_replay.specs.Replays.{IsBlockOf, AreBlocks, IsUnderWay, BreaksAt, BlockHasRun};
+ghost use Rattle.loop_core_block.specs.Loops.{LoopOf};
+ghost use Rattle.loop_core_block.specs.LoopBlocks.{IsBlockOf};
+ghost use Rattle.loop_core_replay.specs.Replays.{AreBlocks, IsUnderWay, BreaksAt, BlockHasRun};
 
-use crate::setting::Setting;
-use loop_core_block::{Block, run_block};
+use loop_core_block::{Block, SpeculativeLoop};
 use loop_core_split::{NoGate, Split};
 use std::alloc::{AllocError, Global};
 use std::marker::Model;
@@ -30,15 +30,6 @@ impl<'a> Model for Blocks<'a> {
     ghost view = { λ b. record { under_way = b.under_way.items; ran = b.ran.items } };
 }
 
-fn run<'a>(of: &Setting<'a>, number: u32) -> Result<Block<'a>, AllocError>
-    requires { number < blocks_of of.now.bounds }
-    ensures { IfOk result (λ b. IsBlockOf of.now number (shown b)) }
-{
-    run_block(
-        of.alloc, of.program, of.call, of.start, of.split, number, &NoGate, of.test,
-    )
-}
-
 impl<'a> Blocks<'a> {
     /// No block of this split was begun.
     pub(crate) fn try_new(alloc: Global, split: &Split) -> Result<Blocks<'a>, AllocError>
@@ -56,7 +47,11 @@ impl<'a> Blocks<'a> {
     }
 
     /// Where a block breaks, which is under way then.
-    pub(crate) fn begin(&mut self, of: &Setting<'a>, number: u32) -> Result<Option<u32>, AllocError>
+    pub(crate) fn begin(
+        &mut self,
+        of: &SpeculativeLoop<'_, 'a>,
+        number: u32,
+    ) -> Result<Option<u32>, AllocError>
         requires within { number < blocks_of of.now.bounds }
         requires blocks { AreBlocks of.now self.old }
         ensures blocks { OnOk result (AreBlocks of.now self.new) }
@@ -67,7 +62,7 @@ impl<'a> Blocks<'a> {
         if let Some(block) = &self.under_way[number as usize] {
             return Ok(block.broke());
         }
-        let block = run(of, number)?;
+        let block = of.run_block(number, &NoGate)?;
         let broke = block.broke();
         self.under_way[number as usize] = Some(block);
         Ok(broke)
@@ -76,8 +71,7 @@ impl<'a> Blocks<'a> {
     /// A worker has run this block, which is under way.
     pub(crate) fn end(&mut self, number: u32) -> Result<(), AllocError>
         requires { IsUnderWay self.old number }
-        ensures { OnOk result ((setting : SettingOf) → AreBlocks setting self.old → BlockHasRun setting number self.old
-            self.new) }
+        ensures { OnOk result ((l : LoopOf) → AreBlocks l self.old → BlockHasRun l number self.old self.new) }
     {
         match self.under_way[number as usize].take() {
             Some(block) => Ok(self.ran.insert(0, block)?),
@@ -86,7 +80,11 @@ impl<'a> Blocks<'a> {
     }
 
     /// A worker has run this block at once: it is empty.
-    pub(crate) fn pass(&mut self, of: &Setting<'a>, number: u32) -> Result<(), AllocError>
+    pub(crate) fn pass(
+        &mut self,
+        of: &SpeculativeLoop<'_, 'a>,
+        number: u32,
+    ) -> Result<(), AllocError>
         requires within { number < blocks_of of.now.bounds }
         requires blocks { AreBlocks of.now self.old }
         ensures { OnOk result (BlockHasRun of.now number self.old self.new) }

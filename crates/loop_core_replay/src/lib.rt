@@ -13,7 +13,6 @@ mod blocks;
 mod error;
 mod replay;
 mod replaying;
-mod setting;
 
 pub use error::ReplayError;
 pub use loop_core_gather::LoopOutcome;

@@ -5,13 +5,11 @@ ghost use Rattle.loop_core_model.specs.Gather.{is_bound};
 ghost use Rattle.loop_core_event.specs.declared.event.EventKind.TheVariants as kinds;
 ghost use Rattle.loop_core_model.specs.Schedule.{replay};
 ghost use Rattle.loop_core_workers.specs.Steps.{IsBefore};
-ghost use Rattle.loop_core_replay.specs.Settings.{setting_breaks};
-ghost use Rattle.loop_core_replay.specs.Replays.{HasCome, IsLeft};
+ghost use Rattle.loop_core_replay.specs.Replays.{loop_breaks, HasCome, IsLeft};
 
 use crate::blocks::Blocks;
 use crate::error::ReplayError;
-use crate::setting::Setting;
-use loop_core_block::Block;
+use loop_core_block::{Block, SpeculativeLoop};
 use loop_core_event::Event;
 use loop_core_model::ReplayFault;
 use loop_core_workers::{PendingIteration, Step, Workers, law_of_events_in_turn};
@@ -44,7 +42,7 @@ fn is_at(broke: Option<u32>, index: u32) -> bool
 }
 
 impl<'a> Replay<'a> {
-    fn try_new(of: &Setting<'a>) -> Result<Replay<'a>, AllocError>
+    fn try_new(of: &SpeculativeLoop<'_, 'a>) -> Result<Replay<'a>, AllocError>
         ensures { IfOk result (λ r. (events : List Event) → HasCome of.now events 0 r) }
     {
         Ok(Replay {
@@ -56,7 +54,7 @@ impl<'a> Replay<'a> {
     /// A worker has its turn, which is the event at this place.
     fn turn(
         &mut self,
-        of: &Setting<'a>,
+        of: &SpeculativeLoop<'_, 'a>,
         events: &[Event],
         place: usize,
         turn: PendingIteration,
@@ -76,12 +74,17 @@ impl<'a> Replay<'a> {
     }
 
     /// Does the event at this place.
-    fn step(&mut self, of: &Setting<'a>, events: &[Event], place: usize) -> Result<(), ReplayError>
+    fn step(
+        &mut self,
+        of: &SpeculativeLoop<'_, 'a>,
+        events: &[Event],
+        place: usize,
+    ) -> Result<(), ReplayError>
         requires place { place < length events.now }
         requires come { HasCome of.now events.now place self.old }
         ensures come { OnOk result (HasCome of.now events.now (place + 1) self.new) }
         ensures fault { (fault : ReplayFault) → result ≡ Err (ReplayError.Fault fault)
-            → replay (setting_breaks of.now) of.now.bounds events.now ≡ Err fault }
+            → replay (loop_breaks of.now) of.now.bounds events.now ≡ Err fault }
     {
         law_of_events_in_turn();
         match self.workers.begin(of.split, events[place], place) {
@@ -93,10 +96,14 @@ impl<'a> Replay<'a> {
     }
 
     /// The blocks that were run, where the list has ended.
-    fn end(self, of: &Setting<'a>, events: &[Event]) -> Result<Vec<Block<'a>>, ReplayFault>
+    fn end(
+        self,
+        of: &SpeculativeLoop<'_, 'a>,
+        events: &[Event],
+    ) -> Result<Vec<Block<'a>>, ReplayFault>
         requires { HasCome of.now events.now (length events.now) self }
         ensures left { IfOk result (λ ran. IsLeft of.now events.now ran.items) }
-        ensures fault { IfErr result (λ fault. replay (setting_breaks of.now) of.now.bounds events.now ≡ Err fault) }
+        ensures fault { IfErr result (λ fault. replay (loop_breaks of.now) of.now.bounds events.now ≡ Err fault) }
     {
         law_of_events_in_turn();
         let Replay { workers, blocks } = self;
@@ -109,12 +116,12 @@ impl<'a> Replay<'a> {
 
 /// Does all events of a list, and gives the blocks that were run where it has ended.
 pub(crate) fn run_events<'a>(
-    of: &Setting<'a>,
+    of: &SpeculativeLoop<'_, 'a>,
     events: &[Event],
 ) -> Result<Vec<Block<'a>>, ReplayError>
     ensures left { IfOk result (λ ran. IsLeft of.now events.now ran.items) }
     ensures fault { (fault : ReplayFault) → result ≡ Err (ReplayError.Fault fault)
-        → replay (setting_breaks of.now) of.now.bounds events.now ≡ Err fault }
+        → replay (loop_breaks of.now) of.now.bounds events.now ≡ Err fault }
 {
     let mut replay = Replay::try_new(of)?;
     for place in 0..events.len() {

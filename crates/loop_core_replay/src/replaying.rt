@@ -8,10 +8,10 @@ ghost use Rattle.loop_core_model.specs.Outcome.{replayed};
 
 use crate::error::ReplayError;
 use crate::replay::run_events;
-use crate::setting::Setting;
 use array_maps::Maps;
 use bpf_step::LoopCall;
 use bpf_verify::Verified;
+use loop_core_block::SpeculativeLoop;
 use loop_core_event::Event;
 use loop_core_gather::{GatherError, LoopOutcome, gather, settle};
 use loop_core_model::{ReplayFault, Test, law_of_schedules};
@@ -44,7 +44,7 @@ pub fn replay_loop(
         → replayed test program.now 4096 call.now start.now.words split.now events.now ≡ Err fault }
 {
     law_of_schedules();
-    let of = Setting {
+    let of = SpeculativeLoop {
         alloc,
         program,
         call,

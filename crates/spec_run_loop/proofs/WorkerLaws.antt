@@ -5,16 +5,15 @@ use Rattle.std.proofs.lemmas.List.Elements.{All-pop}
 use Rattle.std.specs.List.{AllByRecursion}
 use Rattle.std.proofs.lemmas.Grind.{flat_map-append}
 use Rattle.std.proofs.lemmas.List.{map-append}
-use Rattle.bpf_insn_types.specs.Program.{Program}
-use Rattle.bpf_step_model.specs.State.{LoopCall}
-use Rattle.loop_core_model.specs.declared.loop_test.Test.{Test}
 use Rattle.loop_core_model.specs.Split.{split_fault}
 use Rattle.loop_core_model.specs.Gather.{gather_fault}
 use Rattle.loop_core_model.specs.Intervals.{blocks_of}
 use Rattle.loop_board.specs.History.{Legal}
 use Rattle.loop_board.specs.Seats.{BoardId, SeatRecord, new_seat, histories}
 use Rattle.loop_core_block.specs.Blocks.{BlockOf}
-use Rattle.loop_core_block.specs.Ran.{as_gathered, RecordsRun}
+use Rattle.loop_core_block.specs.Loops.{LoopOf}
+use Rattle.loop_core_block.specs.LoopBlocks.{RecordsRunOf}
+use Rattle.loop_core_block.specs.Ran.{as_gathered}
 use Rattle.spec_run_loop.specs.Worked.{Worked}
 use Rattle.spec_run_loop.specs.CompleteLaw.{WorkerOf, seats_of, blocks_of_all, IsWorkerOf, WorkersComplete}
 use Rattle.spec_run_loop.proofs.StillWorks.{all_append}
@@ -35,16 +34,17 @@ popped Q xs ys r same all = All-pop (λ s. IfOk s Q) xs ys (Some r) same all
 pub not_both : {A : Type 0} (o : Option A) (a : A) → o ≡ None → o ≡ Some a → ⊥
 not_both o a is_none is_some = let both : None ≡ Some a = sym is_none ∙ is_some in cc
 
-module _ (test : Test) (program : Program) (call : LoopCall) (words : List ℕ) (bounds : List ℕ) (board : BoardId) where
+module _ (l : LoopOf) (board : BoardId) where
   -- one worker, from a new seat on
-  pub worker_at : (old : SeatRecord) (w : WorkerOf) → old ≡ new_seat board → Worked bounds old w.seat w.blocks
-      → AllByRecursion (RecordsRun test program call words) w.blocks →
-      IsWorkerAt test program call words bounds board w
+  pub worker_at : (old : SeatRecord) (w : WorkerOf) → old ≡ new_seat board → Worked l.bounds old w.seat w.blocks
+      → AllByRecursion (RecordsRunOf l) w.blocks →
+      IsWorkerAt l board w
   worker_at old w fresh worked ran =
       let here : w.seat.board ≡ board = worked.did.board ∙ ap (λ (s : SeatRecord). s.board) fresh in
       record {
         worker = record {
-          worked = subst (λ (s : SeatRecord). Worked bounds s w.seat w.blocks) (fresh ∙ ap new_seat (sym here)) worked;
+          worked = subst (λ (s : SeatRecord). Worked l.bounds s w.seat w.blocks) (fresh ∙ ap new_seat (sym here))
+              worked;
           ran = ran;
         };
         at_board = here;
@@ -52,7 +52,7 @@ module _ (test : Test) (program : Program) (call : LoopCall) (words : List ℕ) 
 
   -- no worker yet
   pub none_yet : (seats : List SeatRecord) (blocks : List BlockOf) → seats ≡ [] → blocks ≡ []
-      → AreOfWorkers test program call words bounds board 0 seats blocks
+      → AreOfWorkers l board 0 seats blocks
   none_yet seats blocks no_seat no_block = record {
     workers = [];
     are = tt;
@@ -63,13 +63,12 @@ module _ (test : Test) (program : Program) (call : LoopCall) (words : List ℕ) 
 
   -- one more
   pub one_more : (number : ℕ) (seats all_seats : List SeatRecord) (blocks all_blocks : List BlockOf) (w : WorkerOf)
-      → AreOfWorkers test program call words bounds board number seats blocks →
-      IsWorkerAt test program call words bounds board w → all_seats ≡ seats ++ w.seat ∷ [] → all_blocks ≡ blocks
-      ++ w.blocks →
-      AreOfWorkers test program call words bounds board (number + 1) all_seats all_blocks
+      → AreOfWorkers l board number seats blocks →
+      IsWorkerAt l board w → all_seats ≡ seats ++ w.seat ∷ [] → all_blocks ≡ blocks ++ w.blocks →
+      AreOfWorkers l board (number + 1) all_seats all_blocks
   one_more number seats all_seats blocks all_blocks w are is seats_are blocks_are = record {
     workers = are.workers ++ w ∷ [];
-    are = all_append (IsWorkerAt test program call words bounds board) are.workers (w ∷ []) are.are (is, tt);
+    are = all_append (IsWorkerAt l board) are.workers (w ∷ []) are.are (is, tt);
     count = length-append are.workers (w ∷ []) ∙ ap (λ (n : ℕ). n + 1) are.count;
     seats_are = seats_are ∙ ap (λ (ss : List SeatRecord). ss ++ w.seat ∷ []) are.seats_are
         ∙ sym (map-append (λ (v : WorkerOf). v.seat) are.workers (w ∷ []));
@@ -78,12 +77,12 @@ module _ (test : Test) (program : Program) (call : LoopCall) (words : List ℕ) 
         ∙ sym (flat_map-append (λ (v : WorkerOf). v.blocks) are.workers (w ∷ []));
   }
 
-  each_worker : (workers : List WorkerOf) → AllByRecursion (IsWorkerAt test program call words bounds board) workers
-      → AllByRecursion (IsWorkerOf test program call words bounds) workers
+  each_worker : (workers : List WorkerOf) → AllByRecursion (IsWorkerAt l board) workers
+      → AllByRecursion (IsWorkerOf l.test l.program l.call l.start.words l.bounds) workers
   each_worker [] are = tt
   each_worker (w ∷ workers) are = (are.0.worker, each_worker workers are.1)
 
-  each_board : (workers : List WorkerOf) → AllByRecursion (IsWorkerAt test program call words bounds board) workers
+  each_board : (workers : List WorkerOf) → AllByRecursion (IsWorkerAt l board) workers
       → All (λ (s : SeatRecord). s.board ≡ board) (seats_of workers)
   each_board [] are k d below = absurd (omega arith)
   each_board (w ∷ workers) are zero d below = are.0.at_board
@@ -93,8 +92,8 @@ module _ (test : Test) (program : Program) (call : LoopCall) (words : List ℕ) 
   length_seats [] = refl
   length_seats (w ∷ workers) = ap (λ (n : ℕ). suc n) (length_seats workers)
 
-  module _ (number : ℕ) (seats : List SeatRecord) (blocks : List BlockOf) (are : AreOfWorkers test program call words
-      bounds board number seats blocks) where
+  module _ (number : ℕ) (seats : List SeatRecord) (blocks : List BlockOf) (are : AreOfWorkers l board number seats
+      blocks) where
     -- their seats are of the board
     pub boards : All (λ (s : SeatRecord). s.board ≡ board) seats
     boards = subst (λ (ss : List SeatRecord). All (λ (s : SeatRecord). s.board ≡ board) ss) (sym are.seats_are)
@@ -105,18 +104,20 @@ module _ (test : Test) (program : Program) (call : LoopCall) (words : List ℕ) 
     count = ap length are.seats_are ∙ length_seats are.workers ∙ are.count
 
     -- their blocks were run
-    pub ran : AllByRecursion (RecordsRun test program call words) blocks
-    ran = subst (λ (bs : List BlockOf). AllByRecursion (RecordsRun test program call words) bs) (sym are.blocks_are)
-        (each_runs test program call words bounds are.workers (each_worker are.workers are.are))
+    pub ran : AllByRecursion (RecordsRunOf l) blocks
+    ran = subst (λ (bs : List BlockOf). AllByRecursion (RecordsRunOf l) bs) (sym are.blocks_are)
+        (each_runs l.test l.program l.call l.start.words l.bounds are.workers (each_worker are.workers are.are))
 
     -- and are complete
-    pub complete : WorkersComplete → split_fault bounds call.n ≡ None → call.n ≤ 8388608 → 0 < number
-        → (claimed all : ℕ) → all ≡ blocks_of bounds →
-        Legal all claimed (histories seats) → gather_fault bounds (map (as_gathered program call words) blocks) ≡ None
+    pub complete : WorkersComplete → split_fault l.bounds l.call.n ≡ None → l.call.n ≤ 8388608 → 0 < number
+        → (claimed all : ℕ) → all ≡ blocks_of l.bounds →
+        Legal all claimed (histories seats) → gather_fault l.bounds (map (as_gathered l.program l.call l.start.words)
+        blocks) ≡ None
     complete law fine few some claimed all same legal =
-        ap (λ (bs : List BlockOf). gather_fault bounds (map (as_gathered program call words) bs)) are.blocks_are
-        ∙ law test program call words bounds claimed are.workers fine few (subst (λ (n : ℕ). 0 < n) (sym are.count)
-        some)
+        ap (λ (bs : List BlockOf). gather_fault l.bounds (map (as_gathered l.program l.call l.start.words) bs))
+        are.blocks_are
+        ∙ law l.test l.program l.call l.start.words l.bounds claimed are.workers fine few
+        (subst (λ (n : ℕ). 0 < n) (sym are.count) some)
         (subst (λ (n : ℕ). Legal n claimed (histories (seats_of are.workers))) same
         (subst (λ (ss : List SeatRecord). Legal all claimed (histories ss)) are.seats_are legal))
         (each_worker are.workers are.are)

@@ -1,6 +1,16 @@
 //! What becomes of a loop.
 
+ghost use Rattle.std.specs.Prelude.{◌≡◌};
+ghost use Rattle.bpf_verify_sound.specs.Soundness.{OverApproximatesCall};
+ghost use Rattle.loop_core_model.specs.declared.loop_test.Test.{Test};
+ghost use Rattle.loop_core_gather.specs.Gathered.{IsOutcome};
+ghost use Rattle.spec_run_loop.specs.Decisions.{IsDecision};
+
+use array_maps::Maps;
+use bpf_step::LoopCall;
+use bpf_verify::Verified;
 use loop_core_model::Verdict;
+use loop_core_sequential::in_order;
 
 /// What becomes of a loop by its gathered blocks.
 #[derive(Drop)]
@@ -16,4 +26,35 @@ pub(crate) enum Decision {
 pub struct LoopAnswer {
     pub verdict: Verdict,
     pub answer: u32,
+}
+
+impl Decision {
+    /// Does to the maps what was decided of a loop call that main of this program made, from these maps, which are of
+    /// the program's sizes: they are as the loop leaves them.
+    pub(crate) fn carry_out(
+        self,
+        program: &Verified,
+        call: &LoopCall,
+        maps: &mut Maps,
+    ) -> LoopAnswer
+        requires known { OverApproximatesCall program.now call.now }
+        requires sizes { maps.old.sizes ≡ program.now.sizes }
+        requires decided { (test : Test) × IsDecision test program.now call.now maps.old.words self }
+        ensures { (test : Test) → IsDecision test program.now call.now maps.old.words self
+            → IsOutcome test program.now call.now maps.old result.verdict result.answer maps.new }
+    {
+        match self {
+            Decision::Commit { answer, words } => {
+                maps.set_words(words);
+                LoopAnswer {
+                    verdict: Verdict::Parallel,
+                    answer,
+                }
+            }
+            Decision::Discard { verdict } => LoopAnswer {
+                verdict,
+                answer: in_order(program, call, maps),
+            },
+        }
+    }
 }

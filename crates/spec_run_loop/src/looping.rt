@@ -3,13 +3,13 @@
 ghost use Rattle.std.specs.Prelude.{◌≡◌, ◌≢◌, ◌<◌, ◌≤◌, ◌↔◌, None, Err, IsTrue, All, map, IfOk, OnErr};
 ghost use Rattle.bpf_verify_sound.specs.Soundness.{OverApproximatesCall};
 ghost use Rattle.loop_core_model.specs.Split.{split_fault};
-ghost use Rattle.loop_core_model.specs.Gather.{gather_fault};
 ghost use Rattle.loop_core_model.specs.Intervals.{blocks_of};
-ghost use Rattle.loop_core_block.specs.Ran.{RecordsRun};
+ghost use Rattle.loop_core_block.specs.LoopBlocks.{RecordsRunOf};
 ghost use Rattle.loop_core_block.specs.Shown.{shown};
-ghost use Rattle.loop_core_gather.specs.Gathered.{all_gathered, HasOutcome, IsOutcome};
-ghost use Rattle.spec_run_loop.specs.Plans.{IsLoopPlan};
+ghost use Rattle.loop_core_gather.specs.Gathered.{IsOutcome};
 ghost use Rattle.spec_run_loop.specs.Decisions.{IsDecision};
+ghost use Rattle.spec_run_loop.specs.Plans.{IsLoopPlan};
+ghost use Rattle.spec_run_loop.specs.Workers.{AreFaultless, HasOutcomeOf};
 
 use crate::committing::left_words;
 use crate::decision::{Decision, LoopAnswer};
@@ -20,11 +20,10 @@ use array_maps::Maps;
 use bpf_step::LoopCall;
 use bpf_verify::Verified;
 use loop_board::Board;
-use loop_core_block::Block;
+use loop_core_block::{Block, SpeculativeLoop};
 use loop_core_event::MAX_WORKERS;
 use loop_core_gather::{GatherError, Gathered, LoopOutcome, gather};
 use loop_core_model::{Test, Verdict};
-use loop_core_sequential::in_order;
 use loop_core_split::{Gate, Split};
 use std::alloc::{AllocError, Global};
 use std::thread::Threads;
@@ -38,23 +37,16 @@ fn is_loop_plan(workers: u32, split: &Split, n: u32) -> bool
 
 /// Gathers the blocks of a loop, all of which are there.
 fn gather_all<'a>(
-    alloc: Global,
-    program: &Verified,
-    call: &LoopCall,
-    start: &'a Maps,
-    split: &Split,
+    of: &SpeculativeLoop<'_, 'a>,
     blocks: Vec<Block<'a>>,
-    test: Test,
 ) -> Result<Gathered<'a>, AllocError>
-    requires known { OverApproximatesCall program.now call.now }
-    requires sizes { start.now.sizes ≡ program.now.sizes }
-    requires split { split_fault split.now call.now.n ≡ None }
-    requires ran { All (λ b. RecordsRun test program.now call.now start.now.words (shown b)) blocks.items }
-    requires faultless { gather_fault split.now (all_gathered program.now call.now start.now.words
-        (map shown blocks.items)) ≡ None }
-    ensures { IfOk result (HasOutcome test program.now call.now start.now.words) }
+    requires ran { All (λ b. RecordsRunOf of.now (shown b)) blocks.items }
+    requires faultless { AreFaultless of.now (map shown blocks.items) }
+    ensures { IfOk result (HasOutcomeOf of.now) }
 {
-    match gather(alloc, program, call, start, split, blocks, test) {
+    match gather(
+        of.alloc, of.program, of.call, of.start, of.split, blocks, of.test,
+    ) {
         Ok(gathered) => Ok(gathered),
         Err(GatherError::Fault(_)) => unreachable!(),
         Err(GatherError::Memory) => Err(AllocError),
@@ -63,124 +55,69 @@ fn gather_all<'a>(
 
 /// Runs the one block of a loop in the calling thread, and gathers it.
 fn speculate_alone<'a, G: Gate>(
-    alloc: Global,
-    program: &Verified,
-    call: &LoopCall,
-    start: &'a Maps,
-    split: &Split,
+    of: &SpeculativeLoop<'_, 'a>,
     gate: &G,
-    test: Test,
 ) -> Result<Gathered<'a>, AllocError>
-    requires known { OverApproximatesCall program.now call.now }
-    requires sizes { start.now.sizes ≡ program.now.sizes }
-    requires split { split_fault split.now call.now.n ≡ None }
-    requires alone { blocks_of split.now ≡ 1 }
-    ensures { IfOk result (HasOutcome test program.now call.now start.now.words) }
+    requires { blocks_of of.now.bounds ≡ 1 }
+    ensures { IfOk result (HasOutcomeOf of.now) }
 {
-    let blocks = run_alone(alloc, program, call, start, split, gate, test)?;
-    gather_all(alloc, program, call, start, split, blocks, test)
+    let blocks = run_alone(of, gate)?;
+    gather_all(of, blocks)
 }
 
-/// Runs the blocks of a loop by its workers, and gathers them.
+/// Runs the blocks of a loop by 1 to 16 workers, and gathers them.
 fn speculate_by_workers<'a, R: Threads + Sync, G: Gate>(
     rt: &R,
-    alloc: Global,
-    program: &Verified,
-    call: &LoopCall,
-    start: &'a Maps,
-    split: &Split,
+    of: &SpeculativeLoop<'_, 'a>,
     workers: u32,
     gate: &G,
-    test: Test,
 ) -> Result<Gathered<'a>, AllocError>
-    requires known { OverApproximatesCall program.now call.now }
-    requires sizes { start.now.sizes ≡ program.now.sizes }
-    requires plan { IsLoopPlan workers split.now call.now.n }
-    ensures { IfOk result (HasOutcome test program.now call.now start.now.words) }
+    requires some { 0 < workers }
+    requires few { workers ≤ 16 }
+    ensures { IfOk result (HasOutcomeOf of.now) }
 {
     law_of_workers();
-    let Ok((board, seats)) = Board::new(alloc, split.blocks(), workers) else {
+    let Ok((board, seats)) = Board::new(of.alloc, of.split.blocks(), workers) else {
         return Err(AllocError);
     };
-    let (seats, blocks) = run_workers(
-        rt, alloc, program, call, start, split, &board, seats, gate, test,
-    )?;
+    let (seats, blocks) = run_workers(rt, of, &board, seats, gate)?;
     // The tally tells the proof that no block is lacking. The least break is read off the blocks, as where there was no
     // board.
     let Ok(_tally) = board.gather(seats) else {
         unreachable!()
     };
-    gather_all(alloc, program, call, start, split, blocks, test)
+    gather_all(of, blocks)
 }
 
 /// Whether a loop needs no workers: it is one block, and the gate holds nobody.
-fn needs_no_workers<G: Gate>(split: &Split, gate: &G) -> bool
-    ensures { IsTrue result → blocks_of split.now ≡ 1 }
+fn needs_no_workers<G: Gate>(of: &SpeculativeLoop, gate: &G) -> bool
+    ensures { IsTrue result → blocks_of of.now.bounds ≡ 1 }
 {
-    split.blocks() == 1 && !gate.may_hold()
+    of.split.blocks() == 1 && !gate.may_hold()
 }
 
-/// What becomes of a loop whose plan is within its limits.
+/// What becomes of a loop that is run by 1 to 16 workers.
 fn decided<R: Threads + Sync, G: Gate>(
     rt: &R,
-    alloc: Global,
-    program: &Verified,
-    call: &LoopCall,
-    start: &Maps,
-    split: &Split,
+    of: &SpeculativeLoop,
     workers: u32,
     gate: &G,
-    test: Test,
 ) -> Result<Decision, AllocError>
-    requires known { OverApproximatesCall program.now call.now }
-    requires sizes { start.now.sizes ≡ program.now.sizes }
-    requires plan { IsLoopPlan workers split.now call.now.n }
-    ensures { IfOk result (IsDecision test program.now call.now start.now.words) }
+    requires some { 0 < workers }
+    requires few { workers ≤ 16 }
+    ensures { IfOk result (IsDecision of.now.test of.now.program of.now.call of.now.start.words) }
 {
-    let gathered = if needs_no_workers(split, gate) {
-        speculate_alone(alloc, program, call, start, split, gate, test)?
+    let gathered = if needs_no_workers(of, gate) {
+        speculate_alone(of, gate)?
     } else {
-        speculate_by_workers(rt, alloc, program, call, start, split, workers, gate, test)?
+        speculate_by_workers(rt, of, workers, gate)?
     };
     match gathered.verdict() {
         Verdict::Parallel => Ok(Decision::Commit {
             answer: gathered.answer(),
-            words: left_words(rt, alloc, call, &gathered, gate)?,
+            words: left_words(rt, of.alloc, of.call, &gathered, gate)?,
         }),
         verdict => Ok(Decision::Discard { verdict }),
-    }
-}
-
-/// Runs a loop whose plan is within its limits, and leaves the maps as it leaves them.
-fn run_split<R: Threads + Sync, G: Gate>(
-    rt: &R,
-    alloc: Global,
-    program: &Verified,
-    call: &LoopCall,
-    maps: &mut Maps,
-    split: &Split,
-    workers: u32,
-    gate: &G,
-    test: Test,
-) -> Result<LoopAnswer, AllocError>
-    requires known { OverApproximatesCall program.now call.now }
-    requires sizes { maps.old.sizes ≡ program.now.sizes }
-    requires plan { IsLoopPlan workers split.now call.now.n }
-    ensures outcome { IfOk result (λ a. IsOutcome test program.now call.now maps.old a.verdict a.answer maps.new) }
-    ensures kept { OnErr result (maps.new ≡ maps.old) }
-{
-    match decided(rt, alloc, program, call, maps, split, workers, gate, test)? {
-        Decision::Commit { answer, words } => {
-            maps.set_words(words);
-            Ok(LoopAnswer {
-                verdict: Verdict::Parallel,
-                answer,
-            })
-        }
-        Decision::Discard { verdict } => Ok(LoopAnswer {
-            verdict,
-            answer: in_order(program, call, maps),
-        }),
     }
 }
 
@@ -190,7 +127,7 @@ fn run_split<R: Threads + Sync, G: Gate>(
 /// workers, or one for as many iterations as there are elements.
 fn worthwhile_blocks<G: Gate>(
     call: &LoopCall,
-    maps: &Maps,
+    start: &Maps,
     most: u32,
     workers: u32,
     gate: &G,
@@ -207,14 +144,61 @@ fn worthwhile_blocks<G: Gate>(
     if !is_long(call) {
         return 1;
     }
-    let elements = maps.words().len() as u32;
+    let elements = start.words().len() as u32;
     (call.n() / elements.max(1)).max(workers).min(most)
+}
+
+/// The even split of a loop into worthwhile blocks, at most this many.
+#[tactic(auto, using(crate::proofs::EvenLaws::even_is))]
+fn worthwhile_split<G: Gate>(
+    call: &LoopCall,
+    start: &Maps,
+    most: u32,
+    workers: u32,
+    gate: &G,
+) -> Split
+    requires workers { 0 < workers }
+    requires some { 0 < most }
+    requires few { most ≤ 64 }
+    ensures { split_fault result call.now.n ≡ None }
+{
+    let blocks = worthwhile_blocks(call, start, most, workers, gate);
+    match Split::even(call.n(), blocks) {
+        Ok(split) => split,
+        Err(_) => unreachable!(),
+    }
+}
+
+/// What becomes of a loop that is run by 1 to 16 workers: over its split where the gate may hold somebody, and else
+/// over worthwhile blocks, no more than the split has.
+fn decided_by_plan<R: Threads + Sync, G: Gate>(
+    rt: &R,
+    of: &SpeculativeLoop,
+    workers: u32,
+    gate: &G,
+) -> Result<Decision, AllocError>
+    requires some { 0 < workers }
+    requires few { workers ≤ 16 }
+    ensures { IfOk result (IsDecision of.now.test of.now.program of.now.call of.now.start.words) }
+{
+    if gate.may_hold() {
+        return decided(rt, of, workers, gate);
+    }
+    let split = worthwhile_split(of.call, of.start, of.split.blocks(), workers, gate);
+    let even = SpeculativeLoop {
+        alloc: of.alloc,
+        program: of.program,
+        call: of.call,
+        start: of.start,
+        split: &split,
+        test: of.test,
+    };
+    decided(rt, &even, workers, gate)
 }
 
 /// Runs a loop call that main of this program made, as `run_loop` does, by 1 to 16 workers over at most n even
 /// blocks, 1 to 64: on these maps themselves, which are of the program's sizes, and change only where it gives an
 /// answer.
-#[tactic(auto, using(crate::proofs::EvenLaws::even_is, crate::proofs::EvenLaws::even_plan))]
 pub fn run_loop_evenly<R: Threads + Sync, G: Gate>(
     rt: &R,
     alloc: Global,
@@ -235,36 +219,17 @@ pub fn run_loop_evenly<R: Threads + Sync, G: Gate>(
     ensures outcome { IfOk result (λ a. IsOutcome test program.now call.now maps.old a.verdict a.answer maps.new) }
     ensures kept { OnErr result (maps.new ≡ maps.old) }
 {
-    let blocks = worthwhile_blocks(call, maps, blocks, workers, gate);
-    let Ok(even) = Split::even(call.n(), blocks) else {
-        unreachable!()
+    let split = worthwhile_split(call, maps, blocks, workers, gate);
+    let of = SpeculativeLoop {
+        alloc,
+        program,
+        call,
+        start: maps,
+        split: &split,
+        test,
     };
-    run_split(rt, alloc, program, call, maps, &even, workers, gate, test)
-}
-
-/// Runs a loop whose plan is within its limits: over this split where the gate may hold somebody, and else over even
-/// blocks.
-fn run_planned<R: Threads + Sync, G: Gate>(
-    rt: &R,
-    alloc: Global,
-    program: &Verified,
-    call: &LoopCall,
-    maps: &mut Maps,
-    split: &Split,
-    workers: u32,
-    gate: &G,
-    test: Test,
-) -> Result<LoopAnswer, AllocError>
-    requires known { OverApproximatesCall program.now call.now }
-    requires sizes { maps.old.sizes ≡ program.now.sizes }
-    requires plan { IsLoopPlan workers split.now call.now.n }
-    ensures { IfOk result (λ a. IsOutcome test program.now call.now maps.old a.verdict a.answer maps.new) }
-{
-    if gate.may_hold() {
-        return run_split(rt, alloc, program, call, maps, split, workers, gate, test);
-    }
-    let blocks = split.blocks();
-    run_loop_evenly(rt, alloc, program, call, maps, blocks, workers, gate, test)
+    let decision = decided(rt, &of, workers, gate)?;
+    Ok(decision.carry_out(program, call, maps))
 }
 
 /// Runs a loop call that main of this program made, from these maps, by n workers, each in a thread of its
@@ -298,10 +263,17 @@ pub fn run_loop<R: Threads + Sync, G: Gate>(
     if !is_loop_plan(workers, split, call.n()) {
         return Err(RunError::Plan);
     }
+    let of = SpeculativeLoop {
+        alloc,
+        program,
+        call,
+        start,
+        split,
+        test,
+    };
+    let decision = decided_by_plan(rt, &of, workers, gate)?;
     let mut maps = start.try_copy(alloc)?;
-    let LoopAnswer { verdict, answer } = run_planned(
-        rt, alloc, program, call, &mut maps, split, workers, gate, test,
-    )?;
+    let LoopAnswer { verdict, answer } = decision.carry_out(program, call, &mut maps);
     Ok(LoopOutcome {
         verdict,
         answer,

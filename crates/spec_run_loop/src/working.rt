@@ -13,7 +13,7 @@ use array_maps::Maps;
 use bpf_step::LoopCall;
 use bpf_verify::Verified;
 use loop_board::{Board, BoardSeat};
-use loop_core_block::{Block, run_block};
+use loop_core_block::{Block, SpeculativeLoop};
 use loop_core_model::Test;
 use loop_core_split::{Gate, Split};
 use std::alloc::{AllocError, Global};
@@ -22,30 +22,22 @@ use std::alloc::{AllocError, Global};
 /// that it sees, runs the block and posts its break. `None` where it skips the block. Where there is no memory to
 /// run the block, it posts nothing.
 fn take<'a, G: Gate>(
-    alloc: Global,
-    program: &Verified,
-    call: &LoopCall,
-    start: &'a Maps,
-    split: &Split,
+    of: &SpeculativeLoop<'_, 'a>,
     board: &Board,
     seat: &mut BoardSeat,
     number: u32,
     gate: &G,
-    test: Test,
 ) -> Result<Option<Block<'a>>, AllocError>
-    requires known { OverApproximatesCall program.now call.now }
-    requires sizes { start.now.sizes ≡ program.now.sizes }
-    requires split { split_fault split.now call.now.n ≡ None }
     requires board { seat.old.board ≡ board.now }
-    requires within { number < blocks_of split.now }
-    ensures took { IfOk result (λ taken. Took test program.now call.now start.now.words split.now number seat.old
-        seat.new (map shown (option_to_list taken))) }
-    ensures not_run { OnErr result (NotRun split.now number seat.old seat.new) }
+    requires within { number < blocks_of of.now.bounds }
+    ensures took { IfOk result (λ taken. Took of.now.test of.now.program of.now.call of.now.start.words of.now.bounds
+        number seat.old seat.new (map shown (option_to_list taken))) }
+    ensures not_run { OnErr result (NotRun of.now.bounds number seat.old seat.new) }
 {
-    if board.look(seat) < split.start(number) {
+    if board.look(seat) < of.split.start(number) {
         return Ok(None);
     }
-    let block = run_block(alloc, program, call, start, split, number, gate, test)?;
+    let block = of.run_block(number, gate)?;
     if let Some(index) = block.broke() {
         board.post(seat, index);
     }
@@ -81,12 +73,18 @@ pub fn work<'a, G: Gate>(
         blocks.items) }
     ensures stopped { OnErr result (WorkerStopped test program.now call.now start.now.words split.now seat.old seat.new) }
 {
+    let of = SpeculativeLoop {
+        alloc,
+        program,
+        call,
+        start,
+        split,
+        test,
+    };
     let mut blocks = Vec::new(alloc);
     while let Some(number) = board.claim(seat) {
         gate.begin(number);
-        let taken = take(
-            alloc, program, call, start, split, board, seat, number, gate, test,
-        )?;
+        let taken = take(&of, board, seat, number, gate)?;
         if let Some(block) = taken {
             blocks.push(block)?;
         }

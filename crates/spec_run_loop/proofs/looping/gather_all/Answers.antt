@@ -1,13 +1,22 @@
-use Rattle.std.proofs.Common.{Err, map, ◌∙◌, ap}
+use Rattle.std.proofs.Common.{Err, map, sym, ◌∙◌, ap, subst}
+use Rattle.std.specs.List.{All}
 use Rattle.loop_core_model.specs.Gather.{gather_fault}
+use Rattle.loop_core_block.specs.Loops.{LoopOf}
+use Rattle.loop_core_block.specs.LoopBlocks.{RecordsRunOf}
 use Rattle.loop_core_block.specs.Shown.{shown}
 use Rattle.loop_core_gather.specs.Gathered.{all_gathered}
+use Rattle.spec_run_loop.specs.Workers.{AreFaultless, HasOutcomeOf}
 use Rattle.spec_run_loop.proofs.WorkerLaws.{not_both}
 use Rattle.spec_run_loop.proofs.looping.gather_all.Goals as goal
 
+pub gather-requires-clause-ran : goal.gather-requires-clause-ran
+gather-requires-clause-ran c =
+    subst (λ (l : LoopOf). All (λ b. RecordsRunOf l (shown b)) c.args.blocks.items) (sym c.of.view_is) c.requires.ran
+
 pub unreachable-requires : goal.unreachable-requires
 unreachable-requires c =
-    not_both (gather_fault c.args.split.now (all_gathered c.args.program.now c.args.call.now c.args.start.now.words
+    let of = c.of.inside in
+    not_both (gather_fault of.split.now (all_gathered of.program.now of.call.now of.start.now.words
     (map shown c.args.blocks.items))) c.in-Err-Fault.field-0-0
-    c.requires.faultless
+    (subst (λ (l : LoopOf). AreFaultless l (map shown c.args.blocks.items)) (sym c.of.view_is) c.requires.faultless)
     (c.gather.ensures.fault c.in-Err-Fault.field-0-0 (c.in-Err-Fault.is ∙ ap Err c.in-Err-Fault.field-0-is))

@@ -1,10 +1,20 @@
-use Rattle.std.proofs.Common.{subst}
+use Rattle.std.proofs.Common.{sym, subst}
 use Rattle.array_maps.specs.MapList.{MapList}
 use Rattle.loop_core_gather.specs.Gathered.{IsOutcome}
+use Rattle.spec_run_loop.specs.Decisions.{IsDecision}
 use Rattle.spec_run_loop.proofs.looping.run_loop.Goals as goal
+
+pub carry_out-verdict-requires-clause-decided : goal.carry_out-verdict-requires-clause-decided
+carry_out-verdict-requires-clause-decided g c = (
+  c.args.test,
+  subst (λ (maps : MapList). IsDecision c.args.test c.args.program.now c.args.call.now maps.words
+      c.in_ok-decision.decision) (sym c.in_ok-maps.ensures) c.in_ok-decision.ensures,
+)
 
 pub returns-clause-outcome : goal.returns-clause-outcome
 returns-clause-outcome g c =
     subst (λ (start : MapList). IsOutcome c.args.test c.args.program.now c.args.call.now start
-    c.in_ok-verdict.field-0.verdict c.in_ok-verdict.field-0.answer c.run_planned.new.maps)
-    c.in_ok-maps.ensures c.in_ok-verdict.ensures
+    c.carry_out-verdict.result.verdict c.carry_out-verdict.result.answer c.carry_out-verdict.new.maps) c.in_ok-maps.ensures
+    (c.carry_out-verdict.ensures c.args.test
+    (subst (λ (maps : MapList). IsDecision c.args.test c.args.program.now c.args.call.now maps.words
+    c.in_ok-decision.decision) (sym c.in_ok-maps.ensures) c.in_ok-decision.ensures))

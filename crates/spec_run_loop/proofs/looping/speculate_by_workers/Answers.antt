@@ -1,31 +1,34 @@
-use Rattle.std.proofs.Common.{◌<◌, map, vec_len, ◌∙◌, rules, arith}
+use Rattle.std.proofs.Common.{◌<◌, map, vec_len, ap, subst, ◌∙◌, rules, arith}
 use Rattle.std.proofs.lemmas.Grind.{common_steps}
-use Rattle.loop_core_block.specs.Ran.{RecordsRun}
+use Rattle.loop_core_model.specs.Intervals.{blocks_of}
+use Rattle.loop_core_block.specs.Loops.{LoopOf, IsSpeculative}
+use Rattle.loop_core_block.specs.LoopBlocks.{RecordsRunOf}
 use Rattle.loop_core_block.specs.Shown.{shown}
 use Rattle.spec_run_loop.proofs.StillWorks.{all_images}
 use Rattle.spec_run_loop.proofs.WorkerLaws.{boards, ran, complete}
 use Rattle.spec_run_loop.proofs.looping.speculate_by_workers.Goals as goal
 
+pub run_workers-requires-clause-blocks : goal.run_workers-requires-clause-blocks
+run_workers-requires-clause-blocks g c κs outlives =
+    c.in-Ok.ensures.board.0 ∙ c.blocks-2.ensures.blocks ∙ ap (λ (l : LoopOf). blocks_of l.bounds) c.of.view_is
+
 pub gather-requires : goal.gather-requires
 gather-requires g c =
-    boards c.args.test c.args.program.now c.args.call.now c.args.start.now.words c.args.split.now c.in-Ok.board
-    (vec_len c.in-Ok.seats)
+    boards c.args.of.now c.in-Ok.board (vec_len c.in-Ok.seats)
     c.in_ok-seats.seats.items (map shown c.in_ok-seats.blocks.items) c.in_ok-seats.ensures
 
 pub gather_all-requires-clause-ran : goal.gather_all-requires-clause-ran
 gather_all-requires-clause-ran g c =
-    all_images (RecordsRun c.args.test c.args.program.now c.args.call.now c.args.start.now.words) shown
-    c.in_ok-seats.blocks.items
-    (ran c.args.test c.args.program.now c.args.call.now c.args.start.now.words c.args.split.now c.in-Ok.board
-    (vec_len c.in-Ok.seats)
-    c.in_ok-seats.seats.items (map shown c.in_ok-seats.blocks.items) c.in_ok-seats.ensures)
+    all_images (RecordsRunOf c.args.of.now) shown c.in_ok-seats.blocks.items
+    (ran c.args.of.now c.in-Ok.board (vec_len c.in-Ok.seats) c.in_ok-seats.seats.items
+    (map shown c.in_ok-seats.blocks.items) c.in_ok-seats.ensures)
 
 pub gather_all-requires-clause-faultless : goal.gather_all-requires-clause-faultless
 gather_all-requires-clause-faultless g c =
     let few : 0 < vec_len c.in-Ok.seats = first_of (search rules, grind (arith, common_steps)) in
-    complete c.args.test c.args.program.now c.args.call.now c.args.start.now.words c.args.split.now c.in-Ok.board
-    (vec_len c.in-Ok.seats)
+    let is = subst IsSpeculative c.of.view_is c.of.invariant in
+    complete c.args.of.now c.in-Ok.board (vec_len c.in-Ok.seats)
     c.in_ok-seats.seats.items (map shown c.in_ok-seats.blocks.items) c.in_ok-seats.ensures c.law_of_workers.ensures
-    c.requires.plan.split c.requires.known.sound.iterations few
-    c.in-Ok-gather._tally.claimed c.in-Ok.board.blocks (c.in-Ok.ensures.board.0 ∙ c.blocks-2.ensures.blocks)
-    c.in-Ok-gather.ensures.legal
+    is.split is.known.sound.iterations few
+    c.in-Ok-gather._tally.claimed c.in-Ok.board.blocks (c.in-Ok.ensures.board.0 ∙ c.blocks-2.ensures.blocks
+    ∙ ap (λ (l : LoopOf). blocks_of l.bounds) c.of.view_is) c.in-Ok-gather.ensures.legal

@@ -11,10 +11,10 @@ use Rattle.spec_run_loop.proofs.worker.seats_and_blocks.Goals as goal
 pub loop-worker-preserved : goal.loop-worker-preserved
 loop-worker-preserved c = record {
   count = omega (arith, c.loop-worker.invariant.count, c.in-Some.ensures.len);
-  parts = λ test program call words bounds board all.
-      let so_far = c.loop-worker.invariant.parts test program call words bounds board all in
-      let less = popped (λ (w : Worker). IsWorkerAt test program call words bounds board (board_worker w))
-      c.loop-worker.done.items c.pop.new.self.items c.in-Some.worker c.in-Some.ensures.items so_far.0 in
+  parts = λ of board all.
+      let so_far = c.loop-worker.invariant.parts of board all in
+      let less = popped (λ (w : Worker). IsWorkerAt of board (board_worker w)) c.loop-worker.done.items
+      c.pop.new.self.items c.in-Some.worker c.in-Some.ensures.items so_far.0 in
       let number : vec_len c.args.done - vec_len c.loop-worker.done + 1 ≡ vec_len c.args.done - vec_len c.pop.new.self =
       omega (arith, c.loop-worker.invariant.count, c.in-Some.ensures.len) in
       let pushed = c.in_ok-push.ensures.items in
@@ -26,14 +26,12 @@ loop-worker-preserved c = record {
       let blocks_are : c.append.new.self.items ≡ c.loop-worker.blocks.items ++ c.in_ok-seat.field-0.blocks.items =
       first_of (cc, search rules, grind (arith, common_steps)) in (
         less.0,
-        subst (λ (n : ℕ). AreOfWorkers test program call words bounds board n c.push.new.self.items
-            (map shown c.append.new.self.items)) number
-            (one_more test program call words bounds board (vec_len c.args.done - vec_len c.loop-worker.done)
-            c.loop-worker.seats.items c.push.new.self.items
+        subst (λ (n : ℕ). AreOfWorkers of board n c.push.new.self.items (map shown c.append.new.self.items)) number
+            (one_more of board (vec_len c.args.done - vec_len c.loop-worker.done) c.loop-worker.seats.items
+            c.push.new.self.items
             (map shown c.loop-worker.blocks.items) (map shown c.append.new.self.items)
             (board_worker c.in_ok-seat.field-0) so_far.1
-            (subst (λ r. IfOk r (λ (w : Worker). IsWorkerAt test program call words bounds board (board_worker w)))
-            c.in_ok-seat.was less.1)
+            (subst (λ r. IfOk r (λ (w : Worker). IsWorkerAt of board (board_worker w))) c.in_ok-seat.was less.1)
             seats_are
             (ap (λ (bs : List Block). map shown bs) blocks_are
             ∙ map-append shown c.loop-worker.blocks.items c.in_ok-seat.field-0.blocks.items)),
@@ -41,9 +39,8 @@ loop-worker-preserved c = record {
 }
 
 pub returns : goal.returns
-returns c = λ test program call words bounds board all.
+returns c = λ of board all.
     let number : vec_len c.args.done - vec_len c.loop-worker.done ≡ vec_len c.args.done =
     omega (arith, c.in_default.ensures.cases.0) in
-    subst (λ (n : ℕ). AreOfWorkers test program call words bounds board n c.loop-worker.seats.items
-    (map shown c.loop-worker.blocks.items)) number
-    (c.loop-worker.invariant.parts test program call words bounds board all).1
+    subst (λ (n : ℕ). AreOfWorkers of board n c.loop-worker.seats.items (map shown c.loop-worker.blocks.items)) number
+    (c.loop-worker.invariant.parts of board all).1

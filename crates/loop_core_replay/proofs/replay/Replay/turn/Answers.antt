@@ -1,13 +1,12 @@
 use Rattle.std.proofs.Common.{◌+◌}
-use Rattle.loop_core_replay.specs.Settings.{SettingOf}
+use Rattle.loop_core_block.specs.Loops.{LoopOf}
 use Rattle.loop_core_replay.specs.Replays.{AreBlocks, BlockHasRun, HasCome}
 use Rattle.loop_core_replay.proofs.EventLaws.{on_ok, turn_on, turn_last}
 use Rattle.loop_core_replay.proofs.replay.Replay.turn.Goals as goal
 
 pub returns-in-Some : goal.returns-in-Some
 returns-in-Some c =
-    on_ok ((setting : SettingOf) → AreBlocks setting c.begin.new.self → BlockHasRun setting c.in-Some.block
-    c.begin.new.self c.end.new.self)
+    on_ok ((l : LoopOf) → AreBlocks l c.begin.new.self → BlockHasRun l c.in-Some.block c.begin.new.self c.end.new.self)
     (HasCome c.args.of.now c.args.events.now (c.args.place + 1) (record {
       workers = c.finish.new.self;
       blocks = c.end.new.self;
