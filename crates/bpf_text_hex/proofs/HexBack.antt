@@ -26,8 +26,7 @@ use Rattle.bpf_text_mnemonics.proofs.LineLaws.{contents-line}
 use Rattle.bpf_text_mnemonics.proofs.PrintedHead.{word_first, head_back, head_is_line, head_short}
 use Rattle.bpf_text_hex.specs.SizesAndBytes.{SizesAndBytes}
 use Rattle.bpf_text_hex.specs.HexText.{as_bytes, bytes_of_lines, bytes_behind, hex_parts_of, hex_text}
-use Rattle.bpf_text_lex.proofs.HeadLaws.{all_read}
-use Rattle.bpf_text_hex.proofs.HexLaws.{bytes_behind-line, bytes_behind-end, parts, reads}
+use Rattle.bpf_text_hex.proofs.HexLaws.{bytes_behind-line, bytes_behind-end}
 use Rattle.bpf_text_hex.proofs.SpelledBytes.{Bytes, bytes-parts, bytes_at_index, SlotBytes, spelled_bytes}
 
 -- ---- a line of digits
@@ -154,6 +153,10 @@ lines_long (suc k) bytes long are =
 
 -- ---- the whole text
 
+-- these sizes and bytes
+abbrev parts : (sizes bytes : List ℕ) → SizesAndBytes
+parts sizes bytes = record { sizes = sizes; bytes = bytes }
+
 whole_short : (sizes bytes : List ℕ) (k : ℕ) → AreSizes sizes → SlotBytes k bytes → k ≤ 4096
     → length (hex_lines sizes bytes) ≤ 1048576
 whole_short sizes bytes k e b few =
@@ -165,13 +168,15 @@ whole_short sizes bytes k e b few =
 
 whole_back : (sizes bytes : List ℕ) (k : ℕ) → AreSizes sizes → SlotBytes k bytes → k ≤ 4096
     → hex_parts_of (contents_of (hex_lines sizes bytes)) ≡ Ok (parts sizes bytes)
+unfolding hex_parts_of
 whole_back sizes bytes k e b few =
     let long = b.long in
-    all_read reads (contents_of (hex_lines sizes bytes)) (1, head_spelling sizes)
-    (contents_from 2 (lines_of (slot_lines bytes))) sizes bytes
-    (contents-line 1 (head_spelling sizes) (slot_lines bytes) (head_is_line sizes e))
-    (ap (at_line 1) (head_back sizes e))
-    (bytes_back k [] bytes 2 long b.are (omega (arith, long, few)))
+    let lines = contents_from 2 (lines_of (slot_lines bytes)) in
+    let contents : contents_of (hex_lines sizes bytes) ≡ (1, head_spelling sizes) ∷ lines =
+    contents-line 1 (head_spelling sizes) (slot_lines bytes) (head_is_line sizes e) in
+    let behind : bytes_behind [] lines ≡ Ok bytes =
+    bytes_back k [] bytes 2 long b.are (omega (arith, long, few)) in
+    rw (contents, head_back sizes e, behind) refl
 
 read_whole : (sizes bytes : List ℕ) (k : ℕ) → AreSizes sizes → SlotBytes k bytes → k ≤ 4096
     → hex_text (hex_lines sizes bytes) ≡ Ok (parts sizes bytes)

@@ -5,10 +5,7 @@ use Rattle.bpf_text_lex.specs.declared.text_error.TextError.{TextError}
 use Rattle.bpf_insn_types.specs.Outcome.{RefusalMatches}
 use Rattle.bpf_text_lex.specs.Refusals.{at_line, ◌>>=◌, text_refusal}
 use Rattle.bpf_text_lex.proofs.RefusalLaws.{bind_fails}
-use Rattle.bpf_text_lex.proofs.HeadLaws.{ReadsHeadFirst}
-use Rattle.bpf_text_hex.specs.SizesAndBytes.{SizesAndBytes}
-use Rattle.bpf_text_hex.specs.HexText.{bytes_of_lines, bytes_behind, hex_parts_of}
-use Rattle.bpf_text_lex.specs.Head.{head_of}
+use Rattle.bpf_text_hex.specs.HexText.{bytes_of_lines, bytes_behind}
 
 pub bytes_behind-line : (before : List ℕ) (count : ℕ) (line : ℕ × List ℕ) (lines : List (ℕ × List ℕ)) (more : List ℕ)
     → count ≡ length before →
@@ -32,12 +29,3 @@ bytes_behind-fails e before count line lines same fails =
 pub bytes_behind-end : (before : List ℕ) → bytes_behind before [] ≡ Ok before
 unfolding bytes_behind
 bytes_behind-end before = refl
-
--- what sizes and bytes make
-abbrev pub parts : (sizes bytes : List ℕ) → SizesAndBytes
-parts sizes bytes = record { sizes = sizes; bytes = bytes }
-
--- the first line has the sizes, and those after it have the bytes
-pub reads : ReadsHeadFirst head_of (bytes_behind []) parts hex_parts_of
-unfolding hex_parts_of
-reads = record { nothing = refl; lines = λ line lines. refl }

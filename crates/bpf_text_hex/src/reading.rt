@@ -79,6 +79,7 @@ fn read_lines(alloc: Global, lines: Lines<'_>) -> Result<Vec<u8>, TextError>
 }
 
 /// The sizes and bytes of a text that isn't too long.
+#[tactic(auto, unfolding(crate::specs::HexText::hex_parts_of))]
 fn read_parts(alloc: Global, text: &[u8]) -> Result<HexUnit, TextError>
     requires { length text.now ≤ 1048576 }
     ensures { MatchesUnlessMemory text_refusal (λ u. u) result (hex_parts_of (contents_of text.now)) }
