@@ -1,75 +1,41 @@
 //! Which elements conflict.
 
-ghost use Rattle.std.specs.Prelude.{◌≡◌, ℕ, ◌+◌, ◌^◌, ◌<◌, ◌≤◌, length, slice_index, bit_or, bit_and, [], ◌∷◌};
+ghost use Rattle.std.specs.Prelude.{◌≡◌, ℕ, ◌+◌, ◌^◌, ◌<◌, ◌≤◌, length, slice_index, [], ◌∷◌};
+ghost use Rattle.lane_planes.specs.Conflicts.{LrpdFit, lrpd_word};
 ghost use Rattle.lane_planes.specs.Words.{in_some, without_reductions};
 ghost use Rattle.lane_planes.specs.Writes.{Writes};
 
 use crate::loading::words_at;
+use shadow_marks::LrpdPlanes;
 use std::simd::prelude::*;
 
 /// Tells where the LRPD test fails, whether or not elements are reduction-only.
-pub(crate) fn lrpd_into<const N: usize>(
-    into: &mut [u64],
-    read_only: &[u64],
-    written: &[u64],
-    read_and_written: &[u64],
-    written_by_two: &[u64],
-)
+pub(crate) fn lrpd_into<const N: usize>(planes: &LrpdPlanes, into: &mut [u64])
     requires lanes { (0 < N) × (N ≤ 64) }
-    requires same_read_only { length into.old ≡ length read_only.now }
-    requires same_written { length into.old ≡ length written.now }
-    requires same_both { length into.old ≡ length read_and_written.now }
-    requires same_two { length into.old ≡ length written_by_two.now }
-    ensures { Writes (λ i. bit_or (bit_and (slice_index read_only.now i) (slice_index written.now i))
-        (bit_and (slice_index read_and_written.now i) (slice_index written_by_two.now i))) 0 (length into.old) into.old
-        into.new }
+    requires fit { LrpdFit planes.now (length into.old) }
+    ensures { Writes (lrpd_word planes.now) 0 (length into.old) into.old into.new }
 {
     let mut at = 0;
     while at + N <= into.len() {
-        lrpd_at::<N>(
-            into,
-            read_only,
-            written,
-            read_and_written,
-            written_by_two,
-            at,
-        );
+        lrpd_at::<N>(planes, into, at);
         at += N;
     }
     while at < into.len() {
-        lrpd_at::<1>(
-            into,
-            read_only,
-            written,
-            read_and_written,
-            written_by_two,
-            at,
-        );
+        lrpd_at::<1>(planes, into, at);
         at += 1;
     }
 }
 
 #[inline(always)]
-fn lrpd_at<const N: usize>(
-    into: &mut [u64],
-    read_only: &[u64],
-    written: &[u64],
-    read_and_written: &[u64],
-    written_by_two: &[u64],
-    at: usize,
-)
-    requires same_read_only { length into.old ≡ length read_only.now }
-    requires same_written { length into.old ≡ length written.now }
-    requires same_both { length into.old ≡ length read_and_written.now }
-    requires same_two { length into.old ≡ length written_by_two.now }
+fn lrpd_at<const N: usize>(planes: &LrpdPlanes, into: &mut [u64], at: usize)
+    requires fit { LrpdFit planes.now (length into.old) }
     requires room { at + N ≤ length into.old }
-    ensures { Writes (λ i. bit_or (bit_and (slice_index read_only.now i) (slice_index written.now i))
-        (bit_and (slice_index read_and_written.now i) (slice_index written_by_two.now i))) at (at + N) into.old into.new }
+    ensures { Writes (lrpd_word planes.now) at (at + N) into.old into.new }
 {
-    let reader = words_at::<N>(read_only, at);
-    let writer = words_at::<N>(written, at);
-    let both = words_at::<N>(read_and_written, at);
-    let two = words_at::<N>(written_by_two, at);
+    let reader = words_at::<N>(&planes.read_only, at);
+    let writer = words_at::<N>(&planes.written, at);
+    let both = words_at::<N>(&planes.read_and_written, at);
+    let two = words_at::<N>(&planes.written_by_two, at);
     ((reader & writer) | (both & two)).copy_to_slice(&mut into[at..]);
 }
 

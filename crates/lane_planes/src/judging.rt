@@ -41,13 +41,7 @@ pub(crate) fn failing_into<const N: usize>(tested: &Tested, into: &mut [u64])
     ensures fit { LastsFit tested.now }
 {
     match tested {
-        Tested::Lrpd(planes) => lrpd_into::<N>(
-            into,
-            planes.read_only.as_slice(),
-            planes.written.as_slice(),
-            planes.read_and_written.as_slice(),
-            planes.written_by_two.as_slice(),
-        ),
+        Tested::Lrpd(planes) => lrpd_into::<N>(planes, into),
         Tested::Flow(planes) => {
             flow_into::<N>(into, planes.first.as_slice(), planes.last.as_slice())
         }

@@ -1,12 +1,12 @@
-use Rattle.std.proofs.Common.{length, ◌-◌, ◌≤◌, slice_index, bit_and, bit_or}
+use Rattle.std.proofs.Common.{length, ◌-◌, ◌≤◌}
+use Rattle.lane_planes.specs.Conflicts.{lrpd_word}
 use Rattle.lane_planes.specs.Writes.{Writes}
 use Rattle.lane_planes.proofs.conflict.lrpd_into.Given as goal
 
 abbrev pub invariant-loop-at : goal.invariant-loop-at
 invariant-loop-at g l = record {
   within : l.at ≤ length l.into;
-  words : Writes (λ i. bit_or (bit_and (slice_index l.read_only i) (slice_index l.written i))
-      (bit_and (slice_index l.read_and_written i) (slice_index l.written_by_two i))) 0 l.at l.fn.into l.into;
+  words : Writes (lrpd_word l.planes) 0 l.at l.fn.into l.into;
 }
 
 abbrev pub decreases-loop-at : goal.decreases-loop-at
@@ -15,8 +15,7 @@ decreases-loop-at g l = length l.initial.into - l.at
 abbrev pub invariant-loop-at-2 : goal.invariant-loop-at-2
 invariant-loop-at-2 g l = record {
   within : l.at ≤ length l.into;
-  words : Writes (λ i. bit_or (bit_and (slice_index l.read_only i) (slice_index l.written i))
-      (bit_and (slice_index l.read_and_written i) (slice_index l.written_by_two i))) 0 l.at l.fn.into l.into;
+  words : Writes (lrpd_word l.planes) 0 l.at l.fn.into l.into;
 }
 
 abbrev pub decreases-loop-at-2 : goal.decreases-loop-at-2
