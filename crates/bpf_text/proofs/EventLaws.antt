@@ -6,8 +6,7 @@ use Rattle.bpf_insn_types.specs.Outcome.{RefusalMatches}
 use Rattle.bpf_text_lex.specs.Refusals.{at_line, ◌>>=◌, text_refusal}
 use Rattle.loop_core_event.specs.declared.event.Event.{Event}
 use Rattle.bpf_text_lex.proofs.RefusalLaws.{bind_fails}
-use Rattle.bpf_text_lex.proofs.HeadLaws.{ReadsHeadFirst}
-use Rattle.bpf_text.specs.EventsText.{events_of, bounds_of, events_behind, schedule_of}
+use Rattle.bpf_text.specs.EventsText.{events_of, events_behind}
 
 pub events_behind-line : (before : List Event) (line : ℕ × List ℕ) (lines : List (ℕ × List ℕ)) (more : List Event) →
     at_line line.0 (events_of (words_of line.1)) ≡ Ok more → events_behind before (line ∷ lines) ≡ events_behind (before
@@ -26,8 +25,3 @@ events_behind-fails e before line lines fails = bind_fails e (at_line line.0 (ev
 pub events_behind-end : (before : List Event) → events_behind before [] ≡ Ok before
 unfolding events_behind
 events_behind-end before = refl
-
--- the first line has the bounds, and those after it have the events
-pub reads : ReadsHeadFirst bounds_of (events_behind []) (λ bounds events. (bounds, events)) schedule_of
-unfolding schedule_of
-reads = record { nothing = refl; lines = λ line lines. refl }

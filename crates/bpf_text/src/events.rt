@@ -121,6 +121,7 @@ fn read_lines(alloc: Global, lines: Lines<'_>) -> Result<Vec<Event>, TextError>
 }
 
 /// The bounds and events of a text that isn't too long.
+#[tactic(auto, unfolding(crate::specs::EventsText::schedule_of))]
 fn read_schedule(alloc: Global, text: &[u8]) -> Result<(Vec<u32>, Vec<Event>), TextError>
     requires { length text.now ≤ 1048576 }
     ensures { MatchesUnlessMemory text_refusal (λ x. (x.0.items, x.1.items)) result (schedule_of (contents_of text.now)) }

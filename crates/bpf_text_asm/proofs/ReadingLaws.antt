@@ -1,17 +1,15 @@
 -- Reading a unit's lines one after the other, as loops do.
-use Rattle.std.proofs.Common.{◌≡◌, ℕ, ◌+◌, List, [], ◌∷◌, ◌++◌, Option, Some, None, Result, Ok, refl, sym, ap, ◌∙◌, subst}
+use Rattle.std.proofs.Common.{◌≡◌, ℕ, ◌+◌, List, [], ◌∷◌, ◌++◌, Option, Some, None, Result, Ok, refl, ap, ◌∙◌, subst}
 use Rattle.bpf_insn_types.specs.declared.insn.Insn.{Insn}
 use Rattle.bpf_text_lex.specs.declared.text_error.TextError.{TextError}
 use Rattle.bpf_insn_types.specs.Outcome.{RefusalMatches}
 use Rattle.bpf_text_lex.specs.Refusals.{at_line, ◌>>=◌, text_refusal}
-use Rattle.bpf_text_lex.specs.Head.{head_of}
 use Rattle.bpf_text_lex.proofs.RefusalLaws.{bind_fails}
-use Rattle.bpf_text_lex.proofs.HeadLaws.{ReadsHeadFirst}
 use Rattle.bpf_text_operands.specs.declared.labels.Label.{Label}
 use Rattle.std.specs.Option.{option_or}
 use Rattle.bpf_text_operands.proofs.LabelLaws.{option_or-none}
 use Rattle.bpf_insn_types.specs.Program.{slot_count}
-use Rattle.bpf_text_asm.specs.AssemblerText.{line_slots, line_label, labels_from, line_at, insns_behind, unit_of}
+use Rattle.bpf_text_asm.specs.AssemblerText.{line_slots, line_label, labels_from, line_at, insns_behind}
 
 -- ---- labels
 
@@ -65,17 +63,9 @@ pub insns_behind-end : (labels : List ℕ → Option Label) (before : List Insn)
 unfolding insns_behind
 insns_behind-end labels before = refl
 
--- ---- the first line and those after it
-
--- the first line has the sizes, and those after it have the instructions, with their labels
-pub reads : ReadsHeadFirst head_of (λ lines. insns_behind (labels_from 0 lines) [] lines)
-    (λ sizes insns. record { sizes = sizes; insns = insns }) unit_of
-unfolding unit_of
-reads = record { nothing = refl; lines = λ line lines. refl }
-
 -- a table of the labels serves as well
 pub by_table : (labels : List ℕ → Option Label) (lines : List (ℕ × List ℕ))
     → ((name : List ℕ) → labels name ≡ labels_from 0 lines name)
-    → insns_behind (labels_from 0 lines) [] lines ≡ insns_behind labels [] lines
+    → insns_behind labels [] lines ≡ insns_behind (labels_from 0 lines) [] lines
 by_table labels lines table =
-    ap (λ (t : List ℕ → Option Label). insns_behind t [] lines) (sym (λ i name. table name i))
+    ap (λ (t : List ℕ → Option Label). insns_behind t [] lines) (λ i name. table name i)

@@ -24,8 +24,7 @@ use Rattle.bpf_text_asm.specs.AssemblerText.{name_of, is_label, labels_from, lab
 use Rattle.bpf_insn_types.specs.Limits.{IsUnit}
 use Rattle.bpf_text_asm.specs.AssemblerForm.{assembler_lines, assembler_form}
 use Rattle.bpf_insn_types.proofs.ProgramLaws.{slots_some, slot_count-append}
-use Rattle.bpf_text_lex.proofs.HeadLaws.{all_read}
-use Rattle.bpf_text_asm.proofs.ReadingLaws.{insns_behind-line, insns_behind-end, reads}
+use Rattle.bpf_text_asm.proofs.ReadingLaws.{insns_behind-line, insns_behind-end}
 use Rattle.bpf_text_mnemonics.proofs.PrintedInsns.{insn_is_line}
 use Rattle.bpf_text_mnemonics.proofs.LineLaws.{contents-line}
 use Rattle.bpf_text_asm.proofs.PrintedLabels.{no_label}
@@ -109,14 +108,16 @@ whole_short p u =
     omega (arith, head, lines, few, long)
 
 whole_back : (p : Program) → IsUnit p → Spelled p.insns → unit_of (contents_of (assembler_lines p)) ≡ Ok p
+unfolding unit_of
 whole_back p u spelled =
     let lines = numbered 2 p.insns in
     let few = u.slots in
-    all_read reads (contents_of (assembler_lines p)) (1, head_spelling p.sizes) lines p.sizes p.insns
-    (contents-line 1 (head_spelling p.sizes) (flat_map insn_line p.insns) (head_is_line p.sizes u.sizes)
-    ∙ ap (λ (ls : List (ℕ × List ℕ)). (1, head_spelling p.sizes) ∷ ls) (contents_of-insns 2 p.insns u.insns))
-    (ap (at_line 1) (head_back p.sizes u.sizes))
-    (insns_back (labels_from 0 lines) [] p.insns 2 u.insns spelled (omega (arith, few)))
+    let contents : contents_of (assembler_lines p) ≡ (1, head_spelling p.sizes) ∷ lines =
+    contents-line 1 (head_spelling p.sizes) (flat_map insn_line p.insns) (head_is_line p.sizes u.sizes)
+    ∙ ap (λ (ls : List (ℕ × List ℕ)). (1, head_spelling p.sizes) ∷ ls) (contents_of-insns 2 p.insns u.insns) in
+    let behind : insns_behind (labels_from 0 lines) [] lines ≡ Ok p.insns =
+    insns_back (labels_from 0 lines) [] p.insns 2 u.insns spelled (omega (arith, few)) in
+    rw (contents, head_back p.sizes u.sizes, behind) refl
 
 pub unit_back : (p : Program) (text : List ℕ) → IsUnit p → assembler_form p ≡ Ok text → assembler_text text ≡ Ok p
 unit_back p text u e =

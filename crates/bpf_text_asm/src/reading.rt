@@ -13,6 +13,7 @@ use bpf_text_lex::{Lines, MAX_TEXT, TextError, TextFault, read_head};
 use std::alloc::Global;
 
 /// The unit of a text that isn't too long.
+#[tactic(auto, unfolding(crate::specs::AssemblerText::unit_of), using(crate::proofs::ReadingLaws::by_table))]
 fn read_unit(alloc: Global, text: &[u8]) -> Result<Unit, TextError>
     requires { length text.now ≤ 1048576 }
     ensures { MatchesUnlessMemory text_refusal (λ u. u) result (unit_of (contents_of text.now)) }
