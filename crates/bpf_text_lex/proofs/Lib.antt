@@ -3,6 +3,5 @@ pub mod WordLaws
 pub mod NumberLaws
 pub mod SpellingLaws
 pub mod RefusalLaws
-pub mod HeadLaws
 pub mod FieldLaws
 pub mod ResultLaws
