@@ -2,14 +2,13 @@
 
 ghost use Rattle.std.specs.Prelude.{◌≡◌};
 ghost use Rattle.bpf_verify_sound.specs.Soundness.{OverApproximatesCall};
-ghost use Rattle.loop_core_model.specs.declared.loop_test.Test.{Test};
 ghost use Rattle.loop_core_gather.specs.Gathered.{IsOutcome};
 ghost use Rattle.spec_run_loop.specs.Decisions.{IsDecision};
 
 use array_maps::Maps;
 use bpf_step::LoopCall;
 use bpf_verify::Verified;
-use loop_core_model::Verdict;
+use loop_core_model::{Test, Verdict};
 use loop_core_sequential::in_order;
 
 /// What becomes of a loop by its gathered blocks.
@@ -30,18 +29,18 @@ pub struct LoopAnswer {
 
 impl Decision {
     /// Does to the maps what was decided of a loop call that main of this program made, from these maps, which are of
-    /// the program's sizes: they are as the loop leaves them.
+    /// the program's sizes: they are as the loop leaves them. It was decided by this test.
     pub(crate) fn carry_out(
         self,
         program: &Verified,
         call: &LoopCall,
         maps: &mut Maps,
+        test: Test,
     ) -> LoopAnswer
         requires known { OverApproximatesCall program.now call.now }
         requires sizes { maps.old.sizes ≡ program.now.sizes }
-        requires decided { (test : Test) × IsDecision test program.now call.now maps.old.words self }
-        ensures { (test : Test) → IsDecision test program.now call.now maps.old.words self
-            → IsOutcome test program.now call.now maps.old result.verdict result.answer maps.new }
+        requires decided { IsDecision test program.now call.now maps.old.words self }
+        ensures { IsOutcome test program.now call.now maps.old result.verdict result.answer maps.new }
     {
         match self {
             Decision::Commit { answer, words } => {

@@ -229,7 +229,7 @@ pub fn run_loop_evenly<R: Threads + Sync, G: Gate>(
         test,
     };
     let decision = decided(rt, &of, workers, gate)?;
-    Ok(decision.carry_out(program, call, maps))
+    Ok(decision.carry_out(program, call, maps, test))
 }
 
 /// Runs a loop call that main of this program made, from these maps, by n workers, each in a thread of its
@@ -273,7 +273,7 @@ pub fn run_loop<R: Threads + Sync, G: Gate>(
     };
     let decision = decided_by_plan(rt, &of, workers, gate)?;
     let mut maps = start.try_copy(alloc)?;
-    let LoopAnswer { verdict, answer } = decision.carry_out(program, call, &mut maps);
+    let LoopAnswer { verdict, answer } = decision.carry_out(program, call, &mut maps, test);
     Ok(LoopOutcome {
         verdict,
         answer,

@@ -5,16 +5,12 @@ use Rattle.spec_run_loop.specs.Decisions.{IsDecision}
 use Rattle.spec_run_loop.proofs.looping.run_loop.Goals as goal
 
 pub carry_out-verdict-requires-clause-decided : goal.carry_out-verdict-requires-clause-decided
-carry_out-verdict-requires-clause-decided g c = (
-  c.args.test,
-  subst (λ (maps : MapList). IsDecision c.args.test c.args.program.now c.args.call.now maps.words
-      c.in_ok-decision.decision) (sym c.in_ok-maps.ensures) c.in_ok-decision.ensures,
-)
+carry_out-verdict-requires-clause-decided g c =
+    subst (λ (maps : MapList). IsDecision c.args.test c.args.program.now c.args.call.now maps.words
+    c.in_ok-decision.decision) (sym c.in_ok-maps.ensures) c.in_ok-decision.ensures
 
 pub returns-clause-outcome : goal.returns-clause-outcome
 returns-clause-outcome g c =
     subst (λ (start : MapList). IsOutcome c.args.test c.args.program.now c.args.call.now start
     c.carry_out-verdict.result.verdict c.carry_out-verdict.result.answer c.carry_out-verdict.new.maps) c.in_ok-maps.ensures
-    (c.carry_out-verdict.ensures c.args.test
-    (subst (λ (maps : MapList). IsDecision c.args.test c.args.program.now c.args.call.now maps.words
-    c.in_ok-decision.decision) (sym c.in_ok-maps.ensures) c.in_ok-decision.ensures))
+    c.carry_out-verdict.ensures

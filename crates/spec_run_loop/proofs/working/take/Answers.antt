@@ -1,4 +1,4 @@
-use Rattle.std.proofs.Common.{◌≡◌, ◌≤◌, ℕ, sym, ap, ◌∙◌, subst}
+use Rattle.std.proofs.Common.{◌≤◌, ℕ, sym, ap, ◌∙◌, subst}
 use Rattle.loop_core_model.specs.Intervals.{start_of}
 use Rattle.loop_core_block.specs.Loops.{LoopOf, IsSpeculative}
 use Rattle.loop_core_block.specs.Shown.{shown}
