@@ -1,15 +1,15 @@
--- What a loop call that was run tells of it.
-use Rattle.std.proofs.Common.{◌≡◌, ℕ, pos, Some, refl, ap, sym, ◌∙◌}
+-- What loop calls that were run tell of them.
+use Rattle.std.proofs.Common.{◌≡◌, ℕ, pos, Some, Ok, Err, refl, ap, sym, subst, ◌∙◌}
+use Rattle.std.specs.Prelude.{Result, IfOk}
+use denote.Ref.{Bor, MutBor}
+use denote.Param.Members.{Shared}
 use Rattle.array_maps.specs.MapList.{MapList}
 use Rattle.bpf_insn_types.specs.Program.{Program}
 use Rattle.bpf_step_model.specs.State.{LoopCall}
 use Rattle.bpf_step_model.specs.Run.{BoundedResult, Ended, Stuck, Unfinished, mapped, followed}
 use Rattle.bpf_step_model.specs.LoopInOrder.{Looped, loop_in_order}
-use Rattle.bpf_step_model.specs.ProgramInOrder.{LoopMade}
-use Rattle.bpf_verify_sound.specs.Soundness.{IsSoundProgram, AreMapWords, OverApproximatesCall}
-use Rattle.bpf_step.specs.Turns.{IsFilled}
+use Rattle.bpf_verify_sound.specs.Soundness.{IsSoundProgram}
 use Rattle.loop_core_model.specs.declared.loop_test.Test.{Test}
-use Rattle.loop_core_model.specs.declared.verdict.LoopReport.{LoopReport}
 use Rattle.loop_core_model.specs.declared.verdict.Verdict.{Verdict}
 use Rattle.loop_core_model.specs.declared.verdict.Verdict.TheVariants.{InOrder}
 use Rattle.loop_core_model.specs.Report.{line, loop_report, loop_report_in_order, verdict}
@@ -17,15 +17,8 @@ use Rattle.loop_core_model.specs.Outcome.{Outcome, judged_as}
 use Rattle.loop_core_sequential.specs.FilledCalls.{FilledCallsAreOneLoop}
 use Rattle.loop_core_sequential.specs.Loops.{RanLoopInOrder}
 use Rattle.loop_core_gather.specs.Gathered.{IsOutcome}
-
--- a loop call left what it leaves in order, and this is its verdict's line, whatever call main made of it
-pub record RanCall (line_of : LoopMade → BoundedResult LoopReport) (program : Program) (call : LoopCall)
-    (start left : MapList) (answer : ℕ) (told_verdict : Verdict) : Type 0 where
-  pub ran : RanLoopInOrder program call start left answer
-  pub told : (made : LoopCall) → IsFilled program made call → OverApproximatesCall program call
-      → AreMapWords program start.words
-      → line_of (record { slot = made.slot; answer = pos answer; words = start.words; call = Some made })
-      ≡ Ended (record { slot = made.slot; answer = pos answer; verdict = told_verdict })
+use Rattle.spec_run_loop.specs.declared.decision.LoopAnswer.{LoopAnswer}
+use Rattle.spec_run.specs.Calls.{RanCall, MayAnswer}
 
 -- a loop that ran in order
 pub in_order_call : {program : Program} {call : LoopCall} {start left : MapList} {answer : ℕ}
@@ -75,3 +68,22 @@ call_by_test {test} {program} {call} {start} {left} {answer} {told_verdict} one_
           ap (mapped (line (record { slot = made.slot; answer = pos answer; words = start.words; call = Some made })))
           (sym ((one_loop program sound made call filled known start.words fit).judges test) ∙ both.judged);
     }
+
+-- the same where it gave an answer
+pub each_by_test : (test : Test) (program : Program) (call : LoopCall) (start left : MapList) {E : Type 0}
+    → FilledCallsAreOneLoop → IsSoundProgram program → (ran : Result LoopAnswer E)
+    → IfOk ran (λ a. IsOutcome test program call start a.verdict a.answer left)
+    → IfOk ran (λ a. RanCall (loop_report test program 4096) program call start left a.answer a.verdict)
+each_by_test test program call start left one_loop sound (Ok a) is = call_by_test one_loop sound is
+each_by_test test program call start left one_loop sound (Err e) is = tt
+
+-- what a call tells of what it was lent, it tells of the loop call and the maps
+pub told_of : {F E : Type 0}
+    {calls : Shared F (Bor LoopCall × (MutBor MapList × Unit {0})) (Result LoopAnswer E × (MutBor MapList × Unit {0}))}
+    {f : F} {call : LoopCall} {start left : MapList} {answered : Result LoopAnswer E}
+    (P : LoopCall → MapList → MapList → Type 0) → (it : MayAnswer calls f call start answered left)
+    → P it.lent.now it.maps.now it.after_call.now → P call start left
+told_of {F} {E} {calls} {f} {call} {start} {left} {answered} P it told =
+    subst (λ (left : MapList). P call start left) it.left_is
+    (subst (λ (start : MapList). P call start it.after_call.now) it.start_is
+    (subst (λ (call : LoopCall). P call it.maps.now it.after_call.now) it.call_is told))

@@ -1,6 +1,5 @@
 -- Main's turns, one after another. `line_of` tells the line of a loop call that main made, and `whole` is the report of
--- the
--- whole program.
+-- the whole program.
 use Rattle.std.proofs.Common.{◌≡◌, ℕ, ℤ, pos, zero, suc, ◌+◌, ◌<◌, ◌≤◌, ◌^◌, List, [], ◌∷◌, ◌++◌, length, Some, None, refl, sym, ap, subst, ◌∙◌, arith}
 use Rattle.std.specs.List.{sum}
 use Rattle.array_maps.specs.MapList.{MapList, AreWords}
@@ -21,8 +20,8 @@ use Rattle.loop_core_model.specs.declared.verdict.Verdict.TheVariants as verdict
 use Rattle.loop_core_model.specs.Report.{Reported, reported_with}
 use Rattle.loop_core_sequential.proofs.MapEffects.{map_effect, sizes_kept}
 use Rattle.loop_core_sequential.proofs.SameLoops.{same_loop}
-use Rattle.spec_run.specs.declared.running.Report.{Report}
-use Rattle.spec_run.proofs.CallLaws.{RanCall}
+use Rattle.spec_run.specs.declared.report.Report.{Report}
+use Rattle.spec_run.specs.Calls.{RanCall}
 use Rattle.spec_run.proofs.Lines.{told_behind, no_lines, one_line, last_line}
 
 -- the words of maps

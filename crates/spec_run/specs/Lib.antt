@@ -1,2 +1,4 @@
+pub mod Calls
+pub mod Reports
 pub mod InOrder
 pub mod AsInOrder

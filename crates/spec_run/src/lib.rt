@@ -10,12 +10,16 @@
 //! ```
 #![tactic(auto)]
 
+mod driver;
+mod judges;
+mod report;
 mod running;
 mod speculating;
 
 pub use loop_core_model::{LoopReport, Test, Verdict};
 pub use loop_core_split::{Gate, NoGate};
-pub use running::{Report, run_in_order};
+pub use report::Report;
+pub use running::run_in_order;
 pub use spec_run_loop::{LoopOutcome, RunError, run_loop, work};
 pub use spec_run_plan::Plan;
 pub use speculating::run;

@@ -1,65 +1,21 @@
 //! Running a program with its loops in order.
 
 ghost use Rattle.std.specs.Prelude.{◌≡◌, ◌≢◌, IfOk, OnErr, Err};
+ghost use Rattle.bpf_verify_sound.specs.Soundness.{OverApproximatesCall};
+ghost use Rattle.loop_core_model.specs.Report.{loop_report_in_order};
+ghost use Rattle.spec_run.specs.Calls.{RanCall};
 ghost use Rattle.spec_run.specs.InOrder.{IsReportInOrder};
 
-use array_maps::{Maps, Store};
-use bpf_step::{Main, Turned};
+use crate::driver::run_main;
+use crate::judges::Nobody;
+use crate::report::Report;
+use array_maps::Maps;
+use bpf_step::LoopCall;
 use bpf_verify::Verified;
-use bpf_verify_sound::{law_of_accepted_programs, law_of_accepted_runs};
-use loop_core_model::{LoopReport, Verdict};
+use loop_core_model::Verdict;
 use loop_core_sequential::in_order;
-use spec_run_loop::RunError;
+use spec_run_loop::{LoopAnswer, RunError};
 use std::alloc::{AllocError, Global};
-
-/// What a program did.
-#[derive(Drop)]
-pub struct Report {
-    /// The program's return value.
-    pub ret: u64,
-    /// Its loop calls, in order.
-    pub loops: Vec<LoopReport>,
-}
-
-/// Runs the program on these maps, which are of its sizes, and changes them as it goes. Where memory runs
-/// out they stay as they are then.
-fn run_on(
-    alloc: Global,
-    program: &Verified,
-    maps: &mut Maps,
-    argument: u64,
-) -> Result<Report, AllocError>
-    requires { maps.old.sizes ≡ program.now.sizes }
-    ensures { IfOk result (λ report. IsReportInOrder program.now argument maps.old maps.new report) }
-{
-    law_of_accepted_runs();
-    law_of_accepted_programs();
-    // These tell the proof that the program is accepted, and what words the maps have.
-    let _unit = program.unit();
-    let _sizes = maps.sizes();
-    Store::words_fit(maps);
-    let mut loops = Vec::new(alloc);
-    let mut main = Main::new(program, argument);
-    loop {
-        match main.next(maps) {
-            Turned::Loop(call) => {
-                let answer = in_order(program, &call, maps);
-                main.resume(answer);
-                loops.push(LoopReport {
-                    slot: call.slot(),
-                    answer: i64::from(answer),
-                    verdict: Verdict::InOrder,
-                })?;
-            }
-            Turned::Refused { slot, answer } => loops.push(LoopReport {
-                slot,
-                answer,
-                verdict: Verdict::Refused,
-            })?,
-            Turned::Exit(ret) => return Ok(Report { ret, loops }),
-        }
-    }
-}
 
 /// Runs the program on the maps, its argument in R1, with each loop in order. It runs on a copy, which
 /// takes the maps' place at the end. No iteration is stuck, and each ends within the count that the
@@ -83,7 +39,17 @@ pub fn run_in_order(
         return Err(RunError::Sizes);
     }
     let mut left = maps.try_copy(alloc)?;
-    let report = run_on(alloc, program, &mut left, argument)?;
+    let run_call = |call: &LoopCall, maps: &mut Maps| -> Result<LoopAnswer, AllocError>
+        requires { OverApproximatesCall program.now call.now × (maps.old.sizes ≡ program.now.sizes) }
+        ensures { IfOk result (λ a. RanCall loop_report_in_order program.entry.now call.now maps.old maps.new
+            a.answer a.verdict) }
+    {
+        Ok(LoopAnswer {
+            verdict: Verdict::InOrder,
+            answer: in_order(program, call, maps),
+        })
+    };
+    let report = run_main(alloc, program, &mut left, argument, &Nobody, &run_call)?;
     *maps = left;
     Ok(report)
 }

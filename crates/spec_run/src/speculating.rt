@@ -1,76 +1,22 @@
 //! Running a program whose loops may run in parallel.
 
-ghost use Rattle.std.specs.Prelude.{◌≡◌, ◌≢◌, ◌↔◌, IfOk, OnErr, Err};
-ghost use Rattle.spec_run.specs.AsInOrder.{IsReportByTest, RunsAsInOrder};
+ghost use Rattle.std.specs.Prelude.{◌≡◌, ◌≢◌, ◌↔◌, Err, IfOk};
+ghost use Rattle.bpf_verify_sound.specs.Soundness.{OverApproximatesCall};
+ghost use Rattle.loop_core_gather.specs.Gathered.{IsOutcome};
+ghost use Rattle.spec_run.specs.AsInOrder.{RunsAsInOrder};
 ghost use Rattle.spec_run_plan.specs.Plans.{IsPlan};
 
-use crate::running::Report;
-use array_maps::{Maps, Store};
-use bpf_step::{Main, Turned};
+use crate::driver::run_main;
+use crate::report::Report;
+use array_maps::Maps;
+use bpf_step::LoopCall;
 use bpf_verify::Verified;
-use bpf_verify_sound::{law_of_accepted_programs, law_of_accepted_runs};
-use loop_core_model::{LoopReport, Verdict};
 use loop_core_sequential::law_of_filled_calls;
 use loop_core_split::Gate;
-use spec_run_loop::{RunError, run_loop_evenly};
+use spec_run_loop::{LoopAnswer, RunError, run_loop_evenly};
 use spec_run_plan::Plan;
 use std::alloc::{AllocError, Global};
 use std::thread::Threads;
-
-/// Runs the program on these maps, which are of its sizes, and changes them as it goes. Where memory runs
-/// out they stay as they are then.
-fn run_with<R: Threads + Sync, G: Gate>(
-    rt: &R,
-    alloc: Global,
-    program: &Verified,
-    maps: &mut Maps,
-    argument: u64,
-    plan: &Plan,
-    gate: &G,
-) -> Result<Report, AllocError>
-    requires sizes { maps.old.sizes ≡ program.now.sizes }
-    requires plan { IsPlan plan.now }
-    ensures { IfOk result (λ report. IsReportByTest plan.now.test program.now argument maps.old maps.new report) }
-{
-    law_of_accepted_runs();
-    law_of_accepted_programs();
-    law_of_filled_calls();
-    // These tell the proof that the program is accepted, and what words the maps have.
-    let _unit = program.unit();
-    let _sizes = maps.sizes();
-    Store::words_fit(maps);
-    let mut loops = Vec::new(alloc);
-    let mut main = Main::new(program, argument);
-    loop {
-        match main.next(maps) {
-            Turned::Loop(call) => {
-                let answered = run_loop_evenly(
-                    rt,
-                    alloc,
-                    program,
-                    &call,
-                    maps,
-                    plan.blocks,
-                    plan.workers,
-                    gate,
-                    plan.test,
-                )?;
-                main.resume(answered.answer);
-                loops.push(LoopReport {
-                    slot: call.slot(),
-                    answer: i64::from(answered.answer),
-                    verdict: answered.verdict,
-                })?;
-            }
-            Turned::Refused { slot, answer } => loops.push(LoopReport {
-                slot,
-                answer,
-                verdict: Verdict::Refused,
-            })?,
-            Turned::Exit(ret) => return Ok(Report { ret, loops }),
-        }
-    }
-}
 
 /// Runs the program on the maps, its argument in R1. Each loop runs by the plan: workers run its blocks at once, and
 /// where the loop passes the test, what they left is committed; else it is run in order. All of it runs on a copy,
@@ -100,7 +46,27 @@ pub fn run<R: Threads + Sync, G: Gate>(
         return Err(RunError::Plan);
     }
     let mut left = maps.try_copy(alloc)?;
-    let report = run_with(rt, alloc, program, &mut left, argument, plan, gate)?;
+    law_of_filled_calls();
+    // This tells the proof that the program is accepted.
+    let _unit = program.unit();
+    let run_call = |call: &LoopCall, maps: &mut Maps| -> Result<LoopAnswer, AllocError>
+        requires { IsPlan plan.now × OverApproximatesCall program.now call.now × (maps.old.sizes ≡ program.now.sizes) }
+        ensures { IfOk result (λ a. IsOutcome plan.entry.now.test program.entry.now call.now maps.old a.verdict a.answer
+            maps.new) }
+    {
+        run_loop_evenly(
+            rt,
+            alloc,
+            program,
+            call,
+            maps,
+            plan.blocks,
+            plan.workers,
+            gate,
+            plan.test,
+        )
+    };
+    let report = run_main(alloc, program, &mut left, argument, &plan.test, &run_call)?;
     *maps = left;
     Ok(report)
 }

@@ -1,0 +1,59 @@
+-- What running a loop call gives, and what is told of it.
+use Rattle.std.specs.Prelude.{◌≡◌, ℕ, ℤ, pos, List, Some, None, Result, IfOk}
+use denote.Ref.{Bor, MutBor}
+use denote.Param.Members.{Shared}
+use Rattle.array_maps.specs.MapList.{MapList}
+use Rattle.bpf_insn_types.specs.Program.{Program}
+use Rattle.bpf_step_model.specs.State.{LoopCall}
+use Rattle.bpf_step_model.specs.Run.{BoundedResult, Ended}
+use Rattle.bpf_step_model.specs.ProgramInOrder.{LoopMade}
+use Rattle.bpf_verify_sound.specs.Soundness.{AreMapWords, OverApproximatesCall}
+use Rattle.bpf_step.specs.Turns.{IsFilled}
+use Rattle.loop_core_model.specs.declared.verdict.LoopReport.{LoopReport}
+use Rattle.loop_core_model.specs.declared.verdict.Verdict.{Verdict}
+use Rattle.loop_core_model.specs.declared.verdict.Verdict.TheVariants.{Refused}
+use Rattle.loop_core_sequential.specs.Loops.{RanLoopInOrder}
+use Rattle.spec_run_loop.specs.declared.decision.LoopAnswer.{LoopAnswer}
+
+-- a loop call left what it leaves in order, and this is its verdict's line, whatever call main made of it
+pub record RanCall (line_of : LoopMade → BoundedResult LoopReport) (program : Program) (call : LoopCall)
+    (start left : MapList) (answer : ℕ) (told_verdict : Verdict) : Type 0 where
+  pub ran : RanLoopInOrder program call start left answer
+  pub told : (made : LoopCall) → IsFilled program made call → OverApproximatesCall program call
+      → AreMapWords program start.words
+      → line_of (record { slot = made.slot; answer = pos answer; words = start.words; call = Some made })
+      ≡ Ended (record { slot = made.slot; answer = pos answer; verdict = told_verdict })
+
+-- a refused call is told as one
+abbrev pub TellsRefused : (LoopMade → BoundedResult LoopReport) → Type 0
+TellsRefused line_of = (slot : ℕ) (answer : ℤ) (words : List ℕ) →
+    line_of (record { slot = slot; answer = answer; words = words; call = None })
+    ≡ Ended (record { slot = slot; answer = answer; verdict = Refused })
+
+module _ {F E : Type 0}
+    (calls : Shared F (Bor LoopCall × (MutBor MapList × Unit {0})) (Result LoopAnswer E × (MutBor MapList × Unit {0})))
+    (f : F) where
+  -- f may run a loop call on a `&mut` to these maps
+  abbrev pub MayRun : LoopCall → MapList → Type 0
+  MayRun call start = (lent : Bor LoopCall) (maps : MutBor MapList) → lent.now ≡ call → maps.now ≡ start
+      → calls.pre f (lent, (maps, tt))
+
+  -- it may answer this, and leave these maps there
+  pub record MayAnswer (call : LoopCall) (start : MapList) (answered : Result LoopAnswer E) (left : MapList) : Type 0
+    where
+      pub lent : Bor LoopCall
+      pub call_is : lent.now ≡ call
+      pub maps : MutBor MapList
+      pub start_is : maps.now ≡ start
+      pub after_call : MutBor MapList
+      pub ran : calls.post f (lent, (maps, tt)) (answered, (after_call, tt))
+      pub left_is : after_call.now ≡ left
+
+  -- f runs the loop calls that main of a program makes, on maps of its sizes, as their lines tell
+  pub record RunsCalls (line_of : LoopMade → BoundedResult LoopReport) (program : Program) : Type 0 where
+    pub may : (call : LoopCall) (start : MapList) → OverApproximatesCall program call → start.sizes ≡ program.sizes
+        → MayRun call start
+    pub told : (call : LoopCall) (start : MapList) (answered : Result LoopAnswer E) (left : MapList)
+        → OverApproximatesCall program call → start.sizes ≡ program.sizes → MayAnswer call start answered left
+        → IfOk answered (λ a. RanCall line_of program call start left a.answer a.verdict)
+    pub refused : TellsRefused line_of
