@@ -11,7 +11,6 @@ use Rattle.loop_core_model.specs.Schedule.{ScheduleState, replay}
 use Rattle.loop_core_workers.specs.Standing.{Standing, WorkersFit, state}
 use Rattle.loop_core_workers.specs.InTurn.{LeadTo}
 use Rattle.loop_core_block.specs.declared.block.Block.{Block}
-use Rattle.loop_core_block.specs.Blocks.{BlockOf}
 use Rattle.loop_core_block.specs.Loops.{LoopOf}
 use Rattle.loop_core_block.specs.LoopBlocks.{IsBlockOf}
 use Rattle.loop_core_block.specs.Shown.{shown}

@@ -1,10 +1,8 @@
 //! The blocks that a replay runs.
 
-ghost use Rattle.std.specs.Prelude.{◌≡◌, ◌<◌, [], ◌∷◌, replicate, None, IfOk, OnOk};
+ghost use Rattle.std.specs.Prelude.{◌≡◌, ◌<◌, [], replicate, None, IfOk, OnOk};
 ghost use Rattle.loop_core_model.specs.Intervals.{blocks_of};
-ghost use Rattle.loop_core_block.specs.Shown.{shown};
 ghost use Rattle.loop_core_block.specs.Loops.{LoopOf};
-ghost use Rattle.loop_core_block.specs.LoopBlocks.{IsBlockOf};
 ghost use Rattle.loop_core_replay.specs.Replays.{AreBlocks, IsUnderWay, BreaksAt, BlockHasRun};
 
 use loop_core_block::{Block, SpeculativeLoop};
