@@ -14,7 +14,7 @@
 //! ```
 #![tactic(auto)]
 
-pub use loop_core_block::{Block, run_block};
+pub use loop_core_block::{Block, SpeculativeLoop, run_block};
 pub use loop_core_event::{Event, EventKind};
 pub use loop_core_gather::{GatherError, GatherFault, Gathered, LoopOutcome, gather, settle};
 pub use loop_core_model::{Test, Verdict};
