@@ -15,7 +15,7 @@ const ELEMENTS: u32 = 65536;
 const WORDS: usize = 1024;
 
 /// Merges planes into others so often, and tells how many elements then have a plain access: none.
-pub fn merge_often(alloc: Global, test: Test, rounds: u32) -> Result<u32, AllocError> {
+pub(crate) fn merge_often(alloc: Global, test: Test, rounds: u32) -> Result<u32, AllocError> {
     let mut mine = Planes::try_new(alloc, ELEMENTS, test)?;
     let theirs = Planes::try_new(alloc, ELEMENTS, test)?;
     for _ in 0..rounds {
@@ -29,7 +29,7 @@ pub fn merge_often(alloc: Global, test: Test, rounds: u32) -> Result<u32, AllocE
 }
 
 /// Tells the conflicts of planes so often, and then how many there are: none.
-pub fn judge_often(alloc: Global, test: Test, rounds: u32) -> Result<u32, AllocError> {
+pub(crate) fn judge_often(alloc: Global, test: Test, rounds: u32) -> Result<u32, AllocError> {
     let planes = Planes::try_new(alloc, ELEMENTS, test)?;
     let mut plane = vec![in alloc; 0u64; WORDS]?;
     for _ in 0..rounds {

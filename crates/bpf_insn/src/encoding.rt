@@ -116,7 +116,7 @@ fn src_of_kind(kind: ImmKind) -> u8
 }
 
 /// Whether a two-slot load of this kind has a second number.
-pub fn has_next_imm(kind: ImmKind) -> bool
+pub(crate) fn has_next_imm(kind: ImmKind) -> bool
     ensures { result ≡ has_next kind }
 {
     matches!(

@@ -63,7 +63,7 @@ fn has_imm(form: Form) -> bool
 }
 
 /// Whether each field that the form doesn't use is zero.
-pub fn only_its_fields(form: Form, slot: Slot) -> bool
+pub(crate) fn only_its_fields(form: Form, slot: Slot) -> bool
     ensures { result ≡ unused_are_zero form slot }
 {
     (has_dst(form) || slot.dst == 0)

@@ -157,7 +157,7 @@ fn store(opcode: u8) -> Option<Form>
 }
 
 /// The form that an opcode says, by its class in the low three bits, or None where no form has it.
-pub fn form_of(opcode: u8) -> Option<Form>
+pub(crate) fn form_of(opcode: u8) -> Option<Form>
     ensures { result ≡ form_at opcode }
 {
     match opcode % 8 {
@@ -245,7 +245,7 @@ fn class_of_jump(width: Width) -> u8
 }
 
 /// The opcode of a form.
-pub fn opcode_of(form: Form) -> u8
+pub(crate) fn opcode_of(form: Form) -> u8
     ensures { result ≡ opcode form }
 {
     match form {

@@ -6,7 +6,7 @@ ghost use Rattle.bpf_insn_types.specs.Words.{modulus, shift, signed};
 use crate::insn::Width;
 
 /// The low 32 or 64 bits of a word, the others cleared.
-pub fn low_part(width: Width, a: u64) -> u64
+pub(crate) fn low_part(width: Width, a: u64) -> u64
     ensures { result ≡ a % modulus width }
 {
     match width {
@@ -16,7 +16,7 @@ pub fn low_part(width: Width, a: u64) -> u64
 }
 
 /// The greatest number of the width.
-pub fn greatest(width: Width) -> u64
+pub(crate) fn greatest(width: Width) -> u64
     ensures { result + 1 ≡ modulus width }
 {
     match width {
@@ -37,7 +37,7 @@ pub fn shift_amount(width: Width, amount: u64) -> u32
 }
 
 /// A number of the width, read as signed.
-pub fn signed_value(width: Width, a: u64) -> i64
+pub(crate) fn signed_value(width: Width, a: u64) -> i64
     requires { a < modulus width }
     ensures { result ≡ signed width a }
 {

@@ -10,7 +10,7 @@ use bpf_text_operands::{Label, Labels, line_slots};
 use std::alloc::{AllocError, Global};
 
 /// The name of a label line, or None where the line is none.
-pub fn label_name(line: &[u8]) -> Option<&[u8]>
+pub(crate) fn label_name(line: &[u8]) -> Option<&[u8]>
     ensures some { IfSome result (λ name. (is_label line.now ≡ true) × (name.now ≡ name_of line.now)) }
     ensures none { IfNone result (is_label line.now ≡ false) }
 {
@@ -46,7 +46,7 @@ fn define_line<'a>(
 }
 
 /// The labels of lines, the first of which stands at slot 0.
-pub fn read_labels<'a>(alloc: Global, lines: Lines<'a>) -> Result<Labels<'a>, AllocError>
+pub(crate) fn read_labels<'a>(alloc: Global, lines: Lines<'a>) -> Result<Labels<'a>, AllocError>
     requires { length lines ≤ 1048576 }
     ensures { IfOk result (λ labels. (name : List ℕ) → label_named labels name ≡ labels_from 0 lines.entry name) }
 {

@@ -72,7 +72,7 @@ fn add_line(
 }
 
 /// The instructions of lines, where these are the labels.
-pub fn read_insns(
+pub(crate) fn read_insns(
     alloc: Global,
     lines: Lines<'_>,
     labels: &Labels<'_>,

@@ -23,7 +23,7 @@ pub fn newline_at(text: &[u8]) -> Option<usize>
 }
 
 /// The first line of a text that isn't empty, without its newline, and the text after that newline.
-pub fn split_line(text: &[u8]) -> (&[u8], &[u8])
+pub(crate) fn split_line(text: &[u8]) -> (&[u8], &[u8])
     requires { 0 < length text.now }
     ensures lines { lines_of text.now ≡ result.0.now ∷ lines_of result.1.now }
     ensures shorter { length result.1.now < length text.now }
@@ -42,7 +42,7 @@ fn comment_at(line: &[u8]) -> Option<usize>
 }
 
 /// A line up to its comment, which begins at the first semicolon.
-pub fn before_comment(line: &[u8]) -> &[u8]
+pub(crate) fn before_comment(line: &[u8]) -> &[u8]
     ensures { result.now ≡ before_comment line.now }
 {
     match comment_at(line) {
@@ -70,7 +70,7 @@ pub fn trim_start(bytes: &[u8]) -> &[u8]
 }
 
 /// Without the blanks at the end.
-pub fn trim_end(bytes: &[u8]) -> &[u8]
+pub(crate) fn trim_end(bytes: &[u8]) -> &[u8]
     ensures { result.now ≡ trim_end bytes.now }
 {
     let mut end = bytes.len();
@@ -91,7 +91,7 @@ pub fn trim(bytes: &[u8]) -> &[u8]
 }
 
 /// What a line says: without its comment and without the blanks round it.
-pub fn content(line: &[u8]) -> &[u8]
+pub(crate) fn content(line: &[u8]) -> &[u8]
     ensures { result.now ≡ content_of line.now }
 {
     trim(before_comment(line))

@@ -8,7 +8,7 @@ use crate::lines::trim_start;
 use std::marker::Model;
 
 /// Whether the byte is a space or a tab.
-pub fn is_blank(byte: u8) -> bool
+pub(crate) fn is_blank(byte: u8) -> bool
     ensures { result ≡ is_blank byte }
 {
     byte == b' ' || byte == b'\t'

@@ -9,7 +9,7 @@ use bpf_insn_types::{
 };
 
 /// The bits of a width.
-pub fn width_word(width: Width) -> &'static str
+pub(crate) fn width_word(width: Width) -> &'static str
     ensures { result.now ≡ width_word width }
 {
     match width {
@@ -19,7 +19,7 @@ pub fn width_word(width: Width) -> &'static str
 }
 
 /// The bits of an access.
-pub fn size_word(size: Size) -> &'static str
+pub(crate) fn size_word(size: Size) -> &'static str
     ensures { result.now ≡ size_word size }
 {
     match size {
@@ -64,7 +64,7 @@ pub fn order_word(order: ByteOrder) -> &'static str
 }
 
 /// The bits of a byte order.
-pub fn endian_word(bits: EndianBits) -> &'static str
+pub(crate) fn endian_word(bits: EndianBits) -> &'static str
     ensures { result.now ≡ endian_word bits }
 {
     match bits {
@@ -75,7 +75,7 @@ pub fn endian_word(bits: EndianBits) -> &'static str
 }
 
 /// The bits of a sign-extending move.
-pub fn movsx_word(bits: MovsxBits) -> &'static str
+pub(crate) fn movsx_word(bits: MovsxBits) -> &'static str
     ensures { result.now ≡ movsx_word bits }
 {
     match bits {

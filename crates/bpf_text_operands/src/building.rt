@@ -255,7 +255,7 @@ fn atomic(width: Width, op: AtomicOp, operands: &Operands) -> Option<Insn>
 }
 
 /// The instruction of a mnemonic and operands of its kinds.
-pub fn insn_of_mnemonic(mnemonic: Mnemonic, operands: &Operands) -> Option<Insn>
+pub(crate) fn insn_of_mnemonic(mnemonic: Mnemonic, operands: &Operands) -> Option<Insn>
     ensures { result ≡ insn_of_mnemonic mnemonic operands.now }
 {
     match mnemonic {

@@ -47,7 +47,7 @@ fn kinds_of_load(kind: ImmKind) -> Kinds
 }
 
 /// The kinds of operands that a mnemonic takes.
-pub fn kinds_of(mnemonic: Mnemonic) -> Kinds
+pub(crate) fn kinds_of(mnemonic: Mnemonic) -> Kinds
     ensures { result ≡ kinds_of mnemonic }
 {
     match mnemonic {

@@ -10,7 +10,7 @@ use bpf_insn_types::Reg;
 use bpf_text_lex::{NumberError, TextFault, has_only_digits, is_negative, is_numeral, read_number};
 
 /// Whether a word is an `r` and digits.
-pub fn is_register(word: &[u8]) -> bool
+pub(crate) fn is_register(word: &[u8]) -> bool
     ensures { result ≡ is_register word.now }
 {
     if word.len() < 2 || word[0] != b'r' {
@@ -20,7 +20,7 @@ pub fn is_register(word: &[u8]) -> bool
 }
 
 /// The register that a word names.
-pub fn register_at(word: &[u8]) -> Result<Reg, TextFault>
+pub(crate) fn register_at(word: &[u8]) -> Result<Reg, TextFault>
     ensures { result ≡ register_at word.now }
 {
     if !is_register(word) {
@@ -33,7 +33,7 @@ pub fn register_at(word: &[u8]) -> Result<Reg, TextFault>
 }
 
 /// The fault of a word that is no number of its field.
-pub fn fault_of(error: NumberError) -> TextFault
+pub(crate) fn fault_of(error: NumberError) -> TextFault
     ensures { result ≡ number_fault error }
 {
     match error {
@@ -75,7 +75,7 @@ fn back(digits: &[u8], limit: u64) -> Result<i32, TextFault>
 }
 
 /// The number of a word, in a field of 32 bits.
-pub fn signed_at(word: &[u8]) -> Result<i32, TextFault>
+pub(crate) fn signed_at(word: &[u8]) -> Result<i32, TextFault>
     ensures { result ≡ signed_at (2 ^ 31) word.now }
 {
     if is_negative(word) {
@@ -95,14 +95,14 @@ fn is_ahead(word: &[u8]) -> bool
 }
 
 /// Whether a word is a number of any size that has a sign.
-pub fn is_offset(word: &[u8]) -> bool
+pub(crate) fn is_offset(word: &[u8]) -> bool
     ensures { result ≡ is_offset word.now }
 {
     is_negative(word) || is_ahead(word)
 }
 
 /// The number of a word, which has a sign, in a field of -bound to bound - 1.
-pub fn offset_at(word: &[u8], bound: u64) -> Result<i32, TextFault>
+pub(crate) fn offset_at(word: &[u8], bound: u64) -> Result<i32, TextFault>
     requires low { 0 < bound }
     requires high { bound ≤ 2 ^ 31 }
     ensures value { result ≡ offset_at bound word.now }
@@ -118,7 +118,7 @@ pub fn offset_at(word: &[u8], bound: u64) -> Result<i32, TextFault>
 }
 
 /// The distance from the slot after one slot to another, in a field of -bound to bound - 1.
-pub fn distance_to(target: u32, bound: u64, slot: u32) -> Result<i32, TextFault>
+pub(crate) fn distance_to(target: u32, bound: u64, slot: u32) -> Result<i32, TextFault>
     requires high { bound ≤ 2 ^ 31 }
     ensures value { result ≡ distance_to bound slot target }
     ensures small { IfOk result (λ n. bound ≤ 2 ^ 15 → FitsSigned w16 n) }

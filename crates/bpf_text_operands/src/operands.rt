@@ -238,7 +238,7 @@ fn three_at(
 }
 
 /// The operands of these kinds that a text is, parted by commas with blanks round them.
-pub fn operands_at(
+pub(crate) fn operands_at(
     kinds: Kinds,
     text: &[u8],
     labels: &Labels<'_>,
@@ -311,7 +311,7 @@ fn three_stand(first: Kind, others: (Kind, Kind), text: &[u8]) -> bool
 }
 
 /// Whether a text has the form of operands of these kinds, and its registers are there.
-pub fn all_stand(kinds: Kinds, text: &[u8]) -> bool
+pub(crate) fn all_stand(kinds: Kinds, text: &[u8]) -> bool
     ensures { result ≡ all_stand kinds text.now }
 {
     match kinds {

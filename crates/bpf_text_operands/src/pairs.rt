@@ -17,7 +17,7 @@ fn least(fault: TextFault, other: TextFault) -> TextFault
 }
 
 /// Both, or the least fault.
-pub fn pair<A: Copy, B: Copy>(
+pub(crate) fn pair<A: Copy, B: Copy>(
     a: Result<A, TextFault>,
     b: Result<B, TextFault>,
 ) -> Result<(A, B), TextFault>

@@ -79,7 +79,7 @@ fn stem_at(word: &[u8]) -> Option<Stem>
 }
 
 /// The atomic operation that a word is.
-pub fn atomic_at(word: &[u8]) -> Option<AtomicOp>
+pub(crate) fn atomic_at(word: &[u8]) -> Option<AtomicOp>
     ensures { result ≡ first_atomic word.now atomics }
 {
     for op in &ATOMICS {
@@ -159,7 +159,7 @@ fn sized_at(word: &[u8]) -> Option<Mnemonic>
 }
 
 /// The mnemonic that a word is.
-pub fn mnemonic_at(word: &[u8]) -> Option<Mnemonic>
+pub(crate) fn mnemonic_at(word: &[u8]) -> Option<Mnemonic>
     ensures { result ≡ mnemonic_at word.now }
 {
     match whole(stem_at(word)) {
@@ -169,7 +169,7 @@ pub fn mnemonic_at(word: &[u8]) -> Option<Mnemonic>
 }
 
 /// The width of an atomic's first word.
-pub fn atomic_width(word: &[u8]) -> Option<Width>
+pub(crate) fn atomic_width(word: &[u8]) -> Option<Width>
     ensures { result ≡ atomic_width word.now }
 {
     if word == b"atomic64".as_slice() {

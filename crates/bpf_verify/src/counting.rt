@@ -79,7 +79,7 @@ fn longest(alloc: Global, insns: &[Insn], count: u32) -> Result<Vec<u32>, Verify
 }
 
 /// The most instructions of each function, main first.
-pub fn counts_of(
+pub(crate) fn counts_of(
     alloc: Global,
     insns: &[Insn],
     count: u32,

@@ -126,7 +126,7 @@ fn numbered(
 }
 
 /// The layout of instructions that take n slots.
-pub fn layout_of(alloc: Global, insns: &[Insn], count: u32) -> Result<Layout, VerifyError>
+pub(crate) fn layout_of(alloc: Global, insns: &[Insn], count: u32) -> Result<Layout, VerifyError>
     requires slots { slot_count insns.now ≡ count }
     requires few { count ≤ 4096 }
     ensures ok { IfOk result (λ layout. IsLayout insns.now layout) }

@@ -236,7 +236,7 @@ fn visit(
 }
 
 /// Passes over all instructions, up to the first fault, and gives the operations of all.
-pub fn pass(alloc: Global, code: &Code, count: u32) -> Result<Vec<PlainOp>, VerifyError>
+pub(crate) fn pass(alloc: Global, code: &Code, count: u32) -> Result<Vec<PlainOp>, VerifyError>
     requires sizes { AreSizes code.now.sizes.now }
     requires layout { IsLayout code.now.insns.now code.now.layout.now }
     requires slots { slot_count code.now.insns.now ≡ count }

@@ -22,7 +22,7 @@ fn add_state(table: &mut Vec<Option<State>>, state: Option<State>) -> Result<(),
 }
 
 /// The abstract state before each slot where nothing flowed yet.
-pub fn first_table(alloc: Global, count: u32) -> Result<Vec<Option<State>>, VerifyError>
+pub(crate) fn first_table(alloc: Global, count: u32) -> Result<Vec<Option<State>>, VerifyError>
     requires { 0 < count }
     ensures ok { IfOk result (λ table. IsEntryTable count table.items) }
     ensures err { IfErr result (λ e. e ≡ VerifyError.Memory) }
@@ -36,7 +36,7 @@ pub fn first_table(alloc: Global, count: u32) -> Result<Vec<Option<State>>, Veri
 }
 
 /// The abstract state before a slot.
-pub fn known(table: &Vec<Option<State>>, slot: u32) -> Option<State>
+pub(crate) fn known(table: &Vec<Option<State>>, slot: u32) -> Option<State>
     requires { slot < length table.now.items }
     ensures { result ≡ slice_index_or table.now.items slot None }
 {
@@ -147,7 +147,7 @@ fn hand_on(table: &mut Vec<Option<State>>, sizes: &[u32], slot: u32, state: &mut
 }
 
 /// The same, if the instruction is reached.
-pub fn hand_on_reached(
+pub(crate) fn hand_on_reached(
     table: &mut Vec<Option<State>>,
     sizes: &[u32],
     slot: u32,

@@ -8,7 +8,7 @@ use bpf_verify_model::{AccessKind, MemoryAccess};
 use bpf_verify_values::{atomic_bytes, bytes_of};
 
 /// The access of memory that an instruction makes, if it makes one.
-pub fn access_of(insn: Insn) -> Option<MemoryAccess>
+pub(crate) fn access_of(insn: Insn) -> Option<MemoryAccess>
     ensures access { result ≡ memory_access_of insn }
     ensures size { IfSome result (λ access. 1 ≤ access.size) }
 {
@@ -54,7 +54,7 @@ pub fn access_of(insn: Insn) -> Option<MemoryAccess>
 }
 
 /// Whether an access reads.
-pub fn reads(kind: AccessKind) -> bool
+pub(crate) fn reads(kind: AccessKind) -> bool
     ensures { result ≡ kind_reads kind }
 {
     match kind {
@@ -64,7 +64,7 @@ pub fn reads(kind: AccessKind) -> bool
 }
 
 /// Whether an access writes.
-pub fn writes(kind: AccessKind) -> bool
+pub(crate) fn writes(kind: AccessKind) -> bool
     ensures { result ≡ kind_writes kind }
 {
     match kind {

@@ -9,7 +9,7 @@ use bpf_verify_written::WrittenBytes;
 use value_range_model::Range;
 
 /// Whether it is the address of memory, as V16 asks of the base of an access.
-pub fn is_memory(base: AbstractValue) -> bool
+pub(crate) fn is_memory(base: AbstractValue) -> bool
     ensures { result ≡ is_memory base }
 {
     match base {
@@ -19,7 +19,7 @@ pub fn is_memory(base: AbstractValue) -> bool
 }
 
 /// V17: an access of n bytes is of a map's values, and neither of a value nor of a half.
-pub fn is_part_of_half(size: u32, base: AbstractValue) -> bool
+pub(crate) fn is_part_of_half(size: u32, base: AbstractValue) -> bool
     ensures { result ≡ is_part_of_half size base }
 {
     match base {
@@ -29,7 +29,7 @@ pub fn is_part_of_half(size: u32, base: AbstractValue) -> bool
 }
 
 /// Whether it is the address of main's frame, in a callback.
-pub fn is_ctx(base: AbstractValue) -> bool
+pub(crate) fn is_ctx(base: AbstractValue) -> bool
     ensures { result ≡ is_ctx base }
 {
     match base {
@@ -83,7 +83,7 @@ fn multiple_of(range: Range) -> u128
 }
 
 /// V18: an access of n bytes at an offset from this base isn't aligned.
-pub fn misses_alignment(size: u32, offset: i16, base: AbstractValue) -> bool
+pub(crate) fn misses_alignment(size: u32, offset: i16, base: AbstractValue) -> bool
     requires { 1 ≤ size }
     ensures { result ≡ misses_alignment size offset base }
 {
@@ -106,7 +106,7 @@ fn is_outside_frame(size: u32, position: u32, offset: i16) -> bool
 }
 
 /// V19: an access of n bytes at an offset from this base isn't within its frame, or within its map's values.
-pub fn is_outside(sizes: &[u32], size: u32, offset: i16, base: AbstractValue) -> bool
+pub(crate) fn is_outside(sizes: &[u32], size: u32, offset: i16, base: AbstractValue) -> bool
     ensures { result ≡ is_outside sizes.now size offset base }
 {
     match base {
@@ -162,7 +162,7 @@ fn caller_lacks(written: &Option<WrittenBytes>, size: u32, position: u32, offset
 
 /// Whether n bytes at an offset from this base lie within a frame, and one of them isn't
 /// written.
-pub fn has_unwritten_byte(state: &State, size: u32, offset: i16, base: AbstractValue) -> bool
+pub(crate) fn has_unwritten_byte(state: &State, size: u32, offset: i16, base: AbstractValue) -> bool
     ensures { result ≡ has_unwritten_byte state.now size offset base }
 {
     match base {

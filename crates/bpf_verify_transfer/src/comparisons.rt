@@ -139,7 +139,7 @@ fn null_check_branch(
 }
 
 /// Both edges of a comparison of a register with an operand.
-pub fn branch_states(
+pub(crate) fn branch_states(
     state: &State,
     width: Width,
     compare: Compare,

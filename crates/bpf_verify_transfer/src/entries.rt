@@ -57,7 +57,7 @@ fn ctx_value(value: AbstractValue) -> AbstractValue
 
 /// A callback as it starts.
 #[tactic(auto, unfolding(bpf_verify_model::specs::Flow::known_callback_entry))]
-pub fn callback_entry(state: &State) -> State
+pub(crate) fn callback_entry(state: &State) -> State
     ensures { result ≡ known_callback_entry state.now }
 {
     let mut registers = Registers::starting(index_value(state.register(reg(1))));

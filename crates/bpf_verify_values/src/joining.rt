@@ -9,7 +9,7 @@ use bpf_verify_written::WrittenBytes;
 use value_range_model::{Range, join};
 
 /// The join of a register's abstract values.
-pub fn join_values(a: AbstractValue, b: AbstractValue) -> AbstractValue
+pub(crate) fn join_values(a: AbstractValue, b: AbstractValue) -> AbstractValue
     ensures { result ≡ joined_values a b }
 {
     match a {

@@ -186,7 +186,7 @@ pub fn result_of(
 }
 
 /// Whether a comparison is the null check of an address that may be null.
-pub fn is_null_check(width: Width, compare: Compare, operand: Operand) -> bool
+pub(crate) fn is_null_check(width: Width, compare: Compare, operand: Operand) -> bool
     ensures { result ≡ is_null_check width compare operand }
 {
     match (width, compare, operand) {

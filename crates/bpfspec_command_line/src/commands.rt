@@ -94,7 +94,7 @@ fn verify_command<'a>(alloc: Global) -> Result<Command<'a>, AllocError>
     new_command(alloc, "verify", "Tells whether a program is accepted").arg(hex_flag(alloc))
 }
 
-pub fn order_command<'a>(alloc: Global) -> Result<Command<'a>, AllocError>
+pub(crate) fn order_command<'a>(alloc: Global) -> Result<Command<'a>, AllocError>
     ensures { IfOk result (IsCommand order_app) }
 {
     new_command(alloc, "order", "Runs a program in order")
@@ -102,7 +102,7 @@ pub fn order_command<'a>(alloc: Global) -> Result<Command<'a>, AllocError>
         .arg(arg_option(alloc))
 }
 
-pub fn run_command<'a>(alloc: Global) -> Result<Command<'a>, AllocError>
+pub(crate) fn run_command<'a>(alloc: Global) -> Result<Command<'a>, AllocError>
     ensures { IfOk result (IsCommand run_app) }
 {
     new_command(alloc, "run", "Runs a program, its loops in parallel")
@@ -113,7 +113,7 @@ pub fn run_command<'a>(alloc: Global) -> Result<Command<'a>, AllocError>
         .arg(test_option(alloc))
 }
 
-pub fn replay_command<'a>(alloc: Global) -> Result<Command<'a>, AllocError>
+pub(crate) fn replay_command<'a>(alloc: Global) -> Result<Command<'a>, AllocError>
     ensures { IfOk result (IsCommand replay_app) }
 {
     new_command(alloc, "replay", "Replays events of a program's first loop")
@@ -145,7 +145,7 @@ fn top_command<'a>(alloc: Global) -> Command<'a>
         .subcommand_required(true)
 }
 
-pub fn bpfspec_command<'a>(alloc: Global) -> Result<Command<'a>, AllocError>
+pub(crate) fn bpfspec_command<'a>(alloc: Global) -> Result<Command<'a>, AllocError>
     ensures { IfOk result (IsCommand bpfspec_app) }
 {
     top_command(alloc)

@@ -22,7 +22,7 @@ fn is_asked_for(kind: ErrorKind) -> bool
 }
 
 /// What clap tells of words: that they are wrong, or the help or the version that they ask for.
-pub fn fault_of(alloc: Global, error: &clap::Error) -> LineFault
+pub(crate) fn fault_of(alloc: Global, error: &clap::Error) -> LineFault
     ensures memory { kind_of error.now ≡ ErrorKind.OutOfMemory → result ≡ LineFault.Memory }
     ensures help { is_help result ≡ true → Shows (kind_of error.now) }
 {
@@ -128,7 +128,7 @@ fn order_fault(alloc: Global, order: &ArgMatches<'_>) -> Result<LineFault, Alloc
 }
 
 /// The fault of a value that clap takes and the program doesn't, with the usage of its subcommand.
-pub fn value_fault(alloc: Global, matches: &ArgMatches<'_>) -> Result<LineFault, AllocError>
+pub(crate) fn value_fault(alloc: Global, matches: &ArgMatches<'_>) -> Result<LineFault, AllocError>
     ensures { IfOk result (λ fault. is_help fault ≡ false) }
 {
     if let Some(run) = matches.subcommand_matches("run") {
@@ -144,7 +144,7 @@ pub fn value_fault(alloc: Global, matches: &ArgMatches<'_>) -> Result<LineFault,
 }
 
 /// The fault of words that the system doesn't give.
-pub fn words_fault(alloc: Global, error: &io::Error) -> LineFault
+pub(crate) fn words_fault(alloc: Global, error: &io::Error) -> LineFault
     ensures memory { error_kind error.now ≡ io_errors.OutOfMemory → result ≡ LineFault.Memory }
     ensures words { is_help result ≡ false }
 {

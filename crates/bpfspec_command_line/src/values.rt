@@ -10,7 +10,7 @@ use loop_core_model::Test;
 use spec_run_plan::Plan;
 
 /// The form that the arguments ask for.
-pub fn unit_form(matches: &ArgMatches<'_>) -> UnitForm
+pub(crate) fn unit_form(matches: &ArgMatches<'_>) -> UnitForm
     ensures { IsForm (rows_of (found_of matches.now)) result }
 {
     if matches.get_flag("hex") {
@@ -21,14 +21,14 @@ pub fn unit_form(matches: &ArgMatches<'_>) -> UnitForm
 }
 
 /// The program's argument that the arguments give, or None where it is no number below 2^64.
-pub fn argument(matches: &ArgMatches<'_>) -> Option<u64>
+pub(crate) fn argument(matches: &ArgMatches<'_>) -> Option<u64>
     ensures { IfSome result (IsArgument (rows_of (found_of matches.now))) }
 {
     matches.get_one::<u64>("arg")
 }
 
 /// The test that the arguments name, or None where they name another.
-pub fn loop_test(matches: &ArgMatches<'_>) -> Option<Test>
+pub(crate) fn loop_test(matches: &ArgMatches<'_>) -> Option<Test>
     ensures { IfSome result (IsTest (rows_of (found_of matches.now))) }
 {
     let word = matches.get_str("test")?;
@@ -61,7 +61,7 @@ fn number_within(matches: &ArgMatches<'_>, name: &str, most: u32) -> Option<u32>
 }
 
 /// How many workers the arguments give, or None where it is no number from 1 to 16.
-pub fn workers_of(matches: &ArgMatches<'_>) -> Option<u32>
+pub(crate) fn workers_of(matches: &ArgMatches<'_>) -> Option<u32>
     ensures number { IfSome result (IsNumber 32 (codes "workers") (rows_of (found_of matches.now))) }
     ensures within { IfSome result (λ n. (0 < n) × (n ≤ 16)) }
 {
@@ -69,7 +69,7 @@ pub fn workers_of(matches: &ArgMatches<'_>) -> Option<u32>
 }
 
 /// How many blocks the arguments give, or None where it is no number from 1 to 64.
-pub fn blocks_of(matches: &ArgMatches<'_>) -> Option<u32>
+pub(crate) fn blocks_of(matches: &ArgMatches<'_>) -> Option<u32>
     ensures number { IfSome result (IsNumber 32 (codes "blocks") (rows_of (found_of matches.now))) }
     ensures within { IfSome result (λ n. (0 < n) × (n ≤ 64)) }
 {
@@ -77,7 +77,7 @@ pub fn blocks_of(matches: &ArgMatches<'_>) -> Option<u32>
 }
 
 /// The plan that the arguments give, or None where it isn't within its limits, or they name another test.
-pub fn plan_of(matches: &ArgMatches<'_>) -> Option<Plan>
+pub(crate) fn plan_of(matches: &ArgMatches<'_>) -> Option<Plan>
     ensures { IfSome result (IsPlanOf (rows_of (found_of matches.now))) }
 {
     Some(Plan {

@@ -208,7 +208,7 @@ fn judge(alloc: Global, form: UnitForm, input: &str) -> Result<String, AnswerErr
 }
 
 /// What comes of an input in a mode.
-pub fn outcome(alloc: Global, mode: &Mode, input: &[u8]) -> Result<String, AnswerError>
+pub(crate) fn outcome(alloc: Global, mode: &Mode, input: &[u8]) -> Result<String, AnswerError>
     ensures { SatisfiesUnlessMemory string_bytes (OfInput (Serve mode.now) input.now) result }
 {
     let text = readable(input)?;
@@ -222,7 +222,7 @@ pub fn outcome(alloc: Global, mode: &Mode, input: &[u8]) -> Result<String, Answe
 }
 
 /// What comes of an input whose program runs by a plan.
-pub fn run_outcome<R: Threads + Sync, G: Gate>(
+pub(crate) fn run_outcome<R: Threads + Sync, G: Gate>(
     rt: &R,
     alloc: Global,
     form: UnitForm,

@@ -37,7 +37,7 @@ fn unit_refusal(fault: TextFault) -> AnswerError
 }
 
 /// An input as a text.
-pub fn readable(input: &[u8]) -> Result<&str, AnswerError>
+pub(crate) fn readable(input: &[u8]) -> Result<&str, AnswerError>
     ensures { SatisfiesUnlessMemory (λ s. s.now) (λ outcome. outcome ≡ readable input.now) result }
 {
     if input.len() > MAX_INPUT {
@@ -64,7 +64,7 @@ fn text_error(error: TextError, section: Section) -> AnswerError
 }
 
 /// The error of a program's bytes.
-pub fn codec_error(error: CodecError) -> AnswerError
+pub(crate) fn codec_error(error: CodecError) -> AnswerError
     ensures { result ≡ codec_error error }
 {
     match error {
@@ -92,7 +92,7 @@ fn read_hex_unit(alloc: Global, section: &str) -> Result<Unit, AnswerError>
 }
 
 /// The unit of a section.
-pub fn read_unit(alloc: Global, form: UnitForm, section: &str) -> Result<Unit, AnswerError>
+pub(crate) fn read_unit(alloc: Global, form: UnitForm, section: &str) -> Result<Unit, AnswerError>
     ensures { SatisfiesUnlessMemory (λ unit. unit) (λ program. program ≡ unit_program form section.now) result }
 {
     match form {
@@ -105,7 +105,7 @@ pub fn read_unit(alloc: Global, form: UnitForm, section: &str) -> Result<Unit, A
 }
 
 /// The accepted program of a section.
-pub fn accept(alloc: Global, form: UnitForm, section: &str) -> Result<Verified, AnswerError>
+pub(crate) fn accept(alloc: Global, form: UnitForm, section: &str) -> Result<Verified, AnswerError>
     ensures { SatisfiesUnlessMemory (λ program. program) (λ outcome. outcome ≡ accepted (unit_program form section.now))
         result }
 {
@@ -149,7 +149,7 @@ fn maps_of(alloc: Global, program: &Verified, values: &[Vec<u64>]) -> Result<Map
 }
 
 /// The maps that a program starts with.
-pub fn start_maps(alloc: Global, program: &Verified, section: &str) -> Result<Maps, AnswerError>
+pub(crate) fn start_maps(alloc: Global, program: &Verified, section: &str) -> Result<Maps, AnswerError>
     ensures words { SatisfiesUnlessMemory (λ maps. maps.words) (λ outcome. outcome ≡ maps_start_words program.now.sizes
         section.now) result }
     ensures sizes { IfOk result (λ maps. maps.sizes ≡ program.now.sizes) }
@@ -164,7 +164,7 @@ pub fn start_maps(alloc: Global, program: &Verified, section: &str) -> Result<Ma
 }
 
 /// The bounds and events of a section.
-pub fn read_events(alloc: Global, section: &str) -> Result<(Vec<u32>, Vec<Event>), AnswerError>
+pub(crate) fn read_events(alloc: Global, section: &str) -> Result<(Vec<u32>, Vec<Event>), AnswerError>
     ensures { SatisfiesUnlessMemory (λ x. (x.0.items, x.1.items)) (λ outcome. outcome ≡ in_section Section.Events
         (events_text section.now)) result }
 {

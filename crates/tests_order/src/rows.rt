@@ -58,7 +58,7 @@ fn filled(alloc: Global, program: &str, row: &str) -> Result<String, AllocError>
 }
 
 /// Asserts what comes of a program with a row.
-pub fn is_answered(
+pub(crate) fn is_answered(
     rt: &impl Abort,
     alloc: Global,
     mode: Mode,
@@ -77,7 +77,7 @@ pub fn is_answered(
 }
 
 /// Asserts what comes of a program with each row of a table: after `=>` is what stands for two dots in the output.
-pub fn are_answered(
+pub(crate) fn are_answered(
     rt: &impl Abort,
     alloc: Global,
     program: &str,

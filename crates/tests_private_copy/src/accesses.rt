@@ -87,7 +87,7 @@ fn change_of(name: &str, value: u64, compare: u64) -> Option<Change> {
 /// An access, as `load 3 = 9`, `store 3 9`, `add 3 9`, `low 3 9`, `add-high 3 9 = 1`, `xchg-whole 3 9 = 1` or
 /// `cmpxchg-low 3 9 1 = 1`: after the name stand the element, its operand and what is compared with it, and after `=`
 /// what is told.
-pub fn step_of(text: &str) -> Option<Step> {
+pub(crate) fn step_of(text: &str) -> Option<Step> {
     let (access, told) = text.split_once('=').unwrap_or((text, "0"));
     let mut words = access.split_ascii_whitespace();
     let name = words.next()?;
@@ -102,7 +102,7 @@ pub fn step_of(text: &str) -> Option<Step> {
 }
 
 /// Makes an access of an element, and tells what it tells; 0 where it tells nothing.
-pub fn make(copy: &mut Private, e: u32, change: Change) -> u64
+pub(crate) fn make(copy: &mut Private, e: u32, change: Change) -> u64
     requires within { e < length (copy_of copy.old).start }
     requires served { 0 < (copy_of copy.old).serves }
     ensures start { (copy_of copy.new).start ≡ (copy_of copy.old).start }

@@ -50,7 +50,7 @@ fn mark_some(flags: &mut IterFlags, elements: u32, most: u32, seed: u32)
 
 /// Planes of n elements on which four iterations were ended, of each second index from 0 or 1 on. Each marked
 /// about a quarter of the elements, and no more than this many, of at most 4,096.
-pub fn planes_of(
+pub(crate) fn planes_of(
     alloc: Global,
     elements: u32,
     test: Test,

@@ -96,7 +96,7 @@ fn tell_values(text: &mut String, copy: &Private, elements: u32) -> Result<(), A
 }
 
 /// The planes, and the conflicts that they tell; after `=>` the values.
-pub fn told(alloc: Global, planes: &Planes, copy: &Private) -> Result<String, AllocError>
+pub(crate) fn told(alloc: Global, planes: &Planes, copy: &Private) -> Result<String, AllocError>
     requires whole { ArePlanes planes.now }
     requires elements { planes.now.elements ≡ length (copy_of copy.now).start }
     requires few { planes.now.elements ≤ 65536 }

@@ -14,7 +14,7 @@ use std::test::Fail;
 /// Has workers 0 and 1 go on as the bits of a word say, the lowest first, and tells whether they have ended then. Where
 /// one
 /// of them should go on that has stopped they haven't.
-pub fn goes_on(
+pub(crate) fn goes_on(
     row: &Row,
     word: u32,
     length: u32,

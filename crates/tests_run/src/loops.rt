@@ -29,7 +29,7 @@ fn spelled_out(alloc: Global, rows: &str) -> Result<String, AllocError> {
 }
 
 /// Asserts what is answered to the rows by each of these command lines.
-pub fn are_run<R: Abort + Threads + Sync>(
+pub(crate) fn are_run<R: Abort + Threads + Sync>(
     rt: &R,
     alloc: Global,
     lines: &str,

@@ -47,7 +47,7 @@ pub struct Ran {
 }
 
 /// Runs the program with these words over streams that fail as the numbers say.
-pub fn run_on<R: Threads + Sync>(
+pub(crate) fn run_on<R: Threads + Sync>(
     rt: &R,
     alloc: Global,
     words: &[&[u8]],
@@ -72,7 +72,7 @@ pub fn run_on<R: Threads + Sync>(
 }
 
 /// The words of a command line, parted by spaces, after the program's name.
-pub fn words_of(alloc: Global, line: &str) -> Result<Vec<&[u8]>, AllocError> {
+pub(crate) fn words_of(alloc: Global, line: &str) -> Result<Vec<&[u8]>, AllocError> {
     let mut words = Vec::new(alloc);
     words.push(b"bpfspec".as_slice())?;
     for word in line.split_ascii_whitespace() {
@@ -82,7 +82,7 @@ pub fn words_of(alloc: Global, line: &str) -> Result<Vec<&[u8]>, AllocError> {
 }
 
 /// Runs the program with the words of a command line.
-pub fn run_line<R: Threads + Sync>(
+pub(crate) fn run_line<R: Threads + Sync>(
     rt: &R,
     alloc: Global,
     line: &str,
@@ -92,7 +92,7 @@ pub fn run_line<R: Threads + Sync>(
 }
 
 /// The exit status and the output, and after `!` what was told on standard error.
-pub fn told(alloc: Global, ran: &Ran) -> Result<String, Fail> {
+pub(crate) fn told(alloc: Global, ran: &Ran) -> Result<String, Fail> {
     let output = str::from_utf8(&ran.output)?;
     let messages = str::from_utf8(&ran.messages)?;
     let mark = if messages.is_empty() { "" } else { "!" };
@@ -105,7 +105,7 @@ fn lines_of(alloc: Global, row: &str) -> Result<String, AllocError> {
 }
 
 /// Asserts what the program answers to an input.
-pub fn is_answered<R: Abort + Threads + Sync>(
+pub(crate) fn is_answered<R: Abort + Threads + Sync>(
     rt: &R,
     alloc: Global,
     line: &str,
@@ -123,7 +123,7 @@ pub fn is_answered<R: Abort + Threads + Sync>(
 
 /// Asserts what the program answers, row by row. A row has the lines of an input and, after `=>`, the
 /// status and the lines of the output.
-pub fn are_answered<R: Abort + Threads + Sync>(
+pub(crate) fn are_answered<R: Abort + Threads + Sync>(
     rt: &R,
     alloc: Global,
     line: &str,

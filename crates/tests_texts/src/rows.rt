@@ -6,14 +6,14 @@ use std::process::Abort;
 use std::test::Fail;
 
 /// The text of a row.
-pub fn text_of(alloc: Global, row: &str) -> Result<String, AllocError> {
+pub(crate) fn text_of(alloc: Global, row: &str) -> Result<String, AllocError> {
     let lines = row.trim().replace(alloc, " | ", "\n")?;
     let lines = lines.as_str().replace(alloc, "<tab>", "\t")?;
     lines.as_str().replace(alloc, "<cr>", "\r")
 }
 
 /// What an error says, or `accepted`.
-pub fn told(alloc: Global, error: Option<TextError>) -> Result<String, AllocError> {
+pub(crate) fn told(alloc: Global, error: Option<TextError>) -> Result<String, AllocError> {
     match error {
         Some(error) => error.to_string(alloc),
         None => String::from_str(alloc, "accepted"),
@@ -21,7 +21,7 @@ pub fn told(alloc: Global, error: Option<TextError>) -> Result<String, AllocErro
 }
 
 /// Asserts what a reader says of the texts of a table.
-pub fn are_told<F: Fn(Global, &str) -> Option<TextError>>(
+pub(crate) fn are_told<F: Fn(Global, &str) -> Option<TextError>>(
     rt: &impl Abort,
     alloc: Global,
     table: &str,
@@ -39,7 +39,7 @@ pub fn are_told<F: Fn(Global, &str) -> Option<TextError>>(
 }
 
 /// A front and this one line n times.
-pub fn repeated(alloc: Global, front: &str, line: &str, count: u32) -> Result<String, AllocError> {
+pub(crate) fn repeated(alloc: Global, front: &str, line: &str, count: u32) -> Result<String, AllocError> {
     let mut text = String::from_str(alloc, front)?;
     for _ in 0..count {
         text.push_str(line)?;

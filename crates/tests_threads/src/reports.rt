@@ -14,7 +14,7 @@ use std::thread::Threads;
 use tests_rows::{FirstLoop, Row, spelled_out};
 
 /// What is told of the first loop of a row: its line, and the maps after it.
-pub fn loop_report<R: Threads + Sync, G: Gate>(
+pub(crate) fn loop_report<R: Threads + Sync, G: Gate>(
     rt: &R,
     alloc: Global,
     row: &Row,
@@ -45,7 +45,7 @@ pub fn loop_report<R: Threads + Sync, G: Gate>(
 }
 
 /// What is told of the program of a row: its return value, its loops, and the maps after it.
-pub fn report<R: Threads + Sync, G: Gate>(
+pub(crate) fn report<R: Threads + Sync, G: Gate>(
     rt: &R,
     alloc: Global,
     row: &Row,
@@ -58,7 +58,7 @@ pub fn report<R: Threads + Sync, G: Gate>(
 }
 
 /// What is written where a row is the input.
-pub fn served<R: Threads + Sync, G: Gate>(
+pub(crate) fn served<R: Threads + Sync, G: Gate>(
     rt: &R,
     alloc: Global,
     row: &str,

@@ -7,14 +7,14 @@ use std::alloc::Global;
 use std::test::Fail;
 
 /// The instruction of a row, what R1 and R2 have, and what is wanted.
-pub fn row_parts<'a>(line: &'a str) -> Option<(&'a str, &'a str, &'a str)> {
+pub(crate) fn row_parts<'a>(line: &'a str) -> Option<(&'a str, &'a str, &'a str)> {
     let (given, wanted) = line.split_once(" => ")?;
     let (insn, operands) = given.split_once(" | ")?;
     Some((insn.trim(), operands.trim(), wanted.trim()))
 }
 
 /// The instruction of a line of assembler text.
-pub fn read_insn(alloc: Global, line: &str) -> Result<Insn, Fail> {
+pub(crate) fn read_insn(alloc: Global, line: &str) -> Result<Insn, Fail> {
     let mut text = String::from_str(alloc, "maps 1\n")?;
     text.push_str(line)?;
     let unit = parse_unit(alloc, text.as_str())
@@ -24,7 +24,7 @@ pub fn read_insn(alloc: Global, line: &str) -> Result<Insn, Fail> {
 }
 
 /// The two words that blanks part.
-pub fn read_pair<'a>(text: &'a str) -> Result<(&'a str, &'a str), Fail> {
+pub(crate) fn read_pair<'a>(text: &'a str) -> Result<(&'a str, &'a str), Fail> {
     let mut words = text.split_whitespace();
     let first = words.next().ok_or("a first word")?;
     let second = words.next().ok_or("a second word")?;
@@ -32,7 +32,7 @@ pub fn read_pair<'a>(text: &'a str) -> Result<(&'a str, &'a str), Fail> {
 }
 
 /// A word: a number, one in hexadecimal digits after 0x, or a negative one as its two's complement.
-pub fn read_word(text: &str) -> Result<u64, Fail> {
+pub(crate) fn read_word(text: &str) -> Result<u64, Fail> {
     let word = if text.starts_with("-") {
         text.parse::<i64>()
             .ok()

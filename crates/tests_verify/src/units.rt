@@ -56,7 +56,7 @@ fn answer(alloc: Global, unit: &str) -> Result<String, AllocError> {
 }
 
 /// Asserts what is said of a unit.
-pub fn is_answered(rt: &impl Abort, alloc: Global, unit: &str, wanted: &str) -> Result<(), Fail> {
+pub(crate) fn is_answered(rt: &impl Abort, alloc: Global, unit: &str, wanted: &str) -> Result<(), Fail> {
     let text = unit.replace(alloc, " | ", "\n")?;
     let told = answer(alloc, &text)?;
     assert_eq!(rt; told.as_str(), wanted, "of {unit}");
@@ -65,7 +65,7 @@ pub fn is_answered(rt: &impl Abort, alloc: Global, unit: &str, wanted: &str) -> 
 
 /// Asserts what is said of units that differ where `unit` has two dots. A row of the table has
 /// the lines that stand there and, after `=>`, the answer.
-pub fn are_answered(rt: &impl Abort, alloc: Global, unit: &str, table: &str) -> Result<(), Fail> {
+pub(crate) fn are_answered(rt: &impl Abort, alloc: Global, unit: &str, table: &str) -> Result<(), Fail> {
     for row in table.trim().lines() {
         let (lines, answer) = row.split_once("=>").ok_or("a row has an answer")?;
         let whole = unit.replace(alloc, "..", lines.trim())?;

@@ -18,7 +18,7 @@ pub fn round_down(number: u64, zeros: u32) -> u64
 
 /// The least multiple of 2^zeros that is not below a number.
 #[tactic(auto, unfolding(crate::specs::Spans::rounded_up, crate::specs::Spans::rounded_down))]
-pub fn round_up(number: u64, zeros: u32) -> u64
+pub(crate) fn round_up(number: u64, zeros: u32) -> u64
     requires bits { zeros ≤ 64 }
     requires word { rounded_up zeros number < 2 ^ 64 }
     ensures { result ≡ rounded_up zeros number }

@@ -8,7 +8,7 @@ use value_range_model::{Condition, Range, norm, round_down};
 
 /// Equal: what both have in common.
 #[tactic(auto, unfolding(value_range_model::specs::RefineRows::equal))]
-pub fn equal(a: Range, b: Range) -> Option<(Range, Range)>
+pub(crate) fn equal(a: Range, b: Range) -> Option<(Range, Range)>
     ensures { result ≡ equal a b }
 {
     let zeros = a.zeros().max(b.zeros());
@@ -23,7 +23,7 @@ pub fn equal(a: Range, b: Range) -> Option<(Range, Range)>
 
 /// Unequal: an exact one is cut off an end of the other.
 #[tactic(auto, unfolding(value_range_model::specs::RefineRows::different))]
-pub fn different(a: Range, b: Range) -> Option<(Range, Range)>
+pub(crate) fn different(a: Range, b: Range) -> Option<(Range, Range)>
     ensures { result ≡ different a b }
 {
     let first = a.lo() == a.hi();
@@ -56,7 +56,7 @@ fn without(number: u64, range: Range) -> Range
 
 /// Greater: the first is above the second's least word, the second below the first's greatest.
 #[tactic(auto, unfolding(value_range_model::specs::RefineRows::greater))]
-pub fn greater(a: Range, b: Range) -> Option<(Range, Range)>
+pub(crate) fn greater(a: Range, b: Range) -> Option<(Range, Range)>
     ensures { result ≡ greater a b }
 {
     if a.hi() <= b.lo() {
@@ -69,7 +69,7 @@ pub fn greater(a: Range, b: Range) -> Option<(Range, Range)>
 
 /// Not less: the first isn't below the second's least word, nor the second above the first's greatest.
 #[tactic(auto, unfolding(value_range_model::specs::RefineRows::not_less))]
-pub fn not_less(a: Range, b: Range) -> Option<(Range, Range)>
+pub(crate) fn not_less(a: Range, b: Range) -> Option<(Range, Range)>
     ensures { result ≡ not_less a b }
 {
     if a.hi() < b.lo() {
@@ -81,7 +81,7 @@ pub fn not_less(a: Range, b: Range) -> Option<(Range, Range)>
 }
 
 /// The operands exchanged.
-pub fn exchanged(refined: Option<(Range, Range)>) -> Option<(Range, Range)>
+pub(crate) fn exchanged(refined: Option<(Range, Range)>) -> Option<(Range, Range)>
     ensures { result ≡ swapped refined }
 {
     match refined {
@@ -92,7 +92,7 @@ pub fn exchanged(refined: Option<(Range, Range)>) -> Option<(Range, Range)>
 
 /// Any condition: whether two exact ranges meet it.
 #[tactic(auto, unfolding(value_range_model::specs::RefineRows::tested))]
-pub fn tested(condition: Condition, width: Width, a: Range, b: Range) -> Option<(Range, Range)>
+pub(crate) fn tested(condition: Condition, width: Width, a: Range, b: Range) -> Option<(Range, Range)>
     ensures { result ≡ tested condition width a b }
 {
     let are_exact = a.lo() == a.hi() && b.lo() == b.hi();

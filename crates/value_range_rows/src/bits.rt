@@ -21,7 +21,7 @@ fn fill(word: u64) -> u64
 
 /// The bits of either: not below either, nor above all bits that there may be.
 #[tactic(auto, using(value_range_model::proofs::RowBounds::zero_some), unfolding(value_range_model::specs::AluRows::with_bits))]
-pub fn with_bits(a: Range, b: Range) -> Range
+pub(crate) fn with_bits(a: Range, b: Range) -> Range
     ensures { result ≡ with_bits a b }
 {
     norm(
@@ -33,7 +33,7 @@ pub fn with_bits(a: Range, b: Range) -> Range
 
 /// The bits of both: not above either.
 #[tactic(auto, using(value_range_model::proofs::RowBounds::zero_some), unfolding(value_range_model::specs::AluRows::common_bits))]
-pub fn common_bits(a: Range, b: Range) -> Range
+pub(crate) fn common_bits(a: Range, b: Range) -> Range
     ensures { result ≡ common_bits a b }
 {
     norm(0, a.hi().min(b.hi()), a.zeros().max(b.zeros()))
@@ -41,7 +41,7 @@ pub fn common_bits(a: Range, b: Range) -> Range
 
 /// The bits of one alone: not above all bits that there may be.
 #[tactic(auto, using(value_range_model::proofs::RowBounds::zero_some), unfolding(value_range_model::specs::AluRows::other_bits))]
-pub fn other_bits(a: Range, b: Range) -> Range
+pub(crate) fn other_bits(a: Range, b: Range) -> Range
     ensures { result ≡ other_bits a b }
 {
     norm(0, fill(a.hi() | b.hi()), a.zeros().min(b.zeros()))

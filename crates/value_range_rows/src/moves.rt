@@ -10,7 +10,7 @@ use value_range_model::{Range, exact, norm, top};
 
 /// Numbers of 32 bits in place of those that may be greater.
 #[tactic(auto, unfolding(value_range_model::specs::AluRows::low32))]
-pub fn low32(range: Range) -> Range
+pub(crate) fn low32(range: Range) -> Range
     ensures { result ≡ low32 range }
 {
     if range.hi() < 0x1_0000_0000 {
@@ -24,7 +24,7 @@ pub fn low32(range: Range) -> Range
 
 /// The negative, of which the trailing zeros are known.
 #[tactic(auto, using(value_range_model::proofs::RowBounds::zero_some), unfolding(value_range_model::specs::AluRows::negative))]
-pub fn negative(width: Width, a: Range) -> Range
+pub(crate) fn negative(width: Width, a: Range) -> Range
     ensures { result ≡ negative width a }
 {
     spread(width, a.zeros())
@@ -32,7 +32,7 @@ pub fn negative(width: Width, a: Range) -> Range
 
 /// A sign-extending move: where the sign is clear, the operand.
 #[tactic(auto, using(value_range_model::proofs::RowBounds::zero_some), unfolding(value_range_model::specs::AluRows::extended_range))]
-pub fn extended(width: Width, bits: MovsxBits, b: Range) -> Range
+pub(crate) fn extended(width: Width, bits: MovsxBits, b: Range) -> Range
     ensures { result ≡ extended_range width bits b }
 {
     if b.hi() < sign_bit(bits) {
@@ -54,7 +54,7 @@ fn sign_bit(bits: MovsxBits) -> u64
 }
 
 /// The low bits in a byte order: reversed nothing is known.
-pub fn ordered(order: ByteOrder, bits: EndianBits, a: Range) -> Range
+pub(crate) fn ordered(order: ByteOrder, bits: EndianBits, a: Range) -> Range
     ensures { result ≡ ordered order bits a }
 {
     match order {

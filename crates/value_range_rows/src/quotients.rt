@@ -7,7 +7,7 @@ use value_range_model::{Range, exact, norm};
 
 /// By a known number from the least to the greatest; by zero it is 0.
 #[tactic(auto, using(value_range_model::proofs::RowBounds::zero_some), unfolding(value_range_model::specs::AluRows::divided))]
-pub fn divided(a: Range, b: Range) -> Range
+pub(crate) fn divided(a: Range, b: Range) -> Range
     ensures { result ≡ divided a b }
 {
     if b.lo() != b.hi() {
@@ -21,7 +21,7 @@ pub fn divided(a: Range, b: Range) -> Range
 
 /// By a known number what is below it; by zero, or by a greater number, the dividend stays.
 #[tactic(auto, using(value_range_model::proofs::RowBounds::zero_some), unfolding(value_range_model::specs::AluRows::left_over))]
-pub fn left_over(a: Range, b: Range) -> Range
+pub(crate) fn left_over(a: Range, b: Range) -> Range
     ensures { result ≡ left_over a b }
 {
     if b.lo() != b.hi() {

@@ -23,7 +23,7 @@ fn shifted_left_by(width: Width, a: Range, amount: u32) -> Range
 
 /// To the left. By an unknown amount the trailing zeros stay.
 #[tactic(auto, using(value_range_model::proofs::RowBounds::zero_some), unfolding(value_range_model::specs::AluRows::shifted_left))]
-pub fn shifted_left(width: Width, a: Range, b: Range) -> Range
+pub(crate) fn shifted_left(width: Width, a: Range, b: Range) -> Range
     ensures { result ≡ shifted_left width a b }
 {
     if b.lo() == b.hi() {
@@ -35,7 +35,7 @@ pub fn shifted_left(width: Width, a: Range, b: Range) -> Range
 
 /// To the right, by a known amount from the least to the greatest.
 #[tactic(auto, using(value_range_model::proofs::RowBounds::zero_some), unfolding(value_range_model::specs::AluRows::shifted_right))]
-pub fn shifted_right(width: Width, a: Range, b: Range) -> Range
+pub(crate) fn shifted_right(width: Width, a: Range, b: Range) -> Range
     ensures { result ≡ shifted_right width a b }
 {
     if b.lo() == b.hi() {
@@ -52,7 +52,7 @@ pub fn shifted_right(width: Width, a: Range, b: Range) -> Range
 
 /// To the right with the sign: where that is clear, the same.
 #[tactic(auto, using(value_range_model::proofs::RowBounds::zero_some), unfolding(value_range_model::specs::AluRows::shifted_signed))]
-pub fn shifted_signed(width: Width, a: Range, b: Range) -> Range
+pub(crate) fn shifted_signed(width: Width, a: Range, b: Range) -> Range
     ensures { result ≡ shifted_signed width a b }
 {
     if a.hi() <= top(width).hi() / 2 {

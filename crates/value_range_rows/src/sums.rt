@@ -10,7 +10,7 @@ use value_range_model::{Range, norm};
 
 /// Where no sum wraps, from the least to the greatest.
 #[tactic(auto, using(value_range_model::proofs::RowBounds::added_some), unfolding(value_range_model::specs::AluRows::added))]
-pub fn added(width: Width, a: Range, b: Range) -> Range
+pub(crate) fn added(width: Width, a: Range, b: Range) -> Range
     ensures { result ≡ added width a b }
 {
     let zeros = a.zeros().min(b.zeros());
@@ -22,7 +22,7 @@ pub fn added(width: Width, a: Range, b: Range) -> Range
 
 /// Where no difference wraps, from the least to the greatest.
 #[tactic(auto, using(value_range_model::proofs::RowBounds::subtracted_some), unfolding(value_range_model::specs::AluRows::subtracted))]
-pub fn subtracted(width: Width, a: Range, b: Range) -> Range
+pub(crate) fn subtracted(width: Width, a: Range, b: Range) -> Range
     ensures { result ≡ subtracted width a b }
 {
     let zeros = a.zeros().min(b.zeros());
@@ -35,7 +35,7 @@ pub fn subtracted(width: Width, a: Range, b: Range) -> Range
 
 /// Where no product wraps, from the least to the greatest.
 #[tactic(auto, using(value_range_model::proofs::RowBounds::multiplied_some), unfolding(value_range_model::specs::AluRows::multiplied))]
-pub fn multiplied(width: Width, a: Range, b: Range) -> Range
+pub(crate) fn multiplied(width: Width, a: Range, b: Range) -> Range
     ensures { result ≡ multiplied width a b }
 {
     let zeros = (a.zeros() + b.zeros()).min(64);

@@ -8,7 +8,7 @@ use bpf_insn_types::Width;
 use value_range_model::{Range, norm, top};
 
 /// The number, where it is one of the width.
-pub fn within(width: Width, number: u128) -> Option<u64>
+pub(crate) fn within(width: Width, number: u128) -> Option<u64>
     ensures some { IfSome result (λ n. (n ≡ number) × (n < modulus width)) }
     ensures none { IfNone result (modulus width ≤ number) }
 {
@@ -21,7 +21,7 @@ pub fn within(width: Width, number: u128) -> Option<u64>
 
 /// Every number of the width that has n trailing zeros.
 #[tactic(auto, using(value_range_model::proofs::RowBounds::zero_some))]
-pub fn spread(width: Width, zeros: u32) -> Range
+pub(crate) fn spread(width: Width, zeros: u32) -> Range
     requires { zeros ≤ 64 }
     ensures { result ≡ norm 0 (modulus width - 1) zeros }
 {
