@@ -1,20 +1,17 @@
 //! What a block remembers of its iterations: planes and the conflicts that they tell, partials, and pages.
 
-ghost use Rattle.std.specs.Prelude.{◌≤◌, IfOk};
+ghost use Rattle.std.specs.Prelude.{IfOk};
 ghost use Rattle.loop_core_model.specs.declared.loop_test.Test.TheVariants.{Lrpd};
-ghost use Rattle.shadow_marks.specs.Standing.{ArePlanes};
 ghost use Rattle.tests_blocks.specs.Stages.{IsStage, IsRunOn};
 
 use crate::stage::{Stage, run_on, stage_of};
 use array_maps::Op;
-use lane_planes::{conflicts, count_bits, first_bit};
 use loop_core_block::Block;
 use loop_core_model::Test;
-use shadow_marks::{Planes, Tested};
 use std::alloc::{AllocError, Global};
-use std::fmt::Write;
 use std::process::Abort;
 use std::test::Fail;
+use tests_private_copy::{tell_conflicts, tell_planes};
 
 /// A block of a loop.
 fn block_of<'a>(alloc: Global, stage: &'a Stage, number: u32, test: Test) -> Result<Block<'a>, Fail>
@@ -27,70 +24,17 @@ fn block_of<'a>(alloc: Global, stage: &'a Stage, number: u32, test: Test) -> Res
     Ok(run_on(alloc, stage, number, test)?)
 }
 
-/// Lanes of the kernels.
-const LANES: usize = 8;
-
-/// A plane's words after its name, where one isn't 0.
-fn tell(text: &mut String, name: &str, words: &[u64]) -> Result<(), AllocError> {
-    if words.iter().all(|word| *word == 0) {
-        return Ok(());
-    }
-    write!(text, " {name}")?;
-    for word in words {
-        write!(text, " {word}")?;
-    }
-    Ok(())
-}
-
-/// The planes of the LRPD test: some iteration writes an element, two do, one reads and writes it, one only reads it.
-fn tell_tested(text: &mut String, planes: &Tested) -> Result<(), AllocError> {
-    if let Tested::Lrpd(tested) = planes {
-        tell(text, "w", &tested.written)?;
-        tell(text, "m", &tested.written_by_two)?;
-        tell(text, "np", &tested.read_and_written)?;
-        tell(text, "r", &tested.read_only)?;
-    }
-    Ok(())
-}
-
-/// The planes of plain accesses and of each operator.
-fn tell_kinds(text: &mut String, planes: &Planes) -> Result<(), AllocError> {
-    tell(text, "nx", &planes.plain)?;
-    tell(text, "add", &planes.operators.add)?;
-    tell(text, "or", &planes.operators.or)?;
-    tell(text, "and", &planes.operators.and)?;
-    tell(text, "xor", &planes.operators.xor)?;
-    tell(text, "addh", &planes.operators.addh)
-}
-
-/// The plane of conflicts, their number, and the least.
-fn tell_conflicts(alloc: Global, text: &mut String, planes: &Planes) -> Result<(), AllocError>
-    requires whole { ArePlanes planes.now }
-    requires few { planes.now.elements ≤ 65536 }
-{
-    let mut plane = vec![in alloc; 0u64; (planes.elements as usize + 63) / 64]?;
-    conflicts::<LANES>(planes, plane.as_mut_slice());
-    tell(text, "conflicts", &plane)?;
-    match first_bit::<LANES>(&plane) {
-        None => Ok(()),
-        Some(least) => {
-            let count = count_bits::<LANES>(&plane);
-            write!(text, " count {count} least {least}")
-        }
-    }
-}
-
 /// Rows with a loop, and the planes of all its iterations by the LRPD test.
 const PLANES: &str = "
     maps 5 | mov64 r1, 4 | LOOP | AT | ldx64 r4, [r3+0] | stx64 [r3+8], r4 | END | %% | map 0: 9 0 0 0 0 \
-        => w 30 r 15 nx 31 conflicts 14 count 3 least 1
+        => nx 31 w 30 r 15 conflicts 14 count 3 least 1
     maps 1 | mov64 r1, 4 | LOOP | ldmapval r3, 0, 0 | mov64 r0, 0 | mov64 r4, 8 | and64 r1, 1 | jne64 r1, 0, odd | \
         mov64 r4, 5 | atomic64 add [r3+0], r4 | exit | odd: | atomic64 or [r3+0], r4 | exit | %% | map 0: 1 \
-        => w 1 m 1 np 1 add 1 or 1 conflicts 1 count 1 least 0
+        => add 1 or 1 w 1 m 1 np 1 conflicts 1 count 1 least 0
     maps 1 | mov64 r1, 5 | LOOP | ldmapval r3, 0, 0 | stx64 [r3+0], r1 | ldx64 r4, [r3+0] | END | %% | map 0: 3 \
-        => w 1 m 1 nx 1
+        => nx 1 w 1 m 1
     maps 65 | mov64 r1, 65 | LOOP | AT | ldx64 r4, [r3+0] | add64 r4, 1 | stx64 [r3+0], r4 | END \
-        => w 18446744073709551615 1 np 18446744073709551615 1 nx 18446744073709551615 1
+        => nx 18446744073709551615 1 w 18446744073709551615 1 np 18446744073709551615 1
 ";
 
 /// What the planes of a block tell.
@@ -101,8 +45,7 @@ fn told_of(alloc: Global, stage: &Stage, block: &Block) -> Result<String, AllocE
     let _words = stage.maps.words();
     let planes = block.planes();
     let mut text = String::new(alloc);
-    tell_tested(&mut text, &planes.tested)?;
-    tell_kinds(&mut text, planes)?;
+    tell_planes(&mut text, planes)?;
     tell_conflicts(alloc, &mut text, planes)?;
     Ok(text)
 }

@@ -6,6 +6,9 @@
 use crate::rows::are_answered;
 use std::test::Fail;
 
+/// What is answered where all that is told stands in map 0.
+const MAP_0: &str = "return 0 | map 0: ..";
+
 /// Main loads 1, 2, 4 and 8 bytes of a word at the end of its frame, and sign-extends 1, 2 and 4.
 const LOADS_FROM_ITS_FRAME: &str =
     "maps 10 | ldmapval r8, 0, 0 | ldx64 r6, [r8+0] | stx64 [r10-512], r6 | st64 [r10-504], 0 | \
@@ -36,13 +39,7 @@ const WORDS: &str = "
 
 #[test]
 fn frames_are_loaded(rt: HostRuntime) -> Result<(), Fail> {
-    are_answered(
-        &rt,
-        rt.alloc(),
-        LOADS_FROM_ITS_FRAME,
-        "return 0 | map 0: ..",
-        WORDS,
-    )?;
+    are_answered(&rt, rt.alloc(), LOADS_FROM_ITS_FRAME, MAP_0, WORDS)?;
     let wanted = "return 5 | loop 0 at 11: answer 2, in order | map 0: ..";
     are_answered(&rt, rt.alloc(), LOADS_FROM_MAINS_FRAME, wanted, WORDS)
 }
@@ -68,13 +65,7 @@ const STORED: &str = "
 
 #[test]
 fn frames_are_stored_to(rt: HostRuntime) -> Result<(), Fail> {
-    are_answered(
-        &rt,
-        rt.alloc(),
-        STORES_TO_ITS_FRAME,
-        "return 0 | map 0: ..",
-        STORED,
-    )
+    are_answered(&rt, rt.alloc(), STORES_TO_ITS_FRAME, MAP_0, STORED)
 }
 
 /// Both halves of an element are loaded, sign-extended, and stored to: from a word and as an immediate.
@@ -94,13 +85,8 @@ const HALF_WORDS: &str = "
 
 #[test]
 fn halves_of_elements_are_accessed(rt: HostRuntime) -> Result<(), Fail> {
-    are_answered(
-        &rt,
-        rt.alloc(),
-        HALVES,
-        "return 0 | map 0: 18446744073709551613 | map 1: ..",
-        HALF_WORDS,
-    )
+    let wanted = "return 0 | map 0: 18446744073709551613 | map 1: ..";
+    are_answered(&rt, rt.alloc(), HALVES, wanted, HALF_WORDS)
 }
 
 /// An atomic operation with a word: on an element, its low and its high half, 8 bytes of the frame and 4.
@@ -137,13 +123,7 @@ const ATOMIC_WORDS: &str = "
 
 #[test]
 fn atomic_operations_at_both_widths(rt: HostRuntime) -> Result<(), Fail> {
-    are_answered(
-        &rt,
-        rt.alloc(),
-        ATOMICS,
-        "return 0 | map 0: ..",
-        ATOMIC_WORDS,
-    )
+    are_answered(&rt, rt.alloc(), ATOMICS, MAP_0, ATOMIC_WORDS)
 }
 
 /// The same with a comparison: the three words are what stands there, what is stored, and R0 before. Told is R0 after.
@@ -169,13 +149,7 @@ const EXCHANGED: &str = "
 
 #[test]
 fn exchanges_where_equal(rt: HostRuntime) -> Result<(), Fail> {
-    are_answered(
-        &rt,
-        rt.alloc(),
-        EXCHANGES,
-        "return 0 | map 0: ..",
-        EXCHANGED,
-    )
+    are_answered(&rt, rt.alloc(), EXCHANGES, MAP_0, EXCHANGED)
 }
 
 /// A lookup by the key at a byte of map 0: the first key of map 1, its last, one past it, and the greatest.
@@ -193,11 +167,6 @@ const KEYS: &str = "
 
 #[test]
 fn lookups_answer_elements_or_null(rt: HostRuntime) -> Result<(), Fail> {
-    are_answered(
-        &rt,
-        rt.alloc(),
-        LOOKS_UP,
-        "return .. | map 0: 12884901888 18446744069414584324 | map 1: 10 20 30 40",
-        KEYS,
-    )
+    let wanted = "return .. | map 0: 12884901888 18446744069414584324 | map 1: 10 20 30 40";
+    are_answered(&rt, rt.alloc(), LOOKS_UP, wanted, KEYS)
 }

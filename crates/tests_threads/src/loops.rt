@@ -1,7 +1,7 @@
 //! What is told of rows, with any number of workers and blocks. A row has a program with its maps, and after `=>` what
-//! is
-//! told of it.
+//! is told of it.
 
+ghost use Rattle.std.specs.Prelude.{◌≡◌, IfOk};
 ghost use Rattle.bpf_verify_sound.specs.Soundness.{OverApproximatesCall};
 
 use crate::reports::{loop_report, report};
@@ -27,9 +27,17 @@ const WAYS: [(u32, u32); 9] = [
     (16, 64),
 ];
 
+/// The plan of a way.
+fn plan_of(workers: u32, blocks: u32, test: Test) -> Plan {
+    Plan {
+        workers,
+        blocks,
+        test,
+    }
+}
+
 /// Asserts what is told of a program in each way: without a gate, so in the calling thread where a loop is short, and
-/// with
-/// one, so on threads by the plan as it is.
+/// with one, so on threads by the plan as it is.
 fn program_is_told<R: Threads + Sync + Abort>(
     rt: &R,
     alloc: Global,
@@ -38,11 +46,7 @@ fn program_is_told<R: Threads + Sync + Abort>(
     wanted: &str,
 ) -> Result<(), Fail> {
     for (workers, blocks) in WAYS {
-        let plan = Plan {
-            workers,
-            blocks,
-            test,
-        };
+        let plan = plan_of(workers, blocks, test);
         let told = report(rt, alloc, row, &plan, &NoGate)?;
         assert_eq!(rt; told.trim_end(), wanted, "{plan:?}");
         let told = report(rt, alloc, row, &plan, &OpenGate)?;
@@ -63,17 +67,22 @@ fn loop_is_told<R: Threads + Sync + Abort>(
     requires { OverApproximatesCall row.now.program first.now.call }
 {
     for (workers, blocks) in WAYS {
-        let plan = Plan {
-            workers,
-            blocks,
-            test,
-        };
+        let plan = plan_of(workers, blocks, test);
         let told = loop_report(rt, alloc, row, first, &plan, &NoGate)?;
         assert_eq!(rt; told.trim_end(), wanted, "{plan:?}");
         let told = loop_report(rt, alloc, row, first, &plan, &OpenGate)?;
         assert_eq!(rt; told.trim_end(), wanted, "{plan:?} with a gate");
     }
     Ok(())
+}
+
+/// The program of a row with its maps, and what is told of it.
+fn row_of(alloc: Global, line: &str) -> Result<(Row, &str), Fail>
+    ensures { IfOk result (λ read. read.0.maps.sizes ≡ read.0.program.sizes) }
+{
+    let (row, wanted) = line.split_once("=>").ok_or("a row has a report")?;
+    let row = read_row(alloc, row.trim()).ok_or("a row has a program")?;
+    Ok((row, wanted.trim()))
 }
 
 /// Asserts what is told of each program of a table.
@@ -84,9 +93,8 @@ fn programs_are_told<R: Threads + Sync + Abort>(
     table: &str,
 ) -> Result<(), Fail> {
     for line in table.trim().lines() {
-        let (row, wanted) = line.split_once("=>").ok_or("a row has a report")?;
-        let row = read_row(alloc, row.trim()).ok_or("a row has a program")?;
-        let wanted = wanted.trim().replace(alloc, " | ", "\n")?;
+        let (row, wanted) = row_of(alloc, line)?;
+        let wanted = wanted.replace(alloc, " | ", "\n")?;
         program_is_told(rt, alloc, &row, test, &wanted)?;
     }
     Ok(())
@@ -100,8 +108,7 @@ fn loops_are_told<R: Threads + Sync + Abort>(
     table: &str,
 ) -> Result<(), Fail> {
     for line in table.trim().lines() {
-        let (row, wanted) = line.split_once("=>").ok_or("a row has a report")?;
-        let row = read_row(alloc, row.trim()).ok_or("a row has a program")?;
+        let (row, wanted) = row_of(alloc, line)?;
         let first = first_loop(alloc, &row).ok_or("a program has a loop")?;
         let (_, wanted) = wanted.split_once(" | ").ok_or("a report has lines")?;
         let wanted = wanted.replace(alloc, " | ", "\n")?;
