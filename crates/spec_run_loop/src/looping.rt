@@ -122,9 +122,8 @@ fn decided<R: Threads + Sync, G: Gate>(
 }
 
 /// How many even blocks a loop is run over, of at most this many. Where the gate holds nobody, only those that are
-/// worth what
-/// each of them costs, which keeps marks of all elements: one of a short loop; of a longer one as many as there are
-/// workers, or one for as many iterations as there are elements.
+/// worth what each of them costs, which keeps marks of all elements: one of a short loop; of a longer one as many as
+/// there are workers, or one for as many iterations as there are elements.
 fn worthwhile_blocks<G: Gate>(
     call: &LoopCall,
     start: &Maps,
