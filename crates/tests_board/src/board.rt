@@ -8,6 +8,7 @@ use std::alloc::Global;
 use std::test::Fail;
 use std::thread;
 use std::thread::Threads;
+use tests_asserts::assert_same;
 
 /// After which of its steps a worker stops for good.
 #[derive(Clone, Copy)]
@@ -27,19 +28,19 @@ fn tally(claimed: u32, least: u32) -> Tally {
 #[test]
 fn a_look_sees_what_another_seat_posted(rt: HostRuntime) -> Result<(), Fail> {
     let (board, mut seats) = Board::new(rt.alloc(), 4, 2)?;
-    assert_eq!(rt; seats.len(), 2);
+    assert!(rt; seats.len() == 2);
     let before = board.look(&mut seats[0]);
     board.post(&mut seats[1], 3);
     let after = board.look(&mut seats[0]);
-    assert_eq!(rt; [before, after], [NO_POST, 3]);
-    assert_eq!(rt; board.gather(seats)?, tally(0, 3));
+    assert_same(&rt, [before, after], [NO_POST, 3]);
+    assert_same(&rt, board.gather(seats)?, tally(0, 3));
     Ok(())
 }
 
 #[test]
 fn claims_are_the_blocks_in_turn(rt: HostRuntime) -> Result<(), Fail> {
     let (board, mut seats) = Board::new(rt.alloc(), 2, 2)?;
-    assert_eq!(rt; seats.len(), 2);
+    assert!(rt; seats.len() == 2);
     let claims = [
         board.claim(&mut seats[0]),
         board.claim(&mut seats[1]),
@@ -47,8 +48,8 @@ fn claims_are_the_blocks_in_turn(rt: HostRuntime) -> Result<(), Fail> {
         board.claim(&mut seats[0]),
         board.claim(&mut seats[1]),
     ];
-    assert_eq!(rt; claims, [Some(0), Some(1), None, None, None]);
-    assert_eq!(rt; board.gather(seats)?, tally(2, NO_POST));
+    assert_same(&rt, claims, [Some(0), Some(1), None, None, None]);
+    assert_same(&rt, board.gather(seats)?, tally(2, NO_POST));
     Ok(())
 }
 
@@ -62,8 +63,8 @@ fn limits_are_refused(rt: HostRuntime) -> Result<(), Fail> {
         );
     }
     let (board, seats) = Board::new(rt.alloc(), 64, 16)?;
-    assert_eq!(rt; seats.len(), 16);
-    assert_eq!(rt; board.gather(seats)?, tally(0, NO_POST));
+    assert!(rt; seats.len() == 16);
+    assert_same(&rt, board.gather(seats)?, tally(0, NO_POST));
     Ok(())
 }
 
@@ -71,7 +72,7 @@ fn limits_are_refused(rt: HostRuntime) -> Result<(), Fail> {
 fn a_missing_seat_is_refused(rt: HostRuntime) -> Result<(), Fail> {
     let (board, mut seats) = Board::new(rt.alloc(), 1, 3)?;
     drop(seats.pop());
-    assert_eq!(rt; board.gather(seats), Err(BoardError::Seats));
+    assert_same(&rt, board.gather(seats), Err(BoardError::Seats));
     Ok(())
 }
 
@@ -88,11 +89,11 @@ fn board_of_two(alloc: Global) -> Result<(Board, Vec<BoardSeat>), BoardError>
 #[test]
 fn a_refused_growth_leaves_nothing_behind(rt: HostRuntime) -> Result<(), Fail> {
     let (board, mut seats) = board_of_two(rt.alloc())?;
-    assert_eq!(rt; seats.len(), 2);
+    assert!(rt; seats.len() == 2);
     let claim = board.claim(&mut seats[1]);
     board.post(&mut seats[1], 8_388_607);
-    assert_eq!(rt; claim, Some(0));
-    assert_eq!(rt; board.gather(seats)?, tally(1, 8_388_607));
+    assert_same(&rt, claim, Some(0));
+    assert_same(&rt, board.gather(seats)?, tally(1, 8_388_607));
     Ok(())
 }
 
@@ -134,7 +135,7 @@ fn four_threads_share_64_blocks(rt: HostRuntime) -> Result<(), Fail> {
             drain_and_post(shared, seat, break_of(number));
         },
     );
-    assert_eq!(rt; board.gather(seats)?, tally(64, 10));
+    assert_same(&rt, board.gather(seats)?, tally(64, 10));
     Ok(())
 }
 
@@ -194,7 +195,7 @@ fn one_of_three_threads_stops(rt: HostRuntime) -> Result<(), Fail> {
         (StopsAfter::Post, 10),
     ] {
         let gathered = tally_where_one_stops(&rt, rt.alloc(), stops)?;
-        assert_eq!(rt; gathered, tally(4, least));
+        assert_same(&rt, gathered, tally(4, least));
     }
     Ok(())
 }

@@ -2,6 +2,7 @@
 
 use array_maps::{Maps, Store};
 use std::test::Fail;
+use tests_asserts::assert_same;
 
 #[test]
 fn maps_hold_values(rt: HostRuntime) -> Result<(), Fail> {
@@ -10,8 +11,8 @@ fn maps_hold_values(rt: HostRuntime) -> Result<(), Fail> {
     maps.set(1, 0, 8);
     let seen = maps.load(2);
     maps.store(0, 5);
-    assert_eq!(rt; seen, 8);
-    assert_eq!(rt; maps.get(0, 0), 5);
-    assert_eq!(rt; maps.sizes(), [2, 1].as_slice());
+    assert_same(&rt, seen, 8);
+    assert_same(&rt, maps.get(0, 0), 5);
+    assert_same(&rt, maps.sizes(), [2, 1].as_slice());
     Ok(())
 }

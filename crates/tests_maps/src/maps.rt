@@ -9,6 +9,7 @@ ghost use Rattle.tests_maps.specs.Added.{addition};
 use array_maps::{Half, Maps, MapsError, Op, Part, Rmw, Store};
 use std::alloc::Global;
 use std::test::Fail;
+use tests_asserts::{assert_same, assert_same_in};
 
 /// What comes of making maps.
 fn outcome_of(alloc: Global, sizes: &[u32]) -> &'static str {
@@ -40,7 +41,7 @@ fn sizes_have_limits(rt: HostRuntime) -> Result<(), Fail> {
         for size in line.split_ascii_whitespace() {
             sizes.push(size.parse::<u32>()?)?;
         }
-        assert_eq!(rt; outcome_of(rt.alloc(), &sizes), wanted.trim(), "of {row}");
+        assert_same_in(&rt, row, outcome_of(rt.alloc(), &sizes), wanted.trim());
     }
     Ok(())
 }
@@ -58,8 +59,8 @@ fn values_stand_map_by_map(rt: HostRuntime) -> Result<(), Fail> {
     maps.set(1, 1, 7);
     let copy = maps.try_copy(rt.alloc())?;
     maps.set(0, 0, 9);
-    assert_eq!(rt; values_of(&maps), [9, 0, 7]);
-    assert_eq!(rt; values_of(&copy), [0, 0, 7]);
+    assert_same(&rt, values_of(&maps), [9, 0, 7]);
+    assert_same(&rt, values_of(&copy), [0, 0, 7]);
     Ok(())
 }
 
@@ -71,7 +72,7 @@ fn maps_are_made_of_values(rt: HostRuntime) -> Result<(), Fail> {
     values.push([6, 7].to_vec(alloc)?)?;
     let maps = Maps::of(alloc, &values)?;
     assert_eq!(rt; maps.sizes(), [1, 2].as_slice());
-    assert_eq!(rt; maps.values(1), [6, 7].as_slice());
+    assert_same(&rt, maps.values(1), [6, 7].as_slice());
     Ok(())
 }
 
@@ -80,7 +81,7 @@ fn a_map_has_values(rt: HostRuntime) -> Result<(), Fail> {
     let mut values = Vec::new(rt.alloc());
     values.push(Vec::new(rt.alloc()))?;
     let made = Maps::of(rt.alloc(), &values);
-    assert_eq!(rt; made.err(), Some(MapsError::Limits));
+    assert_same(&rt, made.err(), Some(MapsError::Limits));
     Ok(())
 }
 
@@ -100,9 +101,9 @@ fn a_refused_growth_leaves_nothing_behind(rt: HostRuntime) -> Result<(), Fail> {
     let mut maps = made(rt.alloc())?;
     maps.set(1, 1, 7);
     if let Ok(copy) = maps.try_copy(rt.alloc()) {
-        assert_eq!(rt; values_of(&copy), [0, 0, 7]);
+        assert_same(&rt, values_of(&copy), [0, 0, 7]);
     }
-    assert_eq!(rt; values_of(&maps), [0, 0, 7]);
+    assert_same(&rt, values_of(&maps), [0, 0, 7]);
     Ok(())
 }
 
@@ -119,7 +120,7 @@ fn a_store_answers_old_words(rt: HostRuntime) -> Result<(), Fail> {
         maps.load(2),
         maps.get(1, 1),
     ];
-    assert_eq!(rt; answers, [5, 9, 9, 11, 4, 4]);
+    assert_same(&rt, answers, [5, 9, 9, 11, 4, 4]);
     Ok(())
 }
 
@@ -140,7 +141,7 @@ fn a_store_reaches_halves(rt: HostRuntime) -> Result<(), Fail> {
         maps.load(0),
     ];
     let wanted = [0, 0x7_0000_0005, 7, 5, 0x6_0000_0009, 0x6_0000_0009];
-    assert_eq!(rt; answers, wanted);
+    assert_same(&rt, answers, wanted);
     Ok(())
 }
 
@@ -161,9 +162,10 @@ fn add_to_each<S: Store>(store: &mut S, elements: &[u32], operand: u64)
 fn a_run_goes_through_the_trait(rt: HostRuntime) -> Result<(), Fail> {
     let mut maps = Maps::new(rt.alloc(), &[2, 1])?;
     add_to_each(&mut maps, &[2, 0, 2], 18_446_744_073_709_551_615);
-    assert_eq!(rt;
+    assert_same(
+        &rt,
         (maps.get(0, 0), maps.get(0, 1), maps.get(1, 0)),
-        (18_446_744_073_709_551_615, 0, 18_446_744_073_709_551_614)
+        (18_446_744_073_709_551_615, 0, 18_446_744_073_709_551_614),
     );
     Ok(())
 }

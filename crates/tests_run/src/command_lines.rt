@@ -4,6 +4,7 @@ use crate::program::{is_answered, run_line, run_on, told};
 use bpfspec_command_line::{Job, read_words};
 use std::alloc::Global;
 use std::test::Fail;
+use tests_asserts::{assert_same, assert_same_in};
 
 const JOBS: &str = "
     order                     => Serve(Order { form: Assembler, arg: 0 })
@@ -37,7 +38,7 @@ fn a_command_and_its_arguments_are_read(rt: HostRuntime) -> Result<(), Fail> {
         let (line, wanted) = row.split_once("=>").ok_or("a row has a job")?;
         let job = job_of(rt.alloc(), line)?;
         let told = format!(in rt.alloc(); "{job:?}")?;
-        assert_eq!(rt; told.as_str(), wanted.trim(), "of {line}");
+        assert_same_in(&rt, line, told.as_str(), wanted.trim());
     }
     Ok(())
 }
@@ -148,10 +149,11 @@ fn other_words_are_usage_faults(rt: HostRuntime) -> Result<(), Fail> {
 fn a_word_that_is_not_utf8_is_a_usage_fault(rt: HostRuntime) -> Result<(), Fail> {
     let words = [b"bpfspec".as_slice(), b"order", b"\xff"];
     let ran = run_on(&rt, rt.alloc(), &words, b"", None, None);
-    assert_eq!(rt;
+    assert_same(
+        &rt,
         told(rt.alloc(), &ran)?.as_str(),
         "3 !error: a word isn't UTF-8\n\nUsage: bpfspec <COMMAND>\n\n\
-        For more information, try '--help'.\n"
+        For more information, try '--help'.\n",
     );
     Ok(())
 }

@@ -1,11 +1,12 @@
 //! What the commands answer to inputs. In a row ` | ` ends a line, and the answer after `=>` is the
 //! exit status and the output.
 
-use crate::program::{are_answered, is_answered, run_line, run_on, told, words_of};
+use crate::program::{Ran, are_answered, is_answered, run_line, run_on, told, words_of};
 use std::alloc::{AllocError, Global};
 use std::process::Abort;
 use std::test::Fail;
 use std::thread::Threads;
+use tests_asserts::assert_same;
 
 /// A loop of eight iterations that adds its index, in hex form, and what comes of its values and none.
 const HEX_UNITS: &str = "
@@ -72,6 +73,17 @@ fn behind(alloc: Global, head: &str, tail: &str) -> Result<String, AllocError> {
     Ok(text)
 }
 
+/// Asserts that a command writes this text.
+fn is_written<R: Abort + Threads + Sync>(
+    rt: &R,
+    alloc: Global,
+    line: &str,
+    input: &str,
+    text: &str,
+) -> Result<(), Fail> {
+    is_answered(rt, alloc, line, input, behind(alloc, "0 ", text)?.as_str())
+}
+
 #[test]
 fn lines_and_slots_are_written_both_ways(rt: HostRuntime) -> Result<(), Fail> {
     let alloc = rt.alloc();
@@ -79,8 +91,8 @@ fn lines_and_slots_are_written_both_ways(rt: HostRuntime) -> Result<(), Fail> {
         let (line, slots) = row.split_once("=>").ok_or("a row has slots")?;
         let text = behind(alloc, "maps 1 | ", line)?;
         let hex = behind(alloc, "maps 1 | ", slots)?;
-        is_answered(&rt, alloc, "asm", &text, &behind(alloc, "0 ", &hex)?)?;
-        is_answered(&rt, alloc, "disasm", &hex, &behind(alloc, "0 ", &text)?)?;
+        is_written(&rt, alloc, "asm", &text, &hex)?;
+        is_written(&rt, alloc, "disasm", &hex, &text)?;
     }
     Ok(())
 }
@@ -119,14 +131,25 @@ fn disasm_writes_assembler_text(rt: HostRuntime) -> Result<(), Fail> {
     are_answered(&rt, rt.alloc(), "disasm", HEX_TEXTS)
 }
 
+/// Asserts what `asm` tells of these bytes.
+fn is_told<R: Abort + Threads + Sync>(
+    rt: &R,
+    alloc: Global,
+    input: &[u8],
+    wanted: &str,
+) -> Result<(), Fail> {
+    let ran = run_line(rt, alloc, "asm", input)?;
+    is_left(rt, alloc, &ran, wanted)
+}
+
 #[test]
 fn an_input_is_utf8(rt: HostRuntime) -> Result<(), Fail> {
-    let ran = run_line(&rt, rt.alloc(), "asm", b"maps 1 ; \xff")?;
-    assert_eq!(rt;
-        told(rt.alloc(), &ran)?.as_str(),
-        "2 refused A1 at unit line 0\n"
-    );
-    Ok(())
+    is_told(
+        &rt,
+        rt.alloc(),
+        b"maps 1 ; \xff",
+        "2 refused A1 at unit line 0\n",
+    )
 }
 
 /// An input that is as long as it may be.
@@ -141,15 +164,14 @@ fn longest(alloc: Global) -> Result<String, AllocError> {
 #[test]
 fn an_input_has_a_limit(rt: HostRuntime) -> Result<(), Fail> {
     let mut input = longest(rt.alloc())?;
-    let ran = run_line(&rt, rt.alloc(), "asm", input.as_bytes())?;
-    assert_eq!(rt; told(rt.alloc(), &ran)?.as_str(), "0 maps 1\n");
+    is_told(&rt, rt.alloc(), input.as_bytes(), "0 maps 1\n")?;
     input.push_str("\u{e9}")?;
-    let ran = run_line(&rt, rt.alloc(), "asm", input.as_bytes())?;
-    assert_eq!(rt;
-        told(rt.alloc(), &ran)?.as_str(),
-        "2 refused A6 at unit line 0\n"
-    );
-    Ok(())
+    is_told(
+        &rt,
+        rt.alloc(),
+        input.as_bytes(),
+        "2 refused A6 at unit line 0\n",
+    )
 }
 
 /// A unit of two instructions.
@@ -169,8 +191,8 @@ fn a_failed_read_ends_with_5(rt: HostRuntime) -> Result<(), Fail> {
         let words = words_of(alloc, line)?;
         for position in 0..reads + 1 {
             let ran = run_on(&rt, alloc, &words, SEVEN, Some(position), None);
-            assert_eq!(rt; ran.status, if position < reads { 5 } else { 0 });
-            assert_eq!(rt; ran.output.is_empty(), position < reads);
+            assert_same(&rt, ran.status, if position < reads { 5 } else { 0 });
+            assert_same(&rt, ran.output.is_empty(), position < reads);
         }
     }
     Ok(())
@@ -186,11 +208,29 @@ fn a_failed_write_leaves_a_beginning(rt: HostRuntime) -> Result<(), Fail> {
         for position in 0..writes + 1 {
             let ran = run_on(&rt, alloc, &words, SEVEN, None, Some(position as u64));
             let beginning = &SEVEN_ANSWERED[..position * 3];
-            assert_eq!(rt; ran.status, if position < writes { 5 } else { 0 });
-            assert_eq!(rt; ran.output.as_slice(), beginning);
+            assert_same(&rt, ran.status, if position < writes { 5 } else { 0 });
+            assert_same(&rt, ran.output.as_slice(), beginning);
         }
     }
     Ok(())
+}
+
+/// Asserts what a run left.
+fn is_left(rt: &impl Abort, alloc: Global, ran: &Ran, wanted: &str) -> Result<(), Fail> {
+    assert_same(rt, told(alloc, ran)?.as_str(), wanted);
+    Ok(())
+}
+
+/// Asserts what a command tells, once the memory is there.
+fn is_told_at_last<R: Abort + Threads + Sync>(
+    rt: &R,
+    alloc: Global,
+    line: &str,
+    input: &str,
+    wanted: &str,
+) -> Result<(), Fail> {
+    let ran = run_line(rt, alloc, line, input.as_bytes())?;
+    is_left(rt, alloc, &ran, wanted)
 }
 
 /// Where a growth was refused the memory line is written, and a second try has the memory. The
@@ -202,16 +242,15 @@ fn is_told_unless_memory_is_lacking<R: Abort + Threads + Sync>(
     input: &str,
     answer: &str,
 ) -> Result<(), Fail> {
-    let words = words_of(alloc, line)?;
-    let mut ran = run_on(rt, alloc, &words, input.as_bytes(), None, None);
-    if ran.status == 4 {
-        assert_eq!(rt; told(alloc, &ran)?.as_str(), "4 refused memory\n");
+    let ran = run_line(rt, alloc, line, input.as_bytes())?;
+    match ran.status {
+        0 => is_left(rt, alloc, &ran, answer),
+        4 => {
+            is_left(rt, alloc, &ran, "4 refused memory\n")?;
+            is_told_at_last(rt, alloc, line, input, answer)
+        }
+        _ => is_told_at_last(rt, alloc, line, input, answer),
     }
-    if ran.status != 0 {
-        ran = run_on(rt, alloc, &words, input.as_bytes(), None, None);
-    }
-    assert_eq!(rt; told(alloc, &ran)?.as_str(), answer);
-    Ok(())
 }
 
 #[test]

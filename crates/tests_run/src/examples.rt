@@ -2,6 +2,7 @@
 
 use bpfspec_serve::{Counted, Mode, Served, UnitForm, serve};
 use std::test::Fail;
+use tests_asserts::assert_same;
 
 #[test]
 fn a_text_is_judged(rt: HostRuntime) -> Result<(), Fail> {
@@ -13,9 +14,10 @@ fn a_text_is_judged(rt: HostRuntime) -> Result<(), Fail> {
     };
     let served = serve(alloc, &mode, &mut input, &mut output);
     assert!(rt; matches!(served, Served::Done));
-    assert_eq!(rt;
+    assert_same(
+        &rt,
         output.into_inner().as_slice(),
-        b"accepted\nfunction 0 at 0 count 2\n".as_slice()
+        b"accepted\nfunction 0 at 0 count 2\n".as_slice(),
     );
     Ok(())
 }

@@ -4,9 +4,11 @@
 //!
 //! The answers are worked out by hand, from the loop in order and from what a conflict is.
 
-use crate::loops::are_run;
+use crate::loops::{are_run, judged};
 use std::alloc::Global;
+use std::process::Abort;
 use std::test::Fail;
+use std::thread::Threads;
 
 /// Writes the numbers for which a word stands, or the word.
 fn push_word(text: &mut String, word: &str) -> Result<(), Fail> {
@@ -138,20 +140,36 @@ const READ_AHEAD: &str = "
         st64 [r3+0], 9 | done: | exit | %% | map 0: 5 => 0 return 20000 | loop 0 at 5: answer 20000, SECOND | map 0: 9
 ";
 
-#[test]
-fn a_long_loop_is_judged_by_the_test_that_is_named(rt: HostRuntime) -> Result<(), Fail> {
-    let alloc = rt.alloc();
+/// Asserts what is answered to these rows with these verdicts.
+fn are_judged<R: Abort + Threads + Sync>(
+    rt: &R,
+    alloc: Global,
+    lines: &str,
+    (first, second): (&str, &str),
+) -> Result<(), Fail> {
     let rows = with_numbers(alloc, READ_AHEAD)?;
-    let by_flow = rows.replace(alloc, "FIRST", "parallel")?;
-    let by_flow = by_flow.replace(alloc, "SECOND", "parallel")?;
-    are_run(&rt, alloc, "run\nrun --workers 16 --blocks 64", &by_flow)?;
-    let by_pairs = rows.replace(alloc, "FIRST", "conflict 9999 least 1")?;
-    let by_pairs = by_pairs.replace(alloc, "SECOND", "conflict 1 least 0")?;
     are_run(
-        &rt,
+        rt,
         alloc,
-        "run --test lrpd\nrun --workers 3 --blocks 64 --test lrpd",
-        &by_pairs,
+        lines,
+        judged(alloc, &rows, first, second)?.as_str(),
+    )
+}
+
+#[test]
+fn long_reads_ahead_pass_by_flow(rt: HostRuntime) -> Result<(), Fail> {
+    let lines = "run\nrun --workers 16 --blocks 64";
+    are_judged(&rt, rt.alloc(), lines, ("parallel", "parallel"))
+}
+
+#[test]
+fn long_reads_ahead_conflict_by_lrpd(rt: HostRuntime) -> Result<(), Fail> {
+    let lines = "run --test lrpd\nrun --workers 3 --blocks 64 --test lrpd";
+    are_judged(
+        &rt,
+        rt.alloc(),
+        lines,
+        ("conflict 9999 least 1", "conflict 1 least 0"),
     )
 }
 

@@ -112,15 +112,27 @@ const READ_AHEAD: &str = "
         done: | exit | %% | map 0: 5 => 0 return 4 | loop 0 at 5: answer 4, SECOND | map 0: 9
 ";
 
+/// Rows with the verdicts of both loops.
+pub(crate) fn judged(alloc: Global, rows: &str, first: &str, second: &str) -> Result<String, AllocError> {
+    rows.replace(alloc, "FIRST", first)?
+        .replace(alloc, "SECOND", second)
+}
+
 #[test]
-fn a_loop_is_judged_by_the_test_that_is_named(rt: HostRuntime) -> Result<(), Fail> {
-    let alloc = rt.alloc();
-    let by_flow = READ_AHEAD.replace(alloc, "FIRST", "parallel")?;
-    let by_flow = by_flow.replace(alloc, "SECOND", "parallel")?;
-    are_run(&rt, alloc, "run\nrun --test flow --blocks 3", &by_flow)?;
-    let by_pairs = READ_AHEAD.replace(alloc, "FIRST", "conflict 3 least 1")?;
-    let by_pairs = by_pairs.replace(alloc, "SECOND", "conflict 1 least 0")?;
-    are_run(&rt, alloc, "run --test lrpd", &by_pairs)
+fn reads_ahead_pass_by_flow(rt: HostRuntime) -> Result<(), Fail> {
+    let rows = judged(rt.alloc(), READ_AHEAD, "parallel", "parallel")?;
+    are_run(&rt, rt.alloc(), "run\nrun --test flow --blocks 3", &rows)
+}
+
+#[test]
+fn reads_ahead_conflict_by_lrpd(rt: HostRuntime) -> Result<(), Fail> {
+    let rows = judged(
+        rt.alloc(),
+        READ_AHEAD,
+        "conflict 3 least 1",
+        "conflict 1 least 0",
+    )?;
+    are_run(&rt, rt.alloc(), "run --test lrpd", &rows)
 }
 
 /// Units that are refused, in hex form, and the argument in R1.
@@ -148,20 +160,25 @@ fn refusals_are_those_of_order(rt: HostRuntime) -> Result<(), Fail> {
 const WRITES_AND_ADDS: &str =
     "maps 4096 1 | mov64 r1, 4096 | LOOP | AT | stx64 [r3+0], r1 | ldmapval r5, 1, 0 | atomic64 add [r5+0], r1 | END";
 
-#[test]
-fn each_element_is_committed(rt: HostRuntime) -> Result<(), Fail> {
-    let alloc = rt.alloc();
-    let unit = spelled_out(alloc, WRITES_AND_ADDS)?;
-    let mut wanted = String::from_str(
-        alloc,
-        "0 return 4096 | loop 0 at 5: answer 4096, parallel | map 0:",
-    )?;
+/// What is answered to it.
+fn all_indices(alloc: Global) -> Result<String, AllocError> {
+    let head = "0 return 4096 | loop 0 at 5: answer 4096, parallel | map 0:";
+    let mut wanted = String::from_str(alloc, head)?;
     for index in 0..4096 {
         write!(wanted, " {index}")?;
     }
     wanted.push_str(" | map 1: 8386560")?;
-    is_answered(&rt, alloc, "run --blocks 1", &unit, &wanted)?;
-    is_answered(&rt, alloc, "run --blocks 64 --workers 7", &unit, &wanted)
+    Ok(wanted)
+}
+
+#[test]
+fn each_element_is_committed(rt: HostRuntime) -> Result<(), Fail> {
+    let unit = spelled_out(rt.alloc(), WRITES_AND_ADDS)?;
+    let wanted = all_indices(rt.alloc())?;
+    for line in ["run --blocks 1", "run --blocks 64 --workers 7"] {
+        is_answered(&rt, rt.alloc(), line, &unit, &wanted)?;
+    }
+    Ok(())
 }
 
 /// The examples of the repository: prefix sums, in which each iteration reads what the one before it wrote, and a

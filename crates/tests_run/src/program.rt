@@ -7,6 +7,7 @@ use std::env::{Env, FillError};
 use std::process::Abort;
 use std::test::Fail;
 use std::thread::Threads;
+use tests_asserts::assert_same_in;
 
 /// A process that was started with these words, on this runtime.
 #[derive(Drop)]
@@ -104,6 +105,17 @@ fn lines_of(alloc: Global, row: &str) -> Result<String, AllocError> {
     row.trim().replace(alloc, " | ", "\n")
 }
 
+/// What the program answers to the lines of an input.
+fn answer<R: Threads + Sync>(
+    rt: &R,
+    alloc: Global,
+    line: &str,
+    input: &str,
+) -> Result<String, Fail> {
+    let ran = run_line(rt, alloc, line, lines_of(alloc, input)?.as_bytes())?;
+    told(alloc, &ran)
+}
+
 /// Asserts what the program answers to an input.
 pub(crate) fn is_answered<R: Abort + Threads + Sync>(
     rt: &R,
@@ -112,12 +124,9 @@ pub(crate) fn is_answered<R: Abort + Threads + Sync>(
     input: &str,
     wanted: &str,
 ) -> Result<(), Fail> {
-    let ran = run_line(rt, alloc, line, lines_of(alloc, input)?.as_bytes())?;
-    assert_eq!(rt;
-        told(alloc, &ran)?.trim_end(),
-        lines_of(alloc, wanted)?.as_str(),
-        "of {line} with {input}"
-    );
+    let told = answer(rt, alloc, line, input)?;
+    let wanted = lines_of(alloc, wanted)?;
+    assert_same_in(rt, input, (line, told.trim_end()), (line, wanted.as_str()));
     Ok(())
 }
 

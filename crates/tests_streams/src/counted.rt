@@ -1,13 +1,15 @@
 //! Counted readers and writers whose calls do what a script says.
 
-ghost use Rattle.std.specs.Prelude.{◌≡◌};
+ghost use Rattle.std.specs.Prelude.{◌≡◌, ◌-◌, ◌^◌, ◌<◌, OnOk};
 ghost use Rattle.bpfspec_streams.specs.Counting.{failures_of};
 
 use bpfspec_streams::{Counted, DeviceFault, ReadAllError, Sink, Source, read_all, write_all};
 use std::alloc::Global;
 use std::io;
 use std::io::{ErrorKind, Read, Write};
+use std::process::Abort;
 use std::test::Fail;
+use tests_asserts::assert_same;
 
 /// What a call of a scripted stream does.
 #[derive(Clone, Copy)]
@@ -118,6 +120,23 @@ const SCRIPT: [Turn; 6] = [
     Turn::Moves(1),
 ];
 
+/// Asserts what a call of this turn answered, and how many calls have failed by then.
+fn is_told(
+    rt: &impl Abort,
+    turn: Turn,
+    outcome: Result<usize, DeviceFault>,
+    before: u64,
+    failures: u64,
+)
+    requires { before < 6 }
+{
+    let wanted = match turn {
+        Turn::Fails => (Err(DeviceFault), before + 1),
+        Turn::Moves(n) => (Ok(n), before),
+    };
+    assert_same(rt, (outcome, failures), wanted);
+}
+
 #[test]
 fn a_read_fails_only_where_the_reader_does(rt: HostRuntime) {
     let mut source = reader(&SCRIPT, b"eightish");
@@ -126,18 +145,9 @@ fn a_read_fails_only_where_the_reader_does(rt: HostRuntime) {
         let before = source.failures();
         assert!(rt; before < 6);
         let outcome = source.read(&mut buffer);
-        match turn {
-            Turn::Fails => {
-                assert_eq!(rt; outcome, Err(DeviceFault));
-                assert_eq!(rt; source.failures(), before + 1);
-            }
-            Turn::Moves(n) => {
-                assert_eq!(rt; outcome, Ok(n));
-                assert_eq!(rt; source.failures(), before);
-            }
-        }
+        is_told(&rt, turn, outcome, before, source.failures());
     }
-    assert_eq!(rt; source.into_inner().rest, b"sh".as_slice());
+    assert_same(&rt, source.into_inner().rest, b"sh".as_slice());
 }
 
 #[test]
@@ -147,117 +157,131 @@ fn a_write_fails_only_where_the_writer_does(rt: HostRuntime) {
         let before = sink.failures();
         assert!(rt; before < 6);
         let outcome = sink.write(b"eightish");
-        match turn {
-            Turn::Fails => {
-                assert_eq!(rt; outcome, Err(DeviceFault));
-                assert_eq!(rt; sink.failures(), before + 1);
-            }
-            Turn::Moves(n) => {
-                assert_eq!(rt; outcome, Ok(n));
-                assert_eq!(rt; sink.failures(), before);
-            }
-        }
+        is_told(&rt, turn, outcome, before, sink.failures());
     }
-    assert_eq!(rt; sink.into_inner().taken.as_slice(), b"eigeie".as_slice());
+    assert_same(
+        &rt,
+        sink.into_inner().taken.as_slice(),
+        b"eigeie".as_slice(),
+    );
 }
 
 #[test]
 fn a_write_that_takes_nothing_fails(rt: HostRuntime) {
     let mut sink = writer(rt.alloc(), &[Turn::Moves(0), Turn::Moves(0)]);
-    assert_eq!(rt; sink.write(b"eightish"), Err(DeviceFault));
-    assert_eq!(rt; sink.failures(), 1);
-    assert_eq!(rt; sink.write(b""), Ok(0));
-    assert_eq!(rt; sink.failures(), 1);
+    let refused = sink.write(b"eightish");
+    is_told(&rt, Turn::Fails, refused, 0, sink.failures());
+    let empty = sink.write(b"");
+    assert_same(&rt, (empty, sink.failures()), (Ok(0), 1));
+}
+
+/// Asserts what is read up to the end or the limit, and that no read failed.
+fn are_read<R: Source>(
+    rt: &impl Abort,
+    alloc: Global,
+    source: &mut R,
+    limit: usize,
+    wanted: &[u8],
+) -> Result<(), Fail>
+    requires { R.failed source.old < 2 ^ 64 - 1 }
+    ensures { OnOk result (R.failed source.new ≡ R.failed source.old) }
+{
+    let input = read_all(alloc, source, limit)?;
+    assert_same(rt, input.as_slice(), wanted);
+    assert_same(rt, source.failures(), 0);
+    Ok(())
 }
 
 #[test]
 fn a_reader_that_never_fails(rt: HostRuntime) -> Result<(), Fail> {
     let mut source = Counted::new(b"input".as_slice());
-    let input = read_all(rt.alloc(), &mut source, 100)?;
-    assert_eq!(rt; input.as_slice(), b"input".as_slice());
-    assert_eq!(rt; source.failures(), 0);
-    Ok(())
-}
-
-#[test]
-fn a_writer_that_never_fails(rt: HostRuntime) -> Result<(), Fail> {
-    let mut sink = Counted::new(Vec::new(rt.alloc()));
-    write_all(&mut sink, b"output")?;
-    assert_eq!(rt; sink.failures(), 0);
-    assert_eq!(rt; sink.into_inner().as_slice(), b"output".as_slice());
-    Ok(())
-}
-
-#[test]
-fn a_writer_without_room_fails(rt: HostRuntime) -> Result<(), Fail> {
-    let mut room = [0; 4];
-    let mut sink = Counted::new(room.as_mut_slice());
-    assert_eq!(rt; write_all(&mut sink, b"eightish"), Err(DeviceFault));
-    assert_eq!(rt; sink.failures(), 1);
-    assert_eq!(rt; room, *b"eigh");
-    Ok(())
-}
-
-#[test]
-fn reading_goes_on_after_a_failure(rt: HostRuntime) -> Result<(), Fail> {
-    let mut source = reader(&SCRIPT, b"eightish");
-    let failed = read_all(rt.alloc(), &mut source, 100);
-    assert!(rt; matches!(&failed, Err(ReadAllError::Device)));
-    assert_eq!(rt; source.failures(), 1);
-    let failed = read_all(rt.alloc(), &mut source, 100);
-    assert!(rt; matches!(&failed, Err(ReadAllError::Device)));
-    assert_eq!(rt; source.into_inner().rest, b"ish".as_slice());
-    Ok(())
+    are_read(&rt, rt.alloc(), &mut source, 100, b"input")
 }
 
 #[test]
 fn reads_to_the_end_or_to_the_limit(rt: HostRuntime) -> Result<(), Fail> {
     let mut source = reader(&[Turn::Moves(3), Turn::Moves(1)], b"eightish");
-    let first = read_all(rt.alloc(), &mut source, 5)?;
-    assert_eq!(rt; first.as_slice(), b"eight".as_slice());
-    let second = read_all(rt.alloc(), &mut source, 5)?;
-    assert_eq!(rt; second.as_slice(), b"ish".as_slice());
-    assert_eq!(rt; source.failures(), 0);
-    Ok(())
+    are_read(&rt, rt.alloc(), &mut source, 5, b"eight")?;
+    are_read(&rt, rt.alloc(), &mut source, 5, b"ish")
 }
 
 #[test]
-fn a_failed_write_leaves_a_beginning(rt: HostRuntime) -> Result<(), Fail> {
-    let mut sink = writer(rt.alloc(), &[Turn::Moves(3), Turn::Fails]);
-    assert_eq!(rt; write_all(&mut sink, b"eightish"), Err(DeviceFault));
-    assert_eq!(rt; sink.failures(), 1);
-    assert_eq!(rt; sink.into_inner().taken.as_slice(), b"eig".as_slice());
-    Ok(())
-}
-
-#[test]
-fn writes_all_a_few_bytes_at_a_time(rt: HostRuntime) -> Result<(), Fail> {
-    let mut sink = writer(
-        rt.alloc(),
-        &[Turn::Moves(3), Turn::Moves(1), Turn::Moves(2)],
-    );
-    write_all(&mut sink, b"eightish")?;
-    assert_eq!(rt; sink.into_inner().taken.as_slice(), b"eightish".as_slice());
-    Ok(())
-}
-
-#[test]
-fn an_interrupted_call_is_made_again(rt: HostRuntime) -> Result<(), Fail> {
+fn an_interrupted_read_is_made_again(rt: HostRuntime) -> Result<(), Fail> {
     let mut source = Counted::new(ScriptedReader {
         interruptions: 3,
         script: &[],
         rest: b"input",
     });
-    let input = read_all(rt.alloc(), &mut source, 100)?;
-    assert_eq!(rt; input.as_slice(), b"input".as_slice());
-    assert_eq!(rt; source.failures(), 0);
-    let mut sink = Counted::new(ScriptedWriter {
+    are_read(&rt, rt.alloc(), &mut source, 100, b"input")
+}
+
+/// Reads until a read fails.
+fn fails<R: Source>(alloc: Global, source: &mut R) -> bool
+    requires { R.failed source.old < 2 ^ 64 - 1 }
+{
+    matches!(read_all(alloc, source, 100), Err(ReadAllError::Device))
+}
+
+#[test]
+fn reading_goes_on_after_a_failure(rt: HostRuntime) {
+    let mut source = reader(&SCRIPT, b"eightish");
+    assert!(rt; fails(rt.alloc(), &mut source));
+    assert!(rt; source.failures() == 1);
+    assert!(rt; fails(rt.alloc(), &mut source));
+    assert_same(&rt, source.into_inner().rest, b"ish".as_slice());
+}
+
+/// Asserts what comes of writing all bytes, how many writes failed, and what was taken.
+fn are_written(
+    rt: &impl Abort,
+    mut sink: Counted<ScriptedWriter>,
+    bytes: &[u8],
+    wanted: (Result<(), DeviceFault>, u64),
+    taken: &[u8],
+)
+    requires { failures_of sink < 2 ^ 64 - 1 }
+{
+    let outcome = write_all(&mut sink, bytes);
+    assert_same(rt, (outcome, sink.failures()), wanted);
+    assert_same(rt, sink.into_inner().taken.as_slice(), taken);
+}
+
+#[test]
+fn a_failed_write_leaves_a_beginning(rt: HostRuntime) {
+    let sink = writer(rt.alloc(), &[Turn::Moves(3), Turn::Fails]);
+    are_written(&rt, sink, b"eightish", (Err(DeviceFault), 1), b"eig");
+}
+
+#[test]
+fn writes_all_a_few_bytes_at_a_time(rt: HostRuntime) {
+    let script = [Turn::Moves(3), Turn::Moves(1), Turn::Moves(2)];
+    let sink = writer(rt.alloc(), &script);
+    are_written(&rt, sink, b"eightish", (Ok(()), 0), b"eightish");
+}
+
+#[test]
+fn an_interrupted_write_is_made_again(rt: HostRuntime) {
+    let sink = Counted::new(ScriptedWriter {
         interruptions: 3,
         script: &[Turn::Moves(2)],
         taken: Vec::new(rt.alloc()),
     });
-    write_all(&mut sink, b"output")?;
-    assert_eq!(rt; sink.failures(), 0);
-    assert_eq!(rt; sink.into_inner().taken.as_slice(), b"output".as_slice());
-    Ok(())
+    are_written(&rt, sink, b"output", (Ok(()), 0), b"output");
+}
+
+#[test]
+fn a_writer_that_never_fails(rt: HostRuntime) {
+    let mut sink = Counted::new(Vec::new(rt.alloc()));
+    let outcome = write_all(&mut sink, b"output");
+    assert_same(&rt, (outcome, sink.failures()), (Ok(()), 0));
+    assert_same(&rt, sink.into_inner().as_slice(), b"output".as_slice());
+}
+
+#[test]
+fn a_writer_without_room_fails(rt: HostRuntime) {
+    let mut room = [0; 4];
+    let mut sink = Counted::new(room.as_mut_slice());
+    let outcome = write_all(&mut sink, b"eightish");
+    assert_same(&rt, (outcome, sink.failures()), (Err(DeviceFault), 1));
+    assert_same(&rt, room, *b"eigh");
 }

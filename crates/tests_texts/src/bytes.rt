@@ -4,6 +4,7 @@ use bpf_insn::{CodecError, CodecFault, decode};
 use std::alloc::Global;
 use std::process::Abort;
 use std::test::Fail;
+use tests_asserts::{assert_same, assert_same_in};
 
 /// What each opcode says with all other fields zero, by its high and its low half: k an instruction,
 /// i an immediate and s a second slot that aren't its own, and - no form.
@@ -42,11 +43,15 @@ fn every_opcode(rt: HostRuntime) -> Result<(), Fail> {
                 _ => refused(CodecFault::UnknownOpcode, 0),
             };
             let bytes = [opcode, 0, 0, 0, 0, 0, 0, 0];
-            assert_eq!(rt; decode(rt.alloc(), &bytes).err(), want, "opcode {opcode}");
+            assert_same(
+                &rt,
+                (opcode, decode(rt.alloc(), &bytes).err()),
+                (opcode, want),
+            );
             opcode = opcode.wrapping_add(1);
         }
     }
-    assert_eq!(rt; opcode, 0, "all 256");
+    assert_same(&rt, opcode, 0); // all 256
     Ok(())
 }
 
@@ -87,7 +92,7 @@ fn each_fault(rt: HostRuntime) -> Result<(), Fail> {
         let (digits, want) = row.split_once("=>").ok_or("a row has an answer")?;
         let bytes = bytes_of(alloc, digits)?;
         let error = decode(alloc, &bytes).err().ok_or("they are refused")?;
-        assert_eq!(rt; error.to_string(alloc)?.as_str(), want.trim(), "{row}");
+        assert_same_in(&rt, row, error.to_string(alloc)?.as_str(), want.trim());
     }
     Ok(())
 }
@@ -104,7 +109,7 @@ fn each_beginning(rt: HostRuntime) -> Result<(), Fail> {
     let alloc = rt.alloc();
     let digits = LOOP.replace(alloc, "\n", "")?;
     let bytes = bytes_of(alloc, &digits)?;
-    assert_eq!(rt; bytes.len(), 96);
+    assert!(rt; bytes.len() == 96);
     for len in 0..=96 {
         let want = match len {
             16..=23 => refused(CodecFault::SecondSlot, 1),
@@ -112,7 +117,7 @@ fn each_beginning(rt: HostRuntime) -> Result<(), Fail> {
             _ if len % 8 == 0 => None,
             _ => refused(CodecFault::Incomplete, len / 8),
         };
-        assert_eq!(rt; decode(alloc, &bytes[..len]).err(), want, "{len} bytes");
+        assert_same(&rt, (len, decode(alloc, &bytes[..len]).err()), (len, want));
     }
     Ok(())
 }

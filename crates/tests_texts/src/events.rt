@@ -1,12 +1,28 @@
 //! Bounds and events.
 
-use crate::rows::{are_told, repeated, told};
+use crate::rows::{are_told, is_told_of_many};
 use bpf_text::{Event, EventKind, TextError, parse_events};
 use std::alloc::Global;
 use std::test::Fail;
+use tests_asserts::assert_same;
 
 fn events_error(alloc: Global, text: &str) -> Option<TextError> {
     parse_events(alloc, text).err()
+}
+
+fn event(kind: EventKind, worker: u8) -> Event {
+    Event { kind, worker }
+}
+
+/// The events of the text below.
+fn five_events() -> [Event; 5] {
+    [
+        event(EventKind::Claim, 0),
+        event(EventKind::Look, 0),
+        event(EventKind::Turn, 255),
+        event(EventKind::Post, 1),
+        event(EventKind::Stop, 1),
+    ]
 }
 
 #[test]
@@ -14,17 +30,14 @@ fn events_are_read(rt: HostRuntime) -> Result<(), Fail> {
     let alloc = rt.alloc();
     let text = "bounds 0 4 4294967295 ; three\n c0 l0\tt255\n\np1 s1";
     let (bounds, events) = parse_events(alloc, text)?;
-    assert_eq!(rt; bounds.as_slice(), [0, 4, 4_294_967_295].as_slice());
-    let word = |kind, worker| Event { kind, worker };
-    let want = [
-        word(EventKind::Claim, 0),
-        word(EventKind::Look, 0),
-        word(EventKind::Turn, 255),
-        word(EventKind::Post, 1),
-        word(EventKind::Stop, 1),
-    ];
-    assert_eq!(rt; events.as_slice(), want.as_slice());
-    let (bounds, events) = parse_events(alloc, "bounds")?;
+    assert_same(&rt, bounds.as_slice(), [0, 4, 4_294_967_295].as_slice());
+    assert_same(&rt, events.as_slice(), five_events().as_slice());
+    Ok(())
+}
+
+#[test]
+fn no_bounds_and_no_events_are_read(rt: HostRuntime) -> Result<(), Fail> {
+    let (bounds, events) = parse_events(rt.alloc(), "bounds")?;
     assert!(rt; bounds.is_empty() && events.is_empty());
     Ok(())
 }
@@ -46,10 +59,17 @@ const REFUSED: &str = "
 
 #[test]
 fn events_are_refused(rt: HostRuntime) -> Result<(), Fail> {
-    let alloc = rt.alloc();
-    are_told(&rt, alloc, REFUSED, events_error)?;
-    let long = repeated(alloc, "", "bounds\n", 150_000)?;
-    let error = told(alloc, events_error(alloc, &long))?;
-    assert_eq!(rt; error.as_str(), "refused TooLong at line 0");
-    Ok(())
+    are_told(&rt, rt.alloc(), REFUSED, events_error)
+}
+
+#[test]
+fn texts_have_a_limit(rt: HostRuntime) -> Result<(), Fail> {
+    let long = ("", "bounds\n", 150_000);
+    is_told_of_many(
+        &rt,
+        rt.alloc(),
+        long,
+        events_error,
+        "refused TooLong at line 0",
+    )
 }

@@ -1,9 +1,10 @@
 //! Units in hex form.
 
-use crate::rows::{are_told, repeated, told};
+use crate::rows::{are_told, is_told, is_told_of_many, repeated};
 use bpf_text::{TextError, read_hex};
 use std::alloc::Global;
 use std::test::Fail;
+use tests_asserts::assert_same;
 
 fn hex_error(alloc: Global, text: &str) -> Option<TextError> {
     read_hex(alloc, text).err()
@@ -13,9 +14,9 @@ fn hex_error(alloc: Global, text: &str) -> Option<TextError> {
 fn hex_is_read(rt: HostRuntime) -> Result<(), Fail> {
     let alloc = rt.alloc();
     let unit = read_hex(alloc, "maps 1 65535\nB700000007000000 ; r0\n\n95\n")?;
-    assert_eq!(rt; unit.sizes.as_slice(), [1, 65535].as_slice());
+    assert_same(&rt, unit.sizes.as_slice(), [1, 65535].as_slice());
     let bytes = [0xb7, 0, 0, 0, 7, 0, 0, 0, 0x95];
-    assert_eq!(rt; unit.bytes.as_slice(), bytes.as_slice());
+    assert_same(&rt, unit.bytes.as_slice(), bytes.as_slice());
     Ok(())
 }
 
@@ -44,12 +45,24 @@ fn hex_is_refused(rt: HostRuntime) -> Result<(), Fail> {
 fn bytes_have_a_limit(rt: HostRuntime) -> Result<(), Fail> {
     let alloc = rt.alloc();
     let mut text = repeated(alloc, "maps 1\n", "9500000000000000\n", 4096)?;
-    assert_eq!(rt; read_hex(alloc, &text)?.bytes.len(), 32768);
+    assert_same(&rt, read_hex(alloc, &text)?.bytes.len(), 32768);
     text.push_str("\n00")?;
-    let error = told(alloc, hex_error(alloc, &text))?;
-    assert_eq!(rt; error.as_str(), "refused TooLong at line 4099");
-    let long = repeated(alloc, "", "maps 1\n", 150_000)?;
-    let error = told(alloc, hex_error(alloc, &long))?;
-    assert_eq!(rt; error.as_str(), "refused TooLong at line 0");
-    Ok(())
+    is_told(
+        &rt,
+        alloc,
+        hex_error(alloc, &text),
+        "refused TooLong at line 4099",
+    )
+}
+
+#[test]
+fn texts_have_a_limit(rt: HostRuntime) -> Result<(), Fail> {
+    let long = ("", "maps 1\n", 150_000);
+    is_told_of_many(
+        &rt,
+        rt.alloc(),
+        long,
+        hex_error,
+        "refused TooLong at line 0",
+    )
 }

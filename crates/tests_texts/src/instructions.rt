@@ -4,9 +4,10 @@ use crate::rows::text_of;
 use bpf_insn::{CodecError, decode, encode};
 use bpf_insn_types::{ImmKind, Insn, MovsxBits, Reg, Size, Unit, Width};
 use bpf_text::{parse_unit, print_unit, read_hex, write_hex};
-use std::alloc::Global;
+use std::alloc::{AllocError, Global};
 use std::process::Abort;
 use std::test::Fail;
+use tests_asserts::assert_same;
 
 /// Lines as they are printed, and their bytes as hex digits.
 const LINES: &str = "
@@ -60,17 +61,17 @@ fn one_map(alloc: Global, lines: &str) -> Result<String, Fail> {
 
 /// Asserts that instructions have these bytes, and those that are read from the bytes too.
 fn are_coded(rt: &impl Abort, alloc: Global, insns: &[Insn], bytes: &[u8]) -> Result<(), Fail> {
-    assert_eq!(rt; encode(alloc, insns)?.as_slice(), bytes);
-    assert_eq!(rt; encode(alloc, &decode(alloc, bytes)?)?.as_slice(), bytes);
+    assert_same(rt, encode(alloc, insns)?.as_slice(), bytes);
+    assert_same(rt, encode(alloc, &decode(alloc, bytes)?)?.as_slice(), bytes);
     Ok(())
 }
 
 /// Asserts that assembler lines are read as the bytes that hex lines are, and written so.
 fn are_bytes(rt: &impl Abort, alloc: Global, assembler: &str, hex: &str) -> Result<(), Fail> {
     let unit = parse_unit(alloc, assembler)?;
-    assert_eq!(rt; write_hex(alloc, &unit)?.as_str(), hex);
+    assert_same(rt, write_hex(alloc, &unit)?.as_str(), hex);
     let coded = read_hex(alloc, hex)?;
-    assert_eq!(rt; unit.sizes.as_slice(), coded.sizes.as_slice());
+    assert_same(rt, unit.sizes.as_slice(), coded.sizes.as_slice());
     are_coded(rt, alloc, &unit.insns, &coded.bytes)
 }
 
@@ -82,7 +83,7 @@ fn lines_are_bytes(rt: HostRuntime) -> Result<(), Fail> {
         let (assembler, hex) = (one_map(alloc, line)?, one_map(alloc, hex)?);
         are_bytes(&rt, alloc, &assembler, &hex)?;
         let unit = parse_unit(alloc, &assembler)?;
-        assert_eq!(rt; print_unit(alloc, &unit)?.as_str(), assembler.as_str());
+        assert_same(&rt, print_unit(alloc, &unit)?.as_str(), assembler.as_str());
     }
     Ok(())
 }
@@ -97,29 +98,44 @@ fn other_lines_are_bytes(rt: HostRuntime) -> Result<(), Fail> {
     Ok(())
 }
 
-/// A unit of an exit after a two-slot load, and this instruction.
-fn unit_with(alloc: Global, first: Insn, insn: Insn) -> Result<Unit, Fail> {
-    Ok(Unit {
-        sizes: [1].to_vec(alloc)?,
-        insns: [first, Insn::Exit, insn].to_vec(alloc)?,
-    })
-}
-
-/// What an error of the codec says.
-fn told(alloc: Global, error: Option<CodecError>) -> Result<String, Fail> {
-    Ok(error.ok_or("it is refused")?.to_string(alloc)?)
-}
-
-#[test]
-fn some_instructions_have_no_bytes(rt: HostRuntime) -> Result<(), Fail> {
-    let alloc = rt.alloc();
-    let reg = Reg::new(1).ok_or("a register is 0 to 10")?;
-    let load = |kind, next_imm| Insn::LoadImm {
+fn load(kind: ImmKind, reg: Reg, next_imm: i32) -> Insn {
+    Insn::LoadImm {
         kind,
         dst: reg,
         imm: 0,
         next_imm,
-    };
+    }
+}
+
+/// A unit of an exit after a two-slot load, and this instruction.
+fn unit_with(alloc: Global, reg: Reg, insn: Insn) -> Result<Unit, AllocError> {
+    Ok(Unit {
+        sizes: [1].to_vec(alloc)?,
+        insns: [load(ImmKind::MapValue, reg, 8), Insn::Exit, insn].to_vec(alloc)?,
+    })
+}
+
+/// Asserts what an error of the codec says.
+fn is_told(
+    rt: &impl Abort,
+    alloc: Global,
+    error: Option<CodecError>,
+    want: &str,
+) -> Result<(), Fail> {
+    let error = error.ok_or("it is refused")?;
+    assert_same(rt, error.to_string(alloc)?.as_str(), want);
+    Ok(())
+}
+
+/// Asserts how a unit whose last instruction has no bytes is refused, in each form.
+fn has_no_bytes(rt: &impl Abort, alloc: Global, unit: &Unit, want: &str) -> Result<(), Fail> {
+    is_told(rt, alloc, encode(alloc, &unit.insns).err(), want)?;
+    is_told(rt, alloc, print_unit(alloc, unit).err(), want)?;
+    is_told(rt, alloc, write_hex(alloc, unit).err(), want)
+}
+
+/// Instructions that have no bytes, and how they are refused.
+fn without_bytes(reg: Reg) -> [(Insn, &'static str); 3] {
     let wide_sign = Insn::LoadSx {
         size: Size::Dw,
         dst: reg,
@@ -132,19 +148,19 @@ fn some_instructions_have_no_bytes(rt: HostRuntime) -> Result<(), Fail> {
         dst: reg,
         src: reg,
     };
-    let rows = [
+    [
         (wide_sign, "refused UnknownOpcode at slot 3"),
-        (load(ImmKind::Map, 1), "refused FieldNotZero at slot 3"),
+        (load(ImmKind::Map, reg, 1), "refused FieldNotZero at slot 3"),
         (narrow_move, "refused Offset at slot 3"),
-    ];
-    for (insn, want) in rows {
-        let unit = unit_with(alloc, load(ImmKind::MapValue, 8), insn)?;
-        assert_eq!(rt;
-            told(alloc, encode(alloc, &unit.insns).err())?.as_str(),
-            want
-        );
-        assert_eq!(rt; told(alloc, print_unit(alloc, &unit).err())?.as_str(), want);
-        assert_eq!(rt; told(alloc, write_hex(alloc, &unit).err())?.as_str(), want);
+    ]
+}
+
+#[test]
+fn some_instructions_have_no_bytes(rt: HostRuntime) -> Result<(), Fail> {
+    let reg = Reg::new(1).ok_or("a register is 0 to 10")?;
+    for (insn, want) in without_bytes(reg) {
+        let unit = unit_with(rt.alloc(), reg, insn)?;
+        has_no_bytes(&rt, rt.alloc(), &unit, want)?;
     }
     Ok(())
 }

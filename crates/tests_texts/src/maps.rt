@@ -1,9 +1,10 @@
 //! The values of maps.
 
-use crate::rows::{are_told, repeated, told};
+use crate::rows::{are_told, is_told, is_told_of_many, repeated};
 use bpf_text::{TextError, parse_maps, print_maps};
 use std::alloc::Global;
 use std::test::Fail;
+use tests_asserts::assert_same;
 
 fn maps_error(alloc: Global, text: &str) -> Option<TextError> {
     parse_maps(alloc, text).err()
@@ -15,7 +16,7 @@ fn maps_are_read_and_printed(rt: HostRuntime) -> Result<(), Fail> {
     let text = "; two\n\n map 0: 5\t0 ; a\nmap 1: 18446744073709551615";
     let maps = parse_maps(alloc, text)?;
     let printed = "map 0: 5 0\nmap 1: 18446744073709551615\n";
-    assert_eq!(rt; print_maps(alloc, &maps)?.as_str(), printed);
+    assert_same(&rt, print_maps(alloc, &maps)?.as_str(), printed);
     Ok(())
 }
 
@@ -47,13 +48,21 @@ fn maps_are_refused(rt: HostRuntime) -> Result<(), Fail> {
 #[test]
 fn values_have_a_limit(rt: HostRuntime) -> Result<(), Fail> {
     let alloc = rt.alloc();
-    let long = repeated(alloc, "", "map 0: 1\n", 120_000)?;
-    let error = told(alloc, maps_error(alloc, &long))?;
-    assert_eq!(rt; error.as_str(), "refused TooLong at line 0");
+    let long = ("", "map 0: 1\n", 120_000);
+    is_told_of_many(&rt, alloc, long, maps_error, "refused TooLong at line 0")?;
+    let widest = ("map 0:", " 1", 65_536);
+    is_told_of_many(&rt, alloc, widest, maps_error, "accepted")
+}
+
+#[test]
+fn maps_have_one_limit_together(rt: HostRuntime) -> Result<(), Fail> {
+    let alloc = rt.alloc();
     let mut wide = repeated(alloc, "map 0:", " 1", 65_536)?;
-    assert_eq!(rt; maps_error(alloc, &wide), None);
     wide.push_str("\nmap 1: 1")?;
-    let error = told(alloc, maps_error(alloc, &wide))?;
-    assert_eq!(rt; error.as_str(), "refused Limits at line 2");
-    Ok(())
+    is_told(
+        &rt,
+        alloc,
+        maps_error(alloc, &wide),
+        "refused Limits at line 2",
+    )
 }

@@ -1,9 +1,11 @@
 //! Units of assembler text.
 
-use crate::rows::{are_told, repeated, told};
+use crate::rows::{are_told, is_told, repeated};
 use bpf_text::{TextError, parse_unit, print_unit};
 use std::alloc::Global;
+use std::process::Abort;
 use std::test::Fail;
+use tests_asserts::assert_same;
 
 fn unit_error(alloc: Global, text: &str) -> Option<TextError> {
     parse_unit(alloc, text).err()
@@ -96,33 +98,46 @@ fn units_are_refused(rt: HostRuntime) -> Result<(), Fail> {
     are_told(&rt, rt.alloc(), UNITS, unit_error)
 }
 
+/// Asserts what is said of a unit with this front, n exits and these last lines.
+fn is_told_of_exits(
+    rt: &impl Abort,
+    alloc: Global,
+    (front, exits, last): (&str, u32, &str),
+    want: &str,
+) -> Result<(), Fail> {
+    let mut text = repeated(alloc, front, "exit\n", exits)?;
+    text.push_str(last)?;
+    is_told(rt, alloc, unit_error(alloc, &text), want)
+}
+
+/// What is said of units with this many exits and these last lines.
+const LENGTHS: [(u32, &str, &str); 5] = [
+    (4096, "", "accepted"),
+    (4096, "out:\nexit\n", "refused TooLong at line 4099"),
+    (4095, "lddw r0, 0\n", "refused TooLong at line 4097"),
+    (4096, "mov64 r11, 5\n", "refused Register at line 4098"),
+    (210_000, "", "refused TooLong at line 0"),
+];
+
 #[test]
 fn slots_have_a_limit(rt: HostRuntime) -> Result<(), Fail> {
+    for (exits, last, want) in LENGTHS {
+        is_told_of_exits(&rt, rt.alloc(), ("maps 1\n", exits, last), want)?;
+    }
+    Ok(())
+}
+
+#[test]
+fn the_longest_unit_is_printed(rt: HostRuntime) -> Result<(), Fail> {
     let alloc = rt.alloc();
     let full = repeated(alloc, "maps 1\n", "exit\n", 4096)?;
-    let rows = [
-        (4096, "", "accepted"),
-        (4096, "out:\nexit\n", "refused TooLong at line 4099"),
-        (4095, "lddw r0, 0\n", "refused TooLong at line 4097"),
-        (4096, "mov64 r11, 5\n", "refused Register at line 4098"),
-        (210_000, "", "refused TooLong at line 0"),
-    ];
-    for (exits, last, want) in rows {
-        let mut text = repeated(alloc, "maps 1\n", "exit\n", exits)?;
-        text.push_str(last)?;
-        assert_eq!(rt; told(alloc, unit_error(alloc, &text))?.as_str(), want);
-    }
     let unit = parse_unit(alloc, &full)?;
-    assert_eq!(rt; print_unit(alloc, &unit)?.as_str(), full.as_str());
+    assert_same(&rt, print_unit(alloc, &unit)?.as_str(), full.as_str());
     Ok(())
 }
 
 #[test]
 fn distances_are_counted_behind_the_limit(rt: HostRuntime) -> Result<(), Fail> {
-    let alloc = rt.alloc();
-    let mut text = repeated(alloc, "maps 1\nja out\n", "exit\n", 32_768)?;
-    text.push_str("out:\n")?;
-    let told = told(alloc, unit_error(alloc, &text))?;
-    assert_eq!(rt; told.as_str(), "refused Field at line 2");
-    Ok(())
+    let jump = ("maps 1\nja out\n", 32_768, "out:\n");
+    is_told_of_exits(&rt, rt.alloc(), jump, "refused Field at line 2")
 }

@@ -1,6 +1,7 @@
 //! V16 to V21, of accesses of memory.
 
 use crate::units::{CTX, LOOKUP, are_answered, is_answered};
+use std::alloc::{AllocError, Global};
 use std::test::Fail;
 
 const BASES: &str = "
@@ -61,9 +62,17 @@ fn values_of_maps_are_accessed_whole_or_by_halves(rt: HostRuntime) -> Result<(),
 }
 
 /// A loop of 100 iterations whose callback accesses a half that its index chooses.
-const HALVES: &str =
-    "mov64 r1, 100 | ldcode r2, cb | mov64 r3, 0 | mov64 r4, 0 | call 181 | exit | cb: | \
-    and64 r1, 7 | .. | mov64 r0, 0 | exit";
+fn half_by_index(
+    alloc: Global,
+    maps: &str,
+    shift: &str,
+    access: &str,
+) -> Result<String, AllocError> {
+    format!(in alloc;
+        "{maps} | mov64 r1, 100 | ldcode r2, cb | mov64 r3, 0 | mov64 r4, 0 | call 181 | exit | cb: | \
+        and64 r1, 7 | {shift} | ldmapval r3, 0, 0 | add64 r3, r1 | {access} | mov64 r0, 0 | exit"
+    )
+}
 
 const HALVES_BY_INDEX: &str = "
     maps 4 | lsh64 r1, 2 | ldx32 r4, [r3+0] \
@@ -85,13 +94,8 @@ fn halves_are_chosen_by_an_index(rt: HostRuntime) -> Result<(), Fail> {
         let (given, wanted) = row.split_once("=>").ok_or("a row has an answer")?;
         let (maps, lines) = given.trim().split_once(" | ").ok_or("a row has maps")?;
         let (shift, access) = lines.split_once(" | ").ok_or("a row has an access")?;
-        let alloc = rt.alloc();
-        let mut callback = String::from_str(alloc, shift)?;
-        write!(callback, " | ldmapval r3, 0, 0 | add64 r3, r1 | {access}")?;
-        let mut unit = String::from_str(alloc, maps)?;
-        unit.push_str(" | ")?;
-        unit.push_str(HALVES.replace(alloc, "..", &callback)?.as_str())?;
-        is_answered(&rt, alloc, &unit, wanted.trim())?;
+        let unit = half_by_index(rt.alloc(), maps, shift, access)?;
+        is_answered(&rt, rt.alloc(), &unit, wanted.trim())?;
     }
     Ok(())
 }

@@ -6,6 +6,7 @@ use bpf_verify::{Rule, Verified, VerifyError, verify};
 use std::alloc::Global;
 use std::process::Abort;
 use std::test::Fail;
+use tests_asserts::assert_same;
 
 fn reg(number: u8) -> Result<Reg, Fail> {
     Ok(Reg::new(number).ok_or("no such register")?)
@@ -49,7 +50,7 @@ fn breaks(
         Some((rule, slot)) => Some(VerifyError::Refused { rule, slot }),
         None => None,
     };
-    assert_eq!(rt; verdict(alloc, sizes, insns).err(), refusal);
+    assert_same(rt, verdict(alloc, sizes, insns).err(), refusal);
 }
 
 /// The unit that is built below.
@@ -82,8 +83,12 @@ fn an_accepted_unit_is_kept(rt: HostRuntime) -> Result<(), Fail> {
         Insn::Exit,
     ];
     let verified = verdict(alloc, &[3, 1], &insns)?;
-    assert_eq!(rt; verified.sizes(), [3, 1].as_slice());
-    assert_eq!(rt; print_unit(alloc, verified.unit())?.as_str(), CALLS_A_LOOP);
+    assert_same(&rt, verified.sizes(), [3, 1].as_slice());
+    assert_same(
+        &rt,
+        print_unit(alloc, verified.unit())?.as_str(),
+        CALLS_A_LOOP,
+    );
     Ok(())
 }
 

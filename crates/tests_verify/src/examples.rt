@@ -4,6 +4,7 @@ use bpf_insn_types::{AluOp, Compare, Width};
 use bpf_text_asm::parse_unit;
 use bpf_verify::{Rule, VerifyError, verify};
 use std::test::Fail;
+use tests_asserts::assert_same;
 use value_range::{Condition, Operation, alu, exact, refine, top};
 
 #[test]
@@ -16,9 +17,9 @@ fn an_index_is_masked(rt: HostRuntime) -> Result<(), Fail> {
     );
     let byte = alu(Operation::Alu(AluOp::Lsh), Width::W64, index, exact(3));
     let taken = refine(Condition::taken(Compare::Lt), Width::W64, index, exact(0));
-    assert_eq!(rt; [index.lo(), index.hi()], [0, 7]);
-    assert_eq!(rt; [byte.lo(), byte.hi()], [0, 56]);
-    assert_eq!(rt; byte.zeros(), 3);
+    assert_same(&rt, [index.lo(), index.hi()], [0, 7]);
+    assert_same(&rt, [byte.lo(), byte.hi()], [0, 56]);
+    assert_same(&rt, byte.zeros(), 3);
     assert!(rt; taken.is_none());
     Ok(())
 }
@@ -30,7 +31,7 @@ fn a_program_is_accepted(rt: HostRuntime) -> Result<(), Fail> {
     let program = verify(alloc, unit)?;
     let unit = parse_unit(alloc, "maps 1\nexit\n")?;
     let wrong = verify(alloc, unit);
-    assert_eq!(rt; [program.callbacks(), program.count(0)], [0, 2]);
+    assert_same(&rt, [program.callbacks(), program.count(0)], [0, 2]);
     assert!(rt;
         matches!(
             wrong,

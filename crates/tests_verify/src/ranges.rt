@@ -10,6 +10,7 @@ use bpf_insn_types::{Insn, Width};
 use std::alloc::Global;
 use std::process::Abort;
 use std::test::Fail;
+use tests_asserts::{assert_same, assert_same_in};
 use value_range::{Condition, Operation, Range, alu, exact, join, norm, refine, top};
 
 const WORKED: &str = "
@@ -220,7 +221,7 @@ fn are_left(rt: &impl Abort, alloc: Global, table: &str) -> Result<(), Fail> {
         let (insn, operands, wanted) = row_parts(line).ok_or("a row has three parts")?;
         let (first, second) = read_ranges(operands)?;
         let found = left_by(read_insn(alloc, insn)?, first, second);
-        assert_eq!(rt; found, Some(read_range(wanted)?), "in {line}");
+        assert_same_in(rt, line, found, Some(read_range(wanted)?));
     }
     Ok(())
 }
@@ -256,7 +257,7 @@ fn are_told(rt: &impl Abort, alloc: Global, way: Way, table: &str) -> Result<(),
             "none" => None,
             pair => Some(read_ranges(pair)?),
         };
-        assert_eq!(rt; found, wanted, "in {line}");
+        assert_same_in(rt, line, found, wanted);
     }
     Ok(())
 }
@@ -291,11 +292,7 @@ fn joined_ranges_have_the_words_of_both(rt: HostRuntime) -> Result<(), Fail> {
     for line in JOINED.trim().lines() {
         let (pair, wanted) = line.split_once(" => ").ok_or("a row has =>")?;
         let (first, second) = read_ranges(pair)?;
-        assert_eq!(rt;
-            join(first, second),
-            read_range(wanted.trim())?,
-            "in {line}"
-        );
+        assert_same_in(&rt, line, join(first, second), read_range(wanted.trim())?);
     }
     Ok(())
 }
@@ -317,7 +314,7 @@ fn ranges_are_made(rt: HostRuntime) -> Result<(), Fail> {
         (norm(5, 15, 3), (8, 8, 3)),
         (norm(0, 0xffff_ffff_ffff_ffff, 64), (0, 0, 64)),
     ] {
-        assert_eq!(rt; parts(range), wanted);
+        assert_same(&rt, parts(range), wanted);
     }
     Ok(())
 }

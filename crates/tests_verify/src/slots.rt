@@ -158,11 +158,11 @@ fn code_addresses_name_functions(rt: HostRuntime) -> Result<(), Fail> {
 fn naming(alloc: Global, count: u32) -> Result<String, Fail> {
     let mut unit = String::from_str(alloc, "maps 1")?;
     for callback in 0..count {
-        unit.push_str(&format!(in alloc; " | ldcode r2, cb{callback}")?)?;
+        write!(unit, " | ldcode r2, cb{callback}")?;
     }
     unit.push_str(" | mov64 r0, 0 | exit")?;
     for callback in 0..count {
-        unit.push_str(&format!(in alloc; " | cb{callback}: | mov64 r0, 0 | exit")?)?;
+        write!(unit, " | cb{callback}: | mov64 r0, 0 | exit")?;
     }
     Ok(unit)
 }
@@ -173,19 +173,27 @@ fn fifteen(alloc: Global, count: u32, first: u8) -> Result<String, Fail> {
     for callback in 0..15 {
         let slot = first as u32 + 2 * callback;
         let function = callback + 1;
-        answer.push_str(&format!(in alloc; " | function {function} at {slot} count 2")?)?;
+        write!(answer, " | function {function} at {slot} count 2")?;
     }
     Ok(answer)
 }
 
-/// A callback may be named again.
 #[test]
 fn a_unit_has_at_most_15_callbacks(rt: HostRuntime) -> Result<(), Fail> {
     let alloc = rt.alloc();
-    let most = naming(alloc, 15)?;
-    is_answered(&rt, alloc, &most, &fifteen(alloc, 17, 32)?)?;
-    let again = most.replace(alloc, "maps 1", "maps 1 | ldcode r2, cb14")?;
-    is_answered(&rt, alloc, &again, &fifteen(alloc, 18, 34)?)?;
+    is_answered(&rt, alloc, &naming(alloc, 15)?, &fifteen(alloc, 17, 32)?)
+}
+
+#[test]
+fn a_callback_may_be_named_again(rt: HostRuntime) -> Result<(), Fail> {
+    let alloc = rt.alloc();
+    let again = naming(alloc, 15)?.replace(alloc, "maps 1", "maps 1 | ldcode r2, cb14")?;
+    is_answered(&rt, alloc, &again, &fifteen(alloc, 18, 34)?)
+}
+
+#[test]
+fn a_16th_callback_is_refused(rt: HostRuntime) -> Result<(), Fail> {
+    let alloc = rt.alloc();
     is_answered(&rt, alloc, &naming(alloc, 16)?, "refused V6 at slot 30")
 }
 

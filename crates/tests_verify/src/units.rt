@@ -2,12 +2,14 @@
 //!
 //! In the tables ` | ` parts the lines of a unit and of an answer.
 
+use bpf_insn_types::Unit;
 use bpf_text_asm::parse_unit;
 use bpf_text_lex::TextError;
 use bpf_verify::{Verified, VerifyError, verify};
 use std::alloc::{AllocError, Global};
 use std::process::Abort;
 use std::test::Fail;
+use tests_asserts::{assert_same, assert_same_in};
 
 /// A lookup of element 3 and a line at slot 6.
 pub const LOOKUP: &str =
@@ -34,32 +36,32 @@ fn accepted(alloc: Global, verified: &Verified) -> Result<String, AllocError> {
     Ok(told)
 }
 
-/// What is said of a unit of text.
-fn answer(alloc: Global, unit: &str) -> Result<String, AllocError> {
-    let mut told = String::from_str(alloc, "refused ")?;
-    let unit = match parse_unit(alloc, unit) {
-        Ok(unit) => unit,
-        Err(TextError::Memory) => return Err(AllocError),
-        Err(TextError::Refused { fault, line }) => {
-            write!(told, "A{} at unit line {line}", fault.number())?;
-            return Ok(told);
-        }
-    };
+/// What is said of a unit.
+fn verdict(alloc: Global, unit: Unit) -> Result<String, AllocError> {
     match verify(alloc, unit) {
         Ok(verified) => accepted(alloc, &verified),
         Err(VerifyError::Memory) => Err(AllocError),
         Err(VerifyError::Refused { rule, slot }) => {
-            write!(told, "V{} at slot {slot}", rule.number())?;
-            Ok(told)
+            format!(in alloc; "refused V{} at slot {slot}", rule.number())
+        }
+    }
+}
+
+/// What is said of a unit of text.
+fn answer(alloc: Global, text: &str) -> Result<String, AllocError> {
+    match parse_unit(alloc, text) {
+        Ok(unit) => verdict(alloc, unit),
+        Err(TextError::Memory) => Err(AllocError),
+        Err(TextError::Refused { fault, line }) => {
+            format!(in alloc; "refused A{} at unit line {line}", fault.number())
         }
     }
 }
 
 /// Asserts what is said of a unit.
 pub(crate) fn is_answered(rt: &impl Abort, alloc: Global, unit: &str, wanted: &str) -> Result<(), Fail> {
-    let text = unit.replace(alloc, " | ", "\n")?;
-    let told = answer(alloc, &text)?;
-    assert_eq!(rt; told.as_str(), wanted, "of {unit}");
+    let told = answer(alloc, unit.replace(alloc, " | ", "\n")?.as_str())?;
+    assert_same_in(rt, unit, told.as_str(), wanted);
     Ok(())
 }
 
@@ -99,18 +101,22 @@ fn the_first_fault_is_named(rt: HostRuntime) -> Result<(), Fail> {
     are_answered(&rt, rt.alloc(), "maps 1 | ..", FIRST_FAULTS)
 }
 
-// Where a growth is refused there is no answer, and a second try has the memory.
+/// What is said of a unit of text. Where a growth is refused there is no answer, and a second try has the memory.
+fn answer_at_last(alloc: Global, text: &str) -> Result<String, AllocError> {
+    match answer(alloc, text) {
+        Ok(told) => Ok(told),
+        Err(AllocError) => answer(alloc, text),
+    }
+}
+
 #[test]
 fn a_refused_growth_is_told(rt: HostRuntime) -> Result<(), Fail> {
-    let alloc = rt.alloc();
     let unit = "maps 1\nldcode r2, cb\nmov64 r0, 7\nexit\ncb:\nmov64 r0, 0\nexit\n";
-    let told = match answer(alloc, unit) {
-        Ok(told) => told,
-        Err(AllocError) => answer(alloc, unit)?,
-    };
-    assert_eq!(rt;
+    let told = answer_at_last(rt.alloc(), unit)?;
+    assert_same(
+        &rt,
         told.as_str(),
-        "accepted | function 0 at 0 count 3 | function 1 at 4 count 2"
+        "accepted | function 0 at 0 count 3 | function 1 at 4 count 2",
     );
     Ok(())
 }

@@ -7,6 +7,7 @@ use bpf_insn_types::{Insn, alu_word, compare_words, endian_word, movsx_word, neg
 use std::alloc::Global;
 use std::process::Abort;
 use std::test::Fail;
+use tests_asserts::assert_same_in;
 
 const WHOLE: &str = "
     add64 r1, r2  | -1 2       => 1
@@ -93,7 +94,7 @@ fn are_computed(rt: &impl Abort, alloc: Global, table: &str) -> Result<(), Fail>
             read_word(first)?,
             read_word(second)?,
         );
-        assert_eq!(rt; found, Some(read_word(wanted)?), "in {line}");
+        assert_same_in(rt, line, found, Some(read_word(wanted)?));
     }
     Ok(())
 }
