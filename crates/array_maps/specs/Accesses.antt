@@ -38,7 +38,7 @@ combined And word operand = alu W64 AluOp.And word operand
 combined Xor word operand = alu W64 AluOp.Xor word operand
 combined AddH word operand = halves_added word operand
 
--- what a change that tells what was there leaves of a number (RFC 9669, section 5.3)
+-- what a change that returns what was there leaves of a number (RFC 9669, section 5.3)
 abbrev pub changed : Rmw → (old value compare : ℕ) → ℕ
 changed (Applies op) old value compare = combined op old value
 changed Xchg old value compare = value

@@ -13,7 +13,7 @@ pub enum Op {
     AddH,
 }
 
-/// A change of an element that tells what was there.
+/// A change of an element that says what was there.
 #[derive(Clone, Copy)]
 pub enum Rmw {
     /// Applies an operator.

@@ -20,7 +20,7 @@ pub fn combine(op: Op, word: u64, operand: u64) -> u64
     }
 }
 
-/// What a change that tells what was there leaves of a word, at a part of it. Compare-and-exchange
+/// What a change that returns what was there leaves of a word, at a part of it. Compare-and-exchange
 /// alone looks at `compare`; at a half the lower halves of `value` and `compare` count.
 pub fn exchange(part: Part, rmw: Rmw, word: u64, value: u64, compare: u64) -> u64
     ensures { result ≡ exchanged part rmw word value compare }
@@ -53,7 +53,7 @@ fn add_halves(word: u64, operand: u64) -> u64
     with_half(Half::High, low, high)
 }
 
-/// What a change that tells what was there leaves of a number.
+/// What a change that returns what was there leaves of a number.
 fn change(rmw: Rmw, old: u64, value: u64, compare: u64) -> u64
     ensures { result ≡ changed rmw old value compare }
 {

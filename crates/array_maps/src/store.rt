@@ -52,7 +52,7 @@ pub trait Store {
         ensures done { let word = slice_index (words self.old) e in
             effect self.old (record { element = e; action = ReadWrite word (with_half half word value) }) self.new };
 
-    /// Changes a part of an element, and tells what was there, zero-extended. Compare-and-exchange alone
+    /// Changes a part of an element, and returns what was there, zero-extended. Compare-and-exchange alone
     /// looks at `compare`; at a half the lower halves of `value` and `compare` count.
     fn fetch(&mut self, e: u32, part: Part, rmw: Rmw, value: u64, compare: u64) -> u64
         requires within { e < length (words self.old) }

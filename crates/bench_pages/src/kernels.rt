@@ -14,7 +14,7 @@ const ELEMENTS: u32 = 65536;
 /// Words of a plane.
 const WORDS: usize = 1024;
 
-/// Merges planes into others so often, and tells how many elements then have a plain access: none.
+/// Merges planes into others so often, and returns how many elements then have a plain access: none.
 pub(crate) fn merge_often(alloc: Global, test: Test, rounds: u32) -> Result<u32, AllocError> {
     let mut mine = Planes::try_new(alloc, ELEMENTS, test)?;
     let theirs = Planes::try_new(alloc, ELEMENTS, test)?;

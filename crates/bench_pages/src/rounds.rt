@@ -107,7 +107,12 @@ fn zeros(alloc: Global) -> Result<Maps, AllocError> {
 }
 
 /// Runs n iterations on a new copy, and tells a sum over the plane of plain accesses.
-pub(crate) fn round(alloc: Global, test: Test, pages: Pages, iterations: u32) -> Result<u64, AllocError> {
+pub(crate) fn round(
+    alloc: Global,
+    test: Test,
+    pages: Pages,
+    iterations: u32,
+) -> Result<u64, AllocError> {
     let maps = zeros(alloc)?;
     let elements = maps.words().len() as u32;
     let mut copy = Private::try_new(alloc, &maps)?;

@@ -70,7 +70,7 @@ fn alu(
     })
 }
 
-/// A move of a register, sign-extending where its offset tells how many bits.
+/// A move of a register, sign-extending where its offset says how many bits.
 fn mov(width: Width, dst: Reg, src: Reg, offset: i16) -> Result<Insn, CodecFault>
     ensures { result ≡ mov_at width dst src offset }
 {
@@ -112,7 +112,7 @@ fn alu_register(
     }
 }
 
-/// A byte order, whose immediate tells how many bits.
+/// A byte order, whose immediate says how many bits.
 fn endian(order: ByteOrder, dst: Reg, imm: i32) -> Result<Insn, CodecFault>
     ensures { result ≡ endian_at order dst imm }
 {
@@ -136,7 +136,7 @@ fn endian(order: ByteOrder, dst: Reg, imm: i32) -> Result<Insn, CodecFault>
     }
 }
 
-/// A call, whose source tells what it names.
+/// A call, whose source says what it names.
 fn call(src: u8, imm: i32) -> Result<Insn, CodecFault>
     ensures { result ≡ call_at src imm }
 {
@@ -339,7 +339,7 @@ fn first(bytes: &[u8]) -> Result<Insn, CodecFault>
     insn_of_slot(Slot::from_bytes(bytes), front(&bytes[8..]))
 }
 
-/// The instruction at the front of bytes, and how many bytes it takes; slot is where it stands.
+/// The instruction at the front of bytes, and how many bytes it takes; slot is where it is.
 fn next(bytes: &[u8], slot: usize) -> Result<(Insn, usize), CodecError>
     ensures value { MatchResult result
         (λ x. (first_insn bytes.now ≡ Ok x.0) × (x.1 ≡ 8 * slots_of x.0))

@@ -153,7 +153,7 @@ slot_count-front xs i x h e =
     ap slot_count (split_at-index xs i x h e) ∙ slot_count-append (take i xs) (x ∷ drop (i + 1) xs) in
     omega arith
 
--- what stands at the slot after a front
+-- what is at the slot after a front
 pub insn_at-index : (xs : List Insn) (i : ℕ) (x : Insn) → i < length xs → x ≡ get_or xs i x
     → insn_at xs (slot_count (take i xs)) ≡ Some x
 insn_at-index xs i x h e =

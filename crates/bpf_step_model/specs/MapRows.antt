@@ -104,7 +104,7 @@ half_accesses =
 abbrev pub at_element_one : Action → Access
 at_element_one action = record { element = 1; action = action }
 
--- what they do: a store reads and writes the whole element; an operation that tells nothing reduces the whole element,
+-- what they do: a store reads and writes the whole element; an operation that says nothing reduces the whole element,
 -- with an operand that leaves the other half
 pub record HalfAccessRows : Type 0 where
   pub accesses : run (over_two half_accesses) 20 (main_entry 0) (0 ∷ 30064771077 ∷ [])

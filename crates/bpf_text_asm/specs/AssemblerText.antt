@@ -37,7 +37,7 @@ line_label slot number line name =
     if is_label line then (if bytes_eq name (name_of line) then Some (record { line = number; slot = slot }) else None)
     else None
 
--- where lines, the first of which stands at this slot, define a name: the first label of that name
+-- where lines, the first of which is at this slot, define a name: the first label of that name
 unfoldable pub labels_from : ℕ → List (ℕ × List ℕ) → List ℕ → Option Label
 labels_from slot [] name = None
 labels_from slot (line ∷ lines) name =
@@ -79,7 +79,7 @@ abbrev pub assembler_text : List ℕ → Result Program TextError
 assembler_text text = if nat_lt 1048576 (length text) then Err (errors.Refused faults.TooLong 0)
     else unit_of (contents_of text)
 
--- what adding a line's instructions after others leaves, where the line has this meaning and stands at a slot: them,
+-- what adding a line's instructions after others leaves, where the line has this meaning and is at a slot: them,
 -- and the slot after them, or the refusal
 abbrev pub Adds : (old new : List Insn) → ℕ → Result ℕ TextError → Result (List Insn) TextError → Type 0
 Adds old new slot (Ok next) meaning = (more : List Insn) × (meaning ≡ Ok more) × (new ≡ old ++ more)

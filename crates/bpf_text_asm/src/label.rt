@@ -45,7 +45,7 @@ fn define_line<'a>(
     Ok(slot)
 }
 
-/// The labels of lines, the first of which stands at slot 0.
+/// The labels of lines, the first of which is at slot 0.
 pub(crate) fn read_labels<'a>(alloc: Global, lines: Lines<'a>) -> Result<Labels<'a>, AllocError>
     requires { length lines ≤ 1048576 }
     ensures { IfOk result (λ labels. (name : List ℕ) → label_named labels name ≡ labels_from 0 lines.entry name) }

@@ -89,7 +89,7 @@ is_sign b = (b == 43) || (b == 45)
 abbrev pub is_bracketed : List ℕ → Bool
 is_bracketed word = (slice_index word 0 == 91) && (nat_lt 1 (length word) && (slice_index word (length word - 1) == 93))
 
--- what stands between the brackets: the base up to the first sign, and the offset from there
+-- what is between the brackets: the base up to the first sign, and the offset from there
 abbrev pub inside : List ℕ → List ℕ
 inside word = take (length word - 2) (drop 1 word)
 

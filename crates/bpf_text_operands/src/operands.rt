@@ -37,7 +37,7 @@ fn sign_at(text: &[u8]) -> Option<usize>
     text.iter().position(|b| is_sign(*b))
 }
 
-/// A text up to its first sign, and what stands there.
+/// A text up to its first sign, and what is there.
 fn split_sign(text: &[u8]) -> (&[u8], &[u8])
     ensures base { result.0.now ≡ base_part text.now }
     ensures offset { result.1.now ≡ offset_part text.now }
@@ -48,7 +48,7 @@ fn split_sign(text: &[u8]) -> (&[u8], &[u8])
     }
 }
 
-/// Whether a word stands between brackets.
+/// Whether a word is between brackets.
 fn is_bracketed(word: &[u8]) -> bool
     ensures { result ≡ is_bracketed word.now }
 {
@@ -58,7 +58,7 @@ fn is_bracketed(word: &[u8]) -> bool
     word[0] == b'[' && word[word.len() - 1] == b']'
 }
 
-/// What stands between the brackets: the base, and the offset from its sign on.
+/// What is between the brackets: the base, and the offset from its sign on.
 fn split_address(word: &[u8]) -> (&[u8], &[u8])
     requires { 2 ≤ length word.now }
     ensures base { result.0.now ≡ base_part (inside word.now) }
@@ -189,7 +189,7 @@ fn comma_at(text: &[u8]) -> Option<usize>
     text.iter().position(|b| *b == b',')
 }
 
-/// What stands on both sides of a text's first comma.
+/// What is on both sides of a text's first comma.
 fn cut_comma(text: &[u8]) -> Option<(&[u8], &[u8])>
     ensures some { IfSome result (λ x. cut_comma text.now ≡ Some (x.0.now, x.1.now)) }
     ensures none { IfNone result (cut_comma text.now ≡ None) }

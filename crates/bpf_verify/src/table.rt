@@ -90,7 +90,7 @@ fn receive_both(table: &mut Vec<Option<State>>, out: &Outflow)
     receive(table, &out.aside);
 }
 
-/// Hands on the abstract state after an instruction that doesn't jump: it is changed where it stands.
+/// Hands on the abstract state after an instruction that doesn't jump: it is changed in place.
 fn hand_ahead(
     table: &mut Vec<Option<State>>,
     sizes: &[u32],

@@ -75,7 +75,7 @@ later_target insns slot target (Some d) e jump_outflow =
     leads true b e f = grind (arith, nat_tests)
     leads false b e f = cc
 
--- an instruction stands within the slots
+-- an instruction is within the slots
 pub within : (insns : List Insn) (count slot : ℕ) (insn : Insn) (b : Bool) → nat_lt slot count ≡ b
     → slot_count insns ≡ count → insn_at insns slot ≡ Some insn → slot < count
 within insns count slot insn true e counted here = grind (arith, nat_tests)

@@ -78,7 +78,7 @@ starts insns (Some slot) = is_some (insn_at insns slot)
 abbrev pub names_none : List Insn → ℕ → Insn → Bool
 names_none insns slot insn = is_code_load insn && not (starts insns (named_by slot insn))
 
--- the slot that is named by the instruction at a slot, if one stands there
+-- the slot that is named by the instruction at a slot, if one is there
 abbrev pub named_at : ℕ → Option Insn → Option ℕ
 named_at slot None = None
 named_at slot (Some insn) = named_by slot insn
@@ -317,7 +317,7 @@ state_fault sizes state insn =
     or_else (operand_fault state insn) (or_else (access_fault sizes state (memory_access_of insn))
     (call_fault state insn))
 
--- the least of V7 to V11 that an instruction breaks wherever it stands
+-- the least of V7 to V11 that an instruction breaks wherever it is
 unfoldable pub insn_fault : List ℕ → Insn → Option Rule
 insn_fault sizes insn =
     if calls_no_helper insn then Some UnknownHelper
@@ -370,7 +370,7 @@ abbrev pub reached : (State → Option Rule) → Option State → Option Rule
 reached fault None = None
 reached fault (Some state) = fault state
 
--- the least rule that an instruction breaks at a slot; before is what is known there, if the slot is reached
+-- the least rule that an instruction breaks at a slot; before is the abstract state there, if the slot is reached
 unfoldable pub fault_of : Program → ℕ → Insn → Option State → Option Rule
 fault_of program slot insn before =
     or_else (slot_fault program.insns slot insn)

@@ -1,5 +1,5 @@
 //! The verifier's definitions: the abstract state of registers and frames before a slot, the rules that an
-//! instruction breaks by what is known, what flows from it to later slots, which programs are
+//! instruction breaks by the abstract state, what flows from it to later slots, which programs are
 //! accepted, and how many instructions a function takes at most. They stand in `specs/`, and here the
 //! types that they speak of; the verifier's code is in the crates above.
 #![tactic(auto)]

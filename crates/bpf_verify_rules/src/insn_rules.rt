@@ -172,7 +172,7 @@ fn writes_r10(insn: Insn) -> bool
     }
 }
 
-/// The least of V7 to V11 that an instruction breaks wherever it stands.
+/// The least of V7 to V11 that an instruction breaks wherever it is.
 #[tactic(auto, unfolding(bpf_verify_model::specs::Rules::insn_fault))]
 pub fn insn_fault(sizes: &[u32], insn: &Insn) -> Option<Rule>
     ensures { result ≡ insn_fault sizes.now insn.now }

@@ -1,5 +1,5 @@
 //! The rules that an instruction breaks, by the abstract state of registers and frames before it. What each
-//! rule says stands in `bpf_verify_model`; the rules on the slot of an instruction (V3 to V6) need its
+//! rule says is in `bpf_verify_model`; the rules on the slot of an instruction (V3 to V6) need its
 //! function, and are in `bpf_verify`.
 #![tactic(auto)]
 

@@ -1,4 +1,4 @@
--- What a comparison says is what is known on the way that it takes.
+-- What a comparison says is the abstract state on the edge that it takes.
 use Rattle.std.proofs.Common.{◌≡◌, ℕ, zero, ◌<◌, ◌%◌, ◌^◌, Bool, true, false, not, Option, Some, None, refl, sym, ap, ◌∙◌, subst, arith}
 use Rattle.std.specs.Prelude.{ℤ, pos, ◌==◌, if◌then◌else◌, FitsSigned}
 use Rattle.std.specs.Int.{w32}
@@ -31,7 +31,7 @@ use Rattle.bpf_verify_sound.specs.Containment.{ContainsValue, Contained, Contain
 use Rattle.bpf_verify_sound.specs.KnownStates.{HasSpan, IsWellFormedState}
 use Rattle.bpf_verify_sound.proofs.Operands.{register-known, register-span, word-fits, learnt}
 
--- the comparison says something, and what is known on that way is true
+-- the comparison says something, and the abstract state on that edge is true
 abbrev pub WayFollows : BranchStates → Option Bool → Machine → Type 0
 WayFollows ways None m = ⊥
 WayFollows ways (Some true) m = ContainedIf ways.holds m

@@ -120,7 +120,7 @@ after_request-caller (StoreHalf half value) word m = refl
 after_request-caller (Update op operand) word m = refl
 after_request-caller (Fetch part rmw value compare into) word m = refl
 
--- an instruction stands where something is known, so the longest path from there isn't empty
+-- an instruction is where something is known, so the longest path from there isn't empty
 pub most-some : (program : Program) → IsSoundProgram program → (m : Machine) → OverApproximates program m
     → 1 ≤ most_from program m.slot
 most-some program sound m known = by_insn program sound m (insn_at program.insns m.slot) refl known

@@ -22,7 +22,7 @@ joined_with-second : (before : Option State) (state : State) (m : Machine) → C
 joined_with-second None state m c = c
 joined_with-second (Some known) state m c = states-second known state m c
 
--- one more edge in keeps what is known true
+-- one more edge in keeps the abstract state true
 received-keeps : (slot : ℕ) (before : Option State) (edge : Option Edge) (m : Machine) → ContainedIf before m
     → ContainedIf (received slot before edge) m
 received-keeps slot before None m c = c

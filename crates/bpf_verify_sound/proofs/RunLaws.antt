@@ -15,7 +15,7 @@ use Rattle.bpf_verify_sound.proofs.RegisterLaws.{all-set}
 use Rattle.bpf_verify_sound.proofs.StepLaws.{step-contained}
 use Rattle.bpf_verify_sound.proofs.SoundLaws.{step-sound, call-sound}
 
--- a step that keeps a machine sound, and what is known true, goes on within the abstract states
+-- a step that keeps a machine sound, and the abstract state true, goes on within the abstract states
 goes-known : (program : Program) (move : StepOutcome) → StepContained program move → StepSound program move
     → StepsOverApproximated program move
 goes-known program NoStep c s = c

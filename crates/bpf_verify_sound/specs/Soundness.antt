@@ -42,7 +42,7 @@ abbrev pub OverApproximatesOnceResumed : Program → Machine → Type 0
 OverApproximatesOnceResumed program next = (answer : ℕ) → answer < 2 ^ 64
     → OverApproximates program (resumed next answer)
 
--- there is a step, and each machine that it leads to is contained before its slot, whatever word below 2 ^ 64 stands at
+-- there is a step, and each machine that it leads to is contained before its slot, whatever word below 2 ^ 64 is at
 -- the element
 abbrev pub StepContained : Program → StepOutcome → Type 0
 StepContained program NoStep = ⊥
@@ -80,7 +80,7 @@ pub record MachinesStaySound : Type 0 where
 
 -- progress and preservation: there is a step, and each machine that it leads to is over-approximated, whatever word
 -- below 2
--- ^ 64 stands at the element; and what is left there is such a word again
+-- ^ 64 is at the element; and what is left there is such a word again
 abbrev pub StepsOverApproximated : Program → StepOutcome → Type 0
 StepsOverApproximated program NoStep = ⊥
 StepsOverApproximated program (Next next) = OverApproximates program next

@@ -26,7 +26,7 @@ EdgeLeadsTo (Some edge) m = (edge.target ≡ m.slot) × Contained edge.state m
 abbrev pub FlowsTo : Outflow → Machine → Type 0
 FlowsTo out m = EdgeLeadsTo out.ahead m ⊎ EdgeLeadsTo out.aside m
 
--- the machine stands at a later slot of the same function, to which one of the edges out leads
+-- the machine is at a later slot of the same function, to which one of the edges out leads
 pub record GoesBy (program : Program) (slot : ℕ) (out : Outflow) (m : Machine) : Type 0 where
   pub same : leads_to program.insns slot m.slot ≡ true
   pub later : slot < m.slot
@@ -38,7 +38,7 @@ pub record EntersBy (program : Program) (slot : ℕ) (out : Outflow) (m : Machin
   pub later : slot < m.slot
   pub flows : FlowsTo out m
 
--- there is a step, and the edges out lead to each machine that it leads to, whatever word stands at the element
+-- there is a step, and the edges out lead to each machine that it leads to, whatever word is at the element
 abbrev pub StepFlows : Program → ℕ → Outflow → StepOutcome → Type 0
 StepFlows program slot out NoStep = ⊥
 StepFlows program slot out (Next next) = GoesBy program slot out next

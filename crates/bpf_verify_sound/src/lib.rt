@@ -7,7 +7,7 @@ use bpf_insn_types::results_fit;
 
 /// The law of one step: the abstract state before a slot of an accepted program contains the machine there.
 /// Main starts so, at any argument. Where it is so there is a step, and it is so of each machine that the
-/// step leads to, whatever word stands at the element that it asks for, whatever a loop answers, and at
+/// step leads to, whatever word is at the element that it asks for, whatever a loop answers, and at
 /// whatever index below the number of iterations a callback starts. Each step of any program keeps words
 /// below 2^64 in registers, frames and maps. The abstract state before a slot is of eleven registers and 512
 /// bytes, and its ranges are spans.
@@ -23,7 +23,7 @@ pub fn law_of_steps()
 /// The law of runs: no run of an accepted program is stuck at any bound, over maps of the sizes, and from
 /// where it comes to a turn it goes on so. Each ends within the most instructions from its slot on, with
 /// what may still come after the turn; a callback's ends at an exit alone. From the start of a function
-/// that is the count that the verifier tells: a callback starts where its function does, and no count is
+/// that is the count that the verifier reports: a callback starts where its function does, and no count is
 /// more than the program's slots.
 pub fn law_of_accepted_runs()
     ensures stuck { NoRunIsStuck }

@@ -71,7 +71,7 @@ fn number_branch(
     }
 }
 
-/// A comparison of a number with a register: with itself it tells nothing.
+/// A comparison of a number with a register: with itself it says nothing.
 fn register_branch(
     state: &State,
     width: Width,

@@ -21,7 +21,7 @@ fn is_asked_for(kind: ErrorKind) -> bool
     kind == ErrorKind::DisplayHelp || kind == ErrorKind::DisplayVersion
 }
 
-/// What clap tells of words: that they are wrong, or the help or the version that they ask for.
+/// What clap says of words: that they are wrong, or the help or the version that they ask for.
 pub(crate) fn fault_of(alloc: Global, error: &clap::Error) -> LineFault
     ensures memory { kind_of error.now ≡ ErrorKind.OutOfMemory → result ≡ LineFault.Memory }
     ensures help { is_help result ≡ true → Shows (kind_of error.now) }

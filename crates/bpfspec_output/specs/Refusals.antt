@@ -1,4 +1,4 @@
--- The line that tells why an input has no result.
+-- The line that says why an input has no result.
 use Rattle.std.specs.Prelude.{ℕ, List, ◌++◌, codes}
 use Rattle.std.specs.Fmt.{decimal}
 use Rattle.bpf_insn.specs.FaultNumbers.{codec_fault_number as codec_fault_number}
@@ -25,7 +25,7 @@ split_fault_number splits.Falling = 1
 split_fault_number splits.Number = 2
 split_fault_number splits.Ends = 3
 
--- the fault of a list of events: its number, and the event at which it stands, or how many events there are
+-- the fault of a list of events: its number, and the event at which it is, or how many events there are
 abbrev pub schedule_fault_text : ReplayFault → List ℕ
 schedule_fault_text (schedules.NoSuchWorker event) = codes "E1 at event " ++ decimal event
 schedule_fault_text (schedules.NotEnabled event) = codes "E2 at event " ++ decimal event

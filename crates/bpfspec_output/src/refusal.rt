@@ -78,7 +78,7 @@ fn split_fault_number(fault: SplitFault) -> u8
     }
 }
 
-/// Adds the fault of a list of events, and where it stands.
+/// Adds the fault of a list of events, and where it is.
 fn print_schedule_fault(out: &mut String, fault: ReplayFault) -> Result<(), AllocError>
     ensures { OnOk result (string_bytes out.new ≡ string_bytes out.old ++ schedule_fault_text fault) }
 {
@@ -89,7 +89,7 @@ fn print_schedule_fault(out: &mut String, fault: ReplayFault) -> Result<(), Allo
     }
 }
 
-/// Adds what is refused, and where it stands.
+/// Adds what is refused, and where it is.
 fn print_what(out: &mut String, refusal: Refusal) -> Result<(), AllocError>
     ensures { OnOk result (string_bytes out.new ≡ string_bytes out.old ++ what_is_refused refusal) }
 {

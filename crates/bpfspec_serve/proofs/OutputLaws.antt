@@ -75,7 +75,7 @@ enough n input behind false long =
     let past : n < length input = grind (arith, nat_tests, long) in
     too_long (take n input) (cut_long 3145728 n input behind (omega arith)) ∙ sym (too_long input (omega arith))
 
--- one byte past the limit tells as much of an input as all of them
+-- one byte past the limit says as much of an input as all of them
 reads_enough : (n : ℕ) (input : List ℕ) → 3145728 < n → readable (take n input) ≡ readable input
 reads_enough n input behind = enough n input behind (nat_le (length input) n) refl
 
@@ -110,7 +110,7 @@ answers_reader job (Some bytes) new read answer same to_end answers = record {
   to_end = to_end;
 }
 
--- an answer that tells what comes of an input answers it
+-- an answer that says what comes of an input answers it
 pub told_answers : {X : Type 0} (view : X → List ℕ) (job : Job) (input : List ℕ) (outcome : Result X AnswerError)
     (answer : Answer)
     → SatisfiesUnlessMemory view (OfInput job input) outcome → AnswerTells view outcome answer

@@ -168,7 +168,7 @@ line_boundary text rest at n utf8 is_rest within some inside ends =
           (subst (IsCharBoundary text) next (IsCharBoundary-after_ascii text (at + (n - 1)) utf8 before ascii)).1 less,
     )
 
--- a newline stands where it was found
+-- a newline is where it was found
 pub newline_stands : (text : List ℕ) (n : ℕ) → Some n ≡ position (λ b. b == 10) text → get_or text (n + 1 - 1) 0 ≡ 10
 newline_stands text n e =
     let here : n + 1 - 1 ≡ n = omega arith in

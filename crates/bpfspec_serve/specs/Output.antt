@@ -252,7 +252,7 @@ SatisfiesUnlessMemory view wanted (Ok x) = wanted (Ok (view x))
 SatisfiesUnlessMemory view wanted (Err (errors.Refused refusal)) = wanted (refused refusal)
 SatisfiesUnlessMemory view wanted (Err errors.Memory) = Unit {0}
 
--- an answer that tells what a function returned, seen by view; none tells that memory ran out
+-- an answer that says what a function returned, seen by view; none tells that memory ran out
 abbrev pub AnswerTells : {X : Type 0} → (X → List ℕ) → Result X AnswerError → Answer → Type 0
 AnswerTells view (Ok x) answer = answer ≡ answer_of (Ok (view x))
 AnswerTells view (Err (errors.Refused refusal)) answer = answer ≡ answer_of (refused refusal)

@@ -149,7 +149,11 @@ fn maps_of(alloc: Global, program: &Verified, values: &[Vec<u64>]) -> Result<Map
 }
 
 /// The maps that a program starts with.
-pub(crate) fn start_maps(alloc: Global, program: &Verified, section: &str) -> Result<Maps, AnswerError>
+pub(crate) fn start_maps(
+    alloc: Global,
+    program: &Verified,
+    section: &str,
+) -> Result<Maps, AnswerError>
     ensures words { SatisfiesUnlessMemory (λ maps. maps.words) (λ outcome. outcome ≡ maps_start_words program.now.sizes
         section.now) result }
     ensures sizes { IfOk result (λ maps. maps.sizes ≡ program.now.sizes) }
@@ -164,7 +168,10 @@ pub(crate) fn start_maps(alloc: Global, program: &Verified, section: &str) -> Re
 }
 
 /// The bounds and events of a section.
-pub(crate) fn read_events(alloc: Global, section: &str) -> Result<(Vec<u32>, Vec<Event>), AnswerError>
+pub(crate) fn read_events(
+    alloc: Global,
+    section: &str,
+) -> Result<(Vec<u32>, Vec<Event>), AnswerError>
     ensures { SatisfiesUnlessMemory (λ x. (x.0.items, x.1.items)) (λ outcome. outcome ≡ in_section Section.Events
         (events_text section.now)) result }
 {

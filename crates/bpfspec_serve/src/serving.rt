@@ -49,7 +49,7 @@ fn refused_as(refusal: Refusal) -> Served
     }
 }
 
-/// The answer that tells what came of an input.
+/// The answer that says what came of an input.
 fn answer_to(alloc: Global, outcome: Result<String, AnswerError>) -> Result<Answer, AllocError>
     ensures { IfOk result (λ answer. AnswerTells string_bytes outcome (record {
       served = answer.served;
@@ -69,7 +69,7 @@ fn answer_to(alloc: Global, outcome: Result<String, AnswerError>) -> Result<Answ
     }
 }
 
-/// Writes a text, and tells how it was served: as wanted, unless a write failed.
+/// Writes a text, and returns how it was served: as wanted, unless a write failed.
 pub(crate) fn write<W: Sink>(sink: &mut W, text: &[u8], wanted: Served) -> Served
     requires { W.failed sink.old < 2 ^ 64 - 1 }
     ensures { HowWritten text.now wanted result (λ n. W.failed sink.new ≡ W.failed sink.old + n)

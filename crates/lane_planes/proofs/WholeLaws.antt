@@ -14,7 +14,7 @@ use Rattle.lane_planes.specs.Merged.{Ored, WrittenByTwo, FirstsFit, MergedOperat
 use Rattle.lane_planes.proofs.BitMeaning.{bit}
 use Rattle.lane_planes.proofs.MergeLaws.{ored_at, two_at, merged_at, joined_stand}
 
--- a page stands before some pages, among them, or past them
+-- a page comes before some pages, among them, or past them
 by_page : (page at upto : ℕ) (P : ℕ → Type 0) → (page < at → P page) → (at ≤ page → page < upto → P page)
     → (upto ≤ page → P page) → P page
 by_page page at upto P before among behind =

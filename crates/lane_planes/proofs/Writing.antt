@@ -32,12 +32,12 @@ writes_lanes rule at n old lanes room new = record {
       get_or-put_chunk_above at old lanes i 0 past;
 }
 
--- what a rule tells stands there already
+-- what a rule tells is there already
 pub writes_same : (rule : ℕ → ℕ) (at upto : ℕ) (xs : List ℕ) → ((i : ℕ) → at ≤ i → i < upto → get_or xs i 0 ≡ rule i)
     → Writes rule at upto xs xs
 writes_same rule at upto xs same = record { long = refl; written = same; below = λ i low. refl; above = λ i high. refl }
 
--- after a run the next one is written, by a rule that tells the same there
+-- after a run the next one is written, by a rule that says the same there
 pub writes_on : (rule step : ℕ → ℕ) (from at upto : ℕ) (old mid now : List ℕ) → from ≤ at → at ≤ upto
     → ((i : ℕ) → at ≤ i → step i ≡ rule i) →
     Writes rule from at old mid → Writes step at upto mid now → Writes rule from upto old now
@@ -52,7 +52,7 @@ writes_on rule step from at upto old mid now rising going same before after = re
   above = λ i high. let late : at ≤ i = omega arith in after.above i high ∙ before.above i late;
 }
 
--- or by a rule that tells the same where nothing was written before
+-- or by a rule that says the same where nothing was written before
 pub writes_more : (rule step : ℕ → ℕ) (from at upto : ℕ) (old mid now : List ℕ) → from ≤ at → at ≤ upto →
     ((i : ℕ) → get_or mid i 0 ≡ get_or old i 0 → step i ≡ rule i) → Writes rule from at old mid
     → Writes step at upto mid now → Writes rule from upto old now

@@ -21,11 +21,11 @@ pub record HasBits (many : ℕ) (test : ℕ → Bool) (word : ℕ) : Type 0 wher
   pub below : word < 2 ^ many
   pub each : (k : ℕ) → k < many → (bit_at word k == 1) ≡ test k
 
--- an element's first writer stands before its last reader, which is one more than an index, or 0 where there is none
+-- an element's first writer comes before its last reader, which is one more than an index, or 0 where there is none
 abbrev pub stands_at : (first last : List ℕ) → ℕ → Bool
 stands_at first last e = nat_lt (slice_index first e) (slice_index last e - 1)
 
--- the words of a plane that says of each element whether it stands so, and is zero past the end
+-- the words of a plane that says of each element whether it is so, and is zero past the end
 pub record FlowWords (many : ℕ) (first last words : List ℕ) : Type 0 where
   pub count : length words ≡ many
   pub each : (i : ℕ) → i < many → HasBits (min (length first - 64 * i) 64) (λ k. stands_at first last (64 * i + k))

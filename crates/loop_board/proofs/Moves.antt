@@ -1,4 +1,4 @@
--- Each of the three kinds of step keeps the rule, and tells what it is said to tell.
+-- Each of the three kinds of step keeps the rule, and says what it is said to tell.
 use Rattle.std.proofs.Common.{Bool, true, false, ◌≡◌, ◌≢◌, ◌⊎◌, ℕ, ◌+◌, ◌%◌, ◌^◌, ◌<◌, ◌≤◌, ◌==◌, if◌then◌else◌, min, List, [], ◌∷◌, ◌++◌, set, slice_index, slice_set, inl, inr, ⊎_elim, refl, sym, ap, subst, arith, All}
 use Rattle.std.proofs.lemmas.Bool.{cases_lt}
 use Rattle.std.proofs.lemmas.Bool.Decides.{nat_tests}

@@ -1,4 +1,4 @@
--- Lemmas on sums over lists, and on how often a number stands in one.
+-- Lemmas on sums over lists, and on how often a number is in one.
 use Rattle.std.proofs.Common.{◌≡◌, ◌⊎◌, ℕ, zero, suc, ◌+◌, ◌*◌, ◌<◌, ◌≤◌, ◌==◌, if◌then◌else◌, List, [], ◌∷◌, ◌++◌, map, length, replicate, set, slice_index_or, All, ⊎_elim, refl, sym, ap, arith}
 use Rattle.std.specs.List.{flat_map}
 use Rattle.std.proofs.lemmas.Bool.{cases_lt}
@@ -37,24 +37,24 @@ module _ {A : Type 0} where
   total_le f g (x ∷ xs) below = let here = below 0 x refl in let r = total_le f g xs (λ i y e. below (suc i) y e) in
       omega arith
 
--- how often x stands in two lists, one after the other
+-- how often x is in two lists, one after the other
 pub times-append : (x : ℕ) (xs ys : List ℕ) → times x (xs ++ ys) ≡ times x xs + times x ys
 times-append x [] ys = omega arith
 times-append x (z ∷ zs) ys = let r = times-append x zs ys in omega arith
 
--- how often x stands in a list with one more element
+-- how often x is in a list with one more element
 pub times-push : (x : ℕ) (xs : List ℕ) (y : ℕ) → times x (xs ++ y ∷ []) ≡ times x xs + (if x == y then 1 else 0)
 times-push x xs y = let r = times-append x xs (y ∷ []) in omega arith
 
--- x stands in a list that begins with x
+-- x is in a list that begins with x
 pub times_first : (x : ℕ) (xs : List ℕ) → 0 < times x (x ∷ xs)
 times_first x xs = grind (arith, nat_tests)
 
--- what stands in a longer list stands in the rest, or is the first
+-- what is in a longer list is in the rest, or is the first
 pub times_more : (x y : ℕ) (ys : List ℕ) → 0 < times x (y ∷ ys) → (x ≡ y) ⊎ (0 < times x ys)
 times_more x y ys h = grind (arith, nat_tests)
 
--- what holds of each number that stands in the list holds of all its elements
+-- what holds of each number that is in the list holds of all its elements
 pub All-times : (P : ℕ → Type 0) (xs : List ℕ) → ((x : ℕ) → 0 < times x xs → P x) → All P xs
 All-times P [] f k d h = absurd (omega arith)
 All-times P (x ∷ xs) f zero d h = f x (times_first x xs)
@@ -125,7 +125,7 @@ module _ {A : Type 0} where
   two_in_total f (x ∷ xs) (suc j) (suc k) d before below = let r = two_in_total f xs j k d (omega arith) (omega arith)
       in omega arith
 
-  -- how often x stands in the joined lists
+  -- how often x is in the joined lists
   pub times-flat_map : (x : ℕ) (g : A → List ℕ) (xs : List A) → times x (flat_map g xs) ≡ total (λ y. times x (g y)) xs
   times-flat_map x g [] = refl
   times-flat_map x g (y ∷ ys) = let r = times-flat_map x g ys in let a = times-append x (g y) (flat_map g ys) in

@@ -1,4 +1,4 @@
--- Sums over lists, and how often a number stands in one.
+-- Sums over lists, and how often a number is in one.
 use Rattle.std.specs.Prelude.{ℕ, ◌+◌, ◌==◌, nat_lt, if◌then◌else◌, List, [], ◌∷◌}
 
 -- f of each element, added up
@@ -6,7 +6,7 @@ abbrev pub total : {A : Type 0} → (A → ℕ) → List A → ℕ
 total f [] = 0
 total f (x ∷ xs) = f x + total f xs
 
--- how often x stands in the list
+-- how often x is in the list
 abbrev pub times : ℕ → List ℕ → ℕ
 times x [] = 0
 times x (y ∷ ys) = (if x == y then 1 else 0) + times x ys

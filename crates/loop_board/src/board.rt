@@ -126,7 +126,7 @@ impl Board {
         words.fetch_min::<Post>(&mut seat.seat, 1, u64::from(index));
     }
 
-    /// Ends the board, and tells what all its seats did. B2 (`Seats`) where there are fewer seats than workers; the
+    /// Ends the board, and returns what all its seats did. B2 (`Seats`) where there are fewer seats than workers; the
     /// board and the seats are dropped then. It takes no memory. The seats are of this board.
     pub fn gather(self, seats: Vec<BoardSeat>) -> Result<Tally, BoardError>
         requires { All (λ s. s.board ≡ self) seats.items }

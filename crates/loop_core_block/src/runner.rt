@@ -83,7 +83,7 @@ impl<'c, 'a> Runner<'c, 'a> {
         Ok(None)
     }
 
-    /// Runs the iteration of an index, up to which iterations were run, and tells whether it broke.
+    /// Runs the iteration of an index, up to which iterations were run, and returns whether it broke.
     fn iterate(&mut self, alloc: Global, index: u32) -> Result<bool, AllocError>
         requires ready { IsReady self.old }
         requires below { index < self.old.callback.call.n }

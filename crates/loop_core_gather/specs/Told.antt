@@ -10,7 +10,7 @@ abbrev pub least_told : List Summary → Option ℕ
 least_told [] = None
 least_told (s ∷ summaries) = lesser s.broke (least_told summaries)
 
--- a number stands twice
+-- a number appears twice
 abbrev pub twice_told : List Summary → Bool
 twice_told [] = false
 twice_told (s ∷ summaries) = list_any (λ (other : Summary). other.number == s.number) summaries || twice_told summaries

@@ -1,4 +1,4 @@
--- Which blocks touched which pages: a word for each page, of which each bit tells of one block.
+-- Which blocks touched which pages: a word for each page, of which each bit says of one block.
 use Rattle.std.specs.Prelude.{◌≡◌, ℕ, ◌<◌, Bool, true, ◌==◌, List, length, slice_get, slice_index, Some}
 use Rattle.std.specs.Int.{bit_at}
 use Rattle.private_copy.specs.Touched.{has_page}

@@ -25,7 +25,7 @@ fn commit_page(words: &mut [u64], page: u32, gathered: &Gathered)
     }
 }
 
-/// Sets each element to what a pass leaves there, of start words. A word for each page of 64 elements tells whether it
+/// Sets each element to what a pass leaves there, of start words. A word for each page of 64 elements says whether it
 /// was touched: where it is 0 the start words are left.
 pub(crate) fn commit(words: &mut [u64], touched: &[u64], gathered: &Gathered)
     requires count { length words.old ≡ length gathered.now.words }

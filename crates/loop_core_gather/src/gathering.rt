@@ -61,7 +61,7 @@ fn counted(n: u32, least: Option<u32>) -> u32
 /// of the split that start past the least break may be missing; the others are there.
 ///
 /// `Fault` where the blocks have one, the least of them: G1 (`Missing`) a block of the split isn't there that starts
-/// at or before the least break of those that are, G2 (`Twice`) a number stands twice, G3 (`Foreign`) an interval
+/// at or before the least break of those that are, G2 (`Twice`) a number appears twice, G3 (`Foreign`) an interval
 /// isn't the split's. `Memory` where there was none.
 pub fn gather<'a>(
     alloc: Global,

@@ -77,7 +77,7 @@ fn has_number(blocks: &[Summary], number: u32) -> bool
     false
 }
 
-/// Whether a number stands twice.
+/// Whether a number appears twice.
 fn has_twins(blocks: &[Summary]) -> bool
     ensures { result ≡ twice_told blocks.now }
 {
@@ -113,7 +113,7 @@ fn has_foreign(split: &Split, blocks: &[Summary]) -> bool
 /// The blocks that count, of blocks of this split of which this is told. It takes no memory.
 ///
 /// G1 (`Missing`) a block of the split isn't there that starts at or before the least break of those that are, G2
-/// (`Twice`) a number stands twice, G3 (`Foreign`) an interval isn't the split's: the least of them.
+/// (`Twice`) a number appears twice, G3 (`Foreign`) an interval isn't the split's: the least of them.
 pub fn counting_blocks(split: &Split, blocks: &[Summary]) -> Result<Counting, GatherFault>
     ensures fault { IfErr result (λ fault. told_fault split.now blocks.now ≡ Some fault) }
     ensures counts { IfOk result (λ counting. Counts split.now blocks.now counting.least counting.places.items) }

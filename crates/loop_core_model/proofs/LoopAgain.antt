@@ -163,7 +163,7 @@ IsInOrder program bound call words runs =
     loop_in_order program bound call words
     ≡ Ended (record { answer = counted program bound call words; words = committed_words runs words })
 
--- where all counted iterations ended and no writer stands before a reader, the loop in order is what was speculated
+-- where all counted iterations ended and no writer comes before a reader, the loop in order is what was speculated
 all_in_order : (program : Program) (bound : ℕ) (call : LoopCall) (words : List ℕ) →
     AllByRecursion IsEnded (counted_iterations program bound call words) →
     UnharmedEach (map accesses_of (counted_iterations program bound call words)) (length words) →

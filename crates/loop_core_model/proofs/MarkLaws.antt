@@ -144,7 +144,7 @@ reads_step : (index : ℕ) (E : Bool) (last : ℕ) (reads : Bool) → reads ≡ 
 reads_step index true last reads h = grind (arith, nat_tests)
 reads_step index false last reads h = grind (arith, nat_tests)
 
--- where the iteration writes, it stands before all readers that come
+-- where the iteration writes, it comes before all readers that come
 harmed_by_this : (index own last : ℕ) → own ≤ index + 1 → (last ≡ 0) ⊎ (index + 1 + 1 ≤ last) →
     not (last == 0) ≡ (not (max own last == 0) && nat_lt index (max own last - 1))
 harmed_by_this index own last small (inl h) = grind (arith, nat_tests)

@@ -148,7 +148,7 @@ pub left_by_all-append : (xs ys : List Action) (word : ℕ) → left_by_all (xs 
 left_by_all-append [] ys word = refl
 left_by_all-append (x ∷ xs) ys word = left_by_all-append xs ys (left_by x word)
 
--- what stands there in the end: what the last one that writes left of the start word, or the word from before
+-- what is there in the end: what the last one that writes left of the start word, or the word from before
 abbrev pub picked : Option (List Action) → (start word : ℕ) → ℕ
 picked None start word = word
 picked (Some actions) start word = left_by_all actions start
@@ -206,7 +206,7 @@ only_reduces op (Reduce other v ∷ actions) h =
     let parts = chosen (list_all (reduces_by other) actions) other op h in
     subst (λ (o : Op). (is_same o other && list_all (reduces_by o) actions) ≡ true) parts.1 (rw is_same-refl parts.0)
 
--- no writer stands before a reader, unless the element is reduction-only
+-- no writer comes before a reader, unless the element is reduction-only
 abbrev pub Unharmed : List (List Action) → Type 0
 Unharmed iterations = (is_none (only_operator (joined iterations)) && fails_flow iterations) ≡ false
 

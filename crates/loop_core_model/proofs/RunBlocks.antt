@@ -43,7 +43,7 @@ some_times k (b ∷ blocks) h = go (cases_Bool (b.number == k)) (λ some. some_t
         ap (λ (c : Bool). is_none (cond c (Some b) (block_numbered k blocks))) other
         ∙ later (let none : bit (b.number == k) ≡ 0 = ap bit other in omega arith)
 
--- no number stands twice
+-- no number appears twice
 pub once_each : (blocks : List Block) → ((k : ℕ) → times k (numbers blocks) ≤ 1) → twice blocks ≡ false
 once_each [] each = refl
 once_each (b ∷ blocks) each =

@@ -36,7 +36,7 @@ unposted ws = total (Option ℕ) lesser None to_post ws
 add_swap : (a b c : ℕ) → a + (b + c) ≡ b + (a + c)
 add_swap a b c = omega arith
 
--- what is known of every state that events lead to
+-- the invariant of every state that events lead to
 pub record Sound (breaks : ℕ → Bool) (bounds : List ℕ) (state : ScheduleState) : Type 0 where
   pub sixteen : length state.workers ≡ 16
   pub within : state.shared.next ≤ blocks_of bounds

@@ -61,7 +61,7 @@ abbrev pub lacks_some : List ℕ → List Block → Bool
 lacks_some [] blocks = false
 lacks_some (first ∷ bounds) blocks = lacks_block (least_of blocks) blocks 0 first bounds
 
--- a number stands twice
+-- a number appears twice
 abbrev pub twice : List Block → Bool
 twice [] = false
 twice (b ∷ blocks) = list_any (λ (other : Block). other.number == b.number) blocks || twice blocks

@@ -1,4 +1,4 @@
--- What is kept of the blocks of a loop at an element, its marks and its kept values, tells whether the element
+-- What is kept of the blocks of a loop at an element, its marks and its kept values, says whether the element
 -- conflicts
 -- and what a pass leaves there.
 use Rattle.std.specs.Prelude.{◌≡◌, ℕ, ◌+◌, List, [], ◌∷◌, map, length}

@@ -15,7 +15,7 @@ pub record MarksTell : Type 0 where
   pub conflict : (test : Test) (index : ℕ) (iterations : List (List Action)) →
       conflicts test iterations ≡ marked_conflict test (marks_of (numbered index iterations))
 
--- a first writer as a number tells the same, and the lesser of two is their lesser number
+-- a first writer as a number says the same, and the lesser of two is their lesser number
 pub record FirstIsNumber : Type 0 where
   pub before : (first : Option ℕ) (last : ℕ) → last ≤ 4294967296 →
       stands_before first last ≡ (not (last == 0) && nat_lt (first_number first) (last - 1))

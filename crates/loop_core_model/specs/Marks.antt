@@ -72,7 +72,7 @@ marks_of visits = record {
 abbrev pub marked_reduction : Marks → Bool
 marked_reduction marks = not marks.plain && (count_by marks.by operators == 1)
 
--- a first writer stands before a last reader
+-- a first writer comes before a last reader
 abbrev pub stands_before : Option ℕ → ℕ → Bool
 stands_before None last = false
 stands_before (Some first) last = not (last == 0) && nat_lt first (last - 1)

@@ -37,7 +37,7 @@ abbrev pub and_then : (ScheduleState → Result ScheduleState ReplayFault) → R
 and_then go_on (Err fault) = Err fault
 and_then go_on (Ok state) = go_on state
 
--- the state after all events, where the first of them stands at this place of the list; or the first fault
+-- the state after all events, where the first of them is at this place of the list; or the first fault
 abbrev pub after_events : (ℕ → Bool) → List ℕ → List Event → ℕ → ScheduleState → Result ScheduleState ReplayFault
 after_events breaks bounds [] place state = Ok state
 after_events breaks bounds (e ∷ events) place state = and_then (after_events breaks bounds events (place + 1))
@@ -52,7 +52,7 @@ is_stopped (Posting index) = false
 is_stopped Drained = false
 is_stopped Stopped = true
 
--- at least one worker stands in the list, and each that does has stopped
+-- at least one worker is in the list, and each that does has stopped
 abbrev pub has_ended : List Event → ScheduleState → Bool
 has_ended events state = nat_lt 0 (length events) && list_all (λ (e : Event). is_stopped (worker_of state e.worker))
     events

@@ -17,7 +17,7 @@ pub enum GatherFault {
     /// G1: a block of the split is missing that starts at or before the least break of those that are
     /// there.
     Missing,
-    /// G2: a number stands twice.
+    /// G2: a number appears twice.
     Twice,
     /// G3: an interval isn't the split's.
     Foreign,

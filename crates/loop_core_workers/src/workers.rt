@@ -71,7 +71,7 @@ impl Workers {
         }
     }
 
-    /// Does the event that stands at this place of a list, or tells which iteration is to be run first, and then
+    /// Does the event that is at this place of a list, or says which iteration is to be run first, and then
     /// changes nothing.
     ///
     /// E1 (`NoSuchWorker`) a worker above 15, E2 (`NotEnabled`) an event that isn't enabled, each with the place;
@@ -102,7 +102,7 @@ impl Workers {
         }
     }
 
-    /// Does a turn that `begin` told, whose iteration broke or not, and tells the block where it was run to its
+    /// Does a turn that `begin` told, whose iteration broke or not, and returns the block where it was run to its
     /// break or its end with it. The split is the one that these workers share.
     pub fn finish(&mut self, split: &Split, turn: PendingIteration, broke: bool) -> Option<u32>
         requires fits { WorkersFit split.now self.old }
@@ -116,7 +116,7 @@ impl Workers {
         change.ran
     }
 
-    /// Whether these events have ended: some worker stands in them, and each that does has stopped.
+    /// Whether these events have ended: some worker is in them, and each that does has stopped.
     /// E3 (`NotEnded`) with the number of events where they haven't.
     pub fn end(&self, events: &[Event]) -> Result<(), ReplayFault>
         ensures ended { OnOk result ((runs : List ℕ) → has_ended events.now (state self.now runs) ≡ true) }

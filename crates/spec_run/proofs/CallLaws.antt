@@ -77,7 +77,7 @@ pub each_by_test : (test : Test) (program : Program) (call : LoopCall) (start le
 each_by_test test program call start left one_loop sound (Ok a) is = call_by_test one_loop sound is
 each_by_test test program call start left one_loop sound (Err e) is = tt
 
--- what a call tells of what it was lent, it tells of the loop call and the maps
+-- what a call says of what it was lent, it says of the loop call and the maps
 pub told_of : {F E : Type 0}
     {calls : Shared F (Bor LoopCall × (MutBor MapList × Unit {0})) (Result LoopAnswer E × (MutBor MapList × Unit {0}))}
     {f : F} {call : LoopCall} {start left : MapList} {answered : Result LoopAnswer E}

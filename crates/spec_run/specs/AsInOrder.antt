@@ -20,7 +20,7 @@ IsReportByTest test program argument old new report =
 -- The headline: run gives exactly the return value, maps and report of the program run in order, or refuses for want of
 -- memory and leaves the maps unchanged, for every number of workers, split and schedule. Of the plan the test alone
 -- occurs in what it gives, and of a schedule nothing does. No iteration is stuck, speculative ones included, and each
--- ends within the count that the verifier tells
+-- ends within the count that the verifier reports
 pub record RunsAsInOrder (program : Program) (argument : ℕ) (plan : Plan) (old new : MapList)
     (result : Result Report RunError) : Type 0 where
   -- a report, the return value in it and the new maps are exactly those of the program run in order, and its

@@ -1,4 +1,4 @@
-//! Runs accepted programs over array maps, and tells what came of their loops. Of the crates below all that a caller
+//! Runs accepted programs over array maps, and returns what came of their loops. Of the crates below all that a caller
 //! needs is offered here.
 //!
 //! ```text

@@ -22,7 +22,7 @@ use std::thread::Threads;
 /// where the loop passes the test, what they left is committed; else it is run in order. All of it runs on a copy,
 /// which takes the maps' place at the end. It waits for its threads; where one can't be started, the others do its
 /// share. A gate may hold them for a while, and changes nothing else. No iteration is stuck, speculative ones included,
-/// and each ends within the count that the verifier tells.
+/// and each ends within the count that the verifier reports.
 ///
 /// It fails with `Sizes` (P1) where the maps' sizes differ from the program's; else with `Plan` (P2) where the workers
 /// aren't 1 to 16 or the blocks not 1 to 64; else only with `Memory`. The maps are as before then.

@@ -169,7 +169,7 @@ module _ (test : Test) (program : Program) (call : LoopCall) (words : List ℕ) 
   each_runs (w ∷ workers) are = all_append (RecordsRun test program call words) w.blocks (blocks_of_all workers)
       are.0.ran (each_runs workers are.1)
 
-  -- how often a number stands in the blocks
+  -- how often a number is in the blocks
   same_times : (k : ℕ) (blocks : List BlockOf) → steps.times k (numbers (all_gathered blocks))
       ≡ times k (numbers_of blocks)
   same_times k [] = refl

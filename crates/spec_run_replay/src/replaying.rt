@@ -68,7 +68,7 @@ fn iterations_end(program: &Verified)
 ///
 /// It is refused with `NoLoop` where there is no such call, with `Split` where the bounds don't split its
 /// iterations, and with `Schedule` where the events are no schedule of it: the first of them that stands. It
-/// fails with `Memory` too. No iteration is stuck, and each ends within the count that the verifier tells.
+/// fails with `Memory` too. No iteration is stuck, and each ends within the count that the verifier reports.
 pub fn replay(
     alloc: Global,
     program: &Verified,

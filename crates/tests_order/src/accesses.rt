@@ -6,7 +6,7 @@
 use crate::rows::are_answered;
 use std::test::Fail;
 
-/// What is answered where all that is told stands in map 0.
+/// What is answered where all that is told is in map 0.
 const MAP_0: &str = "return 0 | map 0: ..";
 
 /// Main loads 1, 2, 4 and 8 bytes of a word at the end of its frame, and sign-extends 1, 2 and 4.
@@ -126,7 +126,7 @@ fn atomic_operations_at_both_widths(rt: HostRuntime) -> Result<(), Fail> {
     are_answered(&rt, rt.alloc(), ATOMICS, MAP_0, ATOMIC_WORDS)
 }
 
-/// The same with a comparison: the three words are what stands there, what is stored, and R0 before. Told is R0 after.
+/// The same with a comparison: the three words are what is there, what is stored, and R0 before. Told is R0 after.
 const EXCHANGES: &str =
     "maps 10 | ldmapval r8, 0, 0 | ldx64 r6, [r8+0] | ldx64 r7, [r8+24] | ldx64 r9, [r8+32] | \
     mov64 r0, r9 | mov64 r1, r7 | atomic64 cmpxchg [r8+0], r1 | stx64 [r8+40], r0 | \

@@ -11,7 +11,7 @@ pub const ORDER: Mode = Mode::Order {
     arg: 5,
 };
 
-/// What stands in a program for often used lines: a loop call without ctx after its number of iterations, the address
+/// What is in a program for often used lines: a loop call without ctx after its number of iterations, the address
 /// of the element of R1 in R3, and an end with 0.
 const SHORT: &str = "
     LOOP: ldcode r2, cb | mov64 r3, 0 | mov64 r4, 0 | call 181 | exit | cb:
@@ -30,7 +30,7 @@ fn spelled_out(alloc: Global, program: String) -> Result<String, AllocError> {
     Ok(text)
 }
 
-/// What stands in a program for the words of a row.
+/// What is in a program for the words of a row.
 const MARKS: &str = "<0> <1> <2> <3>";
 
 /// The program with the words of a row.

@@ -21,7 +21,7 @@ pub enum Change {
     },
 }
 
-/// An access of an element, and the word that it tells; 0 where it tells none.
+/// An access of an element, and the word that it tells; 0 where it says none.
 #[derive(Clone, Copy)]
 pub struct Step {
     pub e: u32,
@@ -65,7 +65,7 @@ fn part_of(name: &str) -> Option<Part> {
     }
 }
 
-/// What a name says. One with the part of an element tells what was there.
+/// What a name says. One with the part of an element returns what was there.
 fn change_of(name: &str, value: u64, compare: u64) -> Option<Change> {
     match name {
         "load" => Some(Change::Load),
@@ -101,7 +101,7 @@ pub(crate) fn step_of(text: &str) -> Option<Step> {
     })
 }
 
-/// Makes an access of an element, and tells what it tells; 0 where it tells nothing.
+/// Makes an access of an element, and says what it tells; 0 where it says nothing.
 pub(crate) fn make(copy: &mut Private, e: u32, change: Change) -> u64
     requires within { e < length (copy_of copy.old).start }
     requires served { 0 < (copy_of copy.old).serves }

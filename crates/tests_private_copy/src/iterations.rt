@@ -26,7 +26,7 @@ fn begin(alloc: Global, copy: &mut Private, need: u32) -> Result<(), AllocError>
     }
 }
 
-/// Makes n accesses at most, which commas part, and tells whether they tell what they should.
+/// Makes n accesses at most, which commas part, and returns whether they tell what they should.
 fn make_all(copy: &mut Private, elements: u32, need: u32, iteration: &str) -> Option<()>
     requires elements { elements ≡ length (copy_of copy.old).start }
     requires served { need ≤ (copy_of copy.old).serves }

@@ -6,7 +6,7 @@ use loop_core_model::ReplayFault;
 /// What a worker does.
 #[derive(Clone, Copy)]
 enum Doing {
-    /// It stands in no event so far; else it is idle.
+    /// It is in no event so far; else it is idle.
     Absent,
     Idle,
     Holding(u32),
@@ -113,7 +113,7 @@ impl<'a> Table<'a> {
         }
     }
 
-    /// Whether some worker stands in the events, and each that does has stopped.
+    /// Whether some worker is in the events, and each that does has stopped.
     pub fn has_ended(&self) -> bool {
         let mut some = false;
         for doing in &self.workers {

@@ -131,7 +131,7 @@ fn disasm_writes_assembler_text(rt: HostRuntime) -> Result<(), Fail> {
     are_answered(&rt, rt.alloc(), "disasm", HEX_TEXTS)
 }
 
-/// Asserts what `asm` tells of these bytes.
+/// Asserts what `asm` says of these bytes.
 fn is_told<R: Abort + Threads + Sync>(
     rt: &R,
     alloc: Global,

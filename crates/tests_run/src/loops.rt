@@ -113,7 +113,12 @@ const READ_AHEAD: &str = "
 ";
 
 /// Rows with the verdicts of both loops.
-pub(crate) fn judged(alloc: Global, rows: &str, first: &str, second: &str) -> Result<String, AllocError> {
+pub(crate) fn judged(
+    alloc: Global,
+    rows: &str,
+    first: &str,
+    second: &str,
+) -> Result<String, AllocError> {
     rows.replace(alloc, "FIRST", first)?
         .replace(alloc, "SECOND", second)
 }

@@ -17,7 +17,7 @@ use Rattle.value_range_model.specs.declared.condition.Condition.TheVariants.{Hol
 use Rattle.value_range_model.specs.RefineLaw.{RefinedContains}
 use Rattle.value_range_model.specs.RefineRows.{Refined, says, within, equal, without, different, greater, not_less, swapped, tested, refine_row, refined}
 
--- whichever is chosen, by what the test tells
+-- whichever is chosen, by what the test finds
 has_by_test : (x y : ℕ) (p q : Refined) (b : Bool) → (b ≡ true → RefinedContains p x y)
     → (b ≡ false → RefinedContains q x y) → RefinedContains (if b then p else q) x y
 has_by_test x y p q true h k = h refl

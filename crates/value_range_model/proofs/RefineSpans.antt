@@ -53,7 +53,7 @@ pub without-greatest : (s : Span) → IsSpan s → (s.lo ≡ s.hi → ⊥) → r
 without-greatest s i several =
     norm-some s.lo (s.hi - 2 ^ s.zeros) s.zeros s.lo (omega arith) (omega (arith, step-word s i several)) i.lo_multiple
 
--- whichever is chosen, by what the test tells
+-- whichever is chosen, by what the test finds
 are_by_test : (p q : Refined) (b : Bool) → (b ≡ true → AreSpans p) → (b ≡ false → AreSpans q)
     → AreSpans (if b then p else q)
 are_by_test p q true h k = h refl

@@ -9,7 +9,7 @@ use Rattle.bpf_insn_types.specs.Words.{modulus}
 use Rattle.value_range_model.specs.Spans.{Span, IsSpan, Contains, is_exact, exact, top, rounded_up, rounded_down, norm, join}
 use Rattle.value_range_model.proofs.Multiples.{min-first, min-second, multiple-zero, trailing-multiple, trailing-most, down-most, down-multiple, down-least, up-least, up-multiple, up-most}
 
--- whichever span is chosen, by what the test tells
+-- whichever span is chosen, by what the test finds
 pub is_by_test : (s t : Span) (b : Bool) → (b ≡ true → IsSpan s) → (b ≡ false → IsSpan t) → IsSpan (if b then s else t)
 is_by_test s t b h k = cond_both b s t IsSpan h k
 

@@ -1,4 +1,4 @@
--- What a condition tells of the spans of its operands, a definition a row.
+-- What a condition says of the spans of its operands, a definition a row.
 use Rattle.std.specs.Prelude.{ℕ, ◌+◌, ◌-◌, ◌^◌, min, max, Bool, not, ◌&&◌, ◌==◌, nat_lt, nat_le, if◌then◌else◌}
 use Rattle.std.specs.declared.option.Option.{Option}
 use Rattle.std.specs.declared.option.Option.TheVariants.{Some, None}

@@ -92,7 +92,12 @@ pub(crate) fn exchanged(refined: Option<(Range, Range)>) -> Option<(Range, Range
 
 /// Any condition: whether two exact ranges meet it.
 #[tactic(auto, unfolding(value_range_model::specs::RefineRows::tested))]
-pub(crate) fn tested(condition: Condition, width: Width, a: Range, b: Range) -> Option<(Range, Range)>
+pub(crate) fn tested(
+    condition: Condition,
+    width: Width,
+    a: Range,
+    b: Range,
+) -> Option<(Range, Range)>
     ensures { result ≡ tested condition width a b }
 {
     let are_exact = a.lo() == a.hi() && b.lo() == b.hi();

@@ -23,7 +23,7 @@ loop-insn-init c = record {
   translated = translated-none (program_of c.args.code.now) c.args.count c.in_ok-ops.ops.items c.in_ok-ops.ensures.ok;
 }
 
--- the instruction stands at its slot
+-- the instruction is at its slot
 stands : (c : After-insn-item) → At c.args.code.now.insns.now c.args.code.now.layout.now c.args.count c.loop-insn.slot
     c.loop-insn.insn-index c.insn-item.result
 stands c = at-index c.args.code.now.insns.now c.args.code.now.insns.now c.args.code.now.layout.now c.args.count
