@@ -1,8 +1,6 @@
 //! Times what speculative loops do for each iteration and each block: an iteration on a private copy, which is `begin`,
-//! two
-//! accesses and `end`, on one page, on 1,024 pages in turn and at random; and lane kernels on planes of 65,536
-//! elements. Both
-//! tests. It prints what comes of them, and with an argument also the least time of some rounds.
+//! two accesses and `end`, on one page, on 1,024 pages in turn and at random; and lane kernels on planes of 65,536
+//! elements. Both tests. It prints what comes of them, and with an argument also the least time of some rounds.
 #![tactic(auto)]
 
 mod kernels;

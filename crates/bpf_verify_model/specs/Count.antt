@@ -32,8 +32,7 @@ function_start insns zero = 0
 function_start insns (suc callback) = slice_index_or (callback_starts insns) callback 0
 
 -- the worst-case instruction count of a function: its longest path from its start to an exit, over all jumps whether
--- they
--- can be taken or not
+-- they can be taken or not
 unfoldable pub count_of : List Insn → ℕ → ℕ
 count_of insns function = longest insns (slot_count insns) (function_start insns function)
 

@@ -37,8 +37,7 @@ pub record PathOf (insns : List Insn) (slot count : ℕ) : Type 0 where
   pub ends : list_any (λ next. is_some (insn_at insns next)) (successors_of_path insns (slot ∷ []) path) ≡ false
 
 -- of each function of an accepted program some path from its start to an end has its worst-case instruction count, and
--- none
--- has more
+-- none has more
 pub record CountIsLongestPath : Type 0 where
   pub some_path : (program : Program) → Accepted program → (function : ℕ) →
       PathOf program.insns (function_start program.insns function) (count_of program.insns function)

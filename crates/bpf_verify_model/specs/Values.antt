@@ -51,8 +51,7 @@ known_area map offset n =
     if nat_le (offset.hi + n.hi) 524288 then Some (Area map (span_of (AluOperation Add) W64 offset n)) else None
 
 -- a number added or taken away at 64 bits: a known one moves a frame or ctx address by its signed value, and one that
--- is
--- added an area address up
+-- is added an area address up
 abbrev pub known_moved : AluOp → AbstractValue → Span → Option AbstractValue
 known_moved op (Number a) n = Some (Number (span_of (AluOperation op) W64 a n))
 known_moved op (Frame position) n = option_map Frame (known_position op position n)

@@ -69,8 +69,7 @@ StepSound program (Refuses answer next) = SoundMachine program next
 StepSound program (Exits ret) = ret < 2 ^ 64
 
 -- the law of machines of real runs, of an accepted program or not: main and each iteration of a valid loop call start
--- as
--- such, and each step keeps them
+-- as such, and each step keeps them
 pub record MachinesStaySound : Type 0 where
   pub main : (program : Program) (argument : ℕ) → argument < 2 ^ 64 → SoundMachine program (main_entry argument)
   pub callbacks : (program : Program) (call : LoopCall) → SoundCall program call → (index : ℕ) → index < call.n
@@ -79,8 +78,7 @@ pub record MachinesStaySound : Type 0 where
       → StepSound program (step program m)
 
 -- progress and preservation: there is a step, and each machine that it leads to is over-approximated, whatever word
--- below 2
--- ^ 64 is at the element; and what is left there is such a word again
+-- below 2 ^ 64 is at the element; and what is left there is such a word again
 abbrev pub StepsOverApproximated : Program → StepOutcome → Type 0
 StepsOverApproximated program NoStep = ⊥
 StepsOverApproximated program (Next next) = OverApproximates program next
@@ -109,8 +107,7 @@ EntryIsOverApproximated = (program : Program) → IsSoundProgram program → (ar
     → OverApproximates program (main_entry argument)
 
 -- a run isn't stuck, and where it comes to a turn, it goes on within the abstract states from there, over words that
--- are
--- such again
+-- are such again
 abbrev pub StopIsOverApproximated : Program → StopReason → Type 0
 StopIsOverApproximated program (Exit ret) = ret < 2 ^ 64
 StopIsOverApproximated program (Loop call next) = OverApproximatesCall program call
@@ -190,8 +187,7 @@ LoopEnds program call Unfinished = ⊥
 LoopEnds program call (Ended l) = (l.answer ≤ call.n) × AreMapWords program l.words
 
 -- a loop call that main made, where it was valid: it was within the abstract states, and was answered at most its
--- number of
--- iterations
+-- number of iterations
 abbrev pub IsAnswered : Program → ℤ → Option LoopCall → Type 0
 IsAnswered program answer None = Unit {0}
 IsAnswered program (pos answer) (Some call) = OverApproximatesCall program call × (answer ≤ call.n)
@@ -203,8 +199,7 @@ pub record OverApproximatesLoop (program : Program) (made : LoopMade) : Type 0 w
   pub answered : IsAnswered program made.answer made.call
 
 -- a program in order ends with a word, each loop call that it made is within the abstract states, and it leaves words
--- of the
--- maps again
+-- of the maps again
 abbrev pub ProgramEnds : Program → BoundedResult Finished → Type 0
 ProgramEnds program Stuck = ⊥
 ProgramEnds program Unfinished = ⊥
@@ -219,8 +214,7 @@ EndsIfFinished program (Ended f) = ProgramEnds program (Ended f)
 
 -- each of them ends: main up to its first turn, with what may still come, within main's count; an iteration within its
 -- callback's; a loop at a bound that isn't less than its callback's count, and a program at one that isn't less than
--- its
--- slots; at any bound a program isn't stuck
+-- its slots; at any bound a program isn't stuck
 pub record EachProgramEnds : Type 0 where
   pub main : (program : Program) → IsSoundProgram program → (bound : ℕ) → count_of program.insns 0 ≤ bound
       → (argument : ℕ) → argument < 2 ^ 64 →

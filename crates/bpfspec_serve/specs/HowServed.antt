@@ -9,8 +9,7 @@ use Rattle.bpfspec_output.specs.Refusals.{memory_line}
 use Rattle.bpfspec_streams.specs.Streams.{AppendsBeginning, ReadsToEnd}
 
 -- the answer to what a reader had left, where that is known, and else to some input; of which no more than one byte
--- past
--- the limit is read
+-- past the limit is read
 pub record AnswersReader (job : Job) (old new : Option (List ℕ)) (answer : Answer) : Type 0 where
   pub input : List ℕ
   pub known : IfSome old (λ bytes. input ≡ bytes)

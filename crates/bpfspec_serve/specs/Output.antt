@@ -152,8 +152,7 @@ OfOrder (Ok program) argument maps outcome = PrintsReportInOrder program argumen
     outcome
 
 -- a program runs from its start words, its loops by a plan: what is told of it is the report of the program in order,
--- with
--- the verdicts of the plan's test, and nothing else of the plan occurs in it; one outside its limits is refused
+-- with the verdicts of the plan's test, and nothing else of the plan occurs in it; one outside its limits is refused
 abbrev pub PrintsReportByPlan : Program → ℕ → Plan → TextOutcome → TextOutcome → Type 0
 PrintsReportByPlan program argument plan (Err error) outcome = outcome ≡ Err error
 PrintsReportByPlan program argument plan (Ok words) outcome =
@@ -178,8 +177,7 @@ replay_outcome sizes (Ok loop) = Ok (replay_text sizes loop.number loop.told loo
 replay_outcome sizes (Err refusal) = refused (replay_refusal refusal)
 
 -- a program runs in order from its start words up to its first valid loop call, which is replayed with bounds and
--- events,
--- and what comes of it is printed
+-- events, and what comes of it is printed
 abbrev pub ReplaysTo : Program → ℕ → Test → TextOutcome → Result (List ℕ × List Event) AnswerError → TextOutcome
     → Type 0
 ReplaysTo program argument test (Err error) schedule outcome = outcome ≡ Err error

@@ -1,6 +1,5 @@
 -- What planes are after others were merged into them, word by word. A page is 64 elements: it has one word of each
--- plane of
--- bits, and up to 64 of the numbers.
+-- plane of bits, and up to 64 of the numbers.
 use Rattle.std.specs.Prelude.{◌≡◌, ℕ, ◌*◌, ◌^◌, ◌<◌, ◌≤◌, min, max, List, ◌++◌, length, slice_index, bit_and, bit_or}
 use Rattle.array_maps.specs.declared.access.Op.{Op}
 use Rattle.loop_core_model.specs.Marks.{Visit, Marks, merged}

@@ -8,8 +8,7 @@ abbrev pub drawn_by : List History → (seat block : ℕ) → ℕ
 drawn_by hs seat block = times block (slice_index_or hs seat nothing_done).draws
 
 -- of legal histories: some seat drew each block that was claimed; what a seat drew was claimed, and it drew it once,
--- and
--- no later seat did; where a seat found none, all blocks were claimed
+-- and no later seat did; where a seat found none, all blocks were claimed
 pub record DrawnByOneSeat (blocks claimed : ℕ) (hs : List History) : Type 0 where
   pub some : (block : ℕ) → block < claimed → (seat : ℕ) × (seat < length hs) × (0 < drawn_by hs seat block)
   pub once : (seat block : ℕ) → seat < length hs → 0 < drawn_by hs seat block → (block < claimed)

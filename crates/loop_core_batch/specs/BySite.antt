@@ -27,8 +27,7 @@ by_one_operator _ _ = false
 
 -- of two sites, one after the other, the first may be applied for all lanes before the second is for any: one of them
 -- writes nothing, or both reduce by one operator, or no lane may write at the second an element that a later one may
--- write
--- at the first
+-- write at the first
 abbrev pub Commute : (lanes : ℕ) (first second : Site) → Type 0
 Commute lanes first second = kind_leaves first.kind ≡ true → kind_leaves second.kind ≡ true
     → by_one_operator first.kind second.kind ≡ false →

@@ -7,8 +7,7 @@ use Rattle.array_maps.specs.Accesses.{Action, Read, Write, ReadWrite, Reduce, Ac
 use Rattle.loop_core_model.specs.Actions.{writes, reduces_by}
 
 -- a lane's actions at one element see the word from before them: one of them reads it, or reads and writes it, before
--- any
--- plain write. A reduce doesn't see it, nor does it hide it from a read after it
+-- any plain write. A reduce doesn't see it, nor does it hide it from a read after it
 abbrev pub sees : List Action → Bool
 sees [] = false
 sees (Read saw ∷ actions) = true

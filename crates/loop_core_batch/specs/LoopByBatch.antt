@@ -20,10 +20,8 @@ pub record GoesOn (program : Program) (bound : ℕ) (call : LoopCall) (index : �
   pub made : iterated.accesses ≡ accesses
 
 -- For every program, bound on an iteration's instructions, loop call and words: where the iterations from an index on,
--- one
--- a lane and each on these words, go on, and no lane sees an element that an earlier one writes, the loop from that
--- index
--- is the loop after them, on the words after the accesses of all lanes, whatever number of iterations is left.
+-- one a lane and each on these words, go on, and no lane sees an element that an earlier one writes, the loop from that
+-- index is the loop after them, on the words after the accesses of all lanes, whatever number of iterations is left.
 abbrev pub LoopByBatch : Type 0
 LoopByBatch = (program : Program) (bound : ℕ) (call : LoopCall) (first lanes left : ℕ) (words : List ℕ) (accesses : ℕ
     → List Access) →
@@ -33,8 +31,7 @@ LoopByBatch = (program : Program) (bound : ℕ) (call : LoopCall) (first lanes l
     ≡ loop_from program bound call left (first + lanes) (words_after_lanes accesses lanes words)
 
 -- The same by sites: where they tell of each access, no site's writes may be seen, and all sites commute, the loop
--- after
--- the lanes is on the words after all sites.
+-- after the lanes is on the words after all sites.
 abbrev pub LoopBySites : Type 0
 LoopBySites = (program : Program) (bound : ℕ) (call : LoopCall) (first lanes left : ℕ) (words : List ℕ)
     (sites : List Site) (log : Log) →

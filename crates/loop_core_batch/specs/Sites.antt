@@ -19,8 +19,7 @@ abbrev pub of_lane : Log → ℕ → List Access
 of_lane log lane = map (λ (site : ℕ → Access). site lane) log
 
 -- a lane may access the element: all lanes the same, each the one that is its number after the base, or each any from
--- the
--- low one to the high one
+-- the low one to the high one
 abbrev pub MayAccess : Elements → (lane element : ℕ) → Type 0
 MayAccess (One only) lane element = element ≡ only
 MayAccess (Run base) lane element = element ≡ base + lane

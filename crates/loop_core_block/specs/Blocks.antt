@@ -4,8 +4,7 @@ use Rattle.shadow_marks.specs.declared.planes.Planes.{Planes}
 use Rattle.private_copy.specs.Copies.{PrivateCopy}
 
 -- its number in the split, its interval, the index at which it broke, the marks of its iterations, and the copy that
--- they
--- used
+-- they used
 pub record BlockOf : Type 0 where
   pub number : ℕ
   pub first : ℕ

@@ -7,8 +7,7 @@ use Rattle.loop_core_gather.specs.declared.summary.Summary.{Summary}
 use Rattle.loop_core_gather.specs.Told.{least_told, twice_told, stands_told, order_told}
 
 -- the places of the blocks of a split that count, in order, where all of them are there: those that don't start past
--- the
--- least break that is told
+-- the least break that is told
 abbrev pub places_told : List ℕ → List Summary → Option (List ℕ)
 places_told bounds summaries = order_told (least_told summaries) summaries bounds
 

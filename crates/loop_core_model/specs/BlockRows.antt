@@ -1,6 +1,5 @@
 -- Worked blocks: first writers and last readers of loops that are run as one block, marks of halves, and what is kept
--- of
--- blocks. Each is worked out by hand.
+-- of blocks. Each is worked out by hand.
 use Rattle.std.specs.Prelude.{◌≡◌, ℕ, ◌&&◌, Bool, List, [], ◌∷◌, map, Some, None}
 use Rattle.std.specs.List.{filter, range_with_len}
 use Rattle.array_maps.specs.declared.access.Op.TheVariants.{Add, And, AddH}

@@ -18,8 +18,7 @@ partial_by None operands = None
 partial_by (Some op) operands = combined_from_first op operands
 
 -- where iterations accessed the element, and by reduces of one operator alone, that operator and their operands
--- combined,
--- beginning with the first
+-- combined, beginning with the first
 abbrev pub partial : List (List Action) → Option (Op × ℕ)
 partial iterations = partial_by (only_operator (joined iterations)) (operands (joined iterations))
 

@@ -1,5 +1,4 @@
--- What is kept of the blocks of a loop at an element, its marks and its kept values, says whether the element
--- conflicts
+-- What is kept of the blocks of a loop at an element, its marks and its kept values, says whether the element conflicts
 -- and what a pass leaves there.
 use Rattle.std.specs.Prelude.{◌≡◌, ℕ, ◌+◌, List, [], ◌∷◌, map, length}
 use Rattle.array_maps.specs.Accesses.{Action}

@@ -26,10 +26,9 @@ numbered index (actions ∷ rest) = record { index = index; actions = actions } 
 
 -- The marks of a set of iterations. For the LRPD test: written, some iteration writes the element; written_by_two, two
 -- different ones do; read_only, one has an exposed read of it and doesn't write it; read_and_written, one has an
--- exposed
--- read of it and writes it. For the flow test: first, the least index that writes it; last, one more than the greatest
--- with an exposed read of it, or 0. For both: plain, some iteration makes a plain access of it; by, one reduces it by
--- this operator. (The planes are named w, m, r, np, first, last, nx and by their operators.)
+-- exposed read of it and writes it. For the flow test: first, the least index that writes it; last, one more than the
+-- greatest with an exposed read of it, or 0. For both: plain, some iteration makes a plain access of it; by, one
+-- reduces it by this operator. (The planes are named w, m, r, np, first, last, nx and by their operators.)
 pub record Marks : Type 0 where
   pub written : Bool
   pub written_by_two : Bool

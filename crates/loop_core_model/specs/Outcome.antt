@@ -24,8 +24,7 @@ abbrev pub judged_as : BoundedResult Verdict → Looped → BoundedResult Outcom
 judged_as told looped = mapped (λ v. record { verdict = v; answer = looped.answer; words = looped.words }) told
 
 -- the outcome of a loop call by a test: the answer and the words of the loop in order, and the verdict. No split,
--- worker
--- or schedule occurs in it
+-- worker or schedule occurs in it
 abbrev pub outcome : Test → Program → ℕ → LoopCall → List ℕ → BoundedResult Outcome
 outcome test program bound call words = followed (judged_as (verdict test program bound call words))
     (loop_in_order program bound call words)

@@ -1,6 +1,5 @@
 -- Worked planes: the marks of loops that are run as one block, as planes of words, and the verdicts that planes of
--- conflicts
--- tell. Each is worked out by hand.
+-- conflicts tell. Each is worked out by hand.
 use Rattle.std.specs.Prelude.{◌≡◌, ℕ, zero, suc, ◌+◌, ◌*◌, Bool, if◌then◌else◌, List, [], ◌∷◌, map, take, drop, replicate, Option, Some, None}
 use Rattle.array_maps.specs.declared.access.Op.TheVariants.{Add, Or, And, Xor, AddH}
 use Rattle.bpf_step_model.specs.Run.{BoundedResult, Ended, mapped}
@@ -91,8 +90,7 @@ abbrev pub element_zero : List ℕ
 element_zero = 1 ∷ []
 
 -- each element gets the one before it: 1 to 4 are written, 0 to 3 read, 1 to 3 both, by different iterations; or the
--- one
--- after it, where by the flow test none conflicts; 65 elements that are read and then written; adds and ors to one
+-- one after it, where by the flow test none conflicts; 65 elements that are read and then written; adds and ors to one
 -- element; and plain stores to one, which each iteration reads after its own
 pub record MarkRows : Type 0 where
   pub right : HasPlanes 5 1 right (record (unmarked 1) {

@@ -48,8 +48,7 @@ PlaneHasElements = (words : List ℕ) (test : ℕ → Bool) (elements : ℕ) →
     elements_in_plane words ≡ filter test (range_with_len 0 elements)
 
 -- a plane has as many elements as bits are set in its words, the least of them is the least bit, and the verdict that
--- it
--- tells is that on them
+-- it tells is that on them
 pub record PlaneJudges : Type 0 where
   pub count : (words : List ℕ) → AreWords words → length (elements_in_plane words) ≡ set_bits words
   pub least : (words : List ℕ) → AreWords words → least_element_in (elements_in_plane words) ≡ least_bit 0 words

@@ -20,8 +20,7 @@ pub record AreRun (program : Program) (bound : ℕ) (call : LoopCall) (words : L
   pub run : AllByRecursion (IsRunOf program bound call words) blocks
 
 -- what is known of those blocks: none is missing, doubled or foreign; and the least break that was posted is the least
--- of
--- theirs, and the loop's
+-- of theirs, and the loop's
 pub record Complete (program : Program) (bound : ℕ) (call : LoopCall) (words : List ℕ) (bounds : List ℕ)
     (shared : Shared) (blocks : List Block) : Type 0 where
   pub gathered : gather_fault bounds blocks ≡ None

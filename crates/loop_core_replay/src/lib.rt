@@ -1,6 +1,5 @@
 //! The replay of a list of events: what a speculative loop comes to where its workers do what the list says, or the
-//! first
-//! fault of a list that is no schedule.
+//! first fault of a list that is no schedule.
 //!
 //! ```text
 //! let split = Split::of(bounds, call.n())?;

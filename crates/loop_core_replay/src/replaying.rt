@@ -23,8 +23,7 @@ use std::alloc::Global;
 /// program's sizes, and the split is of the call's iterations.
 ///
 /// A list that is no schedule is refused by its first fault: E1 (`NoSuchWorker`) a worker above 15, E2 (`NotEnabled`)
-/// an
-/// event that isn't enabled, E3 (`NotEnded`) a list that hasn't ended. `Memory` says nothing of the list.
+/// an event that isn't enabled, E3 (`NotEnded`) a list that hasn't ended. `Memory` says nothing of the list.
 pub fn replay_loop(
     alloc: Global,
     program: &Verified,

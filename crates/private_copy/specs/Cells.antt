@@ -45,8 +45,7 @@ IsBlank None = ⊥
 IsBlank (Some page) = page.value.cells ≡ blank_cells
 
 -- Pages, as contracts see them: the cells of all, whether they are placed or not; the numbers of those that were
--- placed,
--- in order; and how many more can be placed
+-- placed, in order; and how many more can be placed
 pub record PlacedPages : Type 0 where
   pub pages : List (List Cell)
   pub order : List ℕ

@@ -14,8 +14,7 @@ pages_in p = record {
 }
 
 -- all numbers are there; there is a page in the table exactly where its number is among the placed ones; spare pages
--- are
--- blank
+-- are blank
 pub record ArePages (p : Inside) : Type 0 where
   pub most : length p.table.items ≤ 1024
   pub numbers : length p.order.keys ≡ length p.table.items

@@ -33,8 +33,7 @@ pub record IsWorkerOf (test : Test) (program : Program) (call : LoopCall) (words
   pub ran : AllByRecursion (RecordsRun test program call words) w.blocks
 
 -- workers of a split, one at least, whose histories are legal on a board of its blocks: of the blocks that they ran
--- none
--- is missing, doubled or foreign
+-- none is missing, doubled or foreign
 abbrev pub WorkersComplete : Type 0
 WorkersComplete = (test : Test) (program : Program) (call : LoopCall) (words : List ℕ) (bounds : List ℕ) (claimed : ℕ)
     (workers : List WorkerOf) →

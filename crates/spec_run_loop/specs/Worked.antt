@@ -52,9 +52,8 @@ pub record Worked (bounds : List ℕ) (old new : SeatRecord) (blocks : List Bloc
   pub drained : new.history.found_none ≡ true
 
 -- a worker that met a want of memory at the last block that it drew: it looked once after each block; of those before
--- the
--- last it ran those that don't start past the answer, in order; the last doesn't start past its answer, and either it
--- wasn't run, or it was run and couldn't be kept; what was posted is the breaks of those that were run
+-- the last it ran those that don't start past the answer, in order; the last doesn't start past its answer, and either
+-- it wasn't run, or it was run and couldn't be kept; what was posted is the breaks of those that were run
 pub record WorkerStopped (test : Test) (program : Program) (call : LoopCall) (words : List ℕ) (bounds : List ℕ)
     (old new : SeatRecord) : Type 0 where
   pub earlier : List ℕ

@@ -41,8 +41,7 @@ fn left_in_threads<R: Threads + Sync>(
 }
 
 /// What a loop leaves at each element after a pass, in order: worked out by several threads where the loop is worth
-/// them,
-/// each element by one of them, and else by the calling thread.
+/// them, each element by one of them, and else by the calling thread.
 pub(crate) fn left_words<R: Threads + Sync, G: Gate>(
     rt: &R,
     alloc: Global,

@@ -1,6 +1,5 @@
 //! Tests of maps, through their calls and through any store. They stand in a crate of their own, since a crate with
-//! tests is
-//! proved twice.
+//! tests is proved twice.
 #![tactic(auto)]
 
 #[cfg(test)]

@@ -1,6 +1,5 @@
 //! Under `rt try --test --fail-alloc N` each growth is refused in turn: out of memory is then the answer, the maps are
-//! as
-//! they were, and a second try has the memory.
+//! as they were, and a second try has the memory.
 
 use crate::rows::ORDER;
 use bpfspec_serve::{Counted, Served, serve};

@@ -72,8 +72,7 @@ fn run_iteration(
 }
 
 /// Runs iterations from index 0 on, which are parted by semicolons. It is `None` where an access doesn't tell what it
-/// should,
-/// or for want of memory.
+/// should, or for want of memory.
 pub(crate) fn run_iterations(
     alloc: Global,
     copy: &mut Private,

@@ -13,8 +13,7 @@ use std::process::Abort;
 #[derive(Clone, Copy, Debug, PartialEq)]
 struct Marks {
     /// Its bits of the planes that merge bit by bit: plain accesses, the five operators from bit 1 on, and by LRPD
-    /// written,
-    /// read only, read and written from bit 6 on.
+    /// written, read only, read and written from bit 6 on.
     bits: u32,
     /// Whether two iterations write it.
     by_two: u32,

@@ -3,8 +3,7 @@
 //! The planes were worked out by hand.
 //!
 //! Under `rt try --test --fail-alloc N` each growth is refused in turn, an iteration is begun by a second try, and a
-//! row is
-//! tried again: what is remembered is then the same as without.
+//! row is tried again: what is remembered is then the same as without.
 
 use crate::iterations::run_iterations;
 use crate::tellings::told;
@@ -18,8 +17,7 @@ use std::process::Abort;
 use std::test::Fail;
 
 /// The start words and the iterations; and after `=>` the planes by LRPD, those by Flow, and last values with partials.
-/// By
-/// Flow there is for each element its first writer, 4294967295 for none, and one more than its last reader.
+/// By Flow there is for each element its first writer, 4294967295 for none, and one more than its last reader.
 const LOOPS: &str = "
     9 0 0 0 0 : load 0 = 9, store 1 9; load 1 = 0, store 2 0; load 2 = 0, store 3 0; load 3 = 0, store 4 0 \
         => nx 31 w 30 r 15 conflicts 14 count 3 least 1 \

@@ -1,6 +1,5 @@
 //! Under `rt try --test --fail-alloc N` each growth is refused in turn: the maps that were lent are then as they were,
-//! and a
-//! second try has the memory.
+//! and a second try has the memory.
 
 ghost use Rattle.std.specs.Prelude.{◌≤◌};
 

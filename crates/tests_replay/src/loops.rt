@@ -3,8 +3,7 @@
 use loop_core_model::Verdict;
 
 /// A unit, whose lines ` | ` parts, with the words of its map and the bounds of its loop's blocks; which iterations
-/// break on
-/// these words; and what the loop comes to.
+/// break on these words; and what the loop comes to.
 #[derive(Clone, Copy)]
 pub struct Row {
     pub unit: &'static str,

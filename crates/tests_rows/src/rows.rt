@@ -1,6 +1,5 @@
 //! How rows are read. A row has the lines of a program, of which ` | ` ends each, and after `%%` those of its maps
-//! where
-//! they aren't all zero.
+//! where they aren't all zero.
 
 ghost use Rattle.std.specs.Prelude.{◌≡◌, IfSome};
 ghost use Rattle.bpf_verify_sound.specs.Soundness.{OverApproximatesCall};

@@ -1,6 +1,6 @@
 //! What `run` answers to programs with long loops, as users run them: without a gate, by workers in threads of their
-//! own, and
-//! committed by several threads. A row is one of `loops`, in which `3..6` stands for 3 4 5, and `3*6` for 6 6 6.
+//! own, and committed by several threads. A row is one of `loops`, in which `3..6` stands for 3 4 5, and `3*6` for 6 6
+//! 6.
 //!
 //! The answers are worked out by hand, from the loop in order and from what a conflict is.
 
@@ -50,8 +50,8 @@ const LINES: &str = "
 ";
 
 /// Iterations write elements of their own, in order of the elements and across all pages; add to their own; and write
-/// the same
-/// elements in turn. They reduce one element by each operator, many elements, and both halves; and read main's frame.
+/// the same elements in turn. They reduce one element by each operator, many elements, and both halves; and read main's
+/// frame.
 const PASSES: &str = "
     maps 16384 | mov64 r1, 10000 | LOOP | AT | stx64 [r3+0], r1 | END \
         => 0 return 10000 | loop 0 at 5: answer 10000, parallel | map 0: 0..10000 6384*0
@@ -102,8 +102,7 @@ fn long_loops_end_at_their_least_break(rt: HostRuntime) -> Result<(), Fail> {
 }
 
 /// Iterations read what the one before wrote, and what the first wrote, by which one decides not to break; and one
-/// reads what
-/// all reduce. Of three loops in turn the last conflicts.
+/// reads what all reduce. Of three loops in turn the last conflicts.
 const CONFLICTS: &str = "
     maps 10001 | mov64 r1, 10000 | LOOP | AT | ldx64 r4, [r3+0] | stx64 [r3+8], r4 | END | %% | map 0: 9 10000*0 \
         => 0 return 10000 | loop 0 at 5: answer 10000, conflict 9999 least 1 | map 0: 10001*9

@@ -1,6 +1,5 @@
 //! What `run` answers: the loops of programs, their verdicts, and maps that are those of the program in order. A row
-//! has the
-//! lines of an input, in which a few words stand for lines; after `=>` are the exit status and the output.
+//! has the lines of an input, in which a few words stand for lines; after `=>` are the exit status and the output.
 
 use crate::program::{are_answered, is_answered};
 use std::alloc::{AllocError, Global};
@@ -9,8 +8,7 @@ use std::test::Fail;
 use std::thread::Threads;
 
 /// What stands for often used lines: a loop call without ctx after its number of iterations, the address of element r1
-/// in
-/// r3, and an end with 0.
+/// in r3, and an end with 0.
 const SHORT: &str = "
     LOOP: ldcode r2, cb | mov64 r3, 0 | mov64 r4, 0 | call 181 | exit | cb:
     AT: mov64 r2, r1 | lsh64 r2, 3 | ldmapval r3, 0, 0 | add64 r3, r2

@@ -1,6 +1,5 @@
 //! Workers that are held until others have come. By contract a loop comes to the same however it is run: that workers
-//! run
-//! at once, that they pass the gate, and that they skip what lies after a break that they see, is seen here alone.
+//! run at once, that they pass the gate, and that they skip what lies after a break that they see, is seen here alone.
 
 use crate::reports::{loop_report, report, served};
 use loop_core_model::Test;

@@ -1,6 +1,5 @@
 //! Under `rt try --test --fail-alloc N` each growth is refused in turn: the maps are then as they were, and a second
-//! try has
-//! the memory.
+//! try has the memory.
 
 use array_maps::Maps;
 use loop_core_model::{LoopReport, Test, Verdict};
