@@ -65,7 +65,12 @@ pub(crate) fn is_told_of_many<F: Fn(Global, &str) -> Option<TextError>>(
 }
 
 /// A front and this one line n times.
-pub(crate) fn repeated(alloc: Global, front: &str, line: &str, count: u32) -> Result<String, AllocError> {
+pub(crate) fn repeated(
+    alloc: Global,
+    front: &str,
+    line: &str,
+    count: u32,
+) -> Result<String, AllocError> {
     let mut text = String::from_str(alloc, front)?;
     for _ in 0..count {
         text.push_str(line)?;

@@ -59,7 +59,12 @@ fn answer(alloc: Global, text: &str) -> Result<String, AllocError> {
 }
 
 /// Asserts what is said of a unit.
-pub(crate) fn is_answered(rt: &impl Abort, alloc: Global, unit: &str, wanted: &str) -> Result<(), Fail> {
+pub(crate) fn is_answered(
+    rt: &impl Abort,
+    alloc: Global,
+    unit: &str,
+    wanted: &str,
+) -> Result<(), Fail> {
     let told = answer(alloc, unit.replace(alloc, " | ", "\n")?.as_str())?;
     assert_same_in(rt, unit, told.as_str(), wanted);
     Ok(())
@@ -67,7 +72,12 @@ pub(crate) fn is_answered(rt: &impl Abort, alloc: Global, unit: &str, wanted: &s
 
 /// Asserts what is said of units that differ where `unit` has two dots. A row of the table has
 /// the lines that stand there and, after `=>`, the answer.
-pub(crate) fn are_answered(rt: &impl Abort, alloc: Global, unit: &str, table: &str) -> Result<(), Fail> {
+pub(crate) fn are_answered(
+    rt: &impl Abort,
+    alloc: Global,
+    unit: &str,
+    table: &str,
+) -> Result<(), Fail> {
     for row in table.trim().lines() {
         let (lines, answer) = row.split_once("=>").ok_or("a row has an answer")?;
         let whole = unit.replace(alloc, "..", lines.trim())?;
