@@ -3,12 +3,12 @@
 ghost use Rattle.std.specs.Prelude.{◌≡◌, ◌≤◌, replicate, IfOk};
 ghost use Rattle.loop_board.specs.Seats.{new_seat};
 
+use crate::asserts::assert_same;
 use loop_board::{Board, BoardError, BoardSeat, Tally};
 use std::alloc::Global;
 use std::test::Fail;
 use std::thread;
 use std::thread::Threads;
-use tests_asserts::assert_same;
 
 /// After which of its steps a worker stops for good.
 #[derive(Clone, Copy)]

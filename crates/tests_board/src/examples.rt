@@ -1,8 +1,8 @@
 //! The example at the head of `loop_board`.
 
+use crate::asserts::assert_same;
 use loop_board::{Board, Tally};
 use std::test::Fail;
-use tests_asserts::assert_same;
 
 #[test]
 fn one_worker_empties_a_board(rt: HostRuntime) -> Result<(), Fail> {

@@ -1,8 +1,8 @@
 //! The example at the head of `array_maps`.
 
+use crate::asserts::assert_same;
 use array_maps::{Maps, Store};
 use std::test::Fail;
-use tests_asserts::assert_same;
 
 #[test]
 fn maps_hold_values(rt: HostRuntime) -> Result<(), Fail> {

@@ -6,10 +6,10 @@ ghost use Rattle.array_maps.specs.Accesses.{words_after_all};
 ghost use Rattle.array_maps.specs.Store.{Effects};
 ghost use Rattle.tests_maps.specs.Added.{addition};
 
+use crate::asserts::{assert_same, assert_same_in};
 use array_maps::{Half, Maps, MapsError, Op, Part, Rmw, Store};
 use std::alloc::Global;
 use std::test::Fail;
-use tests_asserts::{assert_same, assert_same_in};
 
 /// What comes of making maps.
 fn outcome_of(alloc: Global, sizes: &[u32]) -> &'static str {

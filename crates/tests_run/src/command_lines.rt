@@ -1,10 +1,10 @@
 //! Command lines, and what is told where they ask for nothing. A row's ` | ` ends a line.
 
+use crate::asserts::{assert_same, assert_same_in};
 use crate::program::{is_answered, run_line, run_on, told};
 use bpfspec_command_line::{Job, read_words};
 use std::alloc::Global;
 use std::test::Fail;
-use tests_asserts::{assert_same, assert_same_in};
 
 const JOBS: &str = "
     order                     => Serve(Order { form: Assembler, arg: 0 })

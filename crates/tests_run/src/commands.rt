@@ -1,12 +1,12 @@
 //! What the commands answer to inputs. In a row ` | ` ends a line, and the answer after `=>` is the
 //! exit status and the output.
 
+use crate::asserts::assert_same;
 use crate::program::{Ran, are_answered, is_answered, run_line, run_on, told, words_of};
 use std::alloc::{AllocError, Global};
 use std::process::Abort;
 use std::test::Fail;
 use std::thread::Threads;
-use tests_asserts::assert_same;
 
 /// A loop of eight iterations that adds its index, in hex form, and what comes of its values and none.
 const HEX_UNITS: &str = "

@@ -1,8 +1,8 @@
 //! The example at the head of `bpfspec_serve`.
 
+use crate::asserts::assert_same;
 use bpfspec_serve::{Counted, Mode, Served, UnitForm, serve};
 use std::test::Fail;
-use tests_asserts::assert_same;
 
 #[test]
 fn a_text_is_judged(rt: HostRuntime) -> Result<(), Fail> {

@@ -1,5 +1,6 @@
 //! The program on inputs in memory: its exit status and what it writes.
 
+use crate::asserts::assert_same_in;
 use crate::streams::{Narrow, Stumbling};
 use bpfspec_serve::run;
 use std::alloc::{AllocError, Global};
@@ -7,7 +8,6 @@ use std::env::{Env, FillError};
 use std::process::Abort;
 use std::test::Fail;
 use std::thread::Threads;
-use tests_asserts::assert_same_in;
 
 /// A process that was started with these words, on this runtime.
 #[derive(Drop)]

@@ -3,13 +3,13 @@
 ghost use Rattle.std.specs.Prelude.{◌≡◌, ◌-◌, ◌^◌, ◌<◌, OnOk};
 ghost use Rattle.bpfspec_streams.specs.Counting.{failures_of};
 
+use crate::asserts::assert_same;
 use bpfspec_streams::{Counted, DeviceFault, ReadAllError, Sink, Source, read_all, write_all};
 use std::alloc::Global;
 use std::io;
 use std::io::{ErrorKind, Read, Write};
 use std::process::Abort;
 use std::test::Fail;
-use tests_asserts::assert_same;
 
 /// What a call of a scripted stream does.
 #[derive(Clone, Copy)]

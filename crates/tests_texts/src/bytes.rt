@@ -1,10 +1,10 @@
 //! Bytes that are no program.
 
+use crate::asserts::{assert_same, assert_same_in};
 use bpf_insn::{CodecError, CodecFault, decode};
 use std::alloc::Global;
 use std::process::Abort;
 use std::test::Fail;
-use tests_asserts::{assert_same, assert_same_in};
 
 /// What each opcode says with all other fields zero, by its high and its low half: k an instruction,
 /// i an immediate and s a second slot that aren't its own, and - no form.

@@ -1,10 +1,10 @@
 //! Bounds and events.
 
+use crate::asserts::assert_same;
 use crate::rows::{are_told, is_told_of_many};
 use bpf_text::{Event, EventKind, TextError, parse_events};
 use std::alloc::Global;
 use std::test::Fail;
-use tests_asserts::assert_same;
 
 fn events_error(alloc: Global, text: &str) -> Option<TextError> {
     parse_events(alloc, text).err()

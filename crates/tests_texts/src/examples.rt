@@ -1,10 +1,10 @@
 //! The examples at the heads of `bpf_insn` and `bpf_text`.
 
+use crate::asserts::assert_same;
 use bpf_insn::{CodecError, CodecFault, decode, encode};
 use bpf_text::{TextError, TextFault, parse_maps, parse_unit, print_unit, write_hex};
 use std::alloc::Global;
 use std::test::Fail;
-use tests_asserts::assert_same;
 
 const UNIT: &str = "maps 1\nmov64 r0, 7\nexit\n";
 

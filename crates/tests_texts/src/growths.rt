@@ -1,13 +1,13 @@
 //! Under `rt try --test --fail-alloc N` each growth is refused in turn: out of memory is then the
 //! answer, or the refusal that the input has, and no other one.
 
+use crate::asserts::assert_same;
 use bpf_insn::{CodecError, CodecFault, Insn, Unit, decode, encode};
 use bpf_text::{
     TextError, TextFault, parse_events, parse_maps, parse_unit, print_unit, read_hex, write_hex,
 };
 use std::alloc::Global;
 use std::process::Abort;
-use tests_asserts::assert_same;
 
 /// A loop, and its callback.
 const TEXT: &str = "maps 1 2\nldcode r2, +2\ncall 181\nexit\nmov64 r0, 0\nexit\n";

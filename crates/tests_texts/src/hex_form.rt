@@ -1,10 +1,10 @@
 //! Units in hex form.
 
+use crate::asserts::assert_same;
 use crate::rows::{are_told, is_told, is_told_of_many, repeated};
 use bpf_text::{TextError, read_hex};
 use std::alloc::Global;
 use std::test::Fail;
-use tests_asserts::assert_same;
 
 fn hex_error(alloc: Global, text: &str) -> Option<TextError> {
     read_hex(alloc, text).err()

@@ -1,5 +1,6 @@
 //! Instructions as lines of assembler text, as bytes, and as lines of hex digits.
 
+use crate::asserts::assert_same;
 use crate::rows::text_of;
 use bpf_insn::{CodecError, decode, encode};
 use bpf_insn_types::{ImmKind, Insn, MovsxBits, Reg, Size, Unit, Width};
@@ -7,7 +8,6 @@ use bpf_text::{parse_unit, print_unit, read_hex, write_hex};
 use std::alloc::{AllocError, Global};
 use std::process::Abort;
 use std::test::Fail;
-use tests_asserts::assert_same;
 
 /// Lines as they are printed, and their bytes as hex digits.
 const LINES: &str = "

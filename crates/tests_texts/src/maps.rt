@@ -1,10 +1,10 @@
 //! The values of maps.
 
+use crate::asserts::assert_same;
 use crate::rows::{are_told, is_told, is_told_of_many, repeated};
 use bpf_text::{TextError, parse_maps, print_maps};
 use std::alloc::Global;
 use std::test::Fail;
-use tests_asserts::assert_same;
 
 fn maps_error(alloc: Global, text: &str) -> Option<TextError> {
     parse_maps(alloc, text).err()

@@ -1,10 +1,10 @@
 //! Rows of text, and texts of many lines.
 
+use crate::asserts::{assert_same, assert_same_in};
 use bpf_text::TextError;
 use std::alloc::{AllocError, Global};
 use std::process::Abort;
 use std::test::Fail;
-use tests_asserts::{assert_same, assert_same_in};
 
 /// The text of a row.
 pub(crate) fn text_of(alloc: Global, row: &str) -> Result<String, AllocError> {

@@ -1,11 +1,11 @@
 //! Units of assembler text.
 
+use crate::asserts::assert_same;
 use crate::rows::{are_told, is_told, repeated};
 use bpf_text::{TextError, parse_unit, print_unit};
 use std::alloc::Global;
 use std::process::Abort;
 use std::test::Fail;
-use tests_asserts::assert_same;
 
 fn unit_error(alloc: Global, text: &str) -> Option<TextError> {
     parse_unit(alloc, text).err()

@@ -1,12 +1,12 @@
 //! What the verifier says of units that no text spells, and what is told of an accepted one.
 
+use crate::asserts::assert_same;
 use bpf_insn_types::{AluOp, Callee, ImmKind, Insn, Operand, Reg, Size, Unit, Width};
 use bpf_text_asm::print_unit;
 use bpf_verify::{Rule, Verified, VerifyError, verify};
 use std::alloc::Global;
 use std::process::Abort;
 use std::test::Fail;
-use tests_asserts::assert_same;
 
 fn reg(number: u8) -> Result<Reg, Fail> {
     Ok(Reg::new(number).ok_or("no such register")?)

@@ -1,10 +1,10 @@
 //! The examples at the heads of `value_range` and `bpf_verify`.
 
+use crate::asserts::assert_same;
 use bpf_insn_types::{AluOp, Compare, Width};
 use bpf_text_asm::parse_unit;
 use bpf_verify::{Rule, VerifyError, verify};
 use std::test::Fail;
-use tests_asserts::assert_same;
 use value_range::{Condition, Operation, alu, exact, refine, top};
 
 #[test]

@@ -7,6 +7,8 @@ mod accesses;
 #[cfg(test)]
 mod arithmetic;
 #[cfg(test)]
+mod asserts;
+#[cfg(test)]
 mod built;
 #[cfg(test)]
 mod comparisons;

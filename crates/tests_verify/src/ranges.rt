@@ -5,12 +5,12 @@
 
 ghost use Rattle.std.specs.Prelude.{◌<◌};
 
+use crate::asserts::{assert_same, assert_same_in};
 use crate::rows::{read_insn, read_pair, read_word, row_parts};
 use bpf_insn_types::{Insn, Width};
 use std::alloc::Global;
 use std::process::Abort;
 use std::test::Fail;
-use tests_asserts::{assert_same, assert_same_in};
 use value_range::{Condition, Operation, Range, alu, exact, join, norm, refine, top};
 
 const WORKED: &str = "

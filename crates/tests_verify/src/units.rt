@@ -2,6 +2,7 @@
 //!
 //! In the tables ` | ` parts the lines of a unit and of an answer.
 
+use crate::asserts::{assert_same, assert_same_in};
 use bpf_insn_types::Unit;
 use bpf_text_asm::parse_unit;
 use bpf_text_lex::TextError;
@@ -9,7 +10,6 @@ use bpf_verify::{Verified, VerifyError, verify};
 use std::alloc::{AllocError, Global};
 use std::process::Abort;
 use std::test::Fail;
-use tests_asserts::{assert_same, assert_same_in};
 
 /// A lookup of element 3 and a line at slot 6.
 pub const LOOKUP: &str =

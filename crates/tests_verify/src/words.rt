@@ -2,12 +2,12 @@
 //! 0 where it doesn't. The definitions' own worked values stand in `specs/WordRows.antt` of `bpf_insn_types`; these
 //! show that the code which is built from them computes the same.
 
+use crate::asserts::assert_same_in;
 use crate::rows::{read_insn, read_pair, read_word, row_parts};
 use bpf_insn_types::{Insn, alu_word, compare_words, endian_word, movsx_word, neg_word};
 use std::alloc::Global;
 use std::process::Abort;
 use std::test::Fail;
-use tests_asserts::assert_same_in;
 
 const WHOLE: &str = "
     add64 r1, r2  | -1 2       => 1

@@ -1,17 +1,16 @@
 //! Assertions as calls. A test is proved as any function, and the sooner the less it does itself: `assert_eq!` puts some
-//! twenty steps into it, a call one. A failed assertion names the line of the test that made it.
-#![tactic(auto)]
+//! twenty steps into it, a call one.
 
 use std::fmt::Debug;
 use std::process::Abort;
 
 /// Asserts that what was found is what is wanted.
-pub fn assert_same<T: Debug + Drop + PartialEq>(rt: &impl Abort, found: T, wanted: T) {
+pub(crate) fn assert_same<T: Debug + Drop + PartialEq>(rt: &impl Abort, found: T, wanted: T) {
     assert_eq!(rt; found, wanted);
 }
 
 /// Asserts the same, and tells the row of a table where it fails.
-pub fn assert_same_in<T: Debug + Drop + PartialEq>(
+pub(crate) fn assert_same_in<T: Debug + Drop + PartialEq>(
     rt: &impl Abort,
     row: &str,
     found: T,
