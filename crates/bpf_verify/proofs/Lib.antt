@@ -3,3 +3,4 @@ pub mod PassLaws
 pub mod StartLaws
 pub mod CountLaws
 pub mod OpLaws
+pub mod StateLaws

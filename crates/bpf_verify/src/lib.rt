@@ -16,10 +16,12 @@ mod fields;
 mod layout;
 mod operations;
 mod passing;
+mod states;
 mod table;
 mod verified;
 
 pub use accepting::verify;
 pub use bpf_verify_model::Rule;
 pub use error::VerifyError;
+pub use states::states_before;
 pub use verified::Verified;
