@@ -1,0 +1,2 @@
+pub mod SlotLines
+pub mod Comments

@@ -1,0 +1,86 @@
+-- What an inspection keeps, of its parts.
+use Rattle.std.proofs.Common.{◌≡◌, ℕ, ◌≤◌, true, List, [], length, get_or, refl, ap, sym, ◌∙◌, subst, arith, Option, Some, None}
+use Rattle.std.specs.Option.{option_map}
+use Rattle.bpf_insn_types.specs.declared.insn.Insn.{Insn}
+use Rattle.bpf_insn_types.specs.Program.{Program, slot_count}
+use Rattle.bpf_verify_model.specs.declared.state.State.{State}
+use Rattle.bpf_verify_model.specs.Accepted.{BrokenRule, fault_within, first_fault, WithinLimits}
+use Rattle.bpf_verify_model.specs.Inflow.{state_before}
+use Rattle.bpf_verify_model.proofs.JumpLaws.{program-is}
+use Rattle.bpf_verify.specs.States.{AreStatesBefore}
+use Rattle.bpf_verify_origin.specs.declared.inflow.Inflow.{Inflow}
+use Rattle.bpf_verify_origin.specs.declared.inflow.Inflow.TheVariants.{Nowhere}
+use Rattle.bpf_verify_origin.specs.declared.fault.Fault.{Fault}
+use Rattle.bpf_verify_origin.specs.Edges.{slots_before, passed_slots}
+use Rattle.bpf_verify_origin.specs.Inspected.{broken_rule, IsPassedTo, is_stop, AreInflows, IsInspection}
+use Rattle.bpf_verify_origin.proofs.FaultLaws.{passed-fine, passed-stop, passed-up_to, outside-none}
+use Rattle.bpf_verify_origin.proofs.InflowLaws.{all_nowhere, are-inflows_none}
+
+-- no slot before the last breaks a rule
+pub parts-fine : (program : Program) (sizes : List ℕ) (insns : List Insn) (fault : Option BrokenRule) (count last : ℕ) →
+    sizes ≡ program.sizes → insns ≡ program.insns → fault ≡ first_fault program → WithinLimits program count
+    → last ≡ slots_before fault count → fault_within (record { sizes = sizes; insns = insns }) last ≡ None
+parts-fine program sizes insns fault count last same_sizes same_insns is within at =
+    ap (λ (p : Program). fault_within p last) (program-is program sizes insns same_sizes same_insns)
+    ∙ ap (fault_within program) at ∙ passed-fine program count fault is within
+
+-- a pass may stop at the last slot
+pub parts-stop : (program : Program) (sizes : List ℕ) (insns : List Insn) (fault : Option BrokenRule) (count last : ℕ) →
+    sizes ≡ program.sizes → insns ≡ program.insns → fault ≡ first_fault program → WithinLimits program count
+    → last ≡ slots_before fault count → is_stop (record { sizes = sizes; insns = insns }) last ≡ true
+parts-stop program sizes insns fault count last same_sizes same_insns is within at =
+    ap (λ (p : Program). is_stop p last) (program-is program sizes insns same_sizes same_insns)
+    ∙ ap (is_stop program) at ∙ passed-stop program count fault is within
+
+-- the last slot is that up to which slots are passed
+passed-at : (program : Program) (fault : Option BrokenRule) (count : ℕ) → fault ≡ first_fault program
+    → slot_count program.insns ≡ count → slots_before fault count ≡ passed_slots program
+passed-at program fault count is counted =
+    ap (λ (f : Option BrokenRule). slots_before f count) is ∙ ap (slots_before (first_fault program)) (sym counted)
+
+-- an inspection of a program within the limits
+pub inspection-is : (program : Program) (sizes : List ℕ) (insns : List Insn) (fault : Option Fault) (count last : ℕ)
+    (states : List (Option State)) (inflows : List Inflow) → sizes ≡ program.sizes → insns ≡ program.insns
+    → option_map broken_rule fault ≡ first_fault program → WithinLimits program count
+    → last ≡ slots_before (option_map broken_rule fault) count
+    → AreStatesBefore (record { sizes = sizes; insns = insns }) last states
+    → AreInflows (record { sizes = sizes; insns = insns }) last inflows → length inflows ≡ count
+    → IsInspection program fault states inflows
+inspection-is program sizes insns fault count last states inflows same_sizes same_insns is within at are from size =
+    let same : record { sizes = sizes; insns = insns } ≡ program = program-is program sizes insns same_sizes same_insns in
+    let up_to : last ≡ passed_slots program =
+    at ∙ passed-at program (option_map broken_rule fault) count is within.counted in
+    let here : AreStatesBefore program (passed_slots program) states =
+    subst (λ (n : ℕ). AreStatesBefore program n states) up_to
+    (subst (λ (p : Program). AreStatesBefore p last states) same are) in
+    record {
+      fault_is = is;
+      small = omega (arith, here.size, within.counted, within.few);
+      within = λ some. subst (WithinLimits program) (sym within.counted) within;
+      states_are = λ w. here;
+      inflows_are = subst (λ (n : ℕ). AreInflows program n inflows) up_to
+          (subst (λ (p : Program). AreInflows p last inflows) same from);
+      none_past = omega (arith, size, within.counted);
+    }
+
+-- and of another
+pub inspection-outside : (program : Program) (fault : Option Fault) (states : List (Option State))
+    (inflows : List Inflow) → option_map broken_rule fault ≡ first_fault program
+    → (WithinLimits program (slot_count program.insns) → ⊥) → states ≡ [] → inflows ≡ []
+    → IsInspection program fault states inflows
+inspection-outside program fault states inflows is outside no_states no_inflows = record {
+  fault_is = is;
+  small = omega (arith, ap length no_states);
+  within = λ some. absurd (omega (arith, ap length no_states, some));
+  states_are = λ within. absurd (outside within);
+  inflows_are = are-inflows_none program (passed_slots program) inflows (outside-none program outside)
+      (λ slot. ap (λ (l : List Inflow). get_or l slot Nowhere) no_inflows ∙ all_nowhere 0 slot);
+  none_past = omega (arith, ap length no_inflows);
+}
+
+-- the abstract state before a slot to which the pass comes
+pub state-there : (program : Program) (states : List (Option State)) (slot : ℕ) (found : Option State) →
+    (WithinLimits program (slot_count program.insns) → AreStatesBefore program (passed_slots program) states)
+    → found ≡ get_or states slot None → IsPassedTo program slot → found ≡ state_before program slot
+state-there program states slot found are is to =
+    is ∙ (are to.within).at slot (passed-up_to program slot to) to.starts

@@ -1,0 +1,6 @@
+pub mod FaultLaws
+pub mod FindLaws
+pub mod InflowLaws
+pub mod SourceLaws
+pub mod InspectionLaws
+pub mod PassedLaws

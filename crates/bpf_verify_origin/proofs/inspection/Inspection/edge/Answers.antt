@@ -1,0 +1,35 @@
+use Rattle.std.proofs.Common.{◌≡◌, ℕ, ap, sym, ◌∙◌, List, arith}
+use Rattle.std.specs.Prelude.{None}
+use Rattle.bpf_verify_model.specs.Inflow.{received_all}
+use Rattle.bpf_verify.specs.Passing.{out_of}
+use Rattle.bpf_verify_origin.proofs.FaultLaws.{starts-within}
+use Rattle.bpf_verify_origin.proofs.InflowLaws.{between-none, between-some}
+use Rattle.bpf_verify_origin.proofs.PassedLaws.{edge-passed}
+use Rattle.bpf_verify_origin.proofs.inspection.Inspection.edge.Goals as goal
+
+pub returns-then-from-gt4096-clause-whole : goal.returns-then-from-gt4096-clause-whole
+returns-then-from-gt4096-clause-whole c = λ to.
+    absurd (omega (
+      arith,
+      starts-within c.args.self.now.insns c.args.from to.starts,
+      to.within.few,
+      c.if-from-gt4096.true,
+    ))
+
+pub returns-in-None-clause-whole : goal.returns-in-None-clause-whole
+returns-in-None-clause-whole c = λ to. between-none c.args.self.now c.args.from c.args.to (sym c.insn.ensures ∙ c.in-None.is)
+
+pub returns-in-Some-clause-whole : goal.returns-in-Some-clause-whole
+returns-in-Some-clause-whole c = λ to.
+    c.state_to.ensures ∙ between-some c.args.self.now c.args.from c.args.to c.in-Some.insn c.state-before.result
+    c.outflow-out.result (sym c.insn.ensures ∙ c.in-Some.is) (c.state-before.ensures.whole to)
+    (c.outflow-out.ensures ∙ ap (λ (sizes : List ℕ). out_of sizes c.args.from c.in-Some.insn c.state-before.result)
+    c.sizes.ensures)
+
+pub returns-in-Some-clause-passed : goal.returns-in-Some-clause-passed
+returns-in-Some-clause-passed c =
+    edge-passed c.args.self.now c.args.from c.args.to c.in-Some.insn c.state-before.result c.state_to.result
+    c.state-before.ensures.passed
+    (c.state_to.ensures ∙ ap (received_all c.args.to None) (c.outflow-out.ensures
+    ∙ ap (λ (sizes : List ℕ). out_of sizes c.args.from c.in-Some.insn c.state-before.result) c.sizes.ensures))
+    (returns-in-Some-clause-whole c)

@@ -1,0 +1,57 @@
+-- What an inspection of a program has.
+use Rattle.std.specs.Prelude.{◌≡◌, ℕ, ◌<◌, ◌≤◌, ◌==◌, ◌||◌, Bool, true, List, length, slice_index_or, Option, Some, None, is_some, nat_le}
+use Rattle.std.specs.Option.{option_map}
+use Rattle.bpf_insn_types.specs.Program.{Program, insn_at, slot_count}
+use Rattle.bpf_verify_model.specs.declared.state.State.{State}
+use Rattle.bpf_verify_model.specs.Accepted.{BrokenRule, WithinLimits, first_fault, fault_within}
+use Rattle.bpf_verify_model.specs.Inflow.{state_before}
+use Rattle.bpf_verify.specs.States.{AreStatesBefore}
+use Rattle.bpf_verify_origin.specs.declared.inflow.Inflow.{Inflow}
+use Rattle.bpf_verify_origin.specs.declared.inflow.Inflow.TheVariants.{Nowhere}
+use Rattle.bpf_verify_origin.specs.declared.fault.Fault.{Fault}
+use Rattle.bpf_verify_origin.specs.Edges.{inflow_from, passed_slots, state_between}
+
+-- a fault as a broken rule at a slot
+abbrev pub broken_rule : Fault → BrokenRule
+broken_rule fault = record { rule = fault.rule; slot = fault.slot }
+
+-- the verifier's pass comes to a slot: the program is within the limits, an instruction starts there, and no slot before
+-- it breaks a rule
+pub record IsPassedTo (program : Program) (slot : ℕ) : Type 0 where
+  pub within : WithinLimits program (slot_count program.insns)
+  pub starts : is_some (insn_at program.insns slot) ≡ true
+  pub fine : fault_within program slot ≡ None
+
+-- whether a slot is one up to a fault, if there is one
+abbrev pub is_up_to : Option BrokenRule → ℕ → Bool
+is_up_to None slot = true
+is_up_to (Some fault) slot = nat_le slot fault.slot
+
+-- the abstract state before a slot to which the pass comes
+pub record IsStateBefore (program : Program) (slot : ℕ) (state : State) : Type 0 where
+  pub passed : IsPassedTo program slot
+  pub is : state_before program slot ≡ Some state
+
+-- the abstract state on the edges from a slot to which the pass comes to another
+pub record IsStateBetween (program : Program) (from to : ℕ) (state : State) : Type 0 where
+  pub passed : IsPassedTo program from
+  pub is : state_between program from to ≡ Some state
+
+-- a pass may stop at a slot: an instruction starts there, or it is the end
+abbrev pub is_stop : Program → ℕ → Bool
+is_stop program slot = (slot == slot_count program.insns) || is_some (insn_at program.insns slot)
+
+-- where the edges into each slot come from
+pub record AreInflows (program : Program) (passed : ℕ) (inflows : List Inflow) : Type 0 where
+  pub at : (slot : ℕ) → slot < slot_count program.insns
+      → slice_index_or inflows slot Nowhere ≡ inflow_from program passed slot
+
+-- what an inspection keeps: the first fault, the abstract states before the slots up to it, and where edges come from
+pub record IsInspection (program : Program) (fault : Option Fault) (states : List (Option State))
+    (inflows : List Inflow) : Type 0 where
+  pub fault_is : option_map broken_rule fault ≡ first_fault program
+  pub small : length states ≤ 4096
+  pub within : 0 < length states → WithinLimits program (slot_count program.insns)
+  pub states_are : WithinLimits program (slot_count program.insns) → AreStatesBefore program (passed_slots program) states
+  pub inflows_are : AreInflows program (passed_slots program) inflows
+  pub none_past : length inflows ≤ slot_count program.insns

@@ -1,0 +1,3 @@
+pub mod Edges
+pub mod Sources
+pub mod Inspected

@@ -1,0 +1,26 @@
+//! What the verifier knows of a program, told: its first fault, the abstract state before each instruction up
+//! to that fault, what is on each edge, and where the value of a register comes from.
+//!
+//! ```text
+//! let inspection = inspect(alloc, unit)?;
+//! let fault = inspection.fault();                   // Some(Fault { rule: Rule::AccessBounds, slot: 33 })
+//! let state = inspection.state(33);                 // what is known before slot 33
+//! let source = inspection.source(33, reg(1));       // Source::Written(32): the instruction there wrote r1
+//! ```
+#![tactic(auto)]
+
+mod fault;
+mod finding;
+mod inflow;
+mod inflows;
+mod inspecting;
+mod inspection;
+mod outflow;
+mod source;
+mod step;
+mod writing;
+
+pub use fault::Fault;
+pub use inspecting::inspect;
+pub use inspection::Inspection;
+pub use source::Source;
