@@ -11,16 +11,15 @@ pub loop-above-preserved : goal.loop-above-preserved
 loop-above-preserved c =
     let lines = c.loop-above.invariant.0.0 in
     let line = c.split_line.result.0.now in
-    let behind = lines_of c.split_line.result.1.now in
-    (
+    let behind = lines_of c.split_line.result.1.now in (
       (
         line ∷ lines,
         c.comment_below-above.ensures
-        ∙ comment_over-more line lines c.parts.result.0.now c.parts.result.1.now c.loop-above.above.now
-        c.parts.ensures.content c.parts.ensures.comment c.loop-above.invariant.0.1,
+            ∙ comment_over-more line lines c.parts.result.0.now c.parts.result.1.now c.loop-above.above.now
+            c.parts.ensures.content c.parts.ensures.comment c.loop-above.invariant.0.1,
         ap (λ (number : ℕ). comment_after (line ∷ lines) number behind) c.saturating_sub-left.ensures
-        ∙ comment_after-next lines c.loop-above.left line behind (lines_of c.loop-above.rest.now)
-        c.split_line.ensures.lines c.if-left-eq1.false ∙ c.loop-above.invariant.0.2,
+            ∙ comment_after-next lines c.loop-above.left line behind (lines_of c.loop-above.rest.now)
+            c.split_line.ensures.lines c.if-left-eq1.false ∙ c.loop-above.invariant.0.2,
       ),
       search rules,
       search rules,

@@ -9,7 +9,7 @@ use Rattle.bpf_text_lines.proofs.comment.comment_of.Given as goal
 abbrev pub invariant-loop-above : goal.invariant-loop-above
 invariant-loop-above l =
     ((lines : List (List ℕ)) × (l.above ≡ comment_over lines)
-        × (comment_after lines l.left (lines_of l.rest) ≡ comment_of l.number (lines_of l.text)))
+    × (comment_after lines l.left (lines_of l.rest) ≡ comment_of l.number (lines_of l.text)))
     × shadow (Utf8 l.above) × shadow (Utf8 l.rest)
 
 abbrev pub decreases-loop-above : goal.decreases-loop-above
