@@ -1,2 +1,4 @@
 pub mod Loops
+pub mod Rests
+pub mod Tries
 pub mod FilledCalls

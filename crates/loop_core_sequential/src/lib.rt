@@ -1,7 +1,13 @@
 //! Loops in order: all iterations of a loop call on one thread, each on the maps that the one before left.
+//! Iterations that may go together do, up to 128 at a time.
 #![tactic(auto)]
 
+mod applying;
+mod batches;
+mod going;
+mod one_by_one;
 mod ordering;
+mod trying;
 
 ghost use Rattle.loop_core_sequential.specs.FilledCalls.{FilledCallsAreOneLoop};
 

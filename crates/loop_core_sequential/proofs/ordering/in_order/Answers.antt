@@ -1,30 +1,20 @@
-use Rattle.std.proofs.Common.{◌<◌, ◌≤◌, sym, subst, arith}
-use Rattle.bpf_verify_sound.specs.Soundness.{most_from}
-use Rattle.bpf_step.specs.Iterations.{CallbackOf}
-use Rattle.bpf_step.proofs.Limits.{few_steps}
-use Rattle.loop_core_sequential.proofs.InOrder.{next, breaks}
+use Rattle.loop_core_sequential.proofs.InOrder.{is_of, ran_all}
 use Rattle.loop_core_sequential.proofs.ordering.in_order.Goals as goal
 
-pub run-requires-clause-served : goal.run-requires-clause-served
-run-requires-clause-served c =
-    subst (λ (o : CallbackOf). most_from o.program o.call.callback ≤ 4096) (sym c.loop-index.invariant.same)
-    (few_steps c.args.program.now c.args.call.now.callback c.unit-unit.ensures.accepted)
+pub alone-requires-clause-callback : goal.alone-requires-clause-callback
+alone-requires-clause-callback c = is_of c.args.program.now c.args.call.now c.new-callback.result
+    c.new-callback.ensures.program c.new-callback.ensures.call
 
-pub returns-then-run-eq1 : goal.returns-then-run-eq1
-returns-then-run-eq1 c =
-    let test = c.loop-index-test.true in
-    let n = c.n-index-end.ensures in
-    let below : c.loop-index.index < c.args.call.now.n = omega (arith, test, n) in
-    breaks c.args.program.now c.args.call.now c.loop-index.callback c.args.maps.now c.loop-index.maps c.loop-index.index
-    c.loop-index.invariant
-    below c.run.result.ret c.run.result.steps c.run.new.store c.run.ensures.ran c.if-run-eq1.true
+pub in_batches-requires-clause-callback : goal.in_batches-requires-clause-callback
+in_batches-requires-clause-callback c = is_of c.args.program.now c.args.call.now c.new-callback.result
+    c.new-callback.ensures.program c.new-callback.ensures.call
 
-pub loop-index-preserved : goal.loop-index-preserved
-loop-index-preserved c =
-    let test = c.loop-index-test.true in
-    let n = c.n-index-end.ensures in
-    let below : c.loop-index.index < c.args.call.now.n = omega (arith, test, n) in
-    next c.args.program.now c.args.call.now c.loop-index.callback c.args.maps.now c.loop-index.maps c.loop-index.index
-    c.loop-index.invariant
-    below c.run.result.ret c.run.result.steps c.run.new.store c.run.ensures.ran c.if-run-eq1.false c.run.new.self
-    c.run.ensures.same
+pub returns-then-n-lt-FEWEST : goal.returns-then-n-lt-FEWEST
+returns-then-n-lt-FEWEST c =
+    ran_all c.args.program.now c.args.call.now c.n-n.result c.args.maps.now c.alone.new.maps c.alone.result
+    c.answer.result c.n-n.ensures c.alone.ensures.ran c.answer.ensures
+
+pub returns : goal.returns
+returns c =
+    ran_all c.args.program.now c.args.call.now c.n-n.result c.args.maps.now c.in_batches.new.maps c.in_batches.result
+    c.answer-2.result c.n-n.ensures c.in_batches.ensures c.answer-2.ensures

@@ -1,0 +1,192 @@
+-- What a batch leaves in the maps.
+use Rattle.std.proofs.Common.{◌≡◌, ℕ, zero, suc, ◌+◌, ◌-◌, ◌<◌, ◌≤◌, List, [], ◌∷◌, ◌++◌, length, map, take, drop, get_or, set, slice_index, slice_index_or, refl, sym, ap, subst, ◌∙◌, arith}
+use Rattle.std.specs.List.{AllByRecursion}
+use Rattle.std.proofs.lemmas.List.{set-get_or, length-set, drop_more, take_more, take_more_set, take_all, map-append}
+use Rattle.std.proofs.lemmas.List.Elements.{All-from_recursion}
+use Rattle.array_maps.specs.declared.access.Op.{Op}
+use Rattle.array_maps.specs.Accesses.{Action, Write, Reduce, Access, combined, left_by, words_after}
+use Rattle.array_maps.specs.MapList.{MapList}
+use Rattle.loop_core_model.specs.declared.access.Access.{Access as Kind}
+use Rattle.loop_core_model.specs.declared.access.Access.TheVariants.{Read as Reads, Write as Writes, Both, Reduce as Reduces}
+use Rattle.loop_core_batch.specs.declared.elements.Elements.{Elements}
+use Rattle.loop_core_batch.specs.declared.elements.Elements.TheVariants.{One}
+use Rattle.loop_core_batch.specs.declared.site.Site.{Site}
+use Rattle.loop_core_batch.specs.BySite.{SumsAtOnce, combined_to, words_after_site, words_after_sites}
+use Rattle.bpf_step_batch.specs.declared.entry.Entry.{Entry}
+use Rattle.bpf_step_batch.specs.Logs.{element_by, action_by, access_by, log_by, site_of, stored_by, reduced_by, IsLogged}
+
+-- accesses that leave the same at the same elements
+pub same_site : (a b : ℕ → Access) → ((lane : ℕ) (words : List ℕ) → words_after (a lane) words ≡ words_after (b lane) words) → (lanes : ℕ) (words : List ℕ) →
+    words_after_site a lanes words ≡ words_after_site b lanes words
+same_site a b same zero words = refl
+same_site a b same (suc lanes) words = ap (words_after (a lanes)) (same_site a b same lanes words) ∙ same lanes (words_after_site b lanes words)
+
+-- by its kind
+by_kind : (words : List ℕ) (entry : Entry) (kind : Kind) → entry.site.kind ≡ kind → (lane : ℕ) → access_by words entry lane ≡ record {
+  element = element_by entry.site.elements entry.elements lane;
+  action = action_by kind (slice_index words (element_by entry.site.elements entry.elements lane)) (slice_index entry.values lane);
+}
+by_kind words entry kind is lane = ap (λ (k : Kind). record {
+  element = element_by entry.site.elements entry.elements lane;
+  action = action_by k (slice_index words (element_by entry.site.elements entry.elements lane)) (slice_index entry.values lane);
+}) is
+
+pub stores_are : (words : List ℕ) (entry : Entry) → entry.site.kind ≡ Writes → (lanes : ℕ) (now : List ℕ) →
+    words_after_site (stored_by entry) lanes now ≡ words_after_site (access_by words entry) lanes now
+stores_are words entry is lanes now = same_site (stored_by entry) (access_by words entry)
+    (λ lane ws. ap (λ (a : Access). words_after a ws) (sym (by_kind words entry Writes is lane))) lanes now
+
+pub changes_are : (words : List ℕ) (entry : Entry) → entry.site.kind ≡ Both → (lanes : ℕ) (now : List ℕ) →
+    words_after_site (stored_by entry) lanes now ≡ words_after_site (access_by words entry) lanes now
+changes_are words entry is lanes now = same_site (stored_by entry) (access_by words entry)
+    (λ lane ws. ap (λ (a : Access). words_after a ws) (sym (by_kind words entry Both is lane))) lanes now
+
+pub reduces_are : (words : List ℕ) (entry : Entry) (op : Op) → entry.site.kind ≡ Reduces op → (lanes : ℕ) (now : List ℕ) →
+    words_after_site (reduced_by op entry) lanes now ≡ words_after_site (access_by words entry) lanes now
+reduces_are words entry op is lanes now = same_site (reduced_by op entry) (access_by words entry)
+    (λ lane ws. ap (λ (a : Access). words_after a ws) (sym (by_kind words entry (Reduces op) is lane))) lanes now
+
+-- reads leave all as it was
+pub reads_are : (words : List ℕ) (entry : Entry) → entry.site.kind ≡ Reads → (lanes : ℕ) (now : List ℕ) → now ≡ words_after_site (access_by words entry) lanes now
+reads_are words entry is zero now = refl
+reads_are words entry is (suc lanes) now =
+    reads_are words entry is lanes now
+    ∙ sym (set-get_or (words_after_site (access_by words entry) lanes now) (element_by entry.site.elements entry.elements lanes) 0)
+    ∙ ap (λ (a : Access). words_after a (words_after_site (access_by words entry) lanes now)) (sym (by_kind words entry Reads is lanes))
+
+-- the words stay as many
+pub length-after_site : (site : ℕ → Access) (lanes : ℕ) (words : List ℕ)
+    → length (words_after_site site lanes words) ≡ length words
+length-after_site site zero words = refl
+length-after_site site (suc lanes) words = length-set (words_after_site site lanes words) _ _
+    ∙ length-after_site site lanes words
+
+-- one lane more
+site_more : (site : ℕ → Access) (lanes : ℕ) (words : List ℕ) → words_after_site site (lanes + 1) words
+    ≡ words_after (site lanes) (words_after_site site lanes words)
+site_more site lanes words =
+    let next : lanes + 1 ≡ suc lanes = omega arith in
+    ap (λ (n : ℕ). words_after_site site n words) next
+
+pub lane_applied : (site : ℕ → Access) (lane : ℕ) (access : Access) (first now new : MapList)
+    → now ≡ record { sizes = first.sizes; words = words_after_site site lane first.words } → access ≡ site lane
+    → new ≡ record { sizes = now.sizes; words = words_after access now.words }
+    → new ≡ record { sizes = first.sizes; words = words_after_site site (lane + 1) first.words }
+lane_applied site lane access first now new so_far same is =
+    is
+    ∙ ap (λ (maps : MapList). record { sizes = maps.sizes; words = words_after access maps.words }) so_far
+    ∙ ap (λ (a : Access). record { sizes = first.sizes; words = words_after a (words_after_site site lane first.words) })
+    same
+    ∙ ap (λ (words : List ℕ). record { sizes = first.sizes; words = words }) (sym (site_more site lane first.words))
+
+pub all_applied : (site : ℕ → Access) (lanes lane : ℕ) (first new : MapList) → lane ≡ lanes
+    → new ≡ record { sizes = first.sizes; words = words_after_site site lane first.words }
+    → new ≡ record { sizes = first.sizes; words = words_after_site site lanes first.words }
+all_applied site lanes lane first new all is =
+    is ∙ ap (λ (n : ℕ). record { sizes = first.sizes; words = words_after_site site n first.words }) all
+
+-- there are as many words as before
+pub still_long : (site : ℕ → Access) (lane : ℕ) (first now : MapList)
+    → now ≡ record { sizes = first.sizes; words = words_after_site site lane first.words }
+    → length now.words ≡ length first.words
+still_long site lane first now is = ap (λ (maps : MapList). length maps.words) is
+    ∙ length-after_site site lane first.words
+
+-- reduces of all lanes at one element, at once
+pub reduced_at_once : SumsAtOnce → (op : Op) (entry : Entry) (only lanes operand : ℕ) (first new : MapList)
+    → entry.site.elements ≡ One only → 0 < lanes
+    → operand ≡ combined_to op (λ lane. slice_index entry.values lane) (lanes - 1)
+    → new ≡ record {
+      sizes = first.sizes;
+      words = words_after (record { element = only; action = Reduce op operand }) first.words;
+    } → new ≡ record { sizes = first.sizes; words = words_after_site (reduced_by op entry) lanes first.words }
+reduced_at_once law op entry only lanes operand first new is any sum applied =
+    let values : ℕ → ℕ = λ lane. slice_index entry.values lane in
+    let site : ℕ → Access = λ lane. record { element = only; action = Reduce op (slice_index entry.values lane) } in
+    let last : lanes ≡ suc (lanes - 1) = omega (arith, any) in
+    applied
+    ∙ ap (λ (n : ℕ). record {
+      sizes = first.sizes;
+      words = words_after (record { element = only; action = Reduce op n }) first.words;
+    }) sum
+    ∙ ap (λ (words : List ℕ). record { sizes = first.sizes; words = words }) (
+      sym (law op only values (lanes - 1) first.words)
+      ∙ ap (λ (n : ℕ). words_after_site site n first.words) (sym last)
+      ∙ same_site site (reduced_by op entry)
+      (λ lane words. ap (λ (e : Elements). words_after (record {
+        element = element_by e entry.elements lane;
+        action = Reduce op (slice_index entry.values lane);
+      }) words) (sym is)) lanes first.words
+    )
+
+-- an entry's elements are there
+pub entry_within : (lanes : ℕ) (words now : List ℕ) (entries : List Entry) (index : ℕ) (other : Entry)
+    → AllByRecursion (IsLogged lanes words) entries → index < length entries → length now ≡ length words
+    → (lane : ℕ) → lane < lanes
+    → element_by (slice_index_or entries index other).site.elements (slice_index_or entries index other).elements lane
+    < length now
+entry_within lanes words now entries index other logged below same lane inside =
+    let here : IsLogged lanes words (slice_index_or entries index other) =
+    All-from_recursion (IsLogged lanes words) entries logged index other below in
+    subst (λ (n : ℕ). element_by (slice_index_or entries index other).site.elements
+    (slice_index_or entries index other).elements lane < n) (sym same) (here.within lane inside)
+
+-- one entry more
+pub entry_applied : (words now new : List ℕ) (lanes index : ℕ) (entries : List Entry) (other : Entry)
+    → index < length entries → new ≡ words_after_site (access_by words (slice_index_or entries index other)) lanes now
+    → words_after_sites (log_by words (drop (index + 1) entries)) lanes new
+    ≡ words_after_sites (log_by words (drop index entries)) lanes now
+entry_applied words now new lanes index entries other below is =
+    ap (words_after_sites (log_by words (drop (index + 1) entries)) lanes) is
+    ∙ sym (ap (λ (es : List Entry). words_after_sites (log_by words es) lanes now) (drop_more entries index other below))
+
+-- an entry leaves as many words
+pub entry_keeps : (words now new : List ℕ) (lanes index count : ℕ) (entries : List Entry) (other : Entry)
+    → new ≡ words_after_site (access_by words (slice_index_or entries index other)) lanes now → length now ≡ count
+    → length new ≡ count
+entry_keeps words now new lanes index count entries other is many =
+    ap length is
+    ∙ length-after_site (access_by words (slice_index_or entries index other)) lanes now
+    ∙ many
+
+-- one site more
+pub site_taken : (sites : List Site) (entries : List Entry) (index : ℕ) (other : Entry) → index < length sites
+    → index < length entries → take index sites ≡ map site_of (take index entries)
+    → take (index + 1) (set sites index (slice_index_or entries index other).site)
+    ≡ map site_of (take (index + 1) entries)
+site_taken sites entries index other room below so_far =
+    take_more_set sites index (slice_index_or entries index other).site room
+    ∙ ap (λ (before : List Site). before ++ (slice_index_or entries index other).site ∷ []) so_far
+    ∙ sym (ap (map site_of) (take_more entries index other below)
+    ∙ map-append site_of (take index entries) (slice_index_or entries index other ∷ []))
+
+-- all of them
+pub sites_taken : (sites : List Site) (entries : List Entry) (index : ℕ) → length entries ≤ index
+    → index ≤ length entries → take index sites ≡ map site_of (take index entries)
+    → take (length entries) sites ≡ map site_of entries
+sites_taken sites entries index past within so_far =
+    let all : length entries ≡ index = omega (arith, past, within) in
+    ap (λ (n : ℕ). take n sites) all ∙ so_far ∙ ap (map site_of) (take_all index entries past)
+
+-- operands combined up to one lane more
+pub combined_more : (op : Op) (operands : ℕ → ℕ) (lane all more : ℕ) → 1 ≤ lane
+    → all ≡ combined_to op operands (lane - 1) → more ≡ combined op all (operands lane)
+    → more ≡ combined_to op operands (lane + 1 - 1)
+combined_more op operands lane all more any so_far is =
+    let last : lane ≡ suc (lane - 1) = omega (arith, any) in
+    let next : suc (lane - 1) ≡ lane + 1 - 1 = omega (arith, any) in
+    is
+    ∙ ap (λ (n : ℕ). combined op n (operands lane)) so_far
+    ∙ ap (λ (n : ℕ). combined op (combined_to op operands (lane - 1)) (operands n)) last
+    ∙ ap (combined_to op operands) next
+
+pub combined_all : (op : Op) (operands : ℕ → ℕ) (lane lanes all : ℕ) → lane ≡ lanes
+    → all ≡ combined_to op operands (lane - 1) → all ≡ combined_to op operands (lanes - 1)
+combined_all op operands lane lanes all same is =
+    is ∙ ap (λ (n : ℕ). combined_to op operands (n - 1)) same
+
+-- maps are their sizes and their words
+pub both_parts : (maps : MapList) (sizes words : List ℕ) → maps.sizes ≡ sizes → maps.words ≡ words
+    → maps ≡ record { sizes = sizes; words = words }
+both_parts maps sizes words a b = ap (λ (s : List ℕ). record { sizes = s; words = maps.words }) a
+    ∙ ap (λ (ws : List ℕ). record { sizes = sizes; words = ws }) b

@@ -1,0 +1,30 @@
+use Rattle.std.proofs.Common.{slice_index, ℕ, ◌<◌, sym, ap, subst, arith}
+use Rattle.array_maps.specs.Accesses.{Reduce}
+use Rattle.bpf_step_batch.specs.Logs.{reduced_by}
+use Rattle.loop_core_sequential.proofs.ApplyLaws.{lane_applied, all_applied, still_long}
+use Rattle.loop_core_sequential.proofs.applying.reduce_each.Goals as goal
+
+pub element-requires-clause-few : goal.element-requires-clause-few
+element-requires-clause-few c = omega (arith, c.requires.within c.loop-lane.lane c.loop-lane-test.true, c.requires.few)
+
+pub update-requires-clause-within : goal.update-requires-clause-within
+update-requires-clause-within c =
+    let long = still_long (reduced_by c.args.op c.args.entry.now) c.loop-lane.lane c.args.maps.now c.loop-lane.maps
+        c.loop-lane.invariant in
+    let there = c.requires.within c.loop-lane.lane c.loop-lane-test.true in
+    omega (arith, long, there, c.element.ensures)
+
+pub loop-lane-preserved : goal.loop-lane-preserved
+loop-lane-preserved c =
+    lane_applied (reduced_by c.args.op c.args.entry.now) c.loop-lane.lane _ c.args.maps.now c.loop-lane.maps _
+    c.loop-lane.invariant
+    (ap (λ (e : ℕ). record {
+      element = e;
+      action = Reduce c.args.op (slice_index c.args.entry.now.values c.loop-lane.lane);
+    }) c.element.ensures)
+    c.update.ensures.done
+
+pub returns : goal.returns
+returns c =
+    all_applied (reduced_by c.args.op c.args.entry.now) c.args.lanes c.loop-lane.lane c.args.maps.now c.loop-lane.maps
+    (omega (arith, c.loop-lane-test.false, c.loop-lane.auto.lane-end)) c.loop-lane.invariant

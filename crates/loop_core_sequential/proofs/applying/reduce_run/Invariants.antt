@@ -1,0 +1,10 @@
+use Rattle.std.proofs.Common.{◌≡◌}
+use Rattle.loop_core_batch.specs.BySite.{words_after_site}
+use Rattle.bpf_step_batch.specs.Logs.{reduced_by}
+use Rattle.loop_core_sequential.proofs.applying.reduce_run.Given as goal
+
+abbrev pub invariant-loop-lane : goal.invariant-loop-lane
+invariant-loop-lane l = l.maps ≡ record {
+  sizes = l.fn.maps.sizes;
+  words = words_after_site (reduced_by l.op l.entry) l.lane l.fn.maps.words;
+}

@@ -1,0 +1,75 @@
+use Rattle.std.proofs.Common.{◌≡◌, Some, refl, ◌∙◌, arith}
+use Rattle.loop_core_sequential.proofs.InOrder.{stayed, went_both, went_to, ran_both}
+use Rattle.loop_core_sequential.proofs.ordering.in_batches.Goals as goal
+
+pub loop-index-init : goal.loop-index-init
+loop-index-init c = record {
+  same = refl;
+  went = stayed c.args.program.now c.args.call.now 0 c.args.maps.now (omega arith);
+}
+
+pub go-next-requires-clause-sizes : goal.go-next-requires-clause-sizes
+go-next-requires-clause-sizes c = c.loop-index.invariant.went.sizes ∙ c.requires.sizes
+
+pub alone-requires-clause-callback : goal.alone-requires-clause-callback
+alone-requires-clause-callback c = c.loop-index.invariant.same ∙ c.requires.callback
+
+pub alone-requires-clause-sizes : goal.alone-requires-clause-sizes
+alone-requires-clause-sizes c = c.go-next.ensures.went.sizes ∙ c.loop-index.invariant.went.sizes ∙ c.requires.sizes
+
+pub loop-index-preserved-then-index-next : goal.loop-index-preserved-then-index-next
+loop-index-preserved-then-index-next c = record {
+  same = c.loop-index.invariant.same;
+  went = went_both c.args.program.now c.args.call.now 0 c.loop-index.index c.go-next.result c.args.maps.now
+      c.loop-index.maps c.go-next.new.maps c.loop-index.invariant.went c.go-next.ensures.went;
+}
+
+pub returns-in-Some : goal.returns-in-Some
+returns-in-Some c =
+    let over = c.if-index-next.false in
+    let under = c.go-next.ensures.on in
+    let same : c.go-next.result ≡ c.loop-index.index = omega (arith, over, under) in
+    ran_both c.args.program.now c.args.call.now 0 c.loop-index.index c.resume-to.result c.args.maps.now
+    c.go-next.new.maps c.alone.new.maps (Some c.in-Some.answer)
+    (went_to c.args.program.now c.args.call.now 0 c.go-next.result c.loop-index.index c.args.maps.now
+    c.go-next.new.maps same
+    (went_both c.args.program.now c.args.call.now 0 c.loop-index.index c.go-next.result c.args.maps.now
+    c.loop-index.maps c.go-next.new.maps c.loop-index.invariant.went c.go-next.ensures.went))
+    c.in-Some.ensures.ran
+
+pub loop-index-preserved : goal.loop-index-preserved
+loop-index-preserved c =
+    let over = c.if-index-next.false in
+    let under = c.go-next.ensures.on in
+    let same : c.go-next.result ≡ c.loop-index.index = omega (arith, over, under) in
+    record {
+      same = c.alone.ensures.same ∙ c.loop-index.invariant.same;
+      went = went_both c.args.program.now c.args.call.now 0 c.loop-index.index c.resume-to.result c.args.maps.now
+          c.go-next.new.maps c.alone.new.maps
+          (went_to c.args.program.now c.args.call.now 0 c.go-next.result c.loop-index.index c.args.maps.now
+          c.go-next.new.maps same
+          (went_both c.args.program.now c.args.call.now 0 c.loop-index.index c.go-next.result c.args.maps.now
+          c.loop-index.maps c.go-next.new.maps c.loop-index.invariant.went c.go-next.ensures.went))
+          c.in_default.ensures.ran;
+    }
+
+pub returns : goal.returns
+returns c =
+    let past = c.loop-index-test.false in
+    let within = c.loop-index.invariant.went.within in
+    let n = c.requires.n in
+    went_to c.args.program.now c.args.call.now 0 c.loop-index.index c.args.n c.args.maps.now c.loop-index.maps
+    (omega (arith, past, within, n)) c.loop-index.invariant.went
+
+pub loop-index-smaller-then-index-next : goal.loop-index-smaller-then-index-next
+loop-index-smaller-then-index-next c =
+    let within = c.go-next.ensures.went.within in
+    let n = c.requires.n in
+    let up = c.if-index-next.true in
+    omega (arith, within, n, up)
+
+pub loop-index-smaller : goal.loop-index-smaller
+loop-index-smaller c =
+    let up = c.resume-to.ensures.on in
+    let within = c.resume-to.ensures.within in
+    omega (arith, up, within)

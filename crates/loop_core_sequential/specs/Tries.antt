@@ -1,0 +1,21 @@
+-- Batches of iterations that are tried.
+use Rattle.std.specs.Prelude.{◌≡◌, ℕ, ◌+◌, ◌<◌, List, length}
+use Rattle.array_maps.specs.MapList.{MapList}
+use Rattle.bpf_insn_types.specs.Program.{Program}
+use Rattle.bpf_step_model.specs.State.{LoopCall}
+use Rattle.bpf_step_batch.specs.declared.entry.Entry.{Entry}
+use Rattle.bpf_step_batch.specs.Logs.{element_by}
+use Rattle.loop_core_sequential.specs.declared.trying.Tried.{Tried}
+use Rattle.loop_core_sequential.specs.declared.trying.Tried.TheVariants.{Went, Met, Parted}
+use Rattle.loop_core_sequential.specs.Rests.{WentOn}
+
+-- a batch of iterations from an index on went, or nothing was done
+abbrev pub TriedIn : Program → LoopCall → (index lanes : ℕ) → (old new : MapList) → Tried → Type 0
+TriedIn program call index lanes old new Went = WentOn program call index (index + lanes) old new
+TriedIn program call index lanes old new Met = new ≡ old
+TriedIn program call index lanes old new Parted = new ≡ old
+
+-- the elements of an entry's lanes are among the words
+abbrev pub AreWithin : (lanes : ℕ) → Entry → List ℕ → Type 0
+AreWithin lanes entry words = (lane : ℕ) → lane < lanes
+    → element_by entry.site.elements entry.elements lane < length words

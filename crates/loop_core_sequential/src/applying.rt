@@ -1,0 +1,219 @@
+//! What a batch did, applied to the maps.
+
+ghost use Rattle.std.specs.Prelude.{◌≡◌, ℕ, ◌+◌, ◌-◌, ◌<◌, ◌≤◌, true, List, length, map, slice_index};
+ghost use Rattle.std.specs.List.{AllByRecursion};
+ghost use Rattle.loop_core_batch.specs.Sites.{AllUnseen};
+ghost use Rattle.loop_core_batch.specs.BySite.{AllCommute, combined_to, words_after_site, words_after_sites};
+ghost use Rattle.loop_core_batch.specs.declared.elements.Elements.TheVariants as elements;
+ghost use Rattle.bpf_step_batch.specs.Logs.{IsLogged, access_by, element_by, log_by, reduced_by, site_of, stored_by};
+ghost use Rattle.loop_core_sequential.specs.Tries.{AreWithin};
+
+use array_maps::{Maps, Op, Store, combine};
+use bpf_step_batch::Entry;
+use loop_core_batch::{Elements, Site, all_commute, law_of_sums, none_sees};
+use loop_core_model::Access;
+
+/// Tells whether iterations that ran on the words from before them all are the loop in order, by what
+/// they accessed, and their accesses may be applied site by site.
+pub(crate) fn are_in_order(entries: &[Entry], lanes: u32) -> bool
+    requires { length entries.now ≤ 8 }
+    ensures { result ≡ true → AllUnseen lanes (map site_of entries.now) × AllCommute lanes (map site_of entries.now) }
+{
+    let none = Site {
+        kind: Access::Read,
+        elements: Elements::One(0),
+    };
+    let mut sites = [none; 8];
+    for k in 0..entries.len() {
+        sites[k] = entries[k].site;
+    }
+    let sites = &sites[..entries.len()];
+    none_sees(sites, lanes) && all_commute(sites, lanes)
+}
+
+/// Applies the accesses of all lanes to the maps, site by site.
+pub(crate) fn apply(entries: &[Entry], lanes: u32, maps: &mut Maps)
+    requires some { 0 < lanes }
+    requires room { lanes ≤ 128 }
+    requires logged { AllByRecursion (IsLogged lanes maps.old.words) entries.now }
+    ensures { maps.new ≡ record {
+      sizes = maps.old.sizes;
+      words = words_after_sites (log_by maps.old.words entries.now) lanes maps.old.words;
+    } }
+{
+    // It tells the proof that elements are few.
+    let _words = maps.words();
+    for entry in entries {
+        apply_entry(entry, lanes, maps);
+    }
+}
+
+/// Applies the accesses of one site, lane by lane.
+fn apply_entry(entry: &Entry, lanes: u32, maps: &mut Maps)
+    requires some { 0 < lanes }
+    requires room { lanes ≤ 128 }
+    requires few { length maps.old.words ≤ 65536 }
+    requires within { AreWithin lanes entry.now maps.old.words }
+    ensures { (words : List ℕ) → maps.new ≡ record {
+      sizes = maps.old.sizes;
+      words = words_after_site (access_by words entry.now) lanes maps.old.words;
+    } }
+{
+    match entry.site.kind {
+        Access::Read => (),
+        Access::Write => store_values(entry, lanes, maps),
+        Access::Both => store_values(entry, lanes, maps),
+        Access::Reduce(op) => reduce_values(op, entry, lanes, maps),
+    }
+}
+
+/// Stores each lane's value.
+fn store_values(entry: &Entry, lanes: u32, maps: &mut Maps)
+    requires some { 0 < lanes }
+    requires room { lanes ≤ 128 }
+    requires few { length maps.old.words ≤ 65536 }
+    requires within { AreWithin lanes entry.now maps.old.words }
+    ensures { maps.new ≡ record {
+      sizes = maps.old.sizes;
+      words = words_after_site (stored_by entry.now) lanes maps.old.words;
+    } }
+{
+    match entry.site.elements {
+        Elements::Run(first) => store_run(first, entry, lanes, maps),
+        _ => store_each(entry, lanes, maps),
+    }
+}
+
+/// The same of elements that run from a first one.
+fn store_run(first: u32, entry: &Entry, lanes: u32, maps: &mut Maps)
+    requires room { lanes ≤ 128 }
+    requires few { length maps.old.words ≤ 65536 }
+    requires run { entry.now.site.elements ≡ elements.Run first }
+    requires within { first + lanes ≤ length maps.old.words }
+    ensures { maps.new ≡ record {
+      sizes = maps.old.sizes;
+      words = words_after_site (stored_by entry.now) lanes maps.old.words;
+    } }
+{
+    for lane in 0..lanes {
+        maps.store(first + lane, entry.values[lane as usize]);
+    }
+}
+
+/// The same of any elements.
+fn store_each(entry: &Entry, lanes: u32, maps: &mut Maps)
+    requires room { lanes ≤ 128 }
+    requires few { length maps.old.words ≤ 65536 }
+    requires within { AreWithin lanes entry.now maps.old.words }
+    ensures { maps.new ≡ record {
+      sizes = maps.old.sizes;
+      words = words_after_site (stored_by entry.now) lanes maps.old.words;
+    } }
+{
+    for lane in 0..lanes {
+        maps.store(element(entry, lane), entry.values[lane as usize]);
+    }
+}
+
+/// Applies each lane's value.
+fn reduce_values(op: Op, entry: &Entry, lanes: u32, maps: &mut Maps)
+    requires some { 0 < lanes }
+    requires room { lanes ≤ 128 }
+    requires few { length maps.old.words ≤ 65536 }
+    requires within { AreWithin lanes entry.now maps.old.words }
+    ensures { maps.new ≡ record {
+      sizes = maps.old.sizes;
+      words = words_after_site (reduced_by op entry.now) lanes maps.old.words;
+    } }
+{
+    match op {
+        Op::Add => reduce_by(Op::Add, entry, lanes, maps),
+        Op::Or => reduce_by(Op::Or, entry, lanes, maps),
+        Op::And => reduce_by(Op::And, entry, lanes, maps),
+        Op::Xor => reduce_by(Op::Xor, entry, lanes, maps),
+        Op::AddH => reduce_by(Op::AddH, entry, lanes, maps),
+    }
+}
+
+/// The same by an operator that is known where it is called: at once, where all are for one element.
+#[inline(always)]
+fn reduce_by(op: Op, entry: &Entry, lanes: u32, maps: &mut Maps)
+    requires some { 0 < lanes }
+    requires room { lanes ≤ 128 }
+    requires few { length maps.old.words ≤ 65536 }
+    requires within { AreWithin lanes entry.now maps.old.words }
+    ensures { maps.new ≡ record {
+      sizes = maps.old.sizes;
+      words = words_after_site (reduced_by op entry.now) lanes maps.old.words;
+    } }
+{
+    law_of_sums();
+    match entry.site.elements {
+        Elements::One(only) => {
+            maps.update(only, op, combined_values(op, &entry.values, lanes as usize));
+        }
+        Elements::Run(first) => reduce_run(op, first, entry, lanes, maps),
+        _ => reduce_each(op, entry, lanes, maps),
+    }
+}
+
+/// The same at elements that run from a first one.
+#[inline(always)]
+fn reduce_run(op: Op, first: u32, entry: &Entry, lanes: u32, maps: &mut Maps)
+    requires room { lanes ≤ 128 }
+    requires few { length maps.old.words ≤ 65536 }
+    requires run { entry.now.site.elements ≡ elements.Run first }
+    requires within { first + lanes ≤ length maps.old.words }
+    ensures { maps.new ≡ record {
+      sizes = maps.old.sizes;
+      words = words_after_site (reduced_by op entry.now) lanes maps.old.words;
+    } }
+{
+    for lane in 0..lanes {
+        maps.update(first + lane, op, entry.values[lane as usize]);
+    }
+}
+
+/// The same at any elements.
+#[inline(always)]
+fn reduce_each(op: Op, entry: &Entry, lanes: u32, maps: &mut Maps)
+    requires room { lanes ≤ 128 }
+    requires few { length maps.old.words ≤ 65536 }
+    requires within { AreWithin lanes entry.now maps.old.words }
+    ensures { maps.new ≡ record {
+      sizes = maps.old.sizes;
+      words = words_after_site (reduced_by op entry.now) lanes maps.old.words;
+    } }
+{
+    for lane in 0..lanes {
+        maps.update(element(entry, lane), op, entry.values[lane as usize]);
+    }
+}
+
+/// The operands of all lanes, combined.
+#[inline(always)]
+fn combined_values(op: Op, values: &[u64; 128], lanes: usize) -> u64
+    requires some { 0 < lanes }
+    requires room { lanes ≤ 128 }
+    ensures { result ≡ combined_to op (λ lane. slice_index values.now lane) (lanes - 1) }
+{
+    let mut all = values[0];
+    for lane in 1..lanes {
+        all = combine(op, all, values[lane]);
+    }
+    all
+}
+
+/// The element that a lane accesses.
+#[inline(always)]
+fn element(entry: &Entry, lane: u32) -> u32
+    requires lane { lane < 128 }
+    requires few { element_by entry.now.site.elements entry.now.elements lane < 65536 }
+    ensures { result ≡ element_by entry.now.site.elements entry.now.elements lane }
+{
+    match entry.site.elements {
+        Elements::One(only) => only,
+        Elements::Run(first) => first + lane,
+        Elements::Between { low: _, high: _ } => entry.elements[lane as usize],
+    }
+}
