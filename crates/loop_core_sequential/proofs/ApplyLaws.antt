@@ -110,13 +110,13 @@ reduced_at_once law op entry only lanes operand first new is any sum applied =
       words = words_after (record { element = only; action = Reduce op n }) first.words;
     }) sum
     ∙ ap (λ (words : List ℕ). record { sizes = first.sizes; words = words }) (
-      sym (law op only values (lanes - 1) first.words)
-      ∙ ap (λ (n : ℕ). words_after_site site n first.words) (sym last)
-      ∙ same_site site (reduced_by op entry)
-      (λ lane words. ap (λ (e : Elements). words_after (record {
-        element = element_by e entry.elements lane;
-        action = Reduce op (slice_index entry.values lane);
-      }) words) (sym is)) lanes first.words
+    sym (law op only values (lanes - 1) first.words)
+    ∙ ap (λ (n : ℕ). words_after_site site n first.words) (sym last)
+    ∙ same_site site (reduced_by op entry)
+    (λ lane words. ap (λ (e : Elements). words_after (record {
+      element = element_by e entry.elements lane;
+      action = Reduce op (slice_index entry.values lane);
+    }) words) (sym is)) lanes first.words
     )
 
 -- an entry's elements are there

@@ -9,6 +9,8 @@ mod growths;
 #[cfg(test)]
 mod inputs;
 #[cfg(test)]
+mod lanes;
+#[cfg(test)]
 mod loops;
 #[cfg(test)]
 mod operators;

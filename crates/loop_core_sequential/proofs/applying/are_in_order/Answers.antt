@@ -20,7 +20,7 @@ loop-k-preserved c = record {
 pub returns-then-none_sees : goal.returns-then-none_sees
 returns-then-none_sees c = λ yes.
     let all = sites_taken c.loop-k.sites c.args.entries.now c.loop-k.k c.loop-k-test.false (omega arith)
-        c.loop-k.invariant.taken in (
+    c.loop-k.invariant.taken in (
       subst (AllUnseen c.args.lanes) all (c.none_sees.ensures.0 c.if-none_sees.true),
       subst (AllCommute c.args.lanes) all (c.all_commute.ensures.0 yes),
     )

@@ -10,7 +10,7 @@ element-requires-clause-few c = omega (arith, c.requires.within c.loop-lane.lane
 pub update-requires-clause-within : goal.update-requires-clause-within
 update-requires-clause-within c =
     let long = still_long (reduced_by c.args.op c.args.entry.now) c.loop-lane.lane c.args.maps.now c.loop-lane.maps
-        c.loop-lane.invariant in
+    c.loop-lane.invariant in
     let there = c.requires.within c.loop-lane.lane c.loop-lane-test.true in
     omega (arith, long, there, c.element.ensures)
 

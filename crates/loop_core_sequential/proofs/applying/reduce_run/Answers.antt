@@ -8,7 +8,7 @@ use Rattle.loop_core_sequential.proofs.applying.reduce_run.Goals as goal
 pub update-requires-clause-within : goal.update-requires-clause-within
 update-requires-clause-within c =
     let long = still_long (reduced_by c.args.op c.args.entry.now) c.loop-lane.lane c.args.maps.now c.loop-lane.maps
-        c.loop-lane.invariant in
+    c.loop-lane.invariant in
     omega (arith, long, c.requires.within, c.loop-lane-test.true)
 
 pub loop-lane-preserved : goal.loop-lane-preserved

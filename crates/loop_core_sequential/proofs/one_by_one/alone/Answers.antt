@@ -49,8 +49,8 @@ loop-index-preserved c =
     let below : c.loop-index.index < c.args.call.now.n =
     omega (arith, c.loop-index-test.true, c.requires.within) in
     let ran = of_callback c.loop-index.callback (record { program = c.args.program.now; call = c.args.call.now })
-        c.loop-index.invariant.same c.loop-index.index
-        c.loop-index.maps c.run.result.ret c.run.result.steps c.run.new.store c.run.ensures.ran in
+    c.loop-index.invariant.same c.loop-index.index
+    c.loop-index.maps c.run.result.ret c.run.result.steps c.run.new.store c.run.ensures.ran in
     record {
       same = c.run.ensures.same ∙ c.loop-index.invariant.same;
       count = counted c.args.program.now c.args.call.now c.args.from c.loop-index.index
