@@ -79,8 +79,11 @@ fn store_values(entry: &Entry, lanes: u32, maps: &mut Maps)
     } }
 {
     match entry.site.elements {
+        Elements::One(only) => store_each(Elements::One(only), entry, lanes, maps),
         Elements::Run(first) => store_run(first, entry, lanes, maps),
-        _ => store_each(entry, lanes, maps),
+        Elements::Between { low, high } => {
+            store_each(Elements::Between { low, high }, entry, lanes, maps);
+        }
     }
 }
 
@@ -100,9 +103,11 @@ fn store_run(first: u32, entry: &Entry, lanes: u32, maps: &mut Maps)
     }
 }
 
-/// The same of any elements.
-fn store_each(entry: &Entry, lanes: u32, maps: &mut Maps)
+/// The same of any elements, whose form is known where it is called.
+#[inline(always)]
+fn store_each(elements: Elements, entry: &Entry, lanes: u32, maps: &mut Maps)
     requires room { lanes ≤ 128 }
+    requires elements { elements ≡ entry.now.site.elements }
     requires few { length maps.old.words ≤ 65536 }
     requires within { AreWithin lanes entry.now maps.old.words }
     ensures { maps.new ≡ record {
@@ -111,7 +116,7 @@ fn store_each(entry: &Entry, lanes: u32, maps: &mut Maps)
     } }
 {
     for lane in 0..lanes {
-        maps.store(element(entry, lane), entry.values[lane as usize]);
+        maps.store(element(elements, entry, lane), entry.values[lane as usize]);
     }
 }
 
@@ -153,7 +158,9 @@ fn reduce_by(op: Op, entry: &Entry, lanes: u32, maps: &mut Maps)
             maps.update(only, op, combined_values(op, &entry.values, lanes as usize));
         }
         Elements::Run(first) => reduce_run(op, first, entry, lanes, maps),
-        _ => reduce_each(op, entry, lanes, maps),
+        Elements::Between { low, high } => {
+            reduce_each(op, Elements::Between { low, high }, entry, lanes, maps);
+        }
     }
 }
 
@@ -174,10 +181,11 @@ fn reduce_run(op: Op, first: u32, entry: &Entry, lanes: u32, maps: &mut Maps)
     }
 }
 
-/// The same at any elements.
+/// The same at any elements, whose form is known where it is called.
 #[inline(always)]
-fn reduce_each(op: Op, entry: &Entry, lanes: u32, maps: &mut Maps)
+fn reduce_each(op: Op, elements: Elements, entry: &Entry, lanes: u32, maps: &mut Maps)
     requires room { lanes ≤ 128 }
+    requires elements { elements ≡ entry.now.site.elements }
     requires few { length maps.old.words ≤ 65536 }
     requires within { AreWithin lanes entry.now maps.old.words }
     ensures { maps.new ≡ record {
@@ -186,7 +194,7 @@ fn reduce_each(op: Op, entry: &Entry, lanes: u32, maps: &mut Maps)
     } }
 {
     for lane in 0..lanes {
-        maps.update(element(entry, lane), op, entry.values[lane as usize]);
+        maps.update(element(elements, entry, lane), op, entry.values[lane as usize]);
     }
 }
 
@@ -206,12 +214,12 @@ fn combined_values(op: Op, values: &[u64; 128], lanes: usize) -> u64
 
 /// The element that a lane accesses.
 #[inline(always)]
-fn element(entry: &Entry, lane: u32) -> u32
+fn element(elements: Elements, entry: &Entry, lane: u32) -> u32
     requires lane { lane < 128 }
-    requires few { element_by entry.now.site.elements entry.now.elements lane < 65536 }
-    ensures { result ≡ element_by entry.now.site.elements entry.now.elements lane }
+    requires few { element_by elements entry.now.elements lane < 65536 }
+    ensures { result ≡ element_by elements entry.now.elements lane }
 {
-    match entry.site.elements {
+    match elements {
         Elements::One(only) => only,
         Elements::Run(first) => first + lane,
         Elements::Between { low: _, high: _ } => entry.elements[lane as usize],
