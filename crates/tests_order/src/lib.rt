@@ -5,6 +5,8 @@
 #[cfg(test)]
 mod accesses;
 #[cfg(test)]
+mod callback_writer;
+#[cfg(test)]
 mod growths;
 #[cfg(test)]
 mod inputs;
@@ -16,5 +18,7 @@ mod loops;
 mod operators;
 #[cfg(test)]
 mod programs;
+#[cfg(test)]
+mod random_callbacks;
 #[cfg(test)]
 mod rows;
