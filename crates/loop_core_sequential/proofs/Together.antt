@@ -28,7 +28,7 @@ module _ (its : EachIterationSimulates) (program : Program) (sound : IsSoundProg
     (long : length bytes ≡ 512) (same : map Some bytes ≡ call.frame) (words : List ℕ) (fit : AreMapWords program words) where
   -- a lane that returns 0 is an iteration that goes on
   goes_on : (index : ℕ) → index < call.n → (accesses : List Access)
-      → ReturnsZero ops call.callback index words accesses → GoesOn program 4096 call index words accesses
+      → ReturnsZero ops call.callback index bytes words accesses → GoesOn program 4096 call index words accesses
   goes_on index below accesses returns = record {
     iterated = record { ret = 0; steps = returns.steps; accesses = accesses; words = words_after_all accesses words };
     ended = its program sound ops are 4096 call known index below
@@ -36,26 +36,26 @@ module _ (its : EachIterationSimulates) (program : Program) (sound : IsSoundProg
         (begins call index call.callback (begun_with index) bytes bytes refl
         (record { count = refl; given = refl; ctx = refl }) long same)
         words fit
-        ∙ ap (followed plain_exited) (returns.ran bytes bytes);
+        ∙ ap (followed plain_exited) (returns.ran bytes long);
     returned = refl;
     made = refl;
   }
 
   -- so the loop goes on after them
   lanes_on : LoopBySites → (start first lanes : ℕ) → start ≡ call.callback → first + lanes ≤ call.n
-      → (entries : List Entry) → AreLanes ops start first lanes words entries
+      → (entries : List Entry) → AreLanes ops start first lanes bytes words entries
       → AllUnseen lanes (map site_of entries) → AllCommute lanes (map site_of entries) → (left : ℕ)
       → loop_from program 4096 call (lanes + left) first words
       ≡ loop_from program 4096 call left (first + lanes) (words_after_sites (log_by words entries) lanes words)
   lanes_on law start first lanes at within entries lanes_are unseen commute left =
       law program 4096 call first lanes left words (map site_of entries) (log_by words entries)
       (λ lane below. goes_on (first + lane) (omega (arith, within, below)) (of_lane (log_by words entries) lane)
-      (subst (λ (slot : ℕ). ReturnsZero ops slot (first + lane) words (of_lane (log_by words entries) lane)) at
+      (subst (λ (slot : ℕ). ReturnsZero ops slot (first + lane) bytes words (of_lane (log_by words entries) lane)) at
       (lanes_are.returns lane below)))
       (log_of_sites lanes words entries lanes_are.logged) unseen commute
 
   pub lanes_went : LoopBySites → (start first lanes : ℕ) → start ≡ call.callback → first + lanes ≤ call.n
-      → (entries : List Entry) → AreLanes ops start first lanes words entries
+      → (entries : List Entry) → AreLanes ops start first lanes bytes words entries
       → AllUnseen lanes (map site_of entries) → AllCommute lanes (map site_of entries) → (old new : MapList)
       → old.words ≡ words
       → new ≡ record { sizes = old.sizes; words = words_after_sites (log_by words entries) lanes words }
@@ -77,9 +77,9 @@ pub frame_long : (program : Program) (call : LoopCall) (bytes : List ℕ) → Ov
 frame_long program call bytes known same = sym (length-map bytes Some) ∙ ap length same ∙ known.sound.frame.count
 
 -- the lanes of a batch, by other names of the words and entries
-pub lanes_there : (ops : List PlainOp) (start first lanes : ℕ) (given words : List ℕ) (entries told : List Entry)
-    → given ≡ words → told ≡ entries → AreLanes ops start first lanes given entries
-    → AreLanes ops start first lanes words told
-lanes_there ops start first lanes given words entries told same is lanes_are =
-    subst (λ (ws : List ℕ). AreLanes ops start first lanes ws told) same
-    (subst (AreLanes ops start first lanes given) (sym is) lanes_are)
+pub lanes_there : (ops : List PlainOp) (start first lanes : ℕ) (caller given words : List ℕ) (entries told : List Entry)
+    → given ≡ words → told ≡ entries → AreLanes ops start first lanes caller given entries
+    → AreLanes ops start first lanes caller words told
+lanes_there ops start first lanes caller given words entries told same is lanes_are =
+    subst (λ (ws : List ℕ). AreLanes ops start first lanes caller ws told) same
+    (subst (AreLanes ops start first lanes caller given) (sym is) lanes_are)

@@ -81,11 +81,11 @@ impl Batches {
         law_of_plain_iterations();
         law_of_batches();
         let (ops, _fast) = program.operations();
-        let _frame = call.frame();
+        let frame = call.frame();
         let _sizes = maps.sizes();
         if !self
             .batch
-            .run(ops, call.callback(), index, lanes, maps.words())
+            .run(ops, call.callback(), index, lanes, frame, maps.words())
         {
             return Tried::Parted;
         }
