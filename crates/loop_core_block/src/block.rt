@@ -2,10 +2,13 @@
 
 ghost use Rattle.std.specs.Prelude.{◌≡◌, ◌<◌, length, slice_get};
 ghost use Rattle.private_copy.specs.Reductions.{combination};
+ghost use Rattle.loop_core_block.specs.Blocks.{HasOtherPlanes};
 
 use array_maps::Op;
 use private_copy::Private;
-use shadow_marks::Planes;
+use shadow_marks::{FlowPlanes, OperatorPlanes, Planes, Tested};
+use std::alloc::Global;
+use std::mem;
 
 /// A block of a loop that was run up to its first break or to its end, each iteration on the loop's start words:
 /// the marks that its iterations left, and at each element what they kept.
@@ -57,6 +60,15 @@ impl<'a> Block<'a> {
         &self.planes
     }
 
+    /// The marks of its iterations, taken out of it: it keeps marks of no element.
+    pub fn take_planes(&mut self, alloc: Global) -> Planes
+        ensures planes { result ≡ (shown self.old).planes }
+        ensures none { (shown self.new).planes.elements ≡ 0 }
+        ensures rest { HasOtherPlanes (shown self.old) (shown self.new) }
+    {
+        mem::replace(&mut self.planes, no_planes(alloc))
+    }
+
     /// The number of pages, of 64 elements, that its iterations accessed.
     pub fn pages(&self) -> u32
         ensures { result ≡ length (shown self.now).copy.pages }
@@ -86,5 +98,26 @@ impl<'a> Block<'a> {
         ensures { result ≡ combination ((shown self.now).copy.reduction e) }
     {
         self.copy.partial(e)
+    }
+}
+
+/// Marks of no element.
+fn no_planes(alloc: Global) -> Planes
+    ensures { result.elements ≡ 0 }
+{
+    Planes {
+        elements: 0,
+        plain: Vec::new(alloc),
+        operators: OperatorPlanes {
+            add: Vec::new(alloc),
+            or: Vec::new(alloc),
+            and: Vec::new(alloc),
+            xor: Vec::new(alloc),
+            addh: Vec::new(alloc),
+        },
+        tested: Tested::Flow(FlowPlanes {
+            first: Vec::new(alloc),
+            last: Vec::new(alloc),
+        }),
     }
 }

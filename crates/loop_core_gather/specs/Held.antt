@@ -29,6 +29,10 @@ pub record HavePlanes (elements : ℕ) (test : Test) (b : BlockOf) : Type 0 wher
   pub count : b.planes.elements ≡ elements
   pub test_is : test_of b.planes.tested ≡ test
 
+-- the copies are those of other blocks, place by place
+abbrev pub HaveCopiesOf : (old new : List BlockOf) → Type 0
+HaveCopiesOf old new = map (λ b. b.copy) new ≡ map (λ b. b.copy) old
+
 -- at an element the visits of each block, one block after the other
 abbrev pub visits_at : (BlockOf → ℕ → List Visit) → List BlockOf → ℕ → List Visit
 visits_at each blocks e = joined (map (λ b. each b e) blocks)

@@ -12,7 +12,7 @@ ghost use Rattle.loop_core_block.specs.Shown.{shown};
 ghost use Rattle.loop_core_gather.specs.Gathered.{all_gathered, HasOutcome};
 
 use crate::gathered::Gathered;
-use crate::merged::{conflicting_plane, merged_planes, verdict_of};
+use crate::merged::{conflicting_plane, planes_in_one, verdict_of};
 use crate::order::counting_blocks;
 use crate::summary::summaries_of;
 use crate::touched::touched_pages;
@@ -69,7 +69,7 @@ pub fn gather<'a>(
     call: &LoopCall,
     start: &'a Maps,
     split: &Split,
-    blocks: Vec<Block<'a>>,
+    mut blocks: Vec<Block<'a>>,
     test: Test,
 ) -> Result<Gathered<'a>, GatherError>
     requires known { OverApproximatesCall program.now call.now }
@@ -89,9 +89,16 @@ pub fn gather<'a>(
         Ok(counting) => counting,
     };
     let words = start.words();
-    let planes = merged_planes(alloc, words.len() as u32, test, &blocks, &counting.places)?;
+    let elements = words.len() as u32;
+    let touched = touched_pages(alloc, elements, &blocks, &counting.places)?;
+    let planes = planes_in_one(
+        alloc,
+        elements,
+        test,
+        blocks.as_mut_slice(),
+        &counting.places,
+    )?;
     let conflicting = conflicting_plane(alloc, &planes)?;
-    let touched = touched_pages(alloc, words.len() as u32, &blocks, &counting.places)?;
     Ok(Gathered {
         verdict: verdict_of(&conflicting),
         answer: counted(call.n(), counting.least),

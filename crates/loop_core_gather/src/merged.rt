@@ -11,7 +11,7 @@ ghost use Rattle.loop_core_model.specs.Marks.{Visit, marks_of, marked_conflict};
 ghost use Rattle.loop_core_model.specs.Planes.{bit_of, elements_in_plane, plane_verdict};
 ghost use Rattle.shadow_marks.specs.Standing.{StandFor, ArePlanes, test_of, plane_by};
 ghost use Rattle.lane_planes.specs.Merged.{StandForSome};
-ghost use Rattle.loop_core_gather.specs.Held.{chosen, visits_at, is_reduction as is_reduced, HavePlanes};
+ghost use Rattle.loop_core_gather.specs.Held.{chosen, visits_at, is_reduction as is_reduced, HavePlanes, HaveCopiesOf};
 
 use array_maps::are_words;
 use lane_planes::{conflicts_touched, count_bits, first_bit, merge_touched};
@@ -23,8 +23,34 @@ use std::alloc::{AllocError, Global};
 /// The lanes of a vector.
 const LANES: usize = 8;
 
-/// The planes of the blocks at these places, merged. All are for n elements and one test.
-pub(crate) fn merged_planes(
+/// The planes of the blocks at these places, in one. All are for n elements and one test. Those of one block alone are
+/// taken out of it, and those of several merged.
+pub(crate) fn planes_in_one(
+    alloc: Global,
+    elements: u32,
+    test: Test,
+    blocks: &mut [Block],
+    places: &[usize],
+) -> Result<Planes, AllocError>
+    requires places { All (λ place. place < length blocks.old) places.now }
+    requires planes { All (λ b. HavePlanes elements test (shown b)) blocks.old }
+    ensures elements { IfOk result (λ planes. planes.elements ≡ elements) }
+    ensures test { IfOk result (λ planes. test_of planes.tested ≡ test) }
+    ensures whole { IfOk result ArePlanes }
+    ensures stand { IfOk result StandForSome }
+    ensures visits { IfOk result (λ planes. (each : BlockOf → ℕ → List Visit) → All (λ b. StandFor b.planes (each b))
+        (map shown blocks.old) → StandFor planes (visits_at each (chosen places.now (map shown blocks.old)))) }
+    ensures copies { HaveCopiesOf (map shown blocks.old) (map shown blocks.new) }
+{
+    if places.len() == 1 {
+        Ok(blocks[places[0]].take_planes(alloc))
+    } else {
+        merged_planes(alloc, elements, test, blocks, places)
+    }
+}
+
+/// The planes of the blocks at these places, merged.
+fn merged_planes(
     alloc: Global,
     elements: u32,
     test: Test,

@@ -1,0 +1,125 @@
+-- Blocks of which only the planes are others.
+use Rattle.std.proofs.Common.{◌≡◌, ℕ, zero, suc, ◌<◌, ◌≤◌, ◌/◌, List, [], ◌∷◌, ◌++◌, take, drop, length, map, get_or, set, Option, Some, None, refl, sym, ◌∙◌, ap, subst, arith}
+use Rattle.std.specs.Prelude.{slice_get, slice_index}
+use Rattle.std.specs.List.{All, cons_option, range_with_len}
+use Rattle.std.specs.Option.{option_map}
+use Rattle.std.proofs.Math.ListN.{drop_of_length-le}
+use Rattle.std.proofs.Math.Seq.{take-append_seam}
+use Rattle.std.proofs.lemmas.List.{length-map, get_or-map, append-nil}
+use Rattle.std.proofs.lemmas.Option.{slice_get-map}
+use Rattle.loop_core_model.specs.Marks.{Visit}
+use Rattle.loop_core_model.specs.Kept.{Kept, committed_of_kept}
+use Rattle.shadow_marks.specs.declared.planes.Planes.{Planes}
+use Rattle.shadow_marks.specs.Standing.{StandFor}
+use Rattle.private_copy.specs.Copies.{PrivateCopy}
+use Rattle.private_copy.specs.Reductions.{combination}
+use Rattle.loop_core_block.specs.declared.block.Block.{Block as Held}
+use Rattle.loop_core_block.specs.Blocks.{BlockOf}
+use Rattle.loop_core_block.specs.Shown.{shown}
+use Rattle.loop_core_gather.specs.Held.{chosen, visits_at, is_reduction, kept_of, left_at, left_words, IsUntouchedElement, TellsUntouched, AreHeld, HaveCopiesOf}
+use Rattle.loop_core_gather.proofs.ChoiceLaws.{chosen_next}
+
+abbrev copy_in : BlockOf → PrivateCopy
+copy_in b = b.copy
+
+-- what is kept at an element is kept in the copy
+abbrev kept_in : ℕ → PrivateCopy → Kept
+kept_in e copy = record { last_value = copy.last e; partial = combination (copy.reduction e) }
+
+kept_front : (e : ℕ) (o p : Option BlockOf) (these those : List BlockOf) → option_map copy_in o ≡ option_map copy_in p
+    → map (kept_of e) these ≡ map (kept_of e) those
+    → map (kept_of e) (cons_option o these) ≡ map (kept_of e) (cons_option p those)
+kept_front e None None these those same rest = rest
+kept_front e None (Some b) these those same rest = absurd (cc)
+kept_front e (Some a) None these those same rest = absurd (cc)
+kept_front e (Some a) (Some b) these those same rest =
+    let copies : a.copy ≡ b.copy = cc in
+    ap (λ (c : PrivateCopy). kept_in e c ∷ map (kept_of e) these) copies
+    ∙ ap (λ (ks : List Kept). kept_of e b ∷ ks) rest
+
+module _ (old new : List BlockOf) (same : HaveCopiesOf old new) where
+  copies_at : (place : ℕ) → option_map copy_in (slice_get new place) ≡ option_map copy_in (slice_get old place)
+  copies_at place = sym (slice_get-map copy_in new place) ∙ ap (λ (cs : List PrivateCopy). slice_get cs place) same
+      ∙ slice_get-map copy_in old place
+
+  kept_same : (e : ℕ) (places : List ℕ) → map (kept_of e) (chosen places new) ≡ map (kept_of e) (chosen places old)
+  kept_same e [] = refl
+  kept_same e (place ∷ places) =
+      kept_front e (slice_get new place) (slice_get old place) (chosen places new) (chosen places old) (copies_at place)
+      (kept_same e places)
+
+  -- they leave the same words
+  pub words_same : (planes : Planes) (places start : List ℕ) → left_words planes (chosen places new) start
+      ≡ left_words planes (chosen places old) start
+  words_same planes places start =
+      let at : (e : ℕ) → left_at planes (chosen places new) start e ≡ left_at planes (chosen places old) start e =
+      λ e. ap (λ (ks : List Kept). committed_of_kept (is_reduction planes e) ks (slice_index start e))
+      (kept_same e places) in
+      let each : left_at planes (chosen places new) start ≡ left_at planes (chosen places old) start = λ j e. at e j in
+      ap (λ (f : ℕ → ℕ). map f (range_with_len 0 (length start))) each
+
+  many_same : length new ≡ length old
+  many_same = sym (length-map new copy_in) ∙ ap (λ (cs : List PrivateCopy). length cs) same ∙ length-map old copy_in
+
+  tells_same : (word e : ℕ) (places : List ℕ) → TellsUntouched word e old places → TellsUntouched word e new places
+  tells_same word e places tells i b below at unset = go (slice_get old (slice_index places i)) refl
+    where
+      copies : (o : Option BlockOf) → slice_get old (slice_index places i) ≡ o → Some b.copy ≡ option_map copy_in o
+      copies o is = sym (ap (option_map copy_in) at) ∙ copies_at (slice_index places i) ∙ ap (option_map copy_in) is
+
+      go : (o : Option BlockOf) → slice_get old (slice_index places i) ≡ o → IsUntouchedElement e b
+      go None is = let bad : Some b.copy ≡ None = copies None is in absurd (cc)
+      go (Some a) is =
+          let one : Some b.copy ≡ Some a.copy = copies (Some a) is in
+          let its : b.copy ≡ a.copy = cc in
+          let none = tells i a below is unset in
+          record {
+            last_value = ap (λ (c : PrivateCopy). c.last e) its ∙ none.last_value;
+            partial = ap (λ (c : PrivateCopy). combination (c.reduction e)) its ∙ none.partial;
+          }
+
+  -- and are held as well
+  pub held_same : (elements : ℕ) (places : List ℕ) (planes : Planes) (touched : List ℕ)
+      → AreHeld elements old places planes touched → AreHeld elements new places planes touched
+  held_same elements places planes touched held = record {
+    few = held.few;
+    within = subst (λ (n : ℕ). All (λ place. place < n) places) (sym many_same) held.within;
+    starts = λ k d within.
+        let many = many_same in
+        let inside : k < length old = omega (arith, many, within) in
+        ap (λ (c : PrivateCopy). length c.start) (sym (get_or-map copy_in new k d d.copy within)
+        ∙ ap (λ (cs : List PrivateCopy). get_or cs k d.copy) same ∙ get_or-map copy_in old k d d.copy inside)
+        ∙ held.starts k d inside;
+    whole = held.whole;
+    count = held.count;
+    pages = held.pages;
+    untouched = λ e inside. tells_same (slice_index touched (e / 64)) e places (held.untouched e inside);
+  }
+
+-- the copies after one block more has other planes
+pub copies_set : (blocks : List Held) (place : ℕ) (b : Held) → (shown b).copy ≡ (shown (get_or blocks place b)).copy
+    → HaveCopiesOf (map shown blocks) (map shown (set blocks place b))
+copies_set [] place b same = refl
+copies_set (c ∷ blocks) zero b same = ap (λ (k : PrivateCopy). k ∷ map copy_in (map shown blocks)) same
+copies_set (c ∷ blocks) (suc place) b same = ap (λ (ks : List PrivateCopy). (shown c).copy ∷ ks)
+    (copies_set blocks place b same)
+
+-- the planes of one block alone stand for its visits
+pub one_stands : (each : BlockOf → ℕ → List Visit) (blocks : List Held) (places : List ℕ) (b : Held) (planes : Planes)
+    → length places ≡ 1 → get_or places 0 0 < length blocks → b ≡ get_or blocks (get_or places 0 0) b
+    → StandFor planes (each (shown b)) → StandFor planes (visits_at each (chosen places (map shown blocks)))
+one_stands each blocks places b planes one within is stand =
+    let inside : 0 < length places = omega (arith, one) in
+    let past : length places ≤ 1 = omega (arith, one) in
+    let first : chosen places (map shown blocks) ≡ shown b ∷ chosen (drop 1 places) (map shown blocks) =
+    chosen_next blocks places 0 b inside within is in
+    let rest : chosen (drop 1 places) (map shown blocks) ≡ [] =
+    ap (λ (ps : List ℕ). chosen ps (map shown blocks)) (drop_of_length-le places past) in
+    let at : (e : ℕ) → visits_at each (chosen places (map shown blocks)) e ≡ each (shown b) e =
+    λ e. ap (λ (bs : List BlockOf). visits_at each bs e) (first ∙ ap (λ (bs : List BlockOf). shown b ∷ bs) rest)
+    ∙ append-nil (each (shown b) e) in
+    subst (StandFor planes) (λ j e. sym (at e) j) stand
+
+-- what was written into a list of as many items
+pub taken : {A : Type 0} (items rest : List A) (many : ℕ) → length items ≡ many → take many (items ++ rest) ≡ items
+taken items rest many is = ap (λ (n : ℕ). take n (items ++ rest)) (sym is) ∙ take-append_seam items rest
