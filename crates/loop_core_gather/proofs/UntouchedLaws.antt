@@ -23,7 +23,7 @@ use Rattle.loop_core_gather.specs.Held.{IsUntouchedElement}
 pub not_both : (b : Bool) → b ≡ true → b ≡ false → ⊥
 not_both b t f = let both : true ≡ false = sym t ∙ f in cc
 
-or_true : (b : Bool) → (b || true) ≡ true
+pub or_true : (b : Bool) → (b || true) ≡ true
 or_true true = refl
 or_true false = refl
 

@@ -3,3 +3,4 @@ pub mod Counting
 pub mod Held
 pub mod Gathered
 pub mod Touched
+pub mod Pages

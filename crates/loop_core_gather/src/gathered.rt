@@ -6,12 +6,14 @@ use crate::committing::commit;
 use crate::kept::{combined, last_written};
 use crate::merged::is_reduction;
 use crate::order::PLACES;
+use crate::sharing::{SHARED_PAGES, left_in_threads, set_pages, touched_numbers};
 use arrayvec::ArrayVec;
 use loop_core_block::Block;
 use loop_core_model::Verdict;
 use shadow_marks::Planes;
 use std::alloc::{AllocError, Global};
 use std::marker::Model;
+use std::thread::Threads;
 
 /// Blocks of a loop, gathered: the loop's verdict, and after a pass what it answers and leaves. In contracts it is
 /// the outcome of a pass.
@@ -92,6 +94,24 @@ impl<'a> Gathered<'a> {
     {
         let mut words = self.start.to_vec(alloc)?;
         commit(words.as_mut_slice(), self.touched.as_slice(), self);
+        Ok(words)
+    }
+
+    /// The same, worked out by several threads where enough pages were touched.
+    pub fn left_words_in_threads<R: Threads + Sync>(
+        &self,
+        rt: &R,
+        alloc: Global,
+    ) -> Result<Vec<u64>, AllocError>
+        ensures { IfOk result (λ words. words.items ≡ self.now.words) }
+    {
+        let pages = touched_numbers(alloc, &self.touched)?;
+        if pages.len() < SHARED_PAGES {
+            return self.left_words(alloc);
+        }
+        let left = left_in_threads(rt, alloc, self, &pages)?;
+        let mut words = self.start.to_vec(alloc)?;
+        set_pages(words.as_mut_slice(), &pages, &left);
         Ok(words)
     }
 }

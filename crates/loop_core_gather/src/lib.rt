@@ -8,6 +8,7 @@ mod kept;
 mod merged;
 mod order;
 mod settling;
+mod sharing;
 mod summary;
 mod touched;
 

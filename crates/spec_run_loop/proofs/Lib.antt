@@ -1,5 +1,4 @@
 pub mod AloneLaws
-pub mod CommitLaws
 pub mod EvenLaws
 pub mod WorkerLaws
 pub mod StillWorks

@@ -1,8 +1,7 @@
 //! A loop call by several workers: each in a thread of its own, over one board; what they ran is gathered, and
-//! committed by several threads, or the loop is run in order.
+//! committed, or the loop is run in order.
 #![tactic(auto)]
 
-mod committing;
 mod decision;
 mod error;
 mod looping;

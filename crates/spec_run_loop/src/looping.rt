@@ -11,7 +11,6 @@ ghost use Rattle.spec_run_loop.specs.Decisions.{IsDecision};
 ghost use Rattle.spec_run_loop.specs.Plans.{IsLoopPlan};
 ghost use Rattle.spec_run_loop.specs.Workers.{AreFaultless, HasOutcomeOf};
 
-use crate::committing::left_words;
 use crate::decision::{Decision, LoopAnswer};
 use crate::error::RunError;
 use crate::law_of_workers;
@@ -96,6 +95,22 @@ fn needs_no_workers<G: Gate>(of: &SpeculativeLoop, gate: &G) -> bool
     of.split.blocks() == 1 && !gate.may_hold()
 }
 
+/// What a loop leaves that passes, by element: worked out by several threads where more than one worker was asked for.
+fn left_words<R: Threads + Sync>(
+    rt: &R,
+    alloc: Global,
+    workers: u32,
+    gathered: &Gathered,
+) -> Result<Vec<u64>, AllocError>
+    ensures { IfOk result (λ words. words.items ≡ gathered.now.words) }
+{
+    if workers == 1 {
+        gathered.left_words(alloc)
+    } else {
+        gathered.left_words_in_threads(rt, alloc)
+    }
+}
+
 /// What becomes of a loop that is run by 1 to 16 workers.
 fn decided<R: Threads + Sync, G: Gate>(
     rt: &R,
@@ -115,7 +130,7 @@ fn decided<R: Threads + Sync, G: Gate>(
     match gathered.verdict() {
         Verdict::Parallel => Ok(Decision::Commit {
             answer: gathered.answer(),
-            words: left_words(rt, of.alloc, of.call, &gathered, gate)?,
+            words: left_words(rt, of.alloc, workers, &gathered)?,
         }),
         verdict => Ok(Decision::Discard { verdict }),
     }
@@ -233,9 +248,10 @@ pub fn run_loop_evenly<R: Threads + Sync, G: Gate>(
 
 /// Runs a loop call that main of this program made, from these maps, by n workers, each in a thread of its
 /// own, over the blocks of a split. A loop that passes the test is committed on a copy of the maps, by several threads
-/// too; any other is run in order on one. It waits for its threads, and where one can't be started, the others do its
-/// share. Where the gate holds nobody, only what pays is done: a short loop is run by the calling thread alone, as one
-/// block, and a longer one over fewer, even blocks where each would have few iterations beside its elements.
+/// where there are several workers and it touched many pages; any other is run in order on one. It waits for its
+/// threads, and where one can't be started, the others do its share. Where the gate holds nobody, only what pays is
+/// done: a short loop is run by the calling thread alone, as one block, and a longer one over fewer, even blocks where
+/// each would have few iterations beside its elements.
 ///
 /// It fails with `Sizes` (P1) where the maps' sizes differ from the program's; else with `Plan` (P2) where the
 /// workers aren't 1 to 16 or the split isn't of the call's iterations; and with `Memory`.

@@ -93,11 +93,6 @@ pub(crate) fn is_long(call: &LoopCall) -> bool {
     call.n() >= LONG
 }
 
-/// Whether a loop is worth threads: where it is long, or where the gate may hold one worker until another comes.
-pub(crate) fn is_worth_threads<G: Gate>(call: &LoopCall, gate: &G) -> bool {
-    gate.may_hold() || is_long(call)
-}
-
 /// Runs the one block of a loop in the calling thread.
 pub(crate) fn run_alone<'a, G: Gate>(
     of: &SpeculativeLoop<'_, 'a>,

@@ -1,6 +1,6 @@
 //! What `run` answers to programs with long loops, as users run them: without a gate, by workers in threads of their
-//! own, and committed by several threads. A row is one of `loops`, in which `3..6` stands for 3 4 5, and `3*6` for 6 6
-//! 6.
+//! own, and committed by several threads where they touch many pages. A row is one of `loops`, in which `3..6` stands
+//! for 3 4 5, and `3*6` for 6 6 6.
 //!
 //! The answers are worked out by hand, from the loop in order and from what a conflict is.
 
