@@ -137,8 +137,8 @@ fn decided<R: Threads + Sync, G: Gate>(
 }
 
 /// How many even blocks a loop is run over, of at most this many. Where the gate holds nobody, only those that are
-/// worth what each of them costs, which keeps marks of all elements: one of a short loop; of a longer one as many as
-/// there are workers, or one for as many iterations as there are elements.
+/// worth what each of them costs, which keeps marks of all elements: one of a short loop, and of any by one worker; of
+/// a longer one as many as there are workers, or one for as many iterations as there are elements.
 fn worthwhile_blocks<G: Gate>(
     call: &LoopCall,
     start: &Maps,
@@ -155,7 +155,7 @@ fn worthwhile_blocks<G: Gate>(
     if gate.may_hold() {
         return most;
     }
-    if !is_long(call) {
+    if workers == 1 || !is_long(call) {
         return 1;
     }
     let elements = start.words().len() as u32;
@@ -250,8 +250,8 @@ pub fn run_loop_evenly<R: Threads + Sync, G: Gate>(
 /// own, over the blocks of a split. A loop that passes the test is committed on a copy of the maps, by several threads
 /// where there are several workers and it touched many pages; any other is run in order on one. It waits for its
 /// threads, and where one can't be started, the others do its share. Where the gate holds nobody, only what pays is
-/// done: a short loop is run by the calling thread alone, as one block, and a longer one over fewer, even blocks where
-/// each would have few iterations beside its elements.
+/// done: a short loop, and any by one worker, is run by the calling thread alone, as one block, and a longer one over
+/// fewer, even blocks where each would have few iterations beside its elements.
 ///
 /// It fails with `Sizes` (P1) where the maps' sizes differ from the program's; else with `Plan` (P2) where the
 /// workers aren't 1 to 16 or the split isn't of the call's iterations; and with `Memory`.
