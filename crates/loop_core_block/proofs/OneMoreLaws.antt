@@ -1,10 +1,10 @@
 -- One iteration more.
-use Rattle.std.proofs.Common.{◌≡◌, ℕ, ◌+◌, ◌==◌, List, [], ◌∷◌, ◌++◌, length, sym, ◌∙◌, ap, subst, arith}
+use Rattle.std.proofs.Common.{◌≡◌, ℕ, ◌+◌, ◌==◌, Bool, List, [], ◌∷◌, ◌++◌, length, sym, ◌∙◌, ap, subst, arith}
 use Rattle.std.proofs.lemmas.List.{map-append, length-map, length-append}
 use Rattle.array_maps.specs.Accesses.{Access}
 use Rattle.array_maps.specs.Store.{Effects}
+use Rattle.bpf_step_model.specs.Run.{Ended}
 use Rattle.bpf_step_model.specs.Iteration.{Iterated, iteration}
-use Rattle.bpf_step.specs.Iterations.{RanCallback}
 use Rattle.loop_core_model.specs.LeastBreak.{accesses_of_each}
 use Rattle.shadow_marks.specs.Standing.{StandFor}
 use Rattle.shadow_marks.specs.Ending.{KeepsShape}
@@ -27,13 +27,13 @@ accesses_more : (ran : List Iterated) (it : Iterated) → accesses_of_each (ran 
     ++ it.accesses ∷ []
 accesses_more ran it = map-append (λ (i : Iterated). i.accesses) ran (it ∷ [])
 
--- an iteration that was begun, run and ended
-module _ (law : AccessesFollow) (old new : Runner) (index : ℕ) (begun run : Private) (ret steps : ℕ)
-    (begins : IsBegun (copy_of old.copy) old.most (copy_of begun))
+-- an iteration that was begun, made its accesses and ended
+module _ (law : AccessesFollow) (old new : Runner) (index need : ℕ) (begun run : Private) (it : Iterated)
+    (begins : IsBegun (copy_of old.copy) need (copy_of begun))
     (within : (runs : List (List Access)) → CopyRecords (copy_of old.copy) runs → CopyRecordsWithin (copy_of begun) runs
     [])
-    (ran : RanCallback (λ (copy : Private). (copy_of copy).words) AccessEffect old.callback.program old.callback.call
-    index begun ret steps run)
+    (told : iteration old.callback.program 4096 old.callback.call index (start_words old) ≡ Ended it)
+    (effects : Effects AccessEffect begun it.accesses run)
     (callback : new.callback ≡ old.callback) (most : new.most ≡ old.most)
     (ended : IsEnded (copy_of run) (copy_of new.copy)) (shape : KeepsShape old.planes new.planes)
     (planes : (first : ℕ) (runs : List (List Access)) (accesses : List Access) → index ≡ first + length runs
@@ -42,18 +42,17 @@ module _ (law : AccessesFollow) (old new : Runner) (index : ℕ) (begun run : Pr
     (stands : (runs : List (List Access)) (accesses : List Access) → CopyRecordsWithin (copy_of run) runs accesses
     → CopyRecords (copy_of new.copy) (runs ++ accesses ∷ [])) where
   same_start : start_words new ≡ start_words old
-  same_start = ended.start ∙ law.start begun run ran.iterated.accesses ran.effects ∙ begins.start
+  same_start = ended.start ∙ law.start begun run it.accesses effects ∙ begins.start
 
   one_begun : (copy_of new.copy).begun ≡ (copy_of old.copy).begun + 1
-  one_begun = ended.begun ∙ law.begun begun run ran.iterated.accesses ran.effects ∙ begins.begun
+  one_begun = ended.begun ∙ law.begun begun run it.accesses effects ∙ begins.begun
 
   has_run : (first : ℕ) (before : List Iterated) → RunnerHasRun first index before old
-      → RunnerHasRun first (index + 1) (before ++ ran.iterated ∷ []) new
+      → RunnerHasRun first (index + 1) (before ++ it ∷ []) new
   has_run first before has =
       let runs : List (List Access) = accesses_of_each before in
-      let it = ran.iterated in
       let here : CopyRecordsWithin (copy_of run) runs it.accesses =
-      law.stands begun run runs [] it.accesses (within runs has.copy) ran.effects in
+      law.stands begun run runs [] it.accesses (within runs has.copy) effects in
       let many = length-map before (λ (i : Iterated). i.accesses) in
       let reached = has.reached in
       let was = has.begun in
@@ -71,11 +70,16 @@ module _ (law : AccessesFollow) (old new : Runner) (index : ℕ) (begun run : Pr
             (planes first runs it.accesses there here has.planes);
       }
 
-  pub one_more : RanOneMore index old new (ret == 1)
-  one_more = record {
+  pub one_more : (broke : Bool) → broke ≡ (it.ret == 1) → RanOneMore index old new broke
+  one_more broke is = record {
     same = record { callback = callback; most = most; start = same_start; test = shape.test };
-    iterated = ran.iterated;
-    told = ap (iteration old.callback.program 4096 old.callback.call index) (sym begins.words) ∙ ran.told;
-    broke_is = ap (λ (r : ℕ). r == 1) ran.ret_is;
+    iterated = it;
+    told = told;
+    broke_is = is;
     has_run = has_run;
   }
+
+-- effects of accesses by another name
+pub effects_of : (begun run : Private) (a b : List Access) → a ≡ b → Effects AccessEffect begun b run
+    → Effects AccessEffect begun a run
+effects_of begun run a b same effects = subst (λ (l : List Access). Effects AccessEffect begun l run) (sym same) effects

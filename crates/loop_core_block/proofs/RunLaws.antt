@@ -1,54 +1,23 @@
 -- Iterations one after another, up to a break.
-use Rattle.std.proofs.Common.{◌≡◌, ℕ, suc, ◌+◌, ◌-◌, ◌<◌, ◌≤◌, Bool, true, false, List, [], ◌∷◌, ◌++◌, length, Option, Some, None, refl, sym, ◌∙◌, ap, subst, append_assoc, arith}
+use Rattle.std.proofs.Common.{◌≡◌, ℕ, suc, ◌+◌, ◌-◌, ◌<◌, ◌≤◌, Bool, true, false, List, [], ◌∷◌, ◌++◌, length, Option, Some, None, refl, sym, ◌∙◌, ap, subst, append_assoc, arith, length-append, is_some}
 use Rattle.std.specs.Prelude.{if◌then◌else◌, ◌==◌}
 use Rattle.std.specs.List.{sum}
 use Rattle.std.proofs.lemmas.List.{append-nil}
-use Rattle.bpf_step_model.specs.Run.{BoundedResult, Ended, Stuck, Unfinished, mapped, followed}
+use Rattle.bpf_insn_types.specs.Program.{Program}
+use Rattle.bpf_step_model.specs.State.{LoopCall}
+use Rattle.bpf_step_model.specs.Run.{BoundedResult, Ended, followed, mapped}
 use Rattle.bpf_step_model.specs.Iteration.{Iterated, iteration}
 use Rattle.bpf_verify_sound.specs.Soundness.{OverApproximatesCall, most_from}
 use Rattle.bpf_step.specs.Iterations.{CallbackOf}
-use Rattle.loop_core_model.specs.LeastBreak.{in_front_of}
 use Rattle.loop_core_model.specs.Scan.{up_to_break, scan}
-use Rattle.loop_core_model.specs.Block.{block_run, break_from}
+use Rattle.loop_core_model.specs.Block.{has_break, block_run, break_from, unless_break}
+use Rattle.loop_core_model.proofs.BlockLaws.{scans_follow}
+use Rattle.loop_core_model.proofs.FirstBreak.{break_there}
+use Rattle.bpf_step_batch.specs.declared.entry.Entry.{Entry}
 use Rattle.loop_core_block.specs.declared.runner.Runner.{Runner}
-use Rattle.loop_core_block.specs.Runs.{start_words, IsReady, IsSame, RunnerHasRun, RanOneMore, RanUpTo}
-
--- the scan at an iteration that ended
-scan_next : (iterate : ℕ → BoundedResult Iterated) (past index : ℕ) → index < past → (it : Iterated)
-    → iterate index ≡ Ended it → (b : Bool) → (it.ret == 1) ≡ b →
-    scan iterate (past - index) index ≡ (if b then Ended (it ∷ [])
-    else in_front_of (scan iterate (past - (index + 1)) (index + 1)) it)
-scan_next iterate past index below it told b is =
-    let one : past - index ≡ suc (past - (index + 1)) = omega (arith, below) in
-    ap (λ (left : ℕ). scan iterate left index) one
-    ∙ ap (followed (up_to_break (scan iterate (past - (index + 1)) (index + 1)))) told
-    ∙ ap (λ (t : Bool). if t then Ended (it ∷ []) else in_front_of (scan iterate (past - (index + 1)) (index + 1)) it)
-    is
-
-mapped_twice : (ran : List Iterated) (it : Iterated) (e : BoundedResult (List Iterated)) →
-    mapped (λ others. ran ++ others) (in_front_of e it) ≡ mapped (λ others. (ran ++ it ∷ []) ++ others) e
-mapped_twice ran it Stuck = refl
-mapped_twice ran it Unfinished = refl
-mapped_twice ran it (Ended others) = ap Ended (sym (append_assoc ran (it ∷ []) others))
-
--- where iterations broke, one more included
-behind_one : (t : Bool) (first : ℕ) (rest more last : Option ℕ) → (if t then Some first else rest) ≡ None
-    → (rest ≡ None → more ≡ last) →
-    (if t then Some first else more) ≡ last
-behind_one true first rest more last none goes = absurd cc
-behind_one false first rest more last none goes = goes none
-
-break_last : (first : ℕ) (ran : List Iterated) (it : Iterated) → break_from first ran ≡ None → (b : Bool)
-    → (it.ret == 1) ≡ b →
-    break_from first (ran ++ it ∷ []) ≡ (if b then Some (first + length ran) else None)
-break_last first [] it going b is =
-    let here : first ≡ first + 0 = omega arith in
-    ap (λ (t : Bool). if t then Some first else None) is ∙ ap (λ (n : ℕ). if b then Some n else None) here
-break_last first (one ∷ ran) it going b is =
-    let next : first + 1 + length ran ≡ first + suc (length ran) = omega arith in
-    behind_one (one.ret == 1) first (break_from (first + 1) ran) (break_from (first + 1) (ran ++ it ∷ [])) (if b
-    then Some (first + suc (length ran)) else None) going
-    (λ none. break_last (first + 1) ran it none b is ∙ ap (λ (n : ℕ). if b then Some n else None) next)
+use Rattle.loop_core_block.specs.Loops.{LoopOf}
+use Rattle.loop_core_block.specs.Batches.{IsLane, AreIterations}
+use Rattle.loop_core_block.specs.Runs.{start_words, IsReady, IsOf, IsSame, RunnerHasRun, RanOneMore, RanMore, RanUpTo}
 
 -- a runner that is the same is as ready
 pub still_ready : (old new : Runner) → IsReady old → IsSame old new → IsReady new
@@ -62,6 +31,21 @@ still_ready old new ready same = record {
       omega (arith, most, enough);
   few = let most = same.most in let few = ready.few in omega (arith, most, few);
 }
+
+-- and for the same loop
+pub still_of : (l : LoopOf) (old new : Runner) → IsOf l old → IsSame old new → IsOf l new
+still_of l old new of same = record {
+  program = ap (λ (c : CallbackOf). c.program) same.callback ∙ of.program;
+  call = ap (λ (c : CallbackOf). c.call) same.callback ∙ of.call;
+  start = same.start ∙ of.start;
+}
+
+-- and has as many iterations
+pub still_within : (old new : Runner) (past : ℕ) → past ≤ old.callback.call.n → IsSame old new
+    → past ≤ new.callback.call.n
+still_within old new past within same =
+    let n = ap (λ (c : CallbackOf). c.call.n) same.callback in
+    omega (arith, within, n)
 
 same_again : (a b c : Runner) → IsSame a b → IsSame b c → IsSame a c
 same_again a b c first second = record {
@@ -79,90 +63,174 @@ block_by r first past = block_run r.callback.program 4096 r.callback.call (start
 abbrev pub iterate_by : Runner → ℕ → BoundedResult Iterated
 iterate_by r index = iteration r.callback.program 4096 r.callback.call index (start_words r)
 
--- before an index: none broke so far, and the block is what was run, and then the scan of the rest
-pub record RunSoFar (first past : ℕ) (initial now : Runner) (index : ℕ) : Type 0 where
-  pub same : IsSame initial now
-  pub ran : List Iterated
-  pub has_run : RunnerHasRun first index ran now
-  pub going : break_from first ran ≡ None
-  pub rest : block_by initial first past ≡ mapped (λ others. ran ++ others) (scan (iterate_by initial) (past - index)
-      index)
+-- where iterations broke, of which the first ones didn't
+behind_one : (t : Bool) (first : ℕ) (rest more last : Option ℕ) → (if t then Some first else rest) ≡ None
+    → (rest ≡ None → more ≡ last) → (if t then Some first else more) ≡ last
+behind_one true first rest more last none goes = absurd cc
+behind_one false first rest more last none goes = goes none
 
-mapped_none : (e : BoundedResult (List Iterated)) → e ≡ mapped (λ others. [] ++ others) e
-mapped_none Stuck = refl
-mapped_none Unfinished = refl
-mapped_none (Ended iterations) = refl
+break_behind : (index : ℕ) (xs ys : List Iterated) → break_from index xs ≡ None
+    → break_from index (xs ++ ys) ≡ break_from (index + length xs) ys
+break_behind index [] ys none =
+    let here : index ≡ index + 0 = omega arith in
+    ap (λ (i : ℕ). break_from i ys) here
+break_behind index (x ∷ xs) ys none =
+    let next : index + 1 + length xs ≡ index + suc (length xs) = omega arith in
+    behind_one (x.ret == 1) index (break_from (index + 1) xs) (break_from (index + 1) (xs ++ ys))
+    (break_from (index + suc (length xs)) ys) none
+    (λ going. break_behind (index + 1) xs ys going ∙ ap (λ (i : ℕ). break_from i ys) next)
 
-pub begins : (first past : ℕ) (r : Runner) → RunnerHasRun first first [] r → RunSoFar first past r r first
-begins first past r none = record {
+-- a block is the scan of its first part, and then of the rest
+module _ (r : Runner) (from mid to : ℕ) (up : from ≤ mid) (on : mid ≤ to) where
+  parts : block_by r from to ≡ followed (unless_break (block_by r mid to)) (block_by r from mid)
+  parts =
+      let both : to - from ≡ mid - from + (to - mid) = omega (arith, up, on) in
+      let reached : from + (mid - from) ≡ mid = omega (arith, up) in
+      ap (λ (left : ℕ). scan (iterate_by r) left from) both
+      ∙ scans_follow (iterate_by r) (mid - from) (to - mid) from
+      ∙ ap (λ (i : ℕ). followed (unless_break (scan (iterate_by r) (to - mid) i)) (block_by r from mid)) reached
+
+-- no iteration
+pub ran_none : (r : Runner) (from : ℕ) → RanMore from from r r None
+ran_none r from = record {
   same = record { callback = refl; most = refl; start = refl; test = refl };
   ran = [];
-  has_run = none;
-  going = refl;
-  rest = mapped_none (block_by r first past);
+  told = let none : from - from ≡ 0 = omega arith in ap (λ (left : ℕ). scan (iterate_by r) left from) none;
+  broke_is = refl;
+  all = λ _. omega arith;
+  has_run = λ first before has.
+      let here : from ≡ from + 0 = omega arith in
+      subst (λ (i : ℕ). RunnerHasRun first i (before ++ []) r) here
+      (subst (λ (its : List Iterated). RunnerHasRun first from its r) (sym (append-nil before)) has);
 }
 
-module _ (first past : ℕ) (initial now : Runner) (index : ℕ) (so_far : RunSoFar first past initial now index) where
-  pub ready : IsReady initial → IsReady now
-  ready is = still_ready initial now is so_far.same
+-- one iteration
+either_way : (t : Bool) (e : BoundedResult (List Iterated)) → (if t then e else e) ≡ e
+either_way true e = refl
+either_way false e = refl
 
-  pub below : index < past → past ≤ initial.callback.call.n → index < now.callback.call.n
-  below here within =
-      let n = ap (λ (c : CallbackOf). c.call.n) so_far.same.callback in
-      omega (arith, here, within, n)
+pub ran_one : (index : ℕ) (old new : Runner) (broke : Bool) → RanOneMore index old new broke
+    → RanMore index (index + 1) old new (if broke then Some index else None)
+ran_one index old new broke one = record {
+  same = one.same;
+  ran = one.iterated ∷ [];
+  told =
+      let single : index + 1 - index ≡ 1 = omega arith in
+      ap (λ (left : ℕ). scan (iterate_by old) left index) single
+      ∙ ap (followed (up_to_break (Ended []))) one.told
+      ∙ either_way (one.iterated.ret == 1) (Ended (one.iterated ∷ []));
+  broke_is = ap (λ (t : Bool). if t then Some index else None) one.broke_is;
+  all = λ _. omega arith;
+  has_run = one.has_run;
+}
 
-  module _ (here : index < past) (next : Runner) (broke : Bool) (one : RanOneMore index now next broke) where
-    told : iterate_by initial index ≡ Ended one.iterated
-    told = ap (λ (c : CallbackOf). iteration c.program 4096 c.call index (start_words initial))
-        (sym so_far.same.callback)
-        ∙ ap (λ (words : List ℕ). iteration now.callback.program 4096 now.callback.call index words)
-        (sym so_far.same.start)
-        ∙ one.told
+-- some iterations, and those after them
+module _ (from mid to : ℕ) (a b c : Runner) (broke : Option ℕ) (up : from ≤ mid) (on : mid ≤ to)
+    (x : RanMore from mid a b None) (y : RanMore mid to b c broke) where
+  rest_told : block_by a mid to ≡ Ended y.ran
+  rest_told =
+      ap (λ (callback : CallbackOf). block_run callback.program 4096 callback.call (start_words a) mid to)
+      (sym x.same.callback)
+      ∙ ap (λ (words : List ℕ). block_run b.callback.program 4096 b.callback.call words mid to) (sym x.same.start)
+      ∙ y.told
 
-    scanned : (b : Bool) → broke ≡ b → block_by initial first past
-        ≡ mapped (λ others. so_far.ran ++ others) (if b then Ended (one.iterated ∷ [])
-        else in_front_of (scan (iterate_by initial) (past - (index + 1)) (index + 1)) one.iterated)
-    scanned b is = so_far.rest
-        ∙ ap (mapped (λ others. so_far.ran ++ others)) (scan_next (iterate_by initial) past index here one.iterated told
-        b (sym one.broke_is ∙ is))
+  going : has_break x.ran ≡ false
+  going = break_there from x.ran ∙ ap is_some (sym x.broke_is)
 
-    broken : (b : Bool) → broke ≡ b → break_from first (so_far.ran ++ one.iterated ∷ []) ≡ (if b
-        then Some (first + length so_far.ran) else None)
-    broken b is = break_last first so_far.ran one.iterated so_far.going b (sym one.broke_is ∙ is)
+  reached : from + length x.ran ≡ mid
+  reached = x.all refl
 
-    -- after an iteration that doesn't break
-    pub goes_on : broke ≡ false → RunSoFar first past initial next (index + 1)
-    goes_on is = record {
-      same = same_again initial now next so_far.same one.same;
-      ran = so_far.ran ++ one.iterated ∷ [];
-      has_run = one.has_run first so_far.ran so_far.has_run;
-      going = broken false is;
-      rest = scanned false is ∙ mapped_twice so_far.ran one.iterated (scan (iterate_by initial) (past - (index + 1))
-          (index + 1));
+  long : length (x.ran ++ y.ran) ≡ length x.ran + length y.ran
+  long = length-append x.ran y.ran
+
+  pub ran_both : RanMore from to a c broke
+  ran_both = record {
+    same = same_again a b c x.same y.same;
+    ran = x.ran ++ y.ran;
+    told = parts a from mid to up on
+        ∙ ap (followed (unless_break (block_by a mid to))) x.told
+        ∙ ap (λ (e : BoundedResult (List Iterated)). unless_break e x.ran) rest_told
+        ∙ ap (λ (t : Bool). if t then Ended x.ran else Ended (x.ran ++ y.ran)) going;
+    broke_is = y.broke_is ∙ ap (λ (i : ℕ). break_from i y.ran) (sym reached)
+        ∙ sym (break_behind from x.ran y.ran (sym x.broke_is));
+    all = λ none. let ended = y.all none in let here = reached in let both = long in omega (arith, ended, here, both);
+    has_run = λ first before has.
+        let here = reached in
+        let all = long in
+        let there : mid + length y.ran ≡ from + length (x.ran ++ y.ran) = omega (arith, here, all) in
+        subst (λ (i : ℕ). RunnerHasRun first i (before ++ (x.ran ++ y.ran)) c) there
+        (subst (λ (its : List Iterated). RunnerHasRun first (mid + length y.ran) its c)
+        (append_assoc before x.ran y.ran)
+        (y.has_run first (before ++ x.ran)
+        (subst (λ (i : ℕ). RunnerHasRun first i (before ++ x.ran) b) reached (x.has_run first before has))));
+  }
+
+-- where one broke, none after it is run
+pub ran_to_break : (from mid to index : ℕ) (a b : Runner) → from ≤ mid → mid ≤ to → RanMore from mid a b (Some index)
+    → RanMore from to a b (Some index)
+ran_to_break from mid to index a b up on x =
+    let broken : has_break x.ran ≡ true = break_there from x.ran ∙ ap is_some (sym x.broke_is) in
+    record {
+      same = x.same;
+      ran = x.ran;
+      told = parts a from mid to up on
+          ∙ ap (followed (unless_break (block_by a mid to))) x.told
+          ∙ ap (λ (t : Bool). if t then Ended x.ran else mapped (λ others. x.ran ++ others) (block_by a mid to)) broken;
+      broke_is = x.broke_is;
+      all = λ none. absurd cc;
+      has_run = x.has_run;
     }
 
-    -- after one that does
-    pub breaks : broke ≡ true → RanUpTo first past initial next (Some index)
-    breaks is =
-        let has = one.has_run first so_far.ran so_far.has_run in
-        record {
-          same = same_again initial now next so_far.same one.same;
-          ran = so_far.ran ++ one.iterated ∷ [];
-          told = scanned true is;
-          broke_is = ap (λ (n : ℕ). Some n) so_far.has_run.reached ∙ sym (broken true is);
-          has_run = subst (λ (n : ℕ). RunnerHasRun first n (so_far.ran ++ one.iterated ∷ []) next) has.reached has;
-        }
+-- one iteration more, which broke or didn't
+pub goes_on : (from index : ℕ) (a b c : Runner) (broke : Bool) → from ≤ index → RanMore from index a b None
+    → RanOneMore index b c broke → broke ≡ false → RanMore from (index + 1) a c None
+goes_on from index a b c broke up x one is =
+    ran_both from index (index + 1) a b c None up (omega arith) x
+    (subst (λ (t : Bool). RanMore index (index + 1) b c (if t then Some index else None)) is
+    (ran_one index b c broke one))
 
-  -- after all of them
-  pub ends : ¬ (index < past) → RanUpTo first past initial now None
-  ends past_it =
-      let none : past - index ≡ 0 = omega arith in
-      record {
-        same = so_far.same;
-        ran = so_far.ran;
-        told = so_far.rest
-            ∙ ap (λ (left : ℕ). mapped (λ others. so_far.ran ++ others) (scan (iterate_by initial) left index)) none
-            ∙ ap Ended (append-nil so_far.ran);
-        broke_is = sym so_far.going;
-        has_run = subst (λ (n : ℕ). RunnerHasRun first n so_far.ran now) so_far.has_run.reached so_far.has_run;
-      }
+pub breaks : (from index to : ℕ) (a b c : Runner) (broke : Bool) → from ≤ index → index < to
+    → RanMore from index a b None → RanOneMore index b c broke → broke ≡ true → RanMore from to a c (Some index)
+breaks from index to a b c broke up below x one is =
+    ran_to_break from (index + 1) to index a c (omega (arith, up)) (omega (arith, below))
+    (ran_both from index (index + 1) a b c (Some index) up (omega arith) x
+    (subst (λ (t : Bool). RanMore index (index + 1) b c (if t then Some index else None)) is
+    (ran_one index b c broke one)))
+
+-- iterations behind a batch that was given up
+pub ran_on : (from index next : ℕ) (a b same c : Runner) (broke : Option ℕ) → from ≤ index → index ≤ next
+    → RanMore from index a b None → same ≡ b → RanMore index next same c broke → RanMore from next a c broke
+ran_on from index next a b same c broke up on x is y =
+    ran_both from index next a b c broke up on x (subst (λ (r : Runner). RanMore index next r c broke) is y)
+
+-- what was run before, and those
+pub so_far : (from index : ℕ) (a b : Runner) → RanMore from index a b None
+    → (first : ℕ) × (ran : List Iterated) × RunnerHasRun first from ran a
+    → (first : ℕ) × (ran : List Iterated) × RunnerHasRun first index ran b
+so_far from index a b x has = (
+  has.0,
+  has.1 ++ x.ran,
+  subst (λ (i : ℕ). RunnerHasRun has.0 i (has.1 ++ x.ran) b) (x.all refl) (x.has_run has.0 has.1 has.2),
+)
+
+-- where none was run before
+pub up_to : (first past : ℕ) (old new : Runner) (broke : Option ℕ) → RunnerHasRun first first [] old
+    → RanMore first past old new broke → RanUpTo first past old new broke
+up_to first past old new broke none x = record {
+  same = x.same;
+  ran = x.ran;
+  told = x.told;
+  broke_is = x.broke_is;
+  has_run = x.has_run first [] none;
+}
+
+-- a lane is an iteration of the runner's loop
+pub lane_here : (l : LoopOf) (r : Runner) (entries : List Entry) (first lanes lane index : ℕ) → IsOf l r
+    → AreIterations l.program l.call l.start.words entries first lanes → lane < lanes → first + lane ≡ index
+    → IsLane r.callback.program r.callback.call (start_words r) entries index lane
+lane_here l r entries first lanes lane index of are below at =
+    subst (λ (i : ℕ). IsLane r.callback.program r.callback.call (start_words r) entries i lane) at
+    (subst (λ (p : Program). IsLane p r.callback.call (start_words r) entries (first + lane) lane) (sym of.program)
+    (subst (λ (c : LoopCall). IsLane l.program c (start_words r) entries (first + lane) lane) (sym of.call)
+    (subst (λ (words : List ℕ). IsLane l.program l.call words entries (first + lane) lane) (sym of.start)
+    (are lane below))))

@@ -1,8 +1,10 @@
 //! Blocks of a speculative loop: the iterations of an interval, each on the loop's start words, and what is kept of
-//! them.
+//! them. Iterations that may go together do, up to 128 at a time.
 #![tactic(auto)]
 
+mod batching;
 mod block;
+mod repeating;
 mod runner;
 mod running;
 mod speculative_loop;

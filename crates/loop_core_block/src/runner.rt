@@ -1,18 +1,31 @@
 //! Running iterations one after another.
 
-ghost use Rattle.std.specs.Prelude.{◌≡◌, ◌<◌, ◌≤◌, ℕ, List, [], IfOk};
+ghost use Rattle.std.specs.Prelude.{◌≡◌, ◌+◌, ◌<◌, ◌≤◌, ℕ, false, length, List, [], IfOk, OnOk};
 ghost use Rattle.bpf_step_model.specs.Iteration.{Iterated};
 ghost use Rattle.bpf_verify_sound.specs.Soundness.{most_from};
 ghost use Rattle.shadow_marks.specs.Standing.{test_of};
-ghost use Rattle.loop_core_block.specs.Runs.{start_words, IsReady, RunnerHasRun, RanOneMore, RanUpTo};
+ghost use Rattle.loop_core_block.specs.Batches.{IsLane};
+ghost use Rattle.loop_core_block.specs.Runs.{start_words, IsReady, IsOf, RunnerHasRun, RanOneMore, RanMore, RanTogether, RanUpTo};
 
+use crate::batching::run_together;
+use crate::repeating::repeat_all;
 use crate::speculative_loop::SpeculativeLoop;
 use bpf_step::Callback;
+use bpf_step_batch::{Batch, Entry};
 use bpf_verify::Verified;
-use loop_core_split::Gate;
+use loop_core_split::{Gate, NoGate};
 use private_copy::{MAX_ACCESSES, Private, law_of_accesses};
 use shadow_marks::Planes;
 use std::alloc::{AllocError, Global};
+
+/// The most iterations that are run together.
+const MOST: u32 = 128;
+
+/// Blocks of fewer iterations aren't worth a batch.
+const FEWEST: u32 = 256;
+
+/// The most iterations that go one by one before a batch is tried again.
+const LONGEST_PAUSE: u32 = 1024 * MOST;
 
 /// Runs iterations of a loop call by rising index, each on the start words, and keeps what they did.
 #[derive(Drop)]
@@ -61,26 +74,160 @@ impl<'c, 'a> Runner<'c, 'a> {
     }
 
     /// Runs the iterations from a first index up to, and not with, another, or up to the first that breaks. Tells
-    /// the index at which it broke. The gate's `turn` is called before each iteration.
+    /// the index at which it broke. The gate's `turn` is called before each iteration; where iterations go together,
+    /// for each of them before the first.
     pub(crate) fn run<G: Gate>(
         &mut self,
-        alloc: Global,
+        of: &SpeculativeLoop<'c, 'a>,
         first: u32,
         past: u32,
         gate: &G,
     ) -> Result<Option<u32>, AllocError>
         requires ready { IsReady self.old }
+        requires of { IsOf of.now self.old }
+        requires rising { first ≤ past }
         requires within { past ≤ self.old.callback.call.n }
         requires none { RunnerHasRun first first [] self.old }
         ensures ran { IfOk result (RanUpTo first past self.old self.new) }
     {
-        for index in first..past {
+        if past - first < FEWEST {
+            return self.one_by_one(of.alloc, first, past, gate);
+        }
+        self.in_batches(of, first, past, gate)
+    }
+
+    /// The same, in batches of iterations that go together where they can, and else one by one: then up to four
+    /// times as many as the last time before a batch is tried again.
+    #[inline(never)]
+    fn in_batches<G: Gate>(
+        &mut self,
+        of: &SpeculativeLoop<'c, 'a>,
+        first: u32,
+        past: u32,
+        gate: &G,
+    ) -> Result<Option<u32>, AllocError>
+        requires ready { IsReady self.old }
+        requires of { IsOf of.now self.old }
+        requires rising { first ≤ past }
+        requires within { past ≤ self.old.callback.call.n }
+        requires so_far { (start : ℕ) × (ran : List Iterated) × RunnerHasRun start first ran self.old }
+        ensures ran { IfOk result (RanMore first past self.old self.new) }
+    {
+        let mut batch = Batch::new();
+        let mut pause = MOST;
+        let mut index = first;
+        while index < past {
+            let to = index + MOST.min(past - index);
+            take_turns(gate, index, to);
+            if self.together(of, &mut batch, index, to)? {
+                pause = MOST;
+                index = to;
+                continue;
+            }
+            let next = to.saturating_add(pause).min(past);
+            if let Some(broke) = self.alone(of.alloc, index, to, next, gate)? {
+                return Ok(Some(broke));
+            }
+            pause = pause.saturating_mul(4).min(LONGEST_PAUSE);
+            index = next;
+        }
+        Ok(None)
+    }
+
+    /// Runs the iterations from an index up to another together, where they can be; else it does nothing.
+    fn together(
+        &mut self,
+        of: &SpeculativeLoop<'c, 'a>,
+        batch: &mut Batch,
+        index: u32,
+        to: u32,
+    ) -> Result<bool, AllocError>
+        requires ready { IsReady self.old }
+        requires of { IsOf of.now self.old }
+        requires some { index < to }
+        requires few { to ≤ index + 128 }
+        requires within { to ≤ self.old.callback.call.n }
+        requires so_far { (start : ℕ) × (ran : List Iterated) × RunnerHasRun start index ran self.old }
+        ensures ran { IfOk result (RanTogether index to self.old self.new) }
+    {
+        if !run_together(batch, of.program, of.call, of.start, index, to - index) {
+            return Ok(false);
+        }
+        let entries = batch.entries();
+        for next in index..to {
+            self.follow(of.alloc, entries, next, next - index)?;
+        }
+        Ok(true)
+    }
+
+    /// Runs one by one the iterations from an index up to another, for which the gate was called, and on from
+    /// there up to a third.
+    fn alone<G: Gate>(
+        &mut self,
+        alloc: Global,
+        index: u32,
+        to: u32,
+        next: u32,
+        gate: &G,
+    ) -> Result<Option<u32>, AllocError>
+        requires ready { IsReady self.old }
+        requires rising { index ≤ to }
+        requires on { to ≤ next }
+        requires within { next ≤ self.old.callback.call.n }
+        requires so_far { (start : ℕ) × (ran : List Iterated) × RunnerHasRun start index ran self.old }
+        ensures ran { IfOk result (RanMore index next self.old self.new) }
+    {
+        if let Some(broke) = self.one_by_one(alloc, index, to, &NoGate)? {
+            return Ok(Some(broke));
+        }
+        self.one_by_one(alloc, to, next, gate)
+    }
+
+    /// Runs one by one the iterations from an index up to another, or up to the first that breaks.
+    fn one_by_one<G: Gate>(
+        &mut self,
+        alloc: Global,
+        from: u32,
+        to: u32,
+        gate: &G,
+    ) -> Result<Option<u32>, AllocError>
+        requires ready { IsReady self.old }
+        requires rising { from ≤ to }
+        requires within { to ≤ self.old.callback.call.n }
+        requires so_far { (start : ℕ) × (ran : List Iterated) × RunnerHasRun start from ran self.old }
+        ensures ran { IfOk result (RanMore from to self.old self.new) }
+    {
+        for index in from..to {
             gate.turn(index);
             if self.iterate(alloc, index)? {
                 return Ok(Some(index));
             }
         }
         Ok(None)
+    }
+
+    /// Does on the copy what the iteration of an index did as a lane of a batch. Iterations were run up to it.
+    fn follow(
+        &mut self,
+        alloc: Global,
+        entries: &[Entry],
+        index: u32,
+        lane: u32,
+    ) -> Result<(), AllocError>
+        requires ready { IsReady self.old }
+        requires lane { lane < 128 }
+        requires few { length entries.now ≤ 8 }
+        requires below { index < self.old.callback.call.n }
+        requires is { IsLane self.old.callback.program self.old.callback.call (start_words self.old) entries.now index
+            lane }
+        requires so_far { (first : ℕ) × (ran : List Iterated) × RunnerHasRun first index ran self.old }
+        ensures ran { OnOk result (RanOneMore index self.old self.new false) }
+    {
+        law_of_accesses();
+        self.copy.begin(alloc, entries.len() as u32)?;
+        repeat_all(&mut self.copy, entries, lane);
+        self.copy.end(&mut self.planes, index);
+        Ok(())
     }
 
     /// Runs the iteration of an index, up to which iterations were run, and returns whether it broke.
@@ -95,5 +242,13 @@ impl<'c, 'a> Runner<'c, 'a> {
         let done = self.callback.run(index, &mut self.copy);
         self.copy.end(&mut self.planes, index);
         Ok(done.ret == 1)
+    }
+}
+
+/// Calls the gate for each index from one up to another.
+#[inline]
+fn take_turns<G: Gate>(gate: &G, from: u32, to: u32) {
+    for index in from..to {
+        gate.turn(index);
     }
 }

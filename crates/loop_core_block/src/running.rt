@@ -20,7 +20,7 @@ use std::alloc::{AllocError, Global};
 
 impl<'l, 'a> SpeculativeLoop<'l, 'a> {
     /// Runs the block of a number, which the split has: its iterations from its start on, up to the first that
-    /// returns 1, or all, each on the start maps. The gate's `turn` is called before each iteration.
+    /// returns 1, or all, each on the start maps. The gate's `turn` is called for each of them before it.
     ///
     /// It fails where there is no memory.
     pub fn run_block<G: Gate>(&self, number: u32, gate: &G) -> Result<Block<'a>, AllocError>
@@ -30,7 +30,7 @@ impl<'l, 'a> SpeculativeLoop<'l, 'a> {
         let first = self.split.start(number);
         let past = self.split.end(number);
         let mut runner = Runner::try_new(self)?;
-        let broke = runner.run(self.alloc, first, past, gate)?;
+        let broke = runner.run(self, first, past, gate)?;
         let Runner { copy, planes, .. } = runner;
         Ok(Block {
             number,
@@ -44,7 +44,7 @@ impl<'l, 'a> SpeculativeLoop<'l, 'a> {
 }
 
 /// Runs a block of a loop call that main of this program made: its iterations from its start on, up to the first
-/// that returns 1, or all, each on the start maps. The gate's `turn` is called before each iteration. The maps are
+/// that returns 1, or all, each on the start maps. The gate's `turn` is called for each of them before it. The maps are
 /// of the program's sizes, and the split, which has this block, is of the call's iterations.
 pub fn run_block<'a, G: Gate>(
     alloc: Global,

@@ -1,4 +1,5 @@
-use Rattle.std.proofs.Common.{◌∙◌, refl}
+use Rattle.std.proofs.Common.{◌==◌, ◌∙◌, ap, refl, sym}
+use Rattle.bpf_step_model.specs.Iteration.{iteration}
 use Rattle.loop_core_block.proofs.OneMoreLaws.{still_under_way, one_more}
 use Rattle.loop_core_block.proofs.runner.Runner.iterate.Goals as goal
 
@@ -10,8 +11,12 @@ end-requires-clause-under_way c =
 
 pub returns : goal.returns
 returns c = record {
-  ran = one_more c.law_of_accesses.ensures c.args.self.now _ c.args.index c.begin.new.self c.run-done.new.store
-      c.run-done.result.ret c.run-done.result.steps
-      c.in_ok-begin.ensures.ok c.in_ok-begin.ensures.stands c.run-done.ensures.ran c.run-done.ensures.same refl
-      c.end.ensures.ended c.end.ensures.shape c.end.ensures.planes c.end.ensures.stands;
+  ran = one_more c.law_of_accesses.ensures c.args.self.now _ c.args.index c.args.self.now.most c.begin.new.self
+      c.run-done.new.store c.run-done.ensures.ran.iterated
+      c.in_ok-begin.ensures.ok c.in_ok-begin.ensures.stands
+      (ap (iteration c.args.self.now.callback.program 4096 c.args.self.now.callback.call c.args.index)
+      (sym c.in_ok-begin.ensures.ok.words) ∙ c.run-done.ensures.ran.told)
+      c.run-done.ensures.ran.effects c.run-done.ensures.same refl
+      c.end.ensures.ended c.end.ensures.shape c.end.ensures.planes c.end.ensures.stands
+      _ (ap (λ r. r == 1) c.run-done.ensures.ran.ret_is);
 }

@@ -1,0 +1,26 @@
+use Rattle.std.proofs.Common.{◌∙◌, ap, subst, arith}
+use Rattle.std.specs.List.{sum}
+use Rattle.array_maps.specs.MapList.{AreWords}
+use Rattle.bpf_step.proofs.Limits.{few_slots}
+use Rattle.bpf_step_batch.specs.Logs.{entries_of}
+use Rattle.loop_core_block.proofs.LaneLaws.{are_iterations}
+use Rattle.loop_core_block.proofs.batching.run_together.Goals as goal
+
+pub run-requires-clause-slots : goal.run-requires-clause-slots
+run-requires-clause-slots c =
+    let few = few_slots c.args.program.now c.operations.ensures.accepted in
+    let same = c.operations.ensures.ops.count in
+    omega (arith, few, same)
+
+pub returns : goal.returns
+returns c = λ yes.
+    are_iterations c.law_of_plain_iterations.ensures c.args.program.now
+    (record { accepted = c.operations.ensures.accepted; fits = c.operations.ensures.fit })
+    c.operations.result.0.now c.operations.ensures.ops c.args.call.now c.requires.known c.frame.result.now
+    c.frame.ensures c.args.start.now.words
+    (record {
+      count = c.sizes-sizes.ensures.words ∙ ap sum c.requires.sizes;
+      fit = subst AreWords c.words.ensures.words c.words.ensures.fit;
+    })
+    c.callback.result c.args.first c.args.lanes c.callback.ensures c.requires.within c.words.result.now
+    c.words.ensures.words (entries_of c.run.new.self) (c.run.ensures yes)
