@@ -1,9 +1,9 @@
 -- The instruction that starts at a slot, found by going over the instructions.
-use Rattle.std.proofs.Common.{◌≡◌, ℕ, zero, suc, ◌+◌, ◌-◌, ◌<◌, ◌≤◌, List, [], ◌∷◌, drop, length, get_or, refl, ap, sym, ◌∙◌, arith, add-one, Option, Some, None}
+use Rattle.std.proofs.Common.{◌≡◌, ℕ, zero, suc, ◌+◌, ◌-◌, ◌<◌, ◌≤◌, List, [], ◌∷◌, drop, length, get_or, refl, ap, sym, ◌∙◌, arith, add-one, Some, None}
 use Rattle.bpf_insn_types.specs.declared.insn.Insn.{Insn}
 use Rattle.bpf_insn_types.specs.Slots.{slots_of}
 use Rattle.bpf_insn_types.specs.Program.{insn_at}
-use Rattle.bpf_insn_types.proofs.ProgramLaws.{slots_some, insn_at-past_first, insn_at-inner, insn_at-none}
+use Rattle.bpf_insn_types.proofs.ProgramLaws.{insn_at-past_first, insn_at-inner, insn_at-none}
 
 drop-first_suc : (xs : List Insn) (i : ℕ) (x : Insn) → i < length xs → x ≡ get_or xs i x → drop i xs ≡ x ∷ drop (suc i) xs
 drop-first_suc [] i x h e = absurd (omega arith)

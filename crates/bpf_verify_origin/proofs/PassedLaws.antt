@@ -6,7 +6,7 @@ use Rattle.bpf_insn_types.specs.declared.insn.Insn.{Insn}
 use Rattle.bpf_insn_types.specs.Program.{Program, insn_at, slot_count}
 use Rattle.bpf_verify_model.specs.declared.state.State.{State}
 use Rattle.bpf_verify_model.specs.Accepted.{BrokenRule, fault_within, first_fault, WithinLimits}
-use Rattle.bpf_verify_model.specs.Inflow.{state_before, received_all}
+use Rattle.bpf_verify_model.specs.Inflow.{received_all}
 use Rattle.bpf_verify.specs.Passing.{out_of}
 use Rattle.bpf_verify.specs.States.{AreStatesBefore}
 use Rattle.bpf_verify.proofs.PassLaws.{fault_within-later}

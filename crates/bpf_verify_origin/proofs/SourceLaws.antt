@@ -1,7 +1,6 @@
 -- Where the value of a register comes from, one edge back at a time.
 use Rattle.std.proofs.Common.{◌≡◌, ℕ, zero, suc, ◌-◌, ◌<◌, refl, ap, arith}
 use Rattle.bpf_insn_types.specs.Program.{Program}
-use Rattle.bpf_verify_origin.specs.declared.source.Source.{Source}
 use Rattle.bpf_verify_origin.specs.declared.source.Source.TheVariants.{Start}
 use Rattle.bpf_verify_origin.specs.Edges.{inflow}
 use Rattle.bpf_verify_origin.specs.Sources.{source_by_inflow, source_within}

@@ -1,6 +1,5 @@
-use Rattle.std.proofs.Common.{◌≡◌, ℕ, ◌<◌, ◌≤◌, length, refl, ap, sym, ◌∙◌, arith}
-use Rattle.bpf_insn_types.specs.Program.{insn_at}
-use Rattle.bpf_verify_origin.proofs.FindLaws.{find-here, find-inner, find-past, find-none}
+use Rattle.std.proofs.Common.{refl, sym, ◌∙◌}
+use Rattle.bpf_verify_origin.proofs.FindLaws.{find-here}
 use Rattle.bpf_verify_origin.proofs.finding.insn_at.Goals as goal
 
 pub loop-insn-init : goal.loop-insn-init

@@ -1,4 +1,4 @@
-use Rattle.std.proofs.Common.{◌≡◌, ℕ, ◌+◌, ◌<◌, ◌≤◌, length, refl, ap, sym, ◌∙◌, arith, is_some}
+use Rattle.std.proofs.Common.{◌≡◌, ℕ, ◌+◌, ◌≤◌, length, refl, ap, sym, ◌∙◌, arith, is_some}
 use Rattle.std.proofs.lemmas.List.{length-replicate}
 use Rattle.bpf_insn_types.specs.Program.{Program, slot_count}
 use Rattle.bpf_insn_types.proofs.ProgramLaws.{take-whole}

@@ -1,8 +1,8 @@
-use Rattle.std.proofs.Common.{◌≡◌, ℕ, ap, ◌∙◌}
+use Rattle.std.proofs.Common.{ap, ◌∙◌}
 use Rattle.std.specs.Option.{option_map}
 use Rattle.bpf_insn_types.specs.Program.{Program}
 use Rattle.bpf_verify_origin.specs.Inspected.{broken_rule}
-use Rattle.bpf_verify_origin.proofs.InspectionLaws.{parts-fine, parts-stop, inspection-is, inspection-outside}
+use Rattle.bpf_verify_origin.proofs.InspectionLaws.{parts-fine, parts-stop, inspection-outside}
 use Rattle.bpf_verify_origin.proofs.inspecting.with_fault.Goals as goal
 
 pub invariant_of-result : goal.invariant_of-result

@@ -1,4 +1,4 @@
-use Rattle.std.proofs.Common.{◌≡◌, ℕ, ap, sym, ◌∙◌, List, arith}
+use Rattle.std.proofs.Common.{ℕ, ap, sym, ◌∙◌, List, arith}
 use Rattle.std.specs.Prelude.{None}
 use Rattle.bpf_verify_model.specs.Inflow.{received_all}
 use Rattle.bpf_verify.specs.Passing.{out_of}

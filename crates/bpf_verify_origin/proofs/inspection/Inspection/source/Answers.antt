@@ -1,4 +1,4 @@
-use Rattle.std.proofs.Common.{◌≡◌, ℕ, ◌-◌, refl, ap, sym, ◌∙◌, arith}
+use Rattle.std.proofs.Common.{◌≡◌, ℕ, ◌-◌, ap, sym, ◌∙◌, arith}
 use Rattle.bpf_verify_origin.specs.Sources.{source_within}
 use Rattle.bpf_verify_origin.proofs.SourceLaws.{source_within-none, source_within-some}
 use Rattle.bpf_verify_origin.proofs.inspection.Inspection.source.Goals as goal

@@ -1,4 +1,4 @@
-use Rattle.std.proofs.Common.{◌≡◌, ℕ, subst, ap, sym, ◌∙◌, List, Option, get_or, None, is_some}
+use Rattle.std.proofs.Common.{◌≡◌, subst, ap, sym, ◌∙◌, List, Option, get_or, None, is_some}
 use Rattle.std.specs.Prelude.{IfSome}
 use Rattle.std.specs.Option.{option_map}
 use Rattle.bpf_insn_types.specs.Program.{Program, insn_at}
