@@ -4,9 +4,9 @@ use Rattle.std.specs.List.{sum}
 use Rattle.array_maps.specs.MapList.{MapList}
 use Rattle.bpf_insn_types.specs.Program.{Program}
 use Rattle.bpf_step_model.specs.State.{LoopCall}
-use Rattle.bpf_step_model.specs.Run.{BoundedResult, Ended, followed}
+use Rattle.bpf_step_model.specs.Run.{Ended, followed}
 use Rattle.bpf_step_model.specs.Iteration.{Iterated, iteration}
-use Rattle.bpf_step_model.specs.LoopInOrder.{Looped, behind, loop_from, loop_in_order}
+use Rattle.bpf_step_model.specs.LoopInOrder.{behind, loop_from, loop_in_order}
 use Rattle.bpf_step.specs.Iterations.{CallbackOf, RanCallback}
 use Rattle.loop_core_sequential.specs.Loops.{RanLoopInOrder}
 use Rattle.loop_core_sequential.specs.Rests.{rest_from, WentOn, BrokeOff, RanTo, answer_of}

@@ -1,6 +1,5 @@
-use Rattle.std.proofs.Common.{List, refl, subst, ◌∙◌, arith}
+use Rattle.std.proofs.Common.{refl, subst, ◌∙◌, arith}
 use Rattle.std.proofs.lemmas.List.{length-set}
-use Rattle.loop_core_batch.specs.declared.site.Site.{Site}
 use Rattle.loop_core_batch.specs.Sites.{AllUnseen}
 use Rattle.loop_core_batch.specs.BySite.{AllCommute}
 use Rattle.loop_core_sequential.proofs.ApplyLaws.{site_taken, sites_taken}

@@ -1,5 +1,4 @@
-use Rattle.std.proofs.Common.{ℕ, ◌-◌, slice_index, ap, ◌∙◌, arith}
-use Rattle.loop_core_batch.specs.BySite.{combined_to}
+use Rattle.std.proofs.Common.{slice_index, arith}
 use Rattle.loop_core_sequential.proofs.ApplyLaws.{combined_more, combined_all}
 use Rattle.loop_core_sequential.proofs.applying.combined_values.Goals as goal
 

@@ -1,4 +1,4 @@
-use Rattle.std.proofs.Common.{slice_index, ℕ, sym, ap, arith}
+use Rattle.std.proofs.Common.{slice_index, sym, ap, arith}
 use Rattle.array_maps.specs.Accesses.{Reduce}
 use Rattle.loop_core_batch.specs.declared.elements.Elements.{Elements}
 use Rattle.bpf_step_batch.specs.Logs.{element_by, reduced_by}

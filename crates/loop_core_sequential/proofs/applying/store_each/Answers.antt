@@ -1,4 +1,4 @@
-use Rattle.std.proofs.Common.{slice_index, ℕ, ◌<◌, sym, ap, subst, ◌∙◌, arith}
+use Rattle.std.proofs.Common.{slice_index, ℕ, ap, ◌∙◌, arith}
 use Rattle.array_maps.specs.Accesses.{Write}
 use Rattle.loop_core_batch.specs.declared.elements.Elements.{Elements}
 use Rattle.bpf_step_batch.specs.Logs.{element_by, stored_by}
