@@ -1,0 +1,81 @@
+-- What the pieces of an explanation say of a program.
+use Rattle.std.specs.Prelude.{◌≡◌, ℕ, false, List, [], ◌∷◌, slice_get, Option, Some, None}
+use Rattle.std.specs.List.{AllByRecursion}
+use Rattle.bpf_insn_types.specs.declared.insn.Insn.{Insn}
+use Rattle.bpf_insn_types.specs.Program.{Program, insn_at}
+use Rattle.bpf_verify_written.specs.Written.{all_written}
+use Rattle.bpf_verify_model.specs.declared.abstract_value.AbstractValue.{AbstractValue}
+use Rattle.bpf_verify_model.specs.declared.state.State.{State}
+use Rattle.bpf_verify_model.specs.States.{known_register}
+use Rattle.bpf_verify_model.specs.Accepted.{BrokenRule}
+use Rattle.bpf_verify_origin.specs.Inspected.{IsStateBefore, IsStateBetween}
+use Rattle.bpfspec_reasons.specs.declared.piece.Piece.{Piece}
+use Rattle.bpfspec_reasons.specs.declared.piece.Piece.TheVariants as pieces
+
+-- the abstract value of a register before a slot
+pub record IsValueBefore (program : Program) (slot reg : ℕ) (value : AbstractValue) : Type 0 where
+  pub state : State
+  pub before : IsStateBefore program slot state
+  pub is : value ≡ known_register state reg
+
+-- the same on the edges from one slot to another
+pub record IsValueBetween (program : Program) (from to reg : ℕ) (value : AbstractValue) : Type 0 where
+  pub state : State
+  pub between : IsStateBetween program from to state
+  pub is : value ≡ known_register state reg
+
+-- a byte of the own frame isn't written on every path to a slot
+pub record IsUnwritten (program : Program) (slot position : ℕ) : Type 0 where
+  pub state : State
+  pub before : IsStateBefore program slot state
+  pub unwritten : all_written state.own position 1 ≡ false
+
+-- what a piece says of a program is true; words and numbers alone say nothing of it
+abbrev pub IsTrue : Program → Piece → Type 0
+IsTrue program (pieces.Line slot insn) = insn_at program.insns slot ≡ Some insn
+IsTrue program (pieces.Step slot insn) = insn_at program.insns slot ≡ Some insn
+IsTrue program (pieces.Before slot reg value) = IsValueBefore program slot reg value
+IsTrue program (pieces.Between from to reg value) = IsValueBetween program from to reg value
+IsTrue program (pieces.Unwritten slot position) = IsUnwritten program slot position
+IsTrue program (pieces.Elements map count) = slice_get program.sizes map ≡ Some count
+IsTrue program (pieces.Words words) = Unit {0}
+IsTrue program (pieces.Number number) = Unit {0}
+IsTrue program (pieces.Offset offset) = Unit {0}
+IsTrue program (pieces.Register reg) = Unit {0}
+
+-- what each piece says is
+abbrev pub AreTrue : Program → List Piece → Type 0
+AreTrue program told = AllByRecursion (IsTrue program) told
+
+-- the slot of a line, if one is at hand, and else of another
+abbrev pub first_of : Option ℕ → Option ℕ → Option ℕ
+first_of (Some slot) next = Some slot
+first_of None next = next
+
+-- the slot whose line a piece is
+abbrev pub line_of : Piece → Option ℕ
+line_of (pieces.Line slot insn) = Some slot
+line_of _ = None
+
+-- the slot of the first line in an explanation
+abbrev pub first_line : List Piece → Option ℕ
+first_line [] = None
+first_line (piece ∷ told) = first_of (line_of piece) (first_line told)
+
+-- an explanation: its program, and the slot of its first line
+pub record ExplanationOf : Type 0 where
+  pub program : Program
+  pub line : Option ℕ
+
+-- a slot, if an instruction starts there
+abbrev pub slot_with : Option Insn → ℕ → Option ℕ
+slot_with None slot = None
+slot_with (Some insn) slot = Some slot
+
+abbrev pub slot_in : Program → ℕ → Option ℕ
+slot_in program slot = slot_with (insn_at program.insns slot) slot
+
+-- the slot of a fault, if there is one and an instruction starts there
+abbrev pub line_of_fault : Program → Option BrokenRule → Option ℕ
+line_of_fault program None = None
+line_of_fault program (Some fault) = slot_in program fault.slot

@@ -1,0 +1,61 @@
+//! Accesses of memory.
+
+use bpf_insn_types::{Insn, Reg};
+use bpf_verify_values::{atomic_bytes, bytes_of};
+
+/// An access of memory: n bytes at a base register and an offset.
+#[derive(Clone, Copy)]
+pub struct Access {
+    pub base: Reg,
+    pub offset: i16,
+    pub size: u32,
+}
+
+/// The access of memory that an instruction makes, if it makes one.
+pub fn access_of(insn: &Insn) -> Option<Access> {
+    match *insn {
+        Insn::Load {
+            size,
+            src,
+            offset,
+            ..
+        }
+        | Insn::LoadSx {
+            size,
+            src,
+            offset,
+            ..
+        } => Some(Access {
+            base: src,
+            offset,
+            size: bytes_of(size),
+        }),
+        Insn::StoreImm {
+            size,
+            dst,
+            offset,
+            ..
+        }
+        | Insn::Store {
+            size,
+            dst,
+            offset,
+            ..
+        } => Some(Access {
+            base: dst,
+            offset,
+            size: bytes_of(size),
+        }),
+        Insn::Atomic {
+            width,
+            dst,
+            offset,
+            ..
+        } => Some(Access {
+            base: dst,
+            offset,
+            size: atomic_bytes(width),
+        }),
+        _ => None,
+    }
+}

@@ -1,0 +1,68 @@
+//! The mnemonic nearest to a word that is none.
+
+use crate::forms::mnemonics;
+use std::alloc::{AllocError, Global};
+use strsim::levenshtein;
+
+/// What other assemblers call a mnemonic, and its name here.
+const OTHER_NAMES: [(&str, &str); 22] = [
+    ("mov", "mov64"),
+    ("add", "add64"),
+    ("sub", "sub64"),
+    ("mul", "mul64"),
+    ("ldxdw", "ldx64"),
+    ("ldxw", "ldx32"),
+    ("ldxh", "ldx16"),
+    ("ldxb", "ldx8"),
+    ("stxdw", "stx64"),
+    ("stxw", "stx32"),
+    ("stxh", "stx16"),
+    ("stxb", "stx8"),
+    ("stdw", "st64"),
+    ("stw", "st32"),
+    ("sth", "st16"),
+    ("stb", "st8"),
+    ("goto", "ja"),
+    ("jmp", "ja"),
+    ("ret", "exit"),
+    ("return", "exit"),
+    ("jz", "jeq64"),
+    ("jnz", "jne64"),
+];
+
+/// The name here of a mnemonic of other assemblers.
+fn other_name(word: &str) -> Option<&'static str> {
+    for (other, name) in &OTHER_NAMES {
+        if *other == word {
+            return Some(*name);
+        }
+    }
+    None
+}
+
+/// The mnemonic with the fewest edits from a word, if they are at most three and fewer than its letters.
+fn fewest_edits(alloc: Global, word: &str) -> Result<Option<&'static str>, AllocError> {
+    let mut nearest: Option<&'static str> = None;
+    let mut fewest: usize = word.len().min(4);
+    for entry in mnemonics() {
+        let mnemonic = entry.0;
+        let edits = levenshtein(alloc, word, mnemonic)?;
+        if edits < fewest {
+            fewest = edits;
+            nearest = Some(mnemonic);
+        }
+    }
+    Ok(nearest)
+}
+
+/// The mnemonic nearest to a word that is none, if one is near. Upper and lower case are the same to it.
+pub fn nearest_mnemonic(alloc: Global, word: &str) -> Result<Option<&'static str>, AllocError> {
+    if word.len() > 16 {
+        return Ok(None);
+    }
+    let lower = word.to_ascii_lowercase(alloc)?;
+    match other_name(&lower) {
+        Some(name) => Ok(Some(name)),
+        None => fewest_edits(alloc, &lower),
+    }
+}

@@ -1,0 +1,76 @@
+//! The text of a unit, and the line of each of its slots.
+
+ghost use Rattle.std.specs.Prelude.{◌≡◌, ◌≤◌, [], length, slice_get, IfOk};
+ghost use Rattle.bpf_text_lex.specs.Lines.{contents_of};
+ghost use Rattle.bpf_text_lines.specs.SlotLines.{slot_lines};
+
+use bpf_text_lex::MAX_TEXT;
+use bpf_text_lines::{comment_of, line_at, line_numbers};
+use std::alloc::{AllocError, Global};
+use std::marker::Model;
+
+/// The text of a unit, and for each slot the number of the line whose instruction takes it. Of a unit in hex form the
+/// text is empty, and places are slots. In contracts it is the list of these numbers.
+#[derive(Drop)]
+pub struct Page<'a> {
+    text: &'a str,
+    numbers: Vec<u32>,
+}
+
+impl<'a> Model for Page<'a> {
+    ghost use Rattle.std.specs.Prelude.{ℕ, List};
+
+    ghost Value = { List ℕ };
+
+    ghost view = { λ page. page.numbers.items };
+}
+
+impl<'a> Page<'a> {
+    /// The page of a unit's text; of none where it is longer than a text may be.
+    pub fn of(alloc: Global, text: &'a str) -> Result<Page<'a>, AllocError>
+        ensures { IfOk result (λ page. length text.now ≤ 1048576 → page ≡ slot_lines (contents_of text.now)) }
+    {
+        if text.len() > MAX_TEXT {
+            return Ok(Page::none(alloc));
+        }
+        let numbers = line_numbers(alloc, text)?;
+        Ok(Page { text, numbers })
+    }
+
+    /// The page of no text.
+    pub fn none(alloc: Global) -> Page<'a>
+        ensures { result ≡ [] }
+    {
+        Page {
+            text: "",
+            numbers: Vec::new(alloc),
+        }
+    }
+
+    /// The number of the line whose instruction takes a slot.
+    pub fn number(&self, slot: u32) -> Option<u32>
+        ensures { result ≡ slice_get self.now slot }
+    {
+        self.numbers.get(slot as usize).copied()
+    }
+
+    /// The instruction of a line as it is written, without its comment.
+    pub fn instruction(&self, number: u32) -> &str {
+        match line_at(self.text, number).split_once(';') {
+            Some((content, _)) => content.trim(),
+            None => line_at(self.text, number).trim(),
+        }
+    }
+
+    /// The comment of a line, without the slot that the loader from C writes at its front.
+    pub fn comment(&self, number: u32) -> &str {
+        let comment = comment_of(self.text, number);
+        if !comment.starts_with("slot ") {
+            return comment;
+        }
+        match comment.split_once(", ") {
+            Some((_, rest)) => rest,
+            None => comment,
+        }
+    }
+}

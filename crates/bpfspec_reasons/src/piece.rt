@@ -1,0 +1,50 @@
+//! The pieces of an explanation.
+
+use bpf_insn_types::{Insn, Reg};
+use bpf_verify_model::AbstractValue;
+
+/// A piece of an explanation. All that it says of a program is in its fields.
+#[derive(Clone, Copy)]
+pub enum Piece {
+    /// Words that are the same for every program.
+    Words(&'static str),
+    /// A number.
+    Number(i64),
+    /// An offset, with its sign.
+    Offset(i16),
+    /// A register's name.
+    Register(Reg),
+    /// The line of the instruction that starts at a slot, as it is in the text.
+    Line {
+        slot: u32,
+        insn: Insn,
+    },
+    /// A slot and the instruction that starts there, in columns.
+    Step {
+        slot: u32,
+        insn: Insn,
+    },
+    /// The abstract value of a register before a slot.
+    Before {
+        slot: u32,
+        reg: Reg,
+        value: AbstractValue,
+    },
+    /// The abstract value of a register on the edges from one slot to another.
+    Between {
+        from: u32,
+        to: u32,
+        reg: Reg,
+        value: AbstractValue,
+    },
+    /// A byte of the own frame that isn't written on every path to a slot, by its position from the frame's lowest.
+    Unwritten {
+        slot: u32,
+        position: u32,
+    },
+    /// How many elements a map has.
+    Elements {
+        map: u32,
+        count: u32,
+    },
+}

@@ -1,0 +1,92 @@
+//! Why a unit in one of its two forms is refused.
+
+use crate::hexes::write_byte_reasons;
+use crate::page::Page;
+use crate::reasons::explain_refusal;
+use crate::states::explain_states;
+use crate::texts::{write_hex_reasons, write_text_reasons};
+use bpf_insn::{CodecError, decode};
+use bpf_insn_types::Unit;
+use bpf_text::{HexUnit, TextError, parse_unit, read_hex};
+use bpf_verify_origin::inspect;
+use std::alloc::{AllocError, Global};
+
+/// How much of a program is explained.
+#[derive(Clone, Copy, Debug)]
+pub enum Extent {
+    /// Its refusal.
+    Refusal,
+    /// Its refusal, and each instruction with the values of the registers that it reads.
+    States,
+}
+
+/// Writes the reasons of a unit.
+fn write_unit_reasons(
+    out: &mut String,
+    alloc: Global,
+    extent: Extent,
+    page: &Page<'_>,
+    unit: Unit,
+) -> Result<(), AllocError> {
+    let inspection = inspect(alloc, unit)?;
+    let refusal = explain_refusal(alloc, &inspection)?;
+    refusal.write(out, alloc, page)?;
+    match extent {
+        Extent::Refusal => Ok(()),
+        Extent::States => {
+            let states = explain_states(alloc, &inspection)?;
+            states.write(out, alloc, page)
+        }
+    }
+}
+
+/// Why a unit in assembler text is refused. It is empty of an accepted unit where its refusal alone is wanted. Memory
+/// may run out.
+pub fn reasons_of_text(alloc: Global, extent: Extent, text: &str) -> Result<String, AllocError> {
+    let mut out = String::new(alloc);
+    match parse_unit(alloc, text) {
+        Ok(unit) => {
+            let page = Page::of(alloc, text)?;
+            write_unit_reasons(&mut out, alloc, extent, &page, unit)?;
+        }
+        Err(TextError::Refused { fault, line }) => {
+            write_text_reasons(&mut out, alloc, text, fault, line)?;
+        }
+        Err(TextError::Memory) => return Err(AllocError),
+    }
+    Ok(out)
+}
+
+/// Adds why a unit in hex form is refused whose text is of that form.
+fn write_parts_reasons(
+    out: &mut String,
+    alloc: Global,
+    extent: Extent,
+    parts: HexUnit,
+) -> Result<(), AllocError> {
+    match decode(alloc, &parts.bytes) {
+        Ok(insns) => {
+            let page = Page::none(alloc);
+            let sizes = parts.sizes;
+            write_unit_reasons(out, alloc, extent, &page, Unit { sizes, insns })
+        }
+        Err(CodecError::Refused { fault, slot }) => {
+            write_byte_reasons(out, &parts.bytes, fault, slot)
+        }
+        Err(CodecError::Memory) => Err(AllocError),
+    }
+}
+
+/// Why a unit in hex form is refused. It is empty of an accepted unit where its refusal alone is wanted. Memory may run
+/// out.
+pub fn reasons_of_hex(alloc: Global, extent: Extent, text: &str) -> Result<String, AllocError> {
+    let mut out = String::new(alloc);
+    match read_hex(alloc, text) {
+        Ok(parts) => write_parts_reasons(&mut out, alloc, extent, parts)?,
+        Err(TextError::Refused { fault, line }) => {
+            write_hex_reasons(&mut out, text, fault, line)?;
+        }
+        Err(TextError::Memory) => return Err(AllocError),
+    }
+    Ok(out)
+}

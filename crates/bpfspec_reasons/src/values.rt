@@ -1,0 +1,137 @@
+//! Registers, bytes and maps in words.
+
+use bpf_insn_types::Reg;
+use bpf_verify_model::AbstractValue;
+use std::alloc::AllocError;
+use value_range_model::Range;
+
+/// Adds one number; above 2^63 its signed value too.
+fn write_number(out: &mut String, number: u64) -> Result<(), AllocError> {
+    let signed = number.cast_signed();
+    if signed < 0 {
+        return write!(out, "{number} (signed, {signed})");
+    }
+    write!(out, "{number}")
+}
+
+/// Adds the steps between a range's numbers, where they are more than one apart.
+fn write_steps(out: &mut String, step: u64) -> Result<(), AllocError> {
+    if step == 1 {
+        return Ok(());
+    }
+    write!(out, " in steps of {step}")
+}
+
+/// How far apart a range's numbers are.
+fn step_of(range: Range) -> u64 {
+    let zeros = range.zeros();
+    if zeros > 63 {
+        return 1;
+    }
+    1u64 << zeros
+}
+
+/// Adds that a number may be any, or any multiple of a step.
+fn write_any(out: &mut String, step: u64) -> Result<(), AllocError> {
+    if step == 1 {
+        return out.push_str("any number");
+    }
+    write!(out, "any multiple of {step}")
+}
+
+/// Adds a range of more than one number: `0 to 7992 in steps of 8`, `any number`.
+fn write_numbers(out: &mut String, least: u64, greatest: u64, step: u64) -> Result<(), AllocError> {
+    if least == 0 && greatest > u64::MAX - step {
+        return write_any(out, step);
+    }
+    if least == 0 && greatest == 0xffff_ffff {
+        return out.push_str("any number below 2^32");
+    }
+    write_number(out, least)?;
+    out.push_str(" to ")?;
+    write_number(out, greatest)?;
+    write_steps(out, step)
+}
+
+/// Adds a range: `7`, `0 to 7992 in steps of 8`, `any number`.
+fn write_range(out: &mut String, range: Range) -> Result<(), AllocError> {
+    let least = range.lo();
+    let greatest = range.hi();
+    if least == greatest {
+        return write_number(out, least);
+    }
+    write_numbers(out, least, greatest, step_of(range))
+}
+
+/// Adds the place of a byte in a frame, by the frame pointer of main or the callback.
+fn write_position(out: &mut String, pointer: &str, position: u32) -> Result<(), AllocError> {
+    out.push_str(pointer)?;
+    if position >= 512 {
+        return Ok(());
+    }
+    let below = 512 - position;
+    write!(out, " minus {below}")
+}
+
+/// Adds that a byte of the own frame isn't written.
+pub fn write_unwritten(out: &mut String, position: u32) -> Result<(), AllocError> {
+    if position >= 512 {
+        return Ok(());
+    }
+    let below = 512 - position;
+    writeln!(out, "  the byte at r10-{below} isn't")
+}
+
+/// Adds how many elements a map has, and how many bytes they have.
+pub fn write_elements(out: &mut String, map: u32, count: u32) -> Result<(), AllocError> {
+    let bytes = u64::from(count) * 8;
+    write!(out, "map {map} has {count} elements, {bytes} bytes")
+}
+
+/// Adds an offset in the values of a map.
+fn write_area(out: &mut String, map: u32, offset: Range) -> Result<(), AllocError> {
+    write!(out, "in map {map}, at byte ")?;
+    write_range(out, offset)
+}
+
+/// Adds an abstract value, so that it can stand after "is".
+fn write_value(out: &mut String, value: &AbstractValue) -> Result<(), AllocError> {
+    match *value {
+        AbstractValue::Unwritten => out.push_str("not written"),
+        AbstractValue::Number(range) => write_range(out, range),
+        AbstractValue::Frame(position) => write_position(out, "the frame pointer", position),
+        AbstractValue::Ctx(position) => write_position(out, "main's frame pointer", position),
+        AbstractValue::Map(map) => write!(out, "map {map}"),
+        AbstractValue::Area(map, offset) => write_area(out, map, offset),
+        AbstractValue::AreaOrNull(map, offset) => {
+            write_area(out, map, offset)?;
+            out.push_str(", or null")
+        }
+        AbstractValue::Code(slot) => write!(out, "the callback at slot {slot}"),
+    }
+}
+
+/// Adds a register's name.
+pub fn write_reg(out: &mut String, reg: Reg) -> Result<(), AllocError> {
+    let number = reg.number();
+    write!(out, "r{number}")
+}
+
+/// Adds what a register is: `r3 is 0 to 7`.
+pub fn write_known(out: &mut String, reg: Reg, value: &AbstractValue) -> Result<(), AllocError> {
+    write_reg(out, reg)?;
+    out.push_str(" is ")?;
+    write_value(out, value)
+}
+
+/// How far apart a value's least and greatest number are: 0 where it is one number alone or no number.
+pub fn width_of(value: &AbstractValue) -> u64 {
+    match *value {
+        AbstractValue::Number(range) => range.hi().wrapping_sub(range.lo()),
+        AbstractValue::Area(_, range) | AbstractValue::AreaOrNull(_, range) => {
+            range.hi().wrapping_sub(range.lo())
+        }
+        AbstractValue::Unwritten => u64::MAX,
+        _ => 0,
+    }
+}

@@ -1,0 +1,16 @@
+//! Tests of the words that tell why a program is refused, as rows of text. They stand in a crate of their own, since a
+//! crate with tests is proved twice.
+#![tactic(auto)]
+
+#[cfg(test)]
+mod accesses_from_c;
+#[cfg(test)]
+mod addresses_from_c;
+#[cfg(test)]
+mod hexes;
+#[cfg(test)]
+mod rules;
+#[cfg(test)]
+mod telling;
+#[cfg(test)]
+mod texts;
