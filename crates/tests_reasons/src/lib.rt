@@ -9,6 +9,8 @@ mod addresses_from_c;
 #[cfg(test)]
 mod hexes;
 #[cfg(test)]
+mod inputs;
+#[cfg(test)]
 mod rules;
 #[cfg(test)]
 mod telling;

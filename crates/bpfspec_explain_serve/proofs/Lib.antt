@@ -1,0 +1,2 @@
+pub mod AskLaws
+pub mod ExplainLaws

@@ -1,0 +1,27 @@
+//! The program that explains why a program is refused: first what `verify` answers to an input, and then the reasons.
+//!
+//! ```text
+//! let mut input = Recorded::new(alloc, Counted::new(b"maps 1\nexit\n".as_slice()));
+//! let mut output = Counted::new(Vec::new(alloc));
+//! let ask = Ask { form: UnitForm::Assembler, extent: Extent::Refusal };
+//! let served = explain(alloc, &ask, &mut input, &mut output);      // Served::Refused
+//! output.into_inner()                                              // "refused V12 at slot 0\n  line 2: exit\n.."
+//! ```
+#![tactic(auto)]
+
+mod ask;
+mod command_line;
+mod explaining;
+mod faults;
+mod program;
+mod recorded;
+mod serving;
+
+pub use ask::Ask;
+pub use bpfspec_reasons::Extent;
+pub use bpfspec_serve::{Counted, Served, Sink, Source, UnitForm};
+pub use command_line::read_words;
+pub use explaining::reasons;
+pub use program::run;
+pub use recorded::Recorded;
+pub use serving::explain;

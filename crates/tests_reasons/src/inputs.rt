@@ -1,0 +1,112 @@
+//! Whole inputs: what `verify` answers to them, with the reasons. In a row ` | ` ends a line.
+
+use bpfspec_explain_serve::{Ask, Counted, Extent, Recorded, UnitForm, explain, read_words};
+use std::alloc::Global;
+use std::process::Abort;
+use std::str;
+use std::test::Fail;
+
+/// How an input is served, and what is written.
+fn served(alloc: Global, form: UnitForm, input: &[u8]) -> Result<String, Fail> {
+    let ask = Ask {
+        form,
+        extent: Extent::Refusal,
+    };
+    let mut source = Recorded::new(alloc, Counted::new(input));
+    let mut sink = Counted::new(Vec::new(alloc));
+    let served = explain(alloc, &ask, &mut source, &mut sink);
+    let output = sink.into_inner();
+    let output = str::from_utf8(&output)?;
+    Ok(format!(in alloc; "{served:?} {output}")?)
+}
+
+/// Asserts of each row how its input is served and what is written first.
+fn are_served(rt: &impl Abort, alloc: Global, form: UnitForm, rows: &str) -> Result<(), Fail> {
+    for row in rows.trim().lines() {
+        let (input, wanted) = row.split_once(" => ").ok_or("a row")?;
+        let input = input.trim().replace(alloc, " | ", "\n")?;
+        let wanted = wanted.trim().replace(alloc, " | ", "\n")?;
+        let told = served(alloc, form, input.as_bytes())?;
+        assert!(rt; told.starts_with(wanted.as_str()), "of\n{input}\n{told}");
+    }
+    Ok(())
+}
+
+const TEXTS: &str = "
+    maps 1 | exit                             => Refused refused V12 at slot 0 |   line 2: exit
+    maps 1 | exit | %% | map 0: 1             => Refused refused V12 at slot 0 |   line 2: exit
+    maps 1 | mov64 r0, 0 | %%x | exit         => Text refused A1 at unit line 3 |   line 3: %%x |   a section ends
+    maps 1 | mov r0, 0 | %% | map 0: x        => Text refused A1 at unit line 2 |   line 2: mov r0, 0 |   `mov` is no
+    %% | map 0: 1                             => Text refused A1 at unit line 0 |   the first line is `maps`
+    %%                                        => Text refused A1 at unit line 0 |   the first line is `maps`
+";
+
+#[test]
+fn texts_are_served(rt: HostRuntime) -> Result<(), Fail> {
+    are_served(&rt, rt.alloc(), UnitForm::Assembler, TEXTS)
+}
+
+const HEX_TEXTS: &str = "
+    maps 1 | 9500000000000000                 => Refused refused V12 at slot 0 |   slot 0: exit
+    maps 1 | 950000000000000                  => Text refused A1 at unit line 2
+    maps 1 | ff00000000000000                 => Refused refused I2 at slot 0 |   slot 0: ff00000000000000
+";
+
+#[test]
+fn hex_texts_are_served(rt: HostRuntime) -> Result<(), Fail> {
+    are_served(&rt, rt.alloc(), UnitForm::Hex, HEX_TEXTS)
+}
+
+#[test]
+fn nothing_follows_an_accepted_program(rt: HostRuntime) -> Result<(), Fail> {
+    let told = served(
+        rt.alloc(),
+        UnitForm::Assembler,
+        b"maps 1\nmov64 r0, 0\nexit\n%%\nmap 0: x",
+    )?;
+    assert_eq!(rt; told.as_str(), "Done accepted\nfunction 0 at 0 count 2\n");
+    Ok(())
+}
+
+#[test]
+fn what_is_no_text_is_served(rt: HostRuntime) -> Result<(), Fail> {
+    let told = served(rt.alloc(), UnitForm::Assembler, b"maps 1\n\xff")?;
+    assert_eq!(rt;
+        told.as_str(),
+        "Text refused A1 at unit line 0\n  the input isn't UTF-8\n"
+    );
+    let long = vec![in rt.alloc(); b' '; 3_145_729]?;
+    let told = served(rt.alloc(), UnitForm::Assembler, &long)?;
+    assert_eq!(rt;
+        told.as_str(),
+        "Text refused A6 at unit line 0\n  an input has at most 3145728 bytes\n"
+    );
+    Ok(())
+}
+
+const COMMAND_LINES: &str = "
+    explain                  => Ok(Ask { form: Assembler, extent: Refusal })
+    explain --hex            => Ok(Ask { form: Hex, extent: Refusal })
+    explain --states         => Ok(Ask { form: Assembler, extent: States })
+    explain --states --hex   => Ok(Ask { form: Hex, extent: States })
+    explain verify           => Err(Usage(
+    explain --state          => Err(Usage(
+    explain --hex --hex      => Err(Usage(
+    explain --help           => Err(Help(
+    explain --version        => Err(Help(
+";
+
+#[test]
+fn command_lines_are_read(rt: HostRuntime) -> Result<(), Fail> {
+    for row in COMMAND_LINES.trim().lines() {
+        let (line, wanted) = row.split_once(" => ").ok_or("a row")?;
+        let mut words = Vec::new(rt.alloc());
+        for word in line.split_ascii_whitespace() {
+            words.push(word)?;
+        }
+        let ask = read_words(rt.alloc(), &words);
+        let told = format!(in rt.alloc(); "{ask:?}")?;
+        assert!(rt; told.starts_with(wanted.trim()), "{line}: {told}");
+    }
+    Ok(())
+}
