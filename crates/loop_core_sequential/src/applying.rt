@@ -194,7 +194,11 @@ fn reduce_each(op: Op, elements: Elements, entry: &Entry, lanes: u32, maps: &mut
     } }
 {
     for lane in 0..lanes {
-        maps.update(element(elements, entry, lane), op, entry.values[lane as usize]);
+        maps.update(
+            element(elements, entry, lane),
+            op,
+            entry.values[lane as usize],
+        );
     }
 }
 

@@ -22,7 +22,18 @@ const TESTS: [&str; 11] = [
 ];
 
 const IMMEDIATES: [&str; 12] = [
-    "0", "1", "2", "3", "8", "63", "255", "1000", "4095", "-1", "-8", "-2147483648",
+    "0",
+    "1",
+    "2",
+    "3",
+    "8",
+    "63",
+    "255",
+    "1000",
+    "4095",
+    "-1",
+    "-8",
+    "-2147483648",
 ];
 
 /// What is done to one register.
@@ -66,7 +77,11 @@ const FRAMES: [&str; 6] = [
 ];
 
 /// Where one element is, or that of a number: below the sizes of the maps, also where a bit more is added.
-const ONE_ELEMENT: [&str; 3] = ["ldmapval r3, 2, 0", "ldmapval r3, 1, 56", "ldmapval r3, 0, 512"];
+const ONE_ELEMENT: [&str; 3] = [
+    "ldmapval r3, 2, 0",
+    "ldmapval r3, 1, 56",
+    "ldmapval r3, 0, 512",
+];
 
 const ELEMENTS: [&str; 4] = [
     "and64 r2, 4095\nlsh64 r2, 3\nldmapval r3, 0, 0",
@@ -76,11 +91,13 @@ const ELEMENTS: [&str; 4] = [
 ];
 
 /// Looks a number up in a map of 64 elements: the element is at R3 from then on, up to a label.
-const LOOKUP: &str = "stx32 [r10-4], <n>\nmov64 r2, r10\nadd64 r2, -4\nldmap r1, 1\ncall 1\nmov64 r4, r7\n\
+const LOOKUP: &str =
+    "stx32 [r10-4], <n>\nmov64 r2, r10\nadd64 r2, -4\nldmap r1, 1\ncall 1\nmov64 r4, r7\n\
     mov64 r5, r8\njeq64 r0, 0, <l>\nmov64 r3, r0\nmov64 r0, 1\n";
 
 /// Main, and what a callback begins with.
-const BEGIN: &str = "lddw r1, 81985529216486895\nstx64 [r10-8], r1\nmov64 r1, <count>\nldcode r2, cb\nmov64 r3, r10\n\
+const BEGIN: &str =
+    "lddw r1, 81985529216486895\nstx64 [r10-8], r1\nmov64 r1, <count>\nldcode r2, cb\nmov64 r3, r10\n\
     add64 r3, -8\nmov64 r4, 0\ncall 181\nexit\ncb:\nmov64 r6, r1\nmov64 r9, r2\nmov64 r0, r1\nmov64 r4, r1\n\
     mov64 r5, 3\nmov64 r7, r1\nlddw r8, 18158513697557839872\nstx64 [r10-16], r1\n";
 
