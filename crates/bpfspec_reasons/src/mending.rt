@@ -15,7 +15,7 @@ pub fn mend(rule: Rule) -> &'static str {
         Rule::TooManyCallbacks => "let calls share callbacks",
         Rule::UnknownHelper => "write the computation out",
         Rule::CallKind => "make the function part of its caller (in C: `static __always_inline`)",
-        Rule::LoadKind => "link the object's maps to numbers, as tools/from_c does",
+        Rule::LoadKind => "link the object's maps to numbers, as tools/elf2unit does",
         Rule::MissingMap => "give the map a size on the line `maps`",
         Rule::FramePointerWrite => "copy r10 to another register and change that",
         Rule::UnwrittenRegister =>

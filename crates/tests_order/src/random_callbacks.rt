@@ -5,7 +5,7 @@ ghost use Rattle.bpf_verify_sound.specs.Soundness.{OverApproximatesCall};
 
 use crate::callback_writer::random_program;
 use array_maps::Maps;
-use bpf_step::{Callback, LoopCall};
+use bpf_step::{LoopCall, run_callback};
 use bpf_verify::Verified;
 use loop_core_sequential::in_order;
 use rand::rngs::SmallRng;
@@ -28,9 +28,8 @@ fn one_by_one(program: &Verified, call: &LoopCall, maps: &mut Maps) -> u32
     let _unit = program.unit();
     let n = call.n();
     let _sizes = maps.sizes();
-    let mut callback = Callback::new(program, call);
     for index in 0..n {
-        if callback.run(index, maps).ret == 1 {
+        if run_callback(program, call, index, maps).ret == 1 {
             return index + 1;
         }
     }
