@@ -1,6 +1,7 @@
 //! Accesses of memory.
 
 use bpf_insn_types::{Insn, Reg};
+use bpf_verify_model::reg;
 use bpf_verify_values::{atomic_bytes, bytes_of};
 
 /// An access of memory: n bytes at a base register and an offset.
@@ -11,7 +12,7 @@ pub struct Access {
     pub size: u32,
 }
 
-/// The access of memory that an instruction makes, if it makes one.
+/// The access of memory that an instruction makes, if it makes one: a lookup reads a key of 4 bytes at r2.
 pub fn access_of(insn: &Insn) -> Option<Access> {
     match *insn {
         Insn::Load {
@@ -55,6 +56,11 @@ pub fn access_of(insn: &Insn) -> Option<Access> {
             base: dst,
             offset,
             size: atomic_bytes(width),
+        }),
+        Insn::Call { imm: 1, .. } => Some(Access {
+            base: reg(2),
+            offset: 0,
+            size: 4,
         }),
         _ => None,
     }

@@ -15,7 +15,7 @@ fn sentence(fault: CodecFault) -> &'static str {
         CodecFault::LoadKind =>
             "the kind of a load of two slots, the upper half of the second byte, is above 6",
         CodecFault::Immediate =>
-            "the last four bytes aren't 16, 32 or 64, of a byte order, or an operation, of an atomic",
+            "the last four bytes aren't what they are of a byte order, 16, 32 or 64, or of an atomic, its operation",
         CodecFault::Offset =>
             "the third and fourth byte are no offset that a division, a modulo or a move has",
         CodecFault::SecondSlot =>

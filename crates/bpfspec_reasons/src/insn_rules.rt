@@ -77,6 +77,38 @@ fn add_map_count(out: &mut Explanation<'_>) -> Result<(), AllocError>
     }
 }
 
+/// Adds that there is no map of a number.
+fn add_no_map(out: &mut Explanation<'_>, imm: i32) -> Result<(), AllocError>
+    ensures { out.new ≡ out.old }
+{
+    out.words("  there is no map ")?;
+    out.number(i64::from(imm))?;
+    add_map_count(out)
+}
+
+/// Adds that a map has no byte of a number.
+fn add_no_byte(out: &mut Explanation<'_>, map: u32, byte: i32) -> Result<(), AllocError>
+    ensures { out.new ≡ out.old }
+{
+    out.words("  there is no byte ")?;
+    out.number(i64::from(byte))?;
+    out.words(" of map ")?;
+    out.number(i64::from(map))?;
+    out.words(": ")?;
+    out.elements(map)?;
+    out.words("\n")
+}
+
+/// Adds that a map has no byte of a number, or that there is no such map.
+fn add_missing_byte(out: &mut Explanation<'_>, imm: i32, byte: i32) -> Result<(), AllocError>
+    ensures { out.new ≡ out.old }
+{
+    match u32::try_from(imm) {
+        Ok(map) if map < out.map_count() => add_no_byte(out, map, byte),
+        _ => add_no_map(out, imm),
+    }
+}
+
 /// Adds which map is missing, or which byte of one.
 fn add_missing_map(out: &mut Explanation<'_>, insn: &Insn) -> Result<(), AllocError>
     ensures { out.new ≡ out.old }
@@ -87,19 +119,8 @@ fn add_missing_map(out: &mut Explanation<'_>, insn: &Insn) -> Result<(), AllocEr
             imm,
             next_imm,
             ..
-        } => {
-            out.words("  there is no byte ")?;
-            out.number(i64::from(next_imm))?;
-            out.words(" of map ")?;
-            out.number(i64::from(imm))?;
-            out.words(", as each element has 8 bytes")?;
-            add_map_count(out)
-        }
-        Insn::LoadImm { imm, .. } => {
-            out.words("  there is no map ")?;
-            out.number(i64::from(imm))?;
-            add_map_count(out)
-        }
+        } => add_missing_byte(out, imm, next_imm),
+        Insn::LoadImm { imm, .. } => add_no_map(out, imm),
         _ => Ok(()),
     }
 }

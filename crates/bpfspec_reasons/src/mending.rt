@@ -15,8 +15,8 @@ pub fn mend(rule: Rule) -> &'static str {
         Rule::TooManyCallbacks => "let calls share callbacks",
         Rule::UnknownHelper => "write the computation out",
         Rule::CallKind => "make the function part of its caller (in C: `static __always_inline`)",
-        Rule::LoadKind => "link the object's maps to numbers, as tools/elf2unit does",
-        Rule::MissingMap => "give the map a size on the line `maps`",
+        Rule::LoadKind => "name the map by its number (in C: make the unit by tools/elf2unit)",
+        Rule::MissingMap => "give the map a size on the line `maps`, or a larger one",
         Rule::FramePointerWrite => "copy r10 to another register and change that",
         Rule::UnwrittenRegister =>
             "write the register on each way here; calls leave r1 to r5 unwritten, so keep values in r6 to r9",
@@ -25,7 +25,8 @@ pub fn mend(rule: Rule) -> &'static str {
         Rule::ComparisonOperand => "compare numbers: indices in place of addresses",
         Rule::StoredOperand =>
             "keep addresses in r6 to r9, and store indices in their place (in C: fewer variables at a time)",
-        Rule::AccessBase => "check what bpf_map_lookup_elem answered before it is used",
+        Rule::AccessBase =>
+            "take the address from ldmapval or bpf_map_lookup_elem, and compare what the latter answers with 0 first",
         Rule::AreaAccessSize =>
             "use values of 8 or 4 bytes (in C: __u64 or __u32 in place of smaller types), and mask and shift them",
         Rule::AccessAlignment => "multiply the index by the size of the access",

@@ -5,11 +5,7 @@ use std::alloc::{AllocError, Global};
 use strsim::levenshtein;
 
 /// What other assemblers call a mnemonic, and its name here.
-const OTHER_NAMES: [(&str, &str); 22] = [
-    ("mov", "mov64"),
-    ("add", "add64"),
-    ("sub", "sub64"),
-    ("mul", "mul64"),
+const OTHER_NAMES: [(&str, &str); 18] = [
     ("ldxdw", "ldx64"),
     ("ldxw", "ldx32"),
     ("ldxh", "ldx16"),
@@ -40,10 +36,24 @@ fn other_name(word: &str) -> Option<&'static str> {
     None
 }
 
-/// The mnemonic with the fewest edits from a word, if they are at most three and fewer than its letters.
+/// The first mnemonic that begins with a word of at least two letters.
+fn longer(word: &str) -> Option<&'static str> {
+    if word.len() < 2 {
+        return None;
+    }
+    for entry in mnemonics() {
+        let mnemonic = entry.0;
+        if mnemonic.starts_with(word) {
+            return Some(mnemonic);
+        }
+    }
+    None
+}
+
+/// The mnemonic with the fewest edits from a word, if they are at most three and at most half of its letters.
 fn fewest_edits(alloc: Global, word: &str) -> Result<Option<&'static str>, AllocError> {
     let mut nearest: Option<&'static str> = None;
-    let mut fewest: usize = word.len().min(4);
+    let mut fewest = (word.len() / 2).min(3) + 1;
     for entry in mnemonics() {
         let mnemonic = entry.0;
         let edits = levenshtein(alloc, word, mnemonic)?;
@@ -61,7 +71,7 @@ pub fn nearest_mnemonic(alloc: Global, word: &str) -> Result<Option<&'static str
         return Ok(None);
     }
     let lower = word.to_ascii_lowercase(alloc)?;
-    match other_name(&lower) {
+    match other_name(&lower).or(longer(&lower)) {
         Some(name) => Ok(Some(name)),
         None => fewest_edits(alloc, &lower),
     }

@@ -5,7 +5,7 @@ ghost use Rattle.std.specs.Prelude.{◌≡◌};
 use crate::explanation::Explanation;
 use crate::reading::reads;
 use crate::values::width_of;
-use bpf_insn_types::{Insn, Reg};
+use bpf_insn_types::{Insn, Operand, Reg};
 use bpf_verify_model::{AbstractValue, Rule, State, reg};
 use bpf_verify_values::{is_number, is_unwritten};
 use std::alloc::AllocError;
@@ -43,8 +43,6 @@ enum Wanted {
     Unwritten,
     /// One that is no number.
     NoNumber,
-    /// One that is more than one number.
-    Wide,
 }
 
 impl Wanted {
@@ -53,7 +51,6 @@ impl Wanted {
         match self {
             Wanted::Unwritten => is_unwritten(*value),
             Wanted::NoNumber => !is_number(*value),
-            Wanted::Wide => width_of(value) > 0,
         }
     }
 }
@@ -70,11 +67,25 @@ fn first_that(state: &State, insn: &Insn, wanted: Wanted) -> Option<Reg> {
     None
 }
 
-/// The same, or the first that is looked for next.
-fn first_of_either(state: &State, insn: &Insn, wanted: Wanted, next: Wanted) -> Option<Reg> {
-    match first_that(state, insn, wanted) {
-        Some(found) => Some(found),
-        None => first_that(state, insn, next),
+/// Whether a value is one number alone.
+fn is_constant(value: &AbstractValue) -> bool {
+    is_number(*value) && width_of(value) == 0
+}
+
+/// The operand that arithmetic doesn't take: the second, unless it is one number alone, and else the first.
+fn computed_with(state: &State, insn: &Insn) -> Option<Reg> {
+    match *insn {
+        Insn::Alu {
+            dst,
+            operand: Operand::Reg(src),
+            ..
+        } => {
+            let value = state.register(src);
+            Some(if is_constant(&value) { dst } else { src })
+        }
+        Insn::Alu { dst, .. } | Insn::Neg { dst, .. } | Insn::Endian { dst, .. } => Some(dst),
+        Insn::Movsx { src, .. } => Some(src),
+        _ => None,
     }
 }
 
@@ -90,15 +101,48 @@ fn stored(state: &State, insn: &Insn) -> Option<Reg> {
     }
 }
 
+/// Whether an argument of `bpf_loop` can be of this kind. The third is an address in main's frame, or 0.
+fn is_loop_argument(number: u8, value: &AbstractValue) -> bool {
+    match *value {
+        AbstractValue::Number(range) => number == 1
+            || number == 4
+            || range.hi() == 0 && number == 3,
+        AbstractValue::Code(_) => number == 2,
+        AbstractValue::Frame(_) => number == 3,
+        _ => false,
+    }
+}
+
+/// The first argument of `bpf_loop` that can't be one.
+fn loop_argument(state: &State) -> Option<Reg> {
+    for number in 1..5u8 {
+        let value = state.register(reg(number));
+        if !is_loop_argument(number, &value) {
+            return Some(reg(number));
+        }
+    }
+    None
+}
+
+/// The argument that a helper doesn't take.
+fn argument(state: &State, insn: &Insn) -> Option<Reg> {
+    match *insn {
+        Insn::Call { imm: 1, .. } => match state.register(reg(1)) {
+            AbstractValue::Map(_) => Some(reg(2)),
+            _ => Some(reg(1)),
+        },
+        _ => loop_argument(state),
+    }
+}
+
 /// The register whose value breaks a rule that speaks of registers.
 pub fn blamed(rule: Rule, state: &State, insn: &Insn) -> Option<Reg> {
     match rule {
         Rule::UnwrittenRegister => first_that(state, insn, Wanted::Unwritten),
-        Rule::ArithmeticOperand | Rule::CallbackResult => {
-            first_of_either(state, insn, Wanted::Wide, Wanted::NoNumber)
-        }
+        Rule::ArithmeticOperand => computed_with(state, insn),
         Rule::StoredOperand => stored(state, insn),
-        Rule::HelperArgument => None,
+        Rule::HelperArgument => argument(state, insn),
+        Rule::CallbackResult | Rule::MainResult => Some(reg(0)),
         _ => first_that(state, insn, Wanted::NoNumber),
     }
 }

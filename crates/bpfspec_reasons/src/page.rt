@@ -56,9 +56,10 @@ impl<'a> Page<'a> {
 
     /// The instruction of a line as it is written, without its comment.
     pub fn instruction(&self, number: u32) -> &str {
-        match line_at(self.text, number).split_once(';') {
+        let line = line_at(self.text, number);
+        match line.split_once(';') {
             Some((content, _)) => content.trim(),
-            None => line_at(self.text, number).trim(),
+            None => line.trim(),
         }
     }
 

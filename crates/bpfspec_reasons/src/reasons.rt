@@ -27,7 +27,7 @@ fn add_line(out: &mut Explanation<'_>, slot: u32) -> Result<(), AllocError>
     out.words("\n")
 }
 
-/// Adds why an access of memory breaks a rule.
+/// Adds why an access of memory breaks a rule, and where its address comes from, unless that is the frame pointer.
 fn add_access_reasons(
     out: &mut Explanation<'_>,
     fault: &Fault,
@@ -39,6 +39,9 @@ fn add_access_reasons(
         None => Ok(()),
         Some(access) => {
             add_access_rule(out, fault.rule, fault.slot, &access)?;
+            if access.base.number() == 10 {
+                return Ok(());
+            }
             add_chain(out, fault.slot, access.base)
         }
     }

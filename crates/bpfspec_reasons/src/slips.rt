@@ -15,38 +15,74 @@ pub fn hidden_slip(content: &str) -> Option<&'static str> {
     None
 }
 
+/// Signs of slips in a line, whatever its mnemonic is, and what is said of them.
+const LINE_SLIPS: [(&str, &str); 8] = [
+    (
+        ", #",
+        "a number is written without a sign before it, as `5`",
+    ),
+    ("//", "a comment begins with a semicolon, `;`"),
+    ("#", "a comment begins with a semicolon, `;`"),
+    ("%", "a register is written without a percent sign, as `r1`"),
+    (
+        "=",
+        "an instruction begins with its mnemonic, as `mov64 r1, 5` for `r1 = 5`",
+    ),
+    (
+        "{",
+        "an instruction is a mnemonic and operands, without braces and parentheses",
+    ),
+    (
+        "}",
+        "an instruction is a mnemonic and operands, without braces and parentheses",
+    ),
+    (
+        "(",
+        "an instruction is a mnemonic and operands, without braces and parentheses",
+    ),
+];
+
+/// Signs of slips in the operands of a line.
+const OPERAND_SLIPS: [(&str, &str); 7] = [
+    ("0x", "numbers are decimal: 16 for 0x10"),
+    ("0X", "numbers are decimal: 16 for 0x10"),
+    ("fp", "the frame pointer is `r10`"),
+    ("[ ", "an address has no blanks, as `[r1+0]`"),
+    (" ]", "an address has no blanks, as `[r1+0]`"),
+    (" + ", "an address has no blanks, as `[r1+0]`"),
+    (" - ", "an address has no blanks, as `[r1+0]`"),
+];
+
+/// What is said of the first of these signs that is in a text.
+fn slip_in(text: &str, slips: &[(&'static str, &'static str)]) -> Option<&'static str> {
+    for (sign, says) in slips {
+        if text.contains(*sign) {
+            return Some(*says);
+        }
+    }
+    None
+}
+
 /// A slip that a line's text shows whatever its mnemonic is.
 fn common_slip(content: &str) -> Option<&'static str> {
     if content.starts_with("%%") {
         return Some("a section ends at a line that is exactly `%%`");
     }
-    if content.contains("//") || content.contains('#') {
-        return Some("a comment begins with a semicolon, `;`");
-    }
-    if content.contains('%') {
-        return Some("a register is written without a percent sign, as `r1`");
-    }
-    if content.contains('=') {
-        return Some("an instruction begins with its mnemonic, as `mov64 r1, 5` for `r1 = 5`");
-    }
-    if content.contains('{') || content.contains('}') || content.contains('(') {
-        return Some("an instruction is a mnemonic and operands, without braces and parentheses");
-    }
-    None
+    slip_in(content, &LINE_SLIPS)
 }
 
-/// Whether an operand is a register of 32 bits as other assemblers write it.
-fn is_narrow_register(operand: &str) -> bool {
-    match operand.trim().strip_prefix("w") {
+/// Whether an operand is this letter and a number.
+fn is_register(operand: &str, letter: &str) -> bool {
+    match operand.trim().strip_prefix(letter) {
         Some(number) => number.parse::<u8>().is_ok(),
         None => false,
     }
 }
 
 /// Whether one of the operands is.
-fn has_narrow_register(operands: &str) -> bool {
+fn has_register(operands: &str, letter: &str) -> bool {
     for operand in operands.split(',') {
-        if is_narrow_register(operand) {
+        if is_register(operand, letter) {
             return true;
         }
     }
@@ -54,19 +90,25 @@ fn has_narrow_register(operands: &str) -> bool {
 }
 
 /// A slip in the operands of a line.
-fn operand_slip(operands: &str) -> Option<&'static str> {
-    if operands.contains("0x") || operands.contains("0X") {
-        return Some("numbers are decimal: 16 for 0x10");
+fn operand_slip(form: Form, operands: &str) -> Option<&'static str> {
+    if has_register(operands, "R") {
+        return Some("registers are written in lower case, as `r1`");
     }
-    if operands.contains("[") && !operands.contains("+") && !operands.contains("-") {
-        return Some("an address has an offset with its sign, as `[r1+0]`");
-    }
-    if has_narrow_register(operands) {
+    if has_register(operands, "w") {
         return Some(
             "registers are r0 to r10 at each width: the mnemonic says the width, as `mov32`",
         );
     }
-    None
+    if let Some(slip) = slip_in(operands, &OPERAND_SLIPS) {
+        return Some(slip);
+    }
+    if operands.contains('[') && !operands.contains('+') && !operands.contains('-') {
+        return Some("an address has an offset with its sign, as `[r1+0]`");
+    }
+    match form {
+        Form::Call => Some("helpers are called by number: 1 is bpf_map_lookup_elem, 181 bpf_loop"),
+        _ => None,
+    }
 }
 
 /// Adds how lines of a mnemonic are written.
@@ -106,7 +148,7 @@ fn write_operand_slip(
     if given != count {
         let wanted = wanted_operands(count);
         writeln!(out, "  `{word}` takes {wanted}; this line has {given}")?;
-    } else if let Some(slip) = operand_slip(operands) {
+    } else if let Some(slip) = operand_slip(form, operands) {
         writeln!(out, "  {slip}")?;
     }
     write_form(out, word, form)
@@ -158,6 +200,11 @@ pub fn write_slip(out: &mut String, alloc: Global, content: &str) -> Result<(), 
     }
     if is_hex_slot(word) {
         return out.push_str("  the line is one of the hex form, which is read with `--hex`\n");
+    }
+    if word == "if" {
+        return out.push_str(
+            "  a branch begins with its mnemonic, as `jgt64 r1, 5, done` for `if r1 > 5 goto done`\n",
+        );
     }
     match form_of(word) {
         Some(form) => write_operand_slip(out, word, form, operands),

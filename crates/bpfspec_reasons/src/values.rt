@@ -84,8 +84,9 @@ pub fn write_unwritten(out: &mut String, position: u32) -> Result<(), AllocError
 
 /// Adds how many elements a map has, and how many bytes they have.
 pub fn write_elements(out: &mut String, map: u32, count: u32) -> Result<(), AllocError> {
+    let elements = if count == 1 { "element" } else { "elements" };
     let bytes = u64::from(count) * 8;
-    write!(out, "map {map} has {count} elements, {bytes} bytes")
+    write!(out, "map {map} has {count} {elements}, {bytes} bytes")
 }
 
 /// Adds an offset in the values of a map.

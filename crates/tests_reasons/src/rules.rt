@@ -1,7 +1,8 @@
 //! Programs that break a rule.
 
-use crate::telling::are_told;
+use crate::telling::{are_told, is_told};
 use bpfspec_reasons::{Extent, reasons_of_text};
+use std::alloc::{AllocError, Global};
 use std::test::Fail;
 
 const OF_INSTRUCTIONS: &str = "
@@ -14,7 +15,8 @@ const OF_INSTRUCTIONS: &str = "
     maps 1 | ldmapfd r1, 3 | mov64 r0, 0 | exit         => by its number, by ldmap or ldmapval | V9
     maps 1 | call 5 | exit                              => no helper 5 | 181 (bpf_loop) | V7
     maps 1 | ldmap r1, 3 | mov64 r0, 0 | exit           => no map 3 | 1 size, that of map 0 | V10
-    maps 1 | ldmapval r1, 0, 8 | mov64 r0, 0 | exit     => no byte 8 of map 0 | each element has 8 bytes | V10
+    maps 1 | ldmapval r1, 0, 8 | mov64 r0, 0 | exit     => no byte 8 of map 0: map 0 has 1 element, 8 bytes | V10
+    maps 1 | ldmapval r1, 1, 0 | mov64 r0, 0 | exit     => no map 1 | 1 size, that of map 0 | V10
     maps 1 | add64 r10, -8 | mov64 r0, 0 | exit         => writes r10 | V11
     maps 1 | mov64 r1, 3 | ldcode r2, outer | mov64 r3, 0 | mov64 r4, 0 | call 181 | exit | outer: | mov64 r1, 4 | \
         ldcode r2, inner | mov64 r3, 0 | mov64 r4, 0 | call 181 | mov64 r0, 0 | exit | inner: | mov64 r0, 0 | exit \
@@ -24,6 +26,29 @@ const OF_INSTRUCTIONS: &str = "
 #[test]
 fn instructions_are_told(rt: HostRuntime) -> Result<(), Fail> {
     are_told(&rt, rt.alloc(), OF_INSTRUCTIONS)
+}
+
+/// A program that names 16 callbacks.
+fn with_many_callbacks(alloc: Global) -> Result<String, AllocError> {
+    let mut text = String::from_str(alloc, "maps 1\n")?;
+    for callback in 0..16 {
+        writeln!(text, "ldcode r2, callback_{callback}")?;
+    }
+    text.push_str("mov64 r0, 0\nexit\n")?;
+    for callback in 0..16 {
+        writeln!(text, "callback_{callback}:\nmov64 r0, 0\nexit")?;
+    }
+    Ok(text)
+}
+
+#[test]
+fn callbacks_are_counted(rt: HostRuntime) -> Result<(), Fail> {
+    is_told(
+        &rt,
+        rt.alloc(),
+        with_many_callbacks(rt.alloc())?.as_str(),
+        "line 17: ldcode r2, callback_15 | more than 15 callbacks | V6",
+    )
 }
 
 const OF_REGISTERS: &str = "
@@ -36,6 +61,8 @@ const OF_REGISTERS: &str = "
     maps 8 | lsh64 r1, 3 | ldmapval r3, 0, 0 | add64 r3, r1 | ldx64 r0, [r3+0] | exit \
         => r1 is any multiple of 8, r3 is in map 0, at byte 0 | r1 comes from | \
         slot   0  lsh64 r1, 3 | main's argument: any number | V13
+    maps 8 | and64 r1, 7 | ldmapval r3, 0, 0 | add64 r1, r3 | mov64 r0, 0 | exit \
+        => r1 is 0 to 7, r3 is in map 0, at byte 0 | r3 comes from | slot   1  ldmapval r3, 0, 0 | V13
     maps 4 | ldmapval r2, 0, 0 | ldmapval r3, 0, 24 | mov64 r0, 0 | jge64 r2, r3, out | mov64 r0, 1 | out: | exit \
         => r2 is in map 0, at byte 0, r3 is in map 0, at byte 24 | a comparison takes numbers | V14
     maps 1 | ldmapval r3, 0, 0 | stx64 [r10-8], r3 | mov64 r0, 0 | exit \
@@ -43,10 +70,14 @@ const OF_REGISTERS: &str = "
     maps 4 | ldmapval r1, 0, 0 | ldmapval r3, 0, 24 | stx64 [r1+0], r3 | mov64 r0, 0 | exit \
         => r1 is in map 0, at byte 0, r3 is in map 0, at byte 24 | r3 comes from | slot   2  ldmapval r3, 0, 24 | V15
     maps 1 | mov64 r1, 1 | mov64 r2, 0 | mov64 r3, 0 | mov64 r4, 0 | call 181 | exit \
-        => r2 is 0; it has to be a callback (ldcode) | V22
+        => r2 is 0; it has to be a callback (ldcode) | r2 comes from | slot   1  mov64 r2, 0 | V22
+    maps 1 | mov64 r1, 4 | ldcode r2, callback | mov64 r3, 8 | mov64 r4, 0 | call 181 | exit | callback: | \
+        mov64 r0, 0 | exit => r3 is 8; it has to be an address in main's frame, or 0 | r3 comes from | V22
     maps 1 | mov64 r1, 4 | ldcode r2, callback | mov64 r3, 0 | mov64 r4, 0 | call 181 | exit | callback: | \
         mov64 r0, r1 | exit => r0 is 0 to 3 | end with 0, to go on, or 1, to stop | \
         slot   5  call 181 | the index, below the number of iterations: r1 is 4 | V24
+    maps 1 | mov64 r1, 4 | ldcode r2, callback | mov64 r3, 0 | mov64 r4, 0 | call 181 | exit | callback: | \
+        mov64 r0, 2 | exit => r0 is 2 | slot   7  mov64 r0, 2 | a constant | V24
     maps 1 | mov64 r0, r10 | exit => r0 is the frame pointer | main has to end with a number | V25
 ";
 
@@ -66,6 +97,9 @@ const OF_ACCESSES: &str = "
         slot   0  and64 r1, 7 | r1 is any number | main's argument | V19
     maps 1 | ldx64 r0, [r10-8] | exit => r10 is the frame pointer; not each of the 8 bytes at -8 from there is written | the byte at r10-8 isn't | V20
     maps 1 | st32 [r10-8], 0 | ldx64 r0, [r10-8] | exit => the byte at r10-4 isn't | V20
+    maps 4 | ldmap r1, 0 | mov64 r2, r10 | add64 r2, -4 | call 1 | mov64 r0, 0 | exit \
+        => r2 is the frame pointer minus 4; not each of the 4 bytes at +0 from there is written | \
+        the byte at r10-4 isn't | slot   3  add64 r2, -4 | V20
 ";
 
 #[test]

@@ -40,6 +40,12 @@ const WORDS: &str = "
     maps 1 | jeq r1, 0, out | out: | exit  => `jeq` is no mnemonic; the nearest is `jeq64` | r1, 5, done
     maps 1 | maps 2 | exit                 => line 2: maps 2 | the line `maps` is the first, and there is one
     maps 1 | 9500000000000000              => read with `--hex`
+    maps 1 | if r1 > 5 goto out | exit     => a branch begins with its mnemonic
+    maps 1 | mov64 R0, 0 | exit            => in lower case
+    maps 1 | mov64 r0, #5 | exit           => a number is written without a sign before it
+    maps 1 | ldx64 r0, [r1 + 0] | exit     => an address has no blanks
+    maps 1 | stx64 [fp-8], r1 | exit       => the frame pointer is `r10`
+    maps 1 | call bpf_loop | exit          => helpers are called by number
 ";
 
 #[test]
