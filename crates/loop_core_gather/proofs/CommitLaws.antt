@@ -1,12 +1,6 @@
 -- Elements set page by page.
-use Rattle.std.proofs.Common.{◌≡◌, ◌≢◌, ℕ, ◌/◌, ◌<◌, ◌≤◌, List, length}
+use Rattle.std.proofs.Common.{◌≡◌, ℕ, ◌/◌, ◌<◌, ◌≤◌, List, length}
 use Rattle.std.specs.Prelude.{slice_index}
-
--- of a page the elements below one are set, and no others
-pub record PageSoFar (old left now : List ℕ) (page e : ℕ) : Type 0 where
-  pub count : length now ≡ length old
-  pub here : (k : ℕ) → k < length old → k / 64 ≡ page → k < e → slice_index now k ≡ slice_index left k
-  pub others : (k : ℕ) → k / 64 ≢ page → slice_index now k ≡ slice_index old k
 
 -- the pages below one are set
 pub record CommittedSoFar (old left now : List ℕ) (page : ℕ) : Type 0 where

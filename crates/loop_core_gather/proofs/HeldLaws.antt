@@ -35,6 +35,15 @@ starts_at blocks now elements e same all inside =
     ∙ all k (shown d) (omega (arith, many, within)) in
     omega (arith, inside, long))
 
+-- and as many start words
+pub starts_are : (blocks now : List Held) (elements many : ℕ) → now ≡ blocks → elements ≡ many
+    → All (λ b. length b.copy.start ≡ elements) (map shown blocks) → All (λ b. length (shown b).copy.start ≡ many) now
+starts_are blocks now elements many same count all =
+    subst (All (λ b. length (shown b).copy.start ≡ many)) (sym same) (λ k d within.
+    let long = length-map blocks shown in
+    sym (ap (λ (b : BlockOf). length b.copy.start) (get_or-map shown blocks k d (shown d) within))
+    ∙ all k (shown d) (omega (arith, long, within)) ∙ count)
+
 -- what is left at an element, where it is known whether it is reduction-only
 pub element_is : (planes : Planes) (blocks now : List Held) (places at : List ℕ) (start : List ℕ) (e : ℕ)
     (reduced : Bool) (o : Outcome) → is_reduction planes e ≡ reduced → e < length start →

@@ -7,6 +7,7 @@ pub mod JoiningLaws
 pub mod TellingLaws
 pub mod MergingLaws
 pub mod CommitLaws
+pub mod PageLaws
 pub mod SharingLaws
 pub mod CopyLaws
 pub mod GatheringLaws

@@ -1,19 +1,16 @@
 -- Pages that were touched, what is left at them, and words that are set by it.
-use Rattle.std.proofs.Common.{◌≡◌, ◌≢◌, ℕ, zero, suc, ◌+◌, ◌*◌, ◌/◌, ◌%◌, ◌<◌, ◌≤◌, Bool, true, false, ◌||◌, eqb, List, [], ◌∷◌, ◌++◌, drop, length, get_or, set, refl, sym, ◌∙◌, ap, subst, inl, inr, arith, eq-eqb, add-one, get_or-set_same, get_or-set_other}
+use Rattle.std.proofs.Common.{◌≡◌, ◌≢◌, ℕ, zero, suc, ◌+◌, ◌/◌, ◌%◌, ◌<◌, ◌≤◌, Bool, true, false, ◌||◌, eqb, List, [], ◌∷◌, ◌++◌, drop, length, get_or, refl, sym, ◌∙◌, ap, subst, inl, inr, arith, eq-eqb, add-one}
 use Rattle.std.specs.Prelude.{slice_index}
 use Rattle.std.specs.List.{AllZip}
 use Rattle.std.proofs.Math.ListN.{drop_of_length-le}
 use Rattle.std.proofs.Math.Seq.{drop-cons}
 use Rattle.std.proofs.lemmas.Bool.{cases_eq, ne_eqb}
-use Rattle.std.proofs.lemmas.List.{ext_get_or, get_or_past}
+use Rattle.std.proofs.lemmas.List.{ext_get_or}
 use Rattle.std.proofs.lemmas.List.Folds.{list_any-append}
 use Rattle.private_copy.specs.Touched.{has_page}
 use Rattle.loop_core_gather.specs.Pages.{IsPageOf, HaveAllTouched}
+use Rattle.loop_core_gather.proofs.PageLaws.{at_own}
 use Rattle.loop_core_gather.proofs.UntouchedLaws.{not_both, or_true}
-
--- past the last word there is 0
-pub past_all : (words : List ℕ) (e : ℕ) → length words ≤ e → 0 ≡ slice_index words e
-past_all words e past = sym (get_or_past words e 0 past)
 
 -- of the pages below one those that were touched are in a list
 abbrev pub HaveTouchedBelow : (touched : List ℕ) (n : ℕ) (pages : List ℕ) → Type 0
@@ -55,19 +52,6 @@ none_there touched pages page all within out =
       | inr set ↦ absurd (not_both (has_page pages page) (all page within set) out)
     ]
 
--- of a page the first words are known, and one more
-pub own_next : (words own : List ℕ) (page k word : ℕ) → length own ≡ 64 → k < 64
-    → word ≡ slice_index words (page * 64 + k)
-    → ((j : ℕ) → j < k → slice_index own j ≡ slice_index words (page * 64 + j))
-    → (j : ℕ) → j < k + 1 → slice_index (set own k word) j ≡ slice_index words (page * 64 + j)
-own_next words own page k word long inside is so_far j below =
-    elim (cases_eq j k) [
-      | inl here ↦
-          ap (slice_index (set own k word)) here ∙ get_or-set_same own k word 0 (omega (arith, long, inside)) ∙ is
-          ∙ ap (λ (i : ℕ). slice_index words (page * 64 + i)) (sym here)
-      | inr apart ↦ get_or-set_other own k j word 0 apart ∙ so_far j (omega (arith, below, apart))
-    ]
-
 -- what holds of two lists place by place
 zipped_at : {A B : Type 0} (R : A → B → Type 0) (xs : List A) (ys : List B) (k : ℕ) (d : A) (e : B) → k < length xs
     → AllZip R xs ys → R (get_or xs k d) (get_or ys k e)
@@ -85,14 +69,6 @@ pub record SetSoFar (old now pages : List ℕ) (left : List (List ℕ)) (n : ℕ
 
 pub set_none : (old pages : List ℕ) (left : List (List ℕ)) → SetSoFar old old pages left 0
 set_none old pages left = record { count = refl; each = λ all own rest. rest }
-
--- an element of a page stands in its own words
-at_own : (all own : List ℕ) (page e : ℕ) → IsPageOf all page own → e / 64 ≡ page → slice_index own (e % 64)
-    ≡ slice_index all e
-at_own all own page e is here =
-    let below : e % 64 < 64 = omega arith in
-    let place : page * 64 + e % 64 ≡ e = omega (arith, here) in
-    is (e % 64) below ∙ ap (slice_index all) place
 
 -- and one page more
 pub set_next : (old now new pages : List ℕ) (left : List (List ℕ)) (n page : ℕ) (own any : List ℕ) → n < length pages

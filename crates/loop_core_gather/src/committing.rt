@@ -1,28 +1,34 @@
 //! Words after a pass.
 
-ghost use Rattle.std.specs.Prelude.{◌≡◌, ◌≢◌, ℕ, ◌/◌, ◌<◌, ◌≤◌, length, slice_index};
+ghost use Rattle.std.specs.Prelude.{◌≡◌, ◌≢◌, ℕ, ◌/◌, ◌%◌, ◌<◌, ◌≤◌, length, slice_index};
 ghost use Rattle.shadow_marks.specs.Standing.{words_for};
 
 use crate::gathered::Gathered;
+use crate::pages::PAGE;
 
-/// Elements in a page.
-const PAGE: u32 = 64;
+/// Sets each element of a page.
+pub(crate) fn set_page(words: &mut [u64], page: u32, own: &[u64; PAGE])
+    ensures count { length words.new ≡ length words.old }
+    ensures here { (e : ℕ) → e < length words.old → e / 64 ≡ page → slice_index words.new e
+        ≡ slice_index own.now (e % 64) }
+    ensures others { (e : ℕ) → e / 64 ≢ page → slice_index words.new e ≡ slice_index words.old e }
+{
+    let first = page as usize * PAGE;
+    let past = (first + PAGE).min(words.len());
+    for e in first..past {
+        words[e] = own[e % PAGE];
+    }
+}
 
 /// Sets each element of a page to what a pass leaves there.
 fn commit_page(words: &mut [u64], page: u32, gathered: &Gathered)
-    requires count { length words.old ≡ length gathered.now.words }
-    requires within { page < words_for (length words.old) }
-    requires few { length words.old ≤ 65536 }
     ensures count { length words.new ≡ length words.old }
     ensures here { (e : ℕ) → e < length words.old → e / 64 ≡ page → slice_index words.new e ≡ slice_index
         gathered.now.words e }
     ensures others { (e : ℕ) → e / 64 ≢ page → slice_index words.new e ≡ slice_index words.old e }
 {
-    let first = page * PAGE;
-    let past = (first + PAGE).min(gathered.elements());
-    for e in first..past {
-        words[e as usize] = gathered.element(e);
-    }
+    let own = gathered.page(page);
+    set_page(words, page, &own);
 }
 
 /// Sets each element to what a pass leaves there, of start words. A word for each page of 64 elements says whether it

@@ -1,11 +1,13 @@
 //! What gathered blocks tell of a loop.
 
 ghost use Rattle.std.specs.Prelude.{◌≡◌, ◌<◌, length, slice_index, IfOk};
+ghost use Rattle.loop_core_gather.specs.Pages.{IsPageOf};
 
 use crate::committing::commit;
 use crate::kept::{combined, last_written};
-use crate::merged::is_reduction;
+use crate::merged::{is_reduction, reduced_in_page};
 use crate::order::PLACES;
+use crate::pages::{PAGE, overwrite_in_turn, page_by_elements, page_of};
 use crate::sharing::{SHARED_PAGES, left_in_threads, set_pages, touched_numbers};
 use arrayvec::ArrayVec;
 use loop_core_block::Block;
@@ -85,6 +87,31 @@ impl<'a> Gathered<'a> {
         } else {
             last_written(&self.blocks, &self.counting, touched, e, word)
         }
+    }
+
+    /// What the loop leaves at the elements of a page after a pass, and 0 past the last: worked out block after block
+    /// where no element of it was reduced, and else element after element.
+    pub(crate) fn page(&self, page: u32) -> [u64; PAGE]
+        ensures { IsPageOf self.now.words page result }
+    {
+        if page as usize >= self.touched.len() {
+            return page_by_elements(self, page);
+        }
+        if reduced_in_page(&self.planes.operators, page) != 0 {
+            return page_by_elements(self, page);
+        }
+        let mut own = page_of(self.start, page);
+        let touched = self.touched[page as usize];
+        let elements = self.start.len() as u32;
+        overwrite_in_turn(
+            &mut own,
+            page,
+            elements,
+            touched,
+            &self.blocks,
+            &self.counting,
+        );
+        own
     }
 
     /// What the loop leaves at each element after a pass, in order. Only elements of pages that were touched are

@@ -23,7 +23,7 @@ fn applied(word: u64, partial: Option<(Op, u64)>) -> u64
 }
 
 /// Whether a bit of a word, 0 to 63, is set.
-fn has_bit(word: u64, bit: usize) -> bool
+pub(crate) fn has_bit(word: u64, bit: usize) -> bool
     requires { bit < 64 }
     ensures { result ≡ (bit_at word bit == 1) }
 {

@@ -7,6 +7,7 @@ mod gathering;
 mod kept;
 mod merged;
 mod order;
+mod pages;
 mod settling;
 mod sharing;
 mod summary;

@@ -1,6 +1,6 @@
 //! The marks of several blocks together, and what they tell.
 
-ghost use Rattle.std.specs.Prelude.{◌≡◌, ◌+◌, ◌<◌, ◌≤◌, ◌/◌, ℕ, List, map, length, IfOk};
+ghost use Rattle.std.specs.Prelude.{◌≡◌, ◌+◌, ◌<◌, ◌≤◌, ◌/◌, ℕ, List, map, length, slice_index, IfOk};
 ghost use Rattle.std.specs.List.{All, filter, range_with_len, count_by};
 ghost use Rattle.array_maps.specs.MapList.{AreWords};
 ghost use Rattle.array_maps.specs.declared.access.Op.{Op as Operator};
@@ -122,6 +122,15 @@ fn operators_at(planes: &OperatorPlanes, e: u32) -> u32
         + u32::from(is_set(planes.and.as_slice(), e))
         + u32::from(is_set(planes.xor.as_slice(), e))
         + u32::from(is_set(planes.addh.as_slice(), e))
+}
+
+/// Which elements of a page were reduced, a bit for each.
+pub(crate) fn reduced_in_page(planes: &OperatorPlanes, page: u32) -> u64
+    requires { (op : Operator) → page < length (plane_by planes.now op) }
+    ensures { result ≡ 0 → (op : Operator) → slice_index (plane_by planes.now op) page ≡ 0 }
+{
+    let page = page as usize;
+    planes.add[page] | planes.or[page] | planes.and[page] | planes.xor[page] | planes.addh[page]
 }
 
 /// Whether an element's bit is set in a plane.

@@ -1,17 +1,16 @@
 //! Words after a pass, worked out by several threads.
 
-ghost use Rattle.std.specs.Prelude.{◌≡◌, ◌≢◌, ℕ, ◌+◌, ◌*◌, ◌/◌, ◌%◌, ◌<◌, ◌≤◌, false, List, length, slice_index, IfOk};
+ghost use Rattle.std.specs.Prelude.{◌≡◌, ℕ, ◌/◌, ◌<◌, ◌≤◌, false, List, length, slice_index, IfOk};
 ghost use Rattle.std.specs.List.{AllZip};
 ghost use Rattle.private_copy.specs.Touched.{has_page};
 ghost use Rattle.loop_core_gather.specs.Pages.{IsPageOf, HaveAllTouched};
 
+use crate::committing::set_page;
 use crate::gathered::Gathered;
+use crate::pages::PAGE;
 use rayon::prelude::*;
 use std::alloc::{AllocError, Global};
 use std::thread::Threads;
-
-/// Elements in a page.
-const PAGE: usize = 64;
 
 /// How many pages a thread works out at least: to start it and wait for it takes as long as some hundred of them.
 const LEAST_SHARE: usize = 256;
@@ -33,29 +32,6 @@ pub(crate) fn touched_numbers(alloc: Global, touched: &[u64]) -> Result<Vec<u32>
     Ok(pages)
 }
 
-/// What a pass leaves at an element, and 0 past the last.
-#[tactic(auto, using(crate::proofs::SharingLaws::past_all))]
-fn left_at(gathered: &Gathered, e: usize) -> u64
-    ensures { result ≡ slice_index gathered.now.words e }
-{
-    if e < gathered.elements() as usize {
-        gathered.element(e as u32)
-    } else {
-        0
-    }
-}
-
-/// What a pass leaves at the elements of a page.
-fn page_left(gathered: &Gathered, page: u32) -> [u64; PAGE]
-    ensures { IsPageOf gathered.now.words page result }
-{
-    let mut words = [0; PAGE];
-    for k in 0..PAGE {
-        words[k] = left_at(gathered, page as usize * PAGE + k);
-    }
-    words
-}
-
 /// What a pass leaves at these pages, in order, worked out by several threads: each page by one of them.
 pub(crate) fn left_in_threads<R: Threads + Sync>(
     rt: &R,
@@ -71,23 +47,9 @@ pub(crate) fn left_in_threads<R: Threads + Sync>(
         .map(
             |page: &u32| -> [u64; PAGE]
                 ensures { IsPageOf gathered.entry.now.words page.now result }
-            { page_left(gathered, *page) },
+            { gathered.page(*page) },
         )
         .collect(rt, alloc)
-}
-
-/// Sets each element of a page.
-fn set_page(words: &mut [u64], page: u32, own: &[u64; PAGE])
-    ensures count { length words.new ≡ length words.old }
-    ensures here { (e : ℕ) → e < length words.old → e / 64 ≡ page → slice_index words.new e
-        ≡ slice_index own.now (e % 64) }
-    ensures others { (e : ℕ) → e / 64 ≢ page → slice_index words.new e ≡ slice_index words.old e }
-{
-    let first = page as usize * PAGE;
-    let past = (first + PAGE).min(words.len());
-    for e in first..past {
-        words[e] = own[e % PAGE];
-    }
 }
 
 /// Sets each element of these pages to what is left there, of words that have it at all others.

@@ -1,6 +1,6 @@
 use Rattle.std.proofs.Common.{◌≡◌, ◌≢◌, ℕ, ◌/◌, ◌%◌, ◌<◌, length}
 use Rattle.std.specs.Prelude.{slice_index}
-use Rattle.loop_core_gather.proofs.sharing.set_page.Given as goal
+use Rattle.loop_core_gather.proofs.committing.set_page.Given as goal
 
 abbrev pub invariant-loop-e : goal.invariant-loop-e
 invariant-loop-e l = record {

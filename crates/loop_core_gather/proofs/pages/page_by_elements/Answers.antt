@@ -1,12 +1,12 @@
 use Rattle.std.proofs.Common.{◌<◌, ◌∙◌, length-set, arith}
-use Rattle.loop_core_gather.proofs.SharingLaws.{own_next}
-use Rattle.loop_core_gather.proofs.sharing.page_left.Goals as goal
+use Rattle.loop_core_gather.proofs.PageLaws.{own_next}
+use Rattle.loop_core_gather.proofs.pages.page_by_elements.Goals as goal
 
 pub loop-k-preserved : goal.loop-k-preserved
 loop-k-preserved c =
     let inside : c.loop-k.k < 64 = omega arith in
     record {
       long = length-set _ _ _ ∙ c.loop-k.invariant.long;
-      each = own_next c.args.gathered.now.words c.loop-k.words c.args.page c.loop-k.k c.left_at.result
+      each = own_next c.args.gathered.now.words c.loop-k.own c.args.page c.loop-k.k c.left_at.result
           c.loop-k.invariant.long inside c.left_at.ensures c.loop-k.invariant.each;
     }

@@ -1,0 +1,35 @@
+use Rattle.std.proofs.Common.{◌≡◌, ℕ, ◌<◌, List, length, ◌∙◌, arith}
+use Rattle.std.proofs.lemmas.List.{get_or_default}
+use Rattle.array_maps.specs.declared.access.Op.TheVariants.{Add, Or, And, Xor, AddH}
+use Rattle.loop_core_gather.proofs.PageLaws.{none_reduced}
+use Rattle.loop_core_gather.proofs.merged.reduced_in_page.Goals as goal
+
+-- a page is within each plane
+in_plane : (words : List ℕ) (count page : ℕ) → count ≡ length words → page < length words → page < count
+in_plane words count page long inside = omega (arith, long, inside)
+
+pub index-requires : goal.index-requires
+index-requires c = in_plane _ _ _ c.args.planes.now.add.ok.0 (c.requires Add)
+
+pub index-requires-2 : goal.index-requires-2
+index-requires-2 c = in_plane _ _ _ c.args.planes.now.or.ok.0 (c.requires Or)
+
+pub index-requires-3 : goal.index-requires-3
+index-requires-3 c = in_plane _ _ _ c.args.planes.now.and.ok.0 (c.requires And)
+
+pub index-requires-4 : goal.index-requires-4
+index-requires-4 c = in_plane _ _ _ c.args.planes.now.xor.ok.0 (c.requires Xor)
+
+pub index-requires-5 : goal.index-requires-5
+index-requires-5 c = in_plane _ _ _ c.args.planes.now.addh.ok.0 (c.requires AddH)
+
+pub returns : goal.returns
+returns c unset =
+    let planes = c.args.planes.now in
+    let page = c.args.page in
+    none_reduced planes page _ _ _ _ _ unset
+    (c.index.ensures ∙ get_or_default planes.add.items page c.index.result.now 0 (c.requires Add))
+    (c.index-2.ensures ∙ get_or_default planes.or.items page c.index-2.result.now 0 (c.requires Or))
+    (c.index-3.ensures ∙ get_or_default planes.and.items page c.index-3.result.now 0 (c.requires And))
+    (c.index-4.ensures ∙ get_or_default planes.xor.items page c.index-4.result.now 0 (c.requires Xor))
+    (c.index-5.ensures ∙ get_or_default planes.addh.items page c.index-5.result.now 0 (c.requires AddH))

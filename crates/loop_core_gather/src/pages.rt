@@ -1,0 +1,101 @@
+//! Pages of what a pass leaves.
+
+ghost use Rattle.std.specs.Prelude.{◌≡◌, ℕ, ◌+◌, ◌*◌, ◌<◌, ◌≤◌, false, if◌then◌else◌, map, length, slice_index};
+ghost use Rattle.std.specs.List.{All};
+ghost use Rattle.std.specs.Option.{unwrap_or};
+ghost use Rattle.loop_core_model.specs.Kept.{committed_of_kept};
+ghost use Rattle.loop_core_block.specs.Shown.{shown};
+ghost use Rattle.loop_core_gather.specs.Held.{chosen, kept_of, TellsUntouched};
+ghost use Rattle.loop_core_gather.specs.Pages.{IsPageOf};
+
+use crate::gathered::Gathered;
+use crate::kept::has_bit;
+use loop_core_block::Block;
+
+/// Elements in a page.
+pub(crate) const PAGE: usize = 64;
+
+/// A word, and 0 past the last.
+#[tactic(auto, using(crate::proofs::PageLaws::past_all))]
+fn word_at(words: &[u64], e: usize) -> u64
+    ensures { result ≡ slice_index words.now e }
+{
+    if e < words.len() { words[e] } else { 0 }
+}
+
+/// The words of a page.
+pub(crate) fn page_of(words: &[u64], page: u32) -> [u64; PAGE]
+    ensures { IsPageOf words.now page result }
+{
+    let mut own = [0; PAGE];
+    for k in 0..PAGE {
+        own[k] = word_at(words, page as usize * PAGE + k);
+    }
+    own
+}
+
+/// What a pass leaves at an element, and 0 past the last.
+#[tactic(auto, using(crate::proofs::PageLaws::past_all))]
+fn left_at(gathered: &Gathered, e: usize) -> u64
+    ensures { result ≡ slice_index gathered.now.words e }
+{
+    if e < gathered.elements() as usize {
+        gathered.element(e as u32)
+    } else {
+        0
+    }
+}
+
+/// What a pass leaves at the elements of a page, asked one by one.
+pub(crate) fn page_by_elements(gathered: &Gathered, page: u32) -> [u64; PAGE]
+    ensures { IsPageOf gathered.now.words page result }
+{
+    let mut own = [0; PAGE];
+    for k in 0..PAGE {
+        own[k] = left_at(gathered, page as usize * PAGE + k);
+    }
+    own
+}
+
+/// Sets each element of a page, of n elements in all, to a block's last value, where it has one, if the block touched
+/// the page.
+fn overwrite(own: &mut [u64; PAGE], page: u32, elements: u32, block: &Block, touched: bool)
+    requires { length (shown block.now).copy.start ≡ elements }
+    ensures each { (k : ℕ) → k < 64 → page * 64 + k < elements → slice_index own.new k ≡
+        (if touched then unwrap_or ((shown block.now).copy.last (page * 64 + k)) (slice_index own.old k)
+        else slice_index own.old k) }
+    ensures past { (k : ℕ) → elements ≤ page * 64 + k → slice_index own.new k ≡ slice_index own.old k }
+{
+    if !touched {
+        return;
+    }
+    let first = page as usize * PAGE;
+    let count = (elements as usize).saturating_sub(first).min(PAGE);
+    for k in 0..count {
+        own[k] = block.last_value((first + k) as u32).unwrap_or(own[k]);
+    }
+}
+
+/// Sets each element of a page, of n elements in all, to the last value of the last of the blocks at these places that
+/// has one. A bit of a word tells of each whether it touched the page.
+pub(crate) fn overwrite_in_turn(
+    own: &mut [u64; PAGE],
+    page: u32,
+    elements: u32,
+    touched: u64,
+    blocks: &[Block],
+    places: &[usize],
+)
+    requires places { All (λ place. place < length blocks.now) places.now }
+    requires few { length places.now ≤ 64 }
+    requires starts { All (λ b. length (shown b).copy.start ≡ elements) blocks.now }
+    requires touched { (k : ℕ) → k < 64 → page * 64 + k < elements → TellsUntouched touched (page * 64 + k)
+        (map shown blocks.now) places.now }
+    ensures each { (k : ℕ) → k < 64 → page * 64 + k < elements → slice_index own.new k ≡ committed_of_kept false
+        (map (kept_of (page * 64 + k)) (chosen places.now (map shown blocks.now))) (slice_index own.old k) }
+    ensures past { (k : ℕ) → elements ≤ page * 64 + k → slice_index own.new k ≡ slice_index own.old k }
+{
+    for (i, place) in places.iter().enumerate() {
+        overwrite(own, page, elements, &blocks[*place], has_bit(touched, i));
+    }
+}
