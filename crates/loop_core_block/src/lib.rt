@@ -10,5 +10,6 @@ mod running;
 mod speculative_loop;
 
 pub use block::Block;
+pub use runner::most_instructions;
 pub use running::run_block;
 pub use speculative_loop::SpeculativeLoop;

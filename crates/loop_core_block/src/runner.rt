@@ -38,7 +38,7 @@ pub(crate) struct Runner<'c, 'a> {
 }
 
 /// The most instructions of the callback that starts at a slot; 4,096 where none does.
-fn most_instructions(program: &Verified, slot: u32) -> u32
+pub fn most_instructions(program: &Verified, slot: u32) -> u32
     ensures enough { most_from program.now slot ≤ result }
     ensures few { result ≤ 4096 }
 {

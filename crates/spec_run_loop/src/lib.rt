@@ -5,6 +5,7 @@
 mod decision;
 mod error;
 mod looping;
+mod paying;
 mod worker;
 mod working;
 

@@ -1,8 +1,7 @@
 //! Running a loop.
 
-ghost use Rattle.std.specs.Prelude.{◌≡◌, ◌≢◌, ◌<◌, ◌≤◌, ◌↔◌, None, Err, IsTrue, All, map, IfOk, OnErr};
+ghost use Rattle.std.specs.Prelude.{◌≡◌, ◌≢◌, ◌<◌, ◌≤◌, ◌↔◌, Err, IsTrue, All, map, IfOk, OnErr};
 ghost use Rattle.bpf_verify_sound.specs.Soundness.{OverApproximatesCall};
-ghost use Rattle.loop_core_model.specs.Split.{split_fault};
 ghost use Rattle.loop_core_model.specs.Intervals.{blocks_of};
 ghost use Rattle.loop_core_block.specs.LoopBlocks.{RecordsRunOf};
 ghost use Rattle.loop_core_block.specs.Shown.{shown};
@@ -14,7 +13,8 @@ ghost use Rattle.spec_run_loop.specs.Workers.{AreFaultless, HasOutcomeOf};
 use crate::decision::{Decision, LoopAnswer};
 use crate::error::RunError;
 use crate::law_of_workers;
-use crate::worker::{is_long, run_alone, run_workers};
+use crate::paying::{busy_workers, worthwhile_split};
+use crate::worker::{run_alone, run_workers};
 use array_maps::Maps;
 use bpf_step::LoopCall;
 use bpf_verify::Verified;
@@ -95,7 +95,7 @@ fn needs_no_workers<G: Gate>(of: &SpeculativeLoop, gate: &G) -> bool
     of.split.blocks() == 1 && !gate.may_hold()
 }
 
-/// What a loop leaves that passes, by element: worked out by several threads where more than one worker was asked for.
+/// What a loop leaves that passes, by element: worked out by several threads where more than one worker ran it.
 fn left_words<R: Threads + Sync>(
     rt: &R,
     alloc: Global,
@@ -136,55 +136,8 @@ fn decided<R: Threads + Sync, G: Gate>(
     }
 }
 
-/// How many even blocks a loop is run over, of at most this many. Where the gate holds nobody, only those that are
-/// worth what each of them costs, which keeps marks of all elements: one of a short loop, and of any by one worker; of
-/// a longer one as many as there are workers, or one for as many iterations as there are elements.
-fn worthwhile_blocks<G: Gate>(
-    call: &LoopCall,
-    start: &Maps,
-    most: u32,
-    workers: u32,
-    gate: &G,
-) -> u32
-    requires workers { 0 < workers }
-    requires some { 0 < most }
-    requires few { most ≤ 64 }
-    ensures some { 0 < result }
-    ensures few { result ≤ 64 }
-{
-    if gate.may_hold() {
-        return most;
-    }
-    if workers == 1 || !is_long(call) {
-        return 1;
-    }
-    let elements = start.words().len() as u32;
-    (call.n() / elements.max(1)).max(workers).min(most)
-}
-
-/// The even split of a loop into worthwhile blocks, at most this many.
-#[tactic(auto, using(crate::proofs::EvenLaws::even_is))]
-fn worthwhile_split<G: Gate>(
-    call: &LoopCall,
-    start: &Maps,
-    most: u32,
-    workers: u32,
-    gate: &G,
-) -> Split
-    requires workers { 0 < workers }
-    requires some { 0 < most }
-    requires few { most ≤ 64 }
-    ensures { split_fault result call.now.n ≡ None }
-{
-    let blocks = worthwhile_blocks(call, start, most, workers, gate);
-    match Split::even(call.n(), blocks) {
-        Ok(split) => split,
-        Err(_) => unreachable!(),
-    }
-}
-
 /// What becomes of a loop that is run by 1 to 16 workers: over its split where the gate may hold somebody, and else
-/// over worthwhile blocks, no more than the split has.
+/// by those that it keeps busy, over worthwhile blocks, no more than the split has.
 fn decided_by_plan<R: Threads + Sync, G: Gate>(
     rt: &R,
     of: &SpeculativeLoop,
@@ -198,7 +151,9 @@ fn decided_by_plan<R: Threads + Sync, G: Gate>(
     if gate.may_hold() {
         return decided(rt, of, workers, gate);
     }
-    let split = worthwhile_split(of.call, of.start, of.split.blocks(), workers, gate);
+    let most = of.split.blocks();
+    let busy = busy_workers(of.program, of.call, most, workers, gate);
+    let split = worthwhile_split(of.call, of.start, most, busy, gate);
     let even = SpeculativeLoop {
         alloc: of.alloc,
         program: of.program,
@@ -207,7 +162,7 @@ fn decided_by_plan<R: Threads + Sync, G: Gate>(
         split: &split,
         test: of.test,
     };
-    decided(rt, &even, workers, gate)
+    decided(rt, &even, busy, gate)
 }
 
 /// Runs a loop call that main of this program made, as `run_loop` does, by 1 to 16 workers over at most n even
@@ -233,7 +188,8 @@ pub fn run_loop_evenly<R: Threads + Sync, G: Gate>(
     ensures outcome { IfOk result (λ a. IsOutcome test program.now call.now maps.old a.verdict a.answer maps.new) }
     ensures kept { OnErr result (maps.new ≡ maps.old) }
 {
-    let split = worthwhile_split(call, maps, blocks, workers, gate);
+    let busy = busy_workers(program, call, blocks, workers, gate);
+    let split = worthwhile_split(call, maps, blocks, busy, gate);
     let of = SpeculativeLoop {
         alloc,
         program,
@@ -242,7 +198,7 @@ pub fn run_loop_evenly<R: Threads + Sync, G: Gate>(
         split: &split,
         test,
     };
-    let decision = decided(rt, &of, workers, gate)?;
+    let decision = decided(rt, &of, busy, gate)?;
     Ok(decision.carry_out(program, call, maps, test))
 }
 
@@ -250,8 +206,9 @@ pub fn run_loop_evenly<R: Threads + Sync, G: Gate>(
 /// own, over the blocks of a split. A loop that passes the test is committed on a copy of the maps, by several threads
 /// where there are several workers and it touched many pages; any other is run in order on one. It waits for its
 /// threads, and where one can't be started, the others do its share. Where the gate holds nobody, only what pays is
-/// done: a short loop, and any by one worker, is run by the calling thread alone, as one block, and a longer one over
-/// fewer, even blocks where each would have few iterations beside its elements.
+/// done: a loop of little work, and any by one worker, is run by the calling thread alone, as one block, and any other
+/// by no more workers than have enough to do, over fewer, even blocks where each would have few iterations beside its
+/// elements.
 ///
 /// It fails with `Sizes` (P1) where the maps' sizes differ from the program's; else with `Plan` (P2) where the
 /// workers aren't 1 to 16 or the split isn't of the call's iterations; and with `Memory`.

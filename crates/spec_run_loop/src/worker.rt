@@ -9,16 +9,12 @@ ghost use Rattle.loop_core_block.specs.Shown.{shown};
 ghost use Rattle.spec_run_loop.specs.Workers.{board_worker, IsWorkerAt, AreOfWorkers, AreFaultless};
 
 use crate::working::work;
-use bpf_step::LoopCall;
 use loop_board::{Board, BoardSeat};
 use loop_core_block::{Block, SpeculativeLoop};
 use loop_core_split::Gate;
 use std::alloc::{AllocError, Global};
 use std::thread;
 use std::thread::Threads;
-
-/// From how many iterations on a loop is worth threads: to start and join them takes as long as this many.
-const LONG: u32 = 10_000;
 
 /// A worker that is done: its seat, and the blocks that it ran.
 #[derive(Drop)]
@@ -86,11 +82,6 @@ fn seats_and_blocks<'a>(
         blocks.append(&mut its)?;
     }
     Ok((seats, blocks))
-}
-
-/// Whether a loop is so long that it is worth threads.
-pub(crate) fn is_long(call: &LoopCall) -> bool {
-    call.n() >= LONG
 }
 
 /// Runs the one block of a loop in the calling thread.
