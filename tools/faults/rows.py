@@ -12,7 +12,8 @@ CALL_LOOP = "ldcode r2, callback", "mov64 r3, 0", "mov64 r4, 0", "call 181"
 ELEMENT = "mov64 r2, r1", "lsh64 r2, 3", "ldmapval r3, 0, 0", "add64 r3, r2"  # r3 becomes the address of element r1
 GO_ON, BREAK, EXIT = "mov64 r0, 0", "mov64 r0, 1", "exit"
 
-LONG = 20_000  # iterations, of which some 10,000 are worth threads
+LONG = 20_000  # iterations
+WORK = ("mov64 r5, 0",) * 400  # instructions of an iteration, so that a long loop is worth threads
 LATE = 15_000  # the iteration that breaks in a long loop
 MANY = 65_536  # elements, the most that maps have
 FEW = 1_024  # elements
@@ -110,17 +111,17 @@ def _long_break() -> Row:
     element = "mov64 r2, r1", f"and64 r2, {FEW - 1}", "lsh64 r2, 3", "ldmapval r3, 0, 0", "add64 r3, r2"
     left = [LATE - (LATE - e) % FEW for e in range(FEW)]
     prints = _report(LATE + 1, "parallel", left)
-    return Row("long break", _unit(FEW, _loop(LONG), (*element, *done)), "", _events(LONG, breaks_at=LATE), prints)
+    return Row("long break", _unit(FEW, _loop(LONG), (*WORK, *element, *done)), "", _events(LONG, breaks_at=LATE), prints)
 
 
 def _long_conflict() -> Row:
     sums = "ldmapval r3, 0, 0", "ldx64 r4, [r3+0]", "add64 r4, r1", "stx64 [r3+0], r4", GO_ON
     prints = _report(LONG, "conflict 1 least 0", [sum(range(LONG))])
-    return Row("long conflict", _unit(1, _loop(LONG), sums), "", _events(LONG), prints)
+    return Row("long conflict", _unit(1, _loop(LONG), (*WORK, *sums)), "", _events(LONG), prints)
 
 
 def _many_elements() -> Row:
-    unit = _unit(MANY, _loop(LONG), (*ELEMENT, "stx64 [r3+0], r1", GO_ON))
+    unit = _unit(MANY, _loop(LONG), (*WORK, *ELEMENT, "stx64 [r3+0], r1", GO_ON))
     left = [*range(LONG), *[7] * (MANY - LONG)]
     return Row("many elements", unit, _values([7] * MANY), _events(LONG), _report(LONG, "parallel", left))
 

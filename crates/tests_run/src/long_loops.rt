@@ -1,6 +1,6 @@
 //! What `run` answers to programs with long loops, as users run them: without a gate, by workers in threads of their
 //! own, and committed by several threads where they touch many pages. A row is one of `loops`, in which `3..6` stands
-//! for 3 4 5, and `3*6` for 6 6 6.
+//! for 3 4 5, and `3*6` for 6 6 6. A callback begins with as many instructions more as make its loop worth threads.
 //!
 //! The answers are worked out by hand, from the loop in order and from what a conflict is.
 
@@ -10,7 +10,10 @@ use std::process::Abort;
 use std::test::Fail;
 use std::thread::Threads;
 
-/// Writes the numbers for which a word stands, or the word.
+/// Instructions of a callback, by which 10,000 iterations are worth threads.
+const WORK: u32 = 800;
+
+/// Writes the numbers for which a word stands, or the word, and the work after the beginning of a callback.
 fn push_word(text: &mut String, word: &str) -> Result<(), Fail> {
     if let Some((first, end)) = word.split_once("..") {
         for number in first.parse::<u32>()?..end.parse::<u32>()? {
@@ -22,6 +25,11 @@ fn push_word(text: &mut String, word: &str) -> Result<(), Fail> {
         }
     } else {
         write!(text, " {word}")?;
+    }
+    if word == "LOOP" || word == "cb:" {
+        for _ in 0..WORK {
+            text.push_str(" | mov64 r9, 0")?;
+        }
     }
     Ok(())
 }
