@@ -3,3 +3,4 @@ pub mod KeptLaws
 pub mod TouchLaws
 pub mod FoldLaws
 pub mod EndLaws
+pub mod FoldsInTurn

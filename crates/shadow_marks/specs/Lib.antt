@@ -3,3 +3,4 @@ pub mod Kept
 pub mod Iteration
 pub mod Standing
 pub mod Ending
+pub mod Lanes

@@ -38,7 +38,7 @@ impl Planes {
     /// Merges the flags of one element into its marks. Most iterations touch few elements, so the planes
     /// are looked up here, at each, and not once before the loop.
     #[inline(never)]
-    fn fold(&mut self, e: u32, kept: ElementFlags, index: u32)
+    pub(crate) fn fold(&mut self, e: u32, kept: ElementFlags, index: u32)
         requires whole { ArePlanes self.old }
         requires in_range { e < self.old.elements }
         requires index { index < NO_WRITER }

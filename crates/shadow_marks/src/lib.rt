@@ -13,8 +13,10 @@ mod bits;
 mod element_flags;
 mod ending;
 pub mod iter_flags;
+mod lanes;
 pub mod planes;
 
+pub use element_flags::ElementFlags;
 pub use iter_flags::{IterFlags, MAX_MARKS};
 pub use loop_core_model::{Access, Test};
 pub use planes::{FlowPlanes, LrpdPlanes, NO_WRITER, OperatorPlanes, Planes, Tested};
