@@ -109,7 +109,7 @@ accessed old mid new e kind action kept admitted keeps inside is_kind sees lasts
     }
 
 -- what a cell that some iteration wrote keeps
-last_own : (cell : Cell) → cell.writer ≢ 0 → last_in cell ≡ Some cell.value
+pub last_own : (cell : Cell) → cell.writer ≢ 0 → last_in cell ≡ Some cell.value
 last_own cell written = ap (λ (b : Bool). if b then None else Some cell.value) (ne_eqb cell.writer 0 written)
 
 -- an access that leaves a word

@@ -77,7 +77,7 @@ pub last_none : (xs : List (List Action)) (word : ℕ) → last_value (xs ++ [] 
 last_none xs word = value_behind xs [] word
 
 -- all actions, where one more is made
-joined_last : {A : Type 0} (xs : List (List A)) (ys : List A) → joined (xs ++ ys ∷ []) ≡ joined xs ++ ys
+pub joined_last : {A : Type 0} (xs : List (List A)) (ys : List A) → joined (xs ++ ys ∷ []) ≡ joined xs ++ ys
 joined_last xs ys = joined-append xs (ys ∷ []) ∙ ap (λ l. joined xs ++ l) (append-nil ys)
 
 pub reduction_more : (xs : List (List Action)) (actions : List Action) (action : Action) →
@@ -91,7 +91,7 @@ reduction_more xs actions action =
 pub reduction_none : (xs : List (List Action)) → reduction_of (xs ++ [] ∷ []) ≡ reduction_of xs
 reduction_none xs = ap (reduction_from Untouched) (joined_last xs [] ∙ append-nil (joined xs))
 
-pages_after-append : (pages : List ℕ) (xs ys : List Access) → pages_after pages (xs ++ ys) ≡ pages_after
+pub pages_after-append : (pages : List ℕ) (xs ys : List Access) → pages_after pages (xs ++ ys) ≡ pages_after
     (pages_after pages xs) ys
 pages_after-append pages [] ys = refl
 pages_after-append pages (x ∷ xs) ys = pages_after-append (with_page pages (page_of x.element)) xs ys

@@ -5,3 +5,4 @@ pub mod FollowLaws
 pub mod AccessLaws
 pub mod BeginLaws
 pub mod VisitLaws
+pub mod NoteLaws

@@ -7,3 +7,4 @@ pub mod Inside
 pub mod Shown
 pub mod Steps
 pub mod CopyLaw
+pub mod Noting

@@ -14,6 +14,7 @@
 //! ```
 #![tactic(auto)]
 
+mod noting;
 mod page;
 mod pages;
 pub mod private;

@@ -94,7 +94,7 @@ impl<'a> Private<'a> {
     /// Notes a plain access that leaves the word of an element, whose cell is told. Where a plain access is
     /// noted already, nothing is written.
     #[inline]
-    fn mix(&mut self, e: u32, cell: Cell)
+    pub(crate) fn mix(&mut self, e: u32, cell: Cell)
         requires within { e < length self.old.start.now }
         requires placed { has_page self.old.pages.order (page_of e) ≡ true }
         requires cell { cell ≡ cell_at self.old.pages e }
@@ -117,7 +117,7 @@ impl<'a> Private<'a> {
 
     /// Keeps a word that the iteration leaves at an element by a plain access.
     #[inline]
-    fn leave(&mut self, e: u32, value: u64)
+    pub(crate) fn leave(&mut self, e: u32, value: u64)
         requires within { e < length self.old.start.now }
         requires placed { has_page self.old.pages.order (page_of e) ≡ true }
         ensures { CellIsSet self.old e (left_cell value self.old.begun) self.new }
@@ -136,7 +136,7 @@ impl<'a> Private<'a> {
 
     /// Keeps the cell of an element.
     #[inline]
-    fn keep(&mut self, e: u32, cell: Cell)
+    pub(crate) fn keep(&mut self, e: u32, cell: Cell)
         requires within { e < length self.old.start.now }
         requires placed { has_page self.old.pages.order (page_of e) ≡ true }
         requires writer { cell.writer ≤ self.old.begun }

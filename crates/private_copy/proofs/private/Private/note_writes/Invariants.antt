@@ -1,0 +1,11 @@
+use Rattle.std.proofs.Common.{slice_index}
+use Rattle.array_maps.specs.Accesses.{Write}
+use Rattle.private_copy.specs.Shown.{copy_of}
+use Rattle.private_copy.specs.Noting.{NotesSite}
+use Rattle.private_copy.proofs.private.Private.note_writes.Given as goal
+
+abbrev pub invariant-loop-lane : goal.invariant-loop-lane
+invariant-loop-lane l = NotesSite (copy_of l.fn.self) (λ lane. record {
+  element = slice_index l.elements lane;
+  action = Write (slice_index l.values lane);
+}) l.lane (copy_of l.self)
