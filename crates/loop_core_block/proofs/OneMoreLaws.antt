@@ -23,7 +23,7 @@ still_under_way old new [] same = ap (λ (p : Private). (copy_of p).under_way) s
 still_under_way old new (access ∷ more) effects = still_under_way effects.0 new more effects.2 ∙ effects.1.under_way
 
 -- the accesses of one iteration more
-accesses_more : (ran : List Iterated) (it : Iterated) → accesses_of_each (ran ++ it ∷ []) ≡ accesses_of_each ran
+pub accesses_more : (ran : List Iterated) (it : Iterated) → accesses_of_each (ran ++ it ∷ []) ≡ accesses_of_each ran
     ++ it.accesses ∷ []
 accesses_more ran it = map-append (λ (i : Iterated). i.accesses) ran (it ∷ [])
 

@@ -1,7 +1,7 @@
 -- Iterations one after another, up to a break.
 use Rattle.std.proofs.Common.{◌≡◌, ℕ, suc, ◌+◌, ◌-◌, ◌<◌, ◌≤◌, Bool, true, false, List, [], ◌∷◌, ◌++◌, length, Option, Some, None, refl, sym, ◌∙◌, ap, subst, append_assoc, arith, length-append, is_some}
 use Rattle.std.specs.Prelude.{if◌then◌else◌, ◌==◌}
-use Rattle.std.specs.List.{sum}
+use Rattle.std.specs.List.{sum, AllByRecursion}
 use Rattle.std.proofs.lemmas.List.{append-nil}
 use Rattle.bpf_insn_types.specs.Program.{Program}
 use Rattle.bpf_step_model.specs.State.{LoopCall}
@@ -14,6 +14,7 @@ use Rattle.loop_core_model.specs.Block.{has_break, block_run, break_from, unless
 use Rattle.loop_core_model.proofs.BlockLaws.{scans_follow}
 use Rattle.loop_core_model.proofs.FirstBreak.{break_there}
 use Rattle.bpf_step_batch.specs.declared.entry.Entry.{Entry}
+use Rattle.bpf_step_batch.specs.Logs.{IsLogged}
 use Rattle.loop_core_block.specs.declared.runner.Runner.{Runner}
 use Rattle.loop_core_block.specs.Loops.{LoopOf}
 use Rattle.loop_core_block.specs.Batches.{IsLane, AreIterations}
@@ -30,14 +31,6 @@ still_ready old new ready same = record {
       subst (λ (c : CallbackOf). most_from c.program c.call.callback ≤ old.most) (sym same.callback) ready.enough in
       omega (arith, most, enough);
   few = let most = same.most in let few = ready.few in omega (arith, most, few);
-}
-
--- and for the same loop
-pub still_of : (l : LoopOf) (old new : Runner) → IsOf l old → IsSame old new → IsOf l new
-still_of l old new of same = record {
-  program = ap (λ (c : CallbackOf). c.program) same.callback ∙ of.program;
-  call = ap (λ (c : CallbackOf). c.call) same.callback ∙ of.call;
-  start = same.start ∙ of.start;
 }
 
 -- and has as many iterations
@@ -69,7 +62,7 @@ behind_one : (t : Bool) (first : ℕ) (rest more last : Option ℕ) → (if t th
 behind_one true first rest more last none goes = absurd cc
 behind_one false first rest more last none goes = goes none
 
-break_behind : (index : ℕ) (xs ys : List Iterated) → break_from index xs ≡ None
+pub break_behind : (index : ℕ) (xs ys : List Iterated) → break_from index xs ≡ None
     → break_from index (xs ++ ys) ≡ break_from (index + length xs) ys
 break_behind index [] ys none =
     let here : index ≡ index + 0 = omega arith in
@@ -82,7 +75,7 @@ break_behind index (x ∷ xs) ys none =
 
 -- a block is the scan of its first part, and then of the rest
 module _ (r : Runner) (from mid to : ℕ) (up : from ≤ mid) (on : mid ≤ to) where
-  parts : block_by r from to ≡ followed (unless_break (block_by r mid to)) (block_by r from mid)
+  pub parts : block_by r from to ≡ followed (unless_break (block_by r mid to)) (block_by r from mid)
   parts =
       let both : to - from ≡ mid - from + (to - mid) = omega (arith, up, on) in
       let reached : from + (mid - from) ≡ mid = omega (arith, up) in
@@ -105,7 +98,7 @@ ran_none r from = record {
 }
 
 -- one iteration
-either_way : (t : Bool) (e : BoundedResult (List Iterated)) → (if t then e else e) ≡ e
+pub either_way : (t : Bool) (e : BoundedResult (List Iterated)) → (if t then e else e) ≡ e
 either_way true e = refl
 either_way false e = refl
 
@@ -224,13 +217,37 @@ up_to first past old new broke none x = record {
   has_run = x.has_run first [] none;
 }
 
--- a lane is an iteration of the runner's loop
-pub lane_here : (l : LoopOf) (r : Runner) (entries : List Entry) (first lanes lane index : ℕ) → IsOf l r
-    → AreIterations l.program l.call l.start.words entries first lanes → lane < lanes → first + lane ≡ index
-    → IsLane r.callback.program r.callback.call (start_words r) entries index lane
-lane_here l r entries first lanes lane index of are below at =
-    subst (λ (i : ℕ). IsLane r.callback.program r.callback.call (start_words r) entries i lane) at
-    (subst (λ (p : Program). IsLane p r.callback.call (start_words r) entries (first + lane) lane) (sym of.program)
-    (subst (λ (c : LoopCall). IsLane l.program c (start_words r) entries (first + lane) lane) (sym of.call)
-    (subst (λ (words : List ℕ). IsLane l.program l.call words entries (first + lane) lane) (sym of.start)
-    (are lane below))))
+-- lanes are iterations of the runner's loop
+pub lanes_here : (l : LoopOf) (r : Runner) (entries : List Entry) (first lanes : ℕ) → IsOf l r
+    → AreIterations l.program l.call l.start.words entries first lanes
+    → AreIterations r.callback.program r.callback.call (start_words r) entries first lanes
+lanes_here l r entries first lanes of are =
+    subst (λ (p : Program). AreIterations p r.callback.call (start_words r) entries first lanes) (sym of.program)
+    (subst (λ (c : LoopCall). AreIterations l.program c (start_words r) entries first lanes) (sym of.call)
+    (subst (λ (words : List ℕ). AreIterations l.program l.call words entries first lanes) (sym of.start) are))
+
+-- and stay so
+pub lane_still : (old new : Runner) (entries : List Entry) (index lane : ℕ) → IsSame old new
+    → IsLane old.callback.program old.callback.call (start_words old) entries index lane
+    → IsLane new.callback.program new.callback.call (start_words new) entries index lane
+lane_still old new entries index lane same is =
+    subst (λ (c : CallbackOf). IsLane c.program c.call (start_words new) entries index lane) (sym same.callback)
+    (subst (λ (words : List ℕ). IsLane old.callback.program old.callback.call words entries index lane) (sym same.start)
+    is)
+
+-- those of a batch are, by another name of the loop and of the entries
+module _ (l view : LoopOf) (r : Runner) (entries told : List Entry) (lanes : ℕ) (is : view ≡ l) (of : IsOf l r)
+    (same : told ≡ entries) where
+  of_view : IsOf view r
+  of_view = subst (λ (x : LoopOf). IsOf x r) (sym is) of
+
+  pub lanes_of : (first : ℕ) → AreIterations view.program view.call view.start.words entries first lanes
+      → AreIterations r.callback.program r.callback.call (start_words r) told first lanes
+  lanes_of first are = lanes_here view r told first lanes of_view
+      (subst (λ (es : List Entry). AreIterations view.program view.call view.start.words es first lanes) (sym same) are)
+
+  pub logged_of : AllByRecursion (IsLogged lanes view.start.words) entries
+      → AllByRecursion (IsLogged lanes (start_words r)) told
+  logged_of logged =
+      subst (λ (words : List ℕ). AllByRecursion (IsLogged lanes words) told) (sym of_view.start)
+      (subst (λ (es : List Entry). AllByRecursion (IsLogged lanes view.start.words) es) (sym same) logged)

@@ -3,5 +3,7 @@ pub mod Shown
 pub mod Ran
 pub mod Loops
 pub mod Batches
+pub mod Folding
+pub mod Placing
 pub mod Runs
 pub mod LoopBlocks

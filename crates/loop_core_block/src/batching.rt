@@ -1,8 +1,9 @@
 //! Iterations that are run together.
 
 ghost use Rattle.std.specs.Prelude.{◌≡◌, ◌+◌, ◌<◌, ◌≤◌, true};
+ghost use Rattle.std.specs.List.{AllByRecursion};
 ghost use Rattle.bpf_verify_sound.specs.Soundness.{OverApproximatesCall};
-ghost use Rattle.bpf_step_batch.specs.Logs.{entries_of};
+ghost use Rattle.bpf_step_batch.specs.Logs.{entries_of, IsLogged};
 ghost use Rattle.loop_core_block.specs.Batches.{AreIterations};
 
 use array_maps::Maps;
@@ -26,7 +27,9 @@ pub(crate) fn run_together(
     requires some { 0 < lanes }
     requires room { lanes ≤ 128 }
     requires within { first + lanes ≤ call.now.n }
-    ensures { result ≡ true → AreIterations program.now call.now start.now.words (entries_of batch.new) first lanes }
+    ensures iterations { result ≡ true → AreIterations program.now call.now start.now.words (entries_of batch.new) first
+        lanes }
+    ensures logged { result ≡ true → AllByRecursion (IsLogged lanes start.now.words) (entries_of batch.new) }
 {
     law_of_plain_iterations();
     let (ops, _fast) = program.operations();

@@ -1,12 +1,16 @@
 //! Blocks of a speculative loop: the iterations of an interval, each on the loop's start words, and what is kept of
-//! them. Iterations that may go together do, up to 128 at a time.
+//! them. Iterations that may go together do, up to 128 at a time: what they did is
+//! folded in site by site, where that comes to the same as one iteration after another.
 #![tactic(auto)]
 
 mod batching;
 mod block;
+mod folding;
+mod placing;
 mod repeating;
 mod runner;
 mod running;
+mod site_folds;
 mod speculative_loop;
 
 pub use block::Block;

@@ -49,7 +49,7 @@ fn repeat(copy: &mut Private, entry: &Entry, lane: u32)
 
 /// The element that a lane accesses.
 #[inline]
-fn element(entry: &Entry, lane: u32) -> u32
+pub(crate) fn element(entry: &Entry, lane: u32) -> u32
     requires lane { lane < 128 }
     requires few { element_by entry.now.site.elements entry.now.elements lane < 65536 }
     ensures { result ≡ element_by entry.now.site.elements entry.now.elements lane }

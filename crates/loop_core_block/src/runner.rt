@@ -1,14 +1,20 @@
 //! Running iterations one after another.
 
-ghost use Rattle.std.specs.Prelude.{◌≡◌, ◌+◌, ◌<◌, ◌≤◌, ℕ, false, length, List, [], IfOk, OnOk};
+ghost use Rattle.std.specs.Prelude.{◌≡◌, ◌+◌, ◌<◌, ◌≤◌, ℕ, false, length, List, [], None, IfOk, OnOk};
+ghost use Rattle.std.specs.List.{AllByRecursion};
 ghost use Rattle.bpf_step_model.specs.Iteration.{Iterated};
 ghost use Rattle.bpf_verify_sound.specs.Soundness.{most_from};
 ghost use Rattle.shadow_marks.specs.Standing.{test_of};
-ghost use Rattle.loop_core_block.specs.Batches.{IsLane};
+ghost use Rattle.bpf_step_batch.specs.Logs.{IsLogged};
+ghost use Rattle.loop_core_block.specs.Batches.{IsLane, AreIterations};
+ghost use Rattle.loop_core_block.specs.Folding.{MayFold};
 ghost use Rattle.loop_core_block.specs.Runs.{start_words, IsReady, IsOf, RunnerHasRun, RanOneMore, RanMore, RanTogether, RanUpTo};
 
 use crate::batching::run_together;
+use crate::folding::may_fold;
+use crate::placing::place_all;
 use crate::repeating::repeat_all;
+use crate::site_folds::{end_all, note_all};
 use crate::speculative_loop::SpeculativeLoop;
 use bpf_step::Callback;
 use bpf_step_batch::{Batch, Entry};
@@ -150,14 +156,68 @@ impl<'c, 'a> Runner<'c, 'a> {
         requires so_far { (start : ℕ) × (ran : List Iterated) × RunnerHasRun start index ran self.old }
         ensures ran { IfOk result (RanTogether index to self.old self.new) }
     {
-        if !run_together(batch, of.program, of.call, of.start, index, to - index) {
+        let lanes = to - index;
+        if !run_together(batch, of.program, of.call, of.start, index, lanes) {
             return Ok(false);
         }
         let entries = batch.entries();
-        for next in index..to {
-            self.follow(of.alloc, entries, next, next - index)?;
+        if may_fold(entries, lanes) {
+            self.fold(of.alloc, entries, index, lanes)?;
+            return Ok(true);
         }
+        self.follow_all(of.alloc, entries, index, lanes)?;
         Ok(true)
+    }
+
+    /// Folds what the lanes of a batch did, which are the iterations from an index on, site by site. Iterations were
+    /// run up to it.
+    fn fold(
+        &mut self,
+        alloc: Global,
+        entries: &[Entry],
+        index: u32,
+        lanes: u32,
+    ) -> Result<(), AllocError>
+        requires ready { IsReady self.old }
+        requires some { 0 < lanes }
+        requires room { lanes ≤ 128 }
+        requires within { index + lanes ≤ self.old.callback.call.n }
+        requires are { AreIterations self.old.callback.program self.old.callback.call (start_words self.old) entries.now
+            index lanes }
+        requires logged { AllByRecursion (IsLogged lanes (start_words self.old)) entries.now }
+        requires may { MayFold lanes entries.now }
+        requires so_far { (start : ℕ) × (ran : List Iterated) × RunnerHasRun start index ran self.old }
+        ensures ran { OnOk result (RanMore index (index + lanes) self.old self.new None) }
+    {
+        place_all(&mut self.copy, alloc, entries, lanes)?;
+        self.copy.pass(lanes);
+        note_all(&mut self.copy, entries, lanes);
+        end_all(&mut self.planes, entries, lanes, index);
+        Ok(())
+    }
+
+    /// Does on the copy what the lanes of a batch did, one after another, which are the iterations from an index on.
+    /// Iterations were run up to it.
+    fn follow_all(
+        &mut self,
+        alloc: Global,
+        entries: &[Entry],
+        index: u32,
+        lanes: u32,
+    ) -> Result<(), AllocError>
+        requires ready { IsReady self.old }
+        requires room { lanes ≤ 128 }
+        requires few { length entries.now ≤ 8 }
+        requires within { index + lanes ≤ self.old.callback.call.n }
+        requires are { AreIterations self.old.callback.program self.old.callback.call (start_words self.old) entries.now
+            index lanes }
+        requires so_far { (start : ℕ) × (ran : List Iterated) × RunnerHasRun start index ran self.old }
+        ensures ran { OnOk result (RanMore index (index + lanes) self.old self.new None) }
+    {
+        for lane in 0..lanes {
+            self.follow(alloc, entries, index + lane, lane)?;
+        }
+        Ok(())
     }
 
     /// Runs one by one the iterations from an index up to another, for which the gate was called, and on from

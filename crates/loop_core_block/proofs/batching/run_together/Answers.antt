@@ -1,8 +1,8 @@
-use Rattle.std.proofs.Common.{◌∙◌, ap, subst, arith}
-use Rattle.std.specs.List.{sum}
+use Rattle.std.proofs.Common.{ℕ, List, ◌∙◌, ap, subst, arith}
+use Rattle.std.specs.List.{sum, AllByRecursion}
 use Rattle.array_maps.specs.MapList.{AreWords}
 use Rattle.bpf_step.proofs.Limits.{few_slots}
-use Rattle.bpf_step_batch.specs.Logs.{entries_of}
+use Rattle.bpf_step_batch.specs.Logs.{entries_of, IsLogged}
 use Rattle.loop_core_block.proofs.LaneLaws.{are_iterations}
 use Rattle.loop_core_block.proofs.batching.run_together.Goals as goal
 
@@ -12,8 +12,8 @@ run-requires-clause-slots c =
     let same = c.operations.ensures.ops.count in
     omega (arith, few, same)
 
-pub returns : goal.returns
-returns c = λ yes.
+pub returns-clause-iterations : goal.returns-clause-iterations
+returns-clause-iterations c = λ yes.
     are_iterations c.law_of_plain_iterations.ensures c.args.program.now
     (record { accepted = c.operations.ensures.accepted; fits = c.operations.ensures.fit })
     c.operations.result.0.now c.operations.ensures.ops c.args.call.now c.requires.known c.frame.result.now
@@ -24,3 +24,8 @@ returns c = λ yes.
     })
     c.callback.result c.args.first c.args.lanes c.callback.ensures c.requires.within c.words.result.now
     c.words.ensures.words (entries_of c.run.new.self) (c.run.ensures yes)
+
+pub returns-clause-logged : goal.returns-clause-logged
+returns-clause-logged c = λ yes.
+    subst (λ (words : List ℕ). AllByRecursion (IsLogged c.args.lanes words) (entries_of c.run.new.self))
+    c.words.ensures.words (c.run.ensures yes).logged

@@ -1,36 +1,35 @@
-use Rattle.std.proofs.Common.{◌-◌, List, false, refl, sym, subst, arith}
-use Rattle.bpf_step_batch.specs.declared.entry.Entry.{Entry}
-use Rattle.loop_core_block.specs.Loops.{LoopOf}
-use Rattle.loop_core_block.specs.Batches.{AreIterations}
-use Rattle.loop_core_block.specs.Runs.{IsOf}
-use Rattle.loop_core_block.proofs.RunLaws.{still_of, ran_none, goes_on, so_far, lane_here}
+use Rattle.std.proofs.Common.{◌≡◌, ◌+◌, ◌-◌, ℕ, None, subst, arith}
+use Rattle.bpf_step_batch.specs.Logs.{entries_of}
+use Rattle.loop_core_block.specs.Runs.{RanMore}
+use Rattle.loop_core_block.proofs.RunLaws.{lanes_of, logged_of}
 use Rattle.loop_core_block.proofs.runner.Runner.together.Goals as goal
 
-pub loop-next-init : goal.loop-next-init
-loop-next-init c = ran_none c.args.self.now c.args.index
+pub fold-requires-clause-are : goal.fold-requires-clause-are
+fold-requires-clause-are c = lanes_of c.args.of.now _ c.args.self.now (entries_of c.run_together.new.batch)
+    c.entries-entries.result.now (c.args.to - c.args.index) c.of.view_is c.requires.of c.entries-entries.ensures.entries
+    c.args.index (c.run_together.ensures.iterations c.if-not-run_together.false)
 
-pub follow-requires-clause-is : goal.follow-requires-clause-is
-follow-requires-clause-is c =
-    let of : LoopOf = record {
-      program = c.of.inside.program.now;
-      call = c.of.inside.call.now;
-      start = c.of.inside.start.now;
-      bounds = c.of.inside.split.now;
-      test = c.of.inside.test;
-    } in
-    lane_here of c.loop-next.self c.entries-entries.result.now c.args.index (c.args.to - c.args.index)
-    (c.loop-next.next - c.args.index) c.loop-next.next
-    (still_of of c.args.self.now c.loop-next.self
-    (subst (λ (l : LoopOf). IsOf l c.args.self.now) (sym c.of.view_is) c.requires.of) c.loop-next.invariant.same)
-    (subst (λ (es : List Entry). AreIterations of.program of.call of.start.words es c.args.index
-    (c.args.to - c.args.index)) (sym c.entries-entries.ensures.entries)
-    (c.run_together.ensures c.if-not-run_together.false))
-    (omega (arith, c.loop-next-test.true)) (omega arith)
+pub fold-requires-clause-logged : goal.fold-requires-clause-logged
+fold-requires-clause-logged c = logged_of c.args.of.now _ c.args.self.now (entries_of c.run_together.new.batch)
+    c.entries-entries.result.now (c.args.to - c.args.index) c.of.view_is c.requires.of c.entries-entries.ensures.entries
+    (c.run_together.ensures.logged c.if-not-run_together.false)
 
-pub follow-requires-clause-so_far : goal.follow-requires-clause-so_far
-follow-requires-clause-so_far c = so_far c.args.index c.loop-next.next c.args.self.now c.loop-next.self
-    c.loop-next.invariant c.requires.so_far
+pub follow_all-requires-clause-are : goal.follow_all-requires-clause-are
+follow_all-requires-clause-are c = lanes_of c.args.of.now _ c.args.self.now (entries_of c.run_together.new.batch)
+    c.entries-entries.result.now (c.args.to - c.args.index) c.of.view_is c.requires.of c.entries-entries.ensures.entries
+    c.args.index (c.run_together.ensures.iterations c.if-not-run_together.false)
 
-pub loop-next-preserved : goal.loop-next-preserved
-loop-next-preserved c = goes_on c.args.index c.loop-next.next c.args.self.now c.loop-next.self c.follow.new.self false
-    (omega arith) c.loop-next.invariant c.in_ok-follow.ensures.ran refl
+pub returns-then-may_fold : goal.returns-then-may_fold
+returns-then-may_fold c =
+    let all : c.args.index + (c.args.to - c.args.index) ≡ c.args.to = omega (arith, c.requires.some) in
+    record {
+      ran = subst (λ (i : ℕ). RanMore c.args.index i c.args.self.now c.fold.new.self None) all c.in_ok-fold.ensures.ran;
+    }
+
+pub returns : goal.returns
+returns c =
+    let all : c.args.index + (c.args.to - c.args.index) ≡ c.args.to = omega (arith, c.requires.some) in
+    record {
+      ran = subst (λ (i : ℕ). RanMore c.args.index i c.args.self.now c.follow_all.new.self None) all
+          c.in_ok-follow_all.ensures.ran;
+    }

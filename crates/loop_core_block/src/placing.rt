@@ -1,0 +1,76 @@
+//! The pages of a batch's elements, placed as if its lanes came one after another.
+
+ghost use Rattle.std.specs.Prelude.{◌≡◌, ℕ, ◌<◌, ◌≤◌, false, List, length, OnOk, IfOk};
+ghost use Rattle.std.specs.List.{AllByRecursion};
+ghost use Rattle.private_copy.specs.Shown.{copy_of};
+ghost use Rattle.bpf_step_batch.specs.Logs.{element_by};
+ghost use Rattle.loop_core_block.specs.Batches.{HasElement};
+ghost use Rattle.loop_core_block.specs.Placing.{PlacesLanes, PlacesLane, KeepsPage};
+
+use crate::repeating::element;
+use bpf_step_batch::Entry;
+use loop_core_batch::Elements;
+use private_copy::Private;
+use std::alloc::{AllocError, Global};
+
+/// Elements in a page.
+const PAGE: u32 = 64;
+
+/// Sees that the pages of the elements of the first lanes are placed, lane by lane. It looks at those lanes alone at
+/// which a site may enter another page.
+pub(crate) fn place_all(
+    copy: &mut Private,
+    alloc: Global,
+    entries: &[Entry],
+    lanes: u32,
+) -> Result<(), AllocError>
+    requires ended { (copy_of copy.old).under_way ≡ false }
+    requires room { lanes ≤ 128 }
+    requires within { (lane : ℕ) → lane < lanes → AllByRecursion (HasElement lane (length (copy_of copy.old).start))
+        entries.now }
+    ensures { OnOk result (PlacesLanes (copy_of copy.old) (copy_of copy.new) entries.now lanes) }
+{
+    let mut lane = 0;
+    while lane < lanes {
+        lane = place_lane(copy, alloc, entries, lane, lanes)?;
+    }
+    Ok(())
+}
+
+/// Sees that the pages of a lane's elements are placed. Gives the next lane at which a site may enter another page.
+fn place_lane(
+    copy: &mut Private,
+    alloc: Global,
+    entries: &[Entry],
+    lane: u32,
+    lanes: u32,
+) -> Result<u32, AllocError>
+    requires ended { (copy_of copy.old).under_way ≡ false }
+    requires below { lane < lanes }
+    requires room { lanes ≤ 128 }
+    requires within { AllByRecursion (HasElement lane (length (copy_of copy.old).start)) entries.now }
+    ensures { IfOk result (PlacesLane (copy_of copy.old) (copy_of copy.new) entries.now lane lanes) }
+{
+    let mut next = lanes;
+    for entry in entries {
+        let e = element(entry, lane);
+        copy.place(alloc, e)?;
+        next = next.min(next_page(entry, lane, e));
+    }
+    Ok(next)
+}
+
+/// The next lane at which a site may enter another page than the element of this lane is in.
+#[inline]
+fn next_page(entry: &Entry, lane: u32, e: u32) -> u32
+    requires lane { lane < 128 }
+    requires here { e ≡ element_by entry.now.site.elements entry.now.elements lane }
+    ensures on { lane < result }
+    ensures same { KeepsPage lane result entry.now }
+{
+    match entry.site.elements {
+        Elements::One(_) => u32::MAX,
+        Elements::Run(_) => lane + (PAGE - e % PAGE),
+        Elements::Between { low: _, high: _ } => lane + 1,
+    }
+}
