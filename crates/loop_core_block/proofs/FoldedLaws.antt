@@ -1,12 +1,11 @@
 -- A batch that was folded into a block is iterations more.
-use Rattle.std.proofs.Common.{◌≡◌, ℕ, zero, suc, ◌+◌, ◌-◌, ◌<◌, ◌≤◌, Bool, true, false, List, [], ◌∷◌, ◌++◌, length, Option, Some, None, is_some, refl, sym, ◌∙◌, ap, subst, arith, length-append}
+use Rattle.std.proofs.Common.{◌≡◌, ℕ, zero, suc, ◌+◌, ◌-◌, ◌≤◌, Bool, false, List, [], ◌∷◌, ◌++◌, length, Option, Some, None, is_some, refl, sym, ◌∙◌, ap, subst, arith, length-append}
 use Rattle.std.specs.Prelude.{slice_index, if◌then◌else◌, ◌==◌}
 use Rattle.std.specs.List.{AllByRecursion}
 use Rattle.std.proofs.lemmas.List.{map-append, length-map}
 use Rattle.array_maps.specs.Accesses.{Access}
-use Rattle.bpf_step_model.specs.Run.{BoundedResult, Ended, followed, mapped}
+use Rattle.bpf_step_model.specs.Run.{BoundedResult, Ended, followed}
 use Rattle.bpf_step_model.specs.Iteration.{Iterated}
-use Rattle.loop_core_model.specs.Actions.{joined}
 use Rattle.loop_core_model.specs.Committed.{last_value}
 use Rattle.loop_core_model.specs.Conflict.{at_element}
 use Rattle.loop_core_model.specs.LeastBreak.{accesses_of_each}
@@ -19,7 +18,6 @@ use Rattle.shadow_marks.specs.Lanes.{over_lanes}
 use Rattle.private_copy.specs.declared.private.Private.{Private}
 use Rattle.private_copy.specs.declared.reduction.Reduction.{Reduction}
 use Rattle.private_copy.specs.Reductions.{reduction_of}
-use Rattle.private_copy.specs.Touched.{pages_after}
 use Rattle.private_copy.specs.Copies.{PrivateCopy, CopyRecords}
 use Rattle.private_copy.specs.Noting.{HavePassed, last_by_lane, reduction_by_lane}
 use Rattle.private_copy.specs.Shown.{copy_of}
@@ -28,12 +26,12 @@ use Rattle.bpf_step_batch.specs.declared.entry.Entry.{Entry}
 use Rattle.bpf_step_batch.specs.Logs.{log_by, IsLogged}
 use Rattle.loop_core_block.specs.declared.runner.Runner.{Runner}
 use Rattle.loop_core_block.specs.Batches.{AreIterations}
-use Rattle.loop_core_block.specs.Folding.{by_site, over_sites, MayFold, Lead, leads_of, marks_by_lead, PlanesFold, CopyFolds}
+use Rattle.loop_core_block.specs.Folding.{by_site, MayFold, leads_of, marks_by_lead, PlanesFold, CopyFolds}
 use Rattle.loop_core_block.specs.Placing.{pages_by_lane, PlacesLanes}
-use Rattle.loop_core_block.specs.Runs.{start_words, RunnerHasRun, RanMore}
+use Rattle.loop_core_block.specs.Runs.{start_words, RanMore}
 use Rattle.loop_core_block.proofs.Grid.{either_order}
 use Rattle.loop_core_block.proofs.KeptLanes.{runs_of, last_lanes, reduction_lanes, pages_lanes, all_swap}
-use Rattle.loop_core_block.proofs.MarkedLanes.{leads_swap, marks_lanes, length-runs_of}
+use Rattle.loop_core_block.proofs.MarkedLanes.{leads_swap, marks_lanes}
 use Rattle.loop_core_block.proofs.OneMoreLaws.{accesses_more}
 use Rattle.loop_core_block.proofs.RunLaws.{block_by, iterate_by, parts, either_way, break_behind}
 

@@ -1,5 +1,5 @@
 -- What lanes mark at an element, lane by lane.
-use Rattle.std.proofs.Common.{◌≡◌, ℕ, zero, suc, ◌+◌, ◌<◌, ◌≤◌, Bool, true, false, ◌||◌, eqb, List, [], ◌∷◌, ◌++◌, length, map, Option, Some, None, refl, sym, ◌∙◌, ap, subst, append_assoc, eq-eqb, ne_eqb, eqb-true, arith, length-append}
+use Rattle.std.proofs.Common.{◌≡◌, ℕ, zero, suc, ◌+◌, ◌<◌, ◌≤◌, Bool, true, false, ◌||◌, eqb, List, [], ◌∷◌, ◌++◌, length, map, Option, Some, None, refl, sym, ◌∙◌, ap, append_assoc, eq-eqb, ne_eqb, eqb-true, arith, length-append}
 use Rattle.std.specs.Prelude.{slice_index, if◌then◌else◌}
 use Rattle.std.specs.List.{AllByRecursion, list_any}
 use Rattle.std.proofs.Math.Bool.{or-false}
@@ -14,10 +14,8 @@ use Rattle.loop_core_model.proofs.FlagLaws.{flags_follow_kinds}
 use Rattle.loop_core_model.proofs.MarkLaws.{marks_merge}
 use Rattle.loop_core_batch.specs.declared.elements.Elements.{Elements}
 use Rattle.loop_core_batch.specs.declared.elements.Elements.TheVariants.{One, Run, Between}
-use Rattle.loop_core_batch.specs.declared.site.Site.{Site}
 use Rattle.loop_core_batch.specs.Sites.{MayAccess}
-use Rattle.shadow_marks.specs.Standing.{one_more}
-use Rattle.shadow_marks.specs.Lanes.{over_lanes, marks_by}
+use Rattle.shadow_marks.specs.Lanes.{over_lanes}
 use Rattle.shadow_marks.proofs.EndLaws.{merged-none}
 use Rattle.private_copy.specs.Visits.{visits_of}
 use Rattle.private_copy.proofs.VisitLaws.{visits_more}

@@ -1,7 +1,6 @@
 use Rattle.std.proofs.Common.{◌≡◌, ℕ, length, sym, ap, subst, ◌∙◌, arith}
 use Rattle.std.specs.List.{AllByRecursion}
 use Rattle.private_copy.specs.Shown.{copy_of}
-use Rattle.bpf_step_batch.specs.declared.entry.Entry.{Entry}
 use Rattle.loop_core_block.specs.Batches.{HasElement}
 use Rattle.loop_core_block.specs.Placing.{PlacesLanes}
 use Rattle.loop_core_block.proofs.PageLanes.{none_placed_yet, lanes_placed}

@@ -1,4 +1,4 @@
-use Rattle.std.proofs.Common.{◌≡◌, ◌+◌, ◌-◌, ℕ, List, length, map, take, drop, slice_index_or, subst, sym, arith}
+use Rattle.std.proofs.Common.{◌+◌, ◌-◌, ℕ, List, length, map, take, drop, slice_index_or, subst, sym, arith}
 use Rattle.std.proofs.lemmas.List.{take_all, length-drop}
 use Rattle.bpf_step_batch.specs.declared.entry.Entry.{Entry}
 use Rattle.bpf_step_batch.specs.Logs.{element_by, site_of}

@@ -1,5 +1,4 @@
-use Rattle.std.proofs.Common.{◌<◌, ℕ, List, Option, length, map, take, slice_index, refl, sym, subst, arith}
-use Rattle.std.specs.List.{All}
+use Rattle.std.proofs.Common.{ℕ, Option, take, slice_index, refl, sym, subst, arith}
 use Rattle.loop_core_model.specs.Flags.{Flags}
 use Rattle.shadow_marks.specs.Kept.{flags_in}
 use Rattle.shadow_marks.specs.Lanes.{FoldsLanes}

@@ -1,4 +1,4 @@
-use Rattle.std.proofs.Common.{◌≡◌, ◌<◌, ◌≤◌, ℕ, true, List, length, take, slice_index_or, ap, sym, subst, arith, ◌∙◌}
+use Rattle.std.proofs.Common.{◌≡◌, ◌<◌, ℕ, true, List, length, take, slice_index_or, sym, subst, arith}
 use Rattle.std.specs.List.{All}
 use Rattle.private_copy.specs.Shown.{copy_of}
 use Rattle.private_copy.specs.Touched.{has_page, page_of}

@@ -1,7 +1,6 @@
-use Rattle.std.proofs.Common.{◌≡◌, ◌+◌, ◌<◌, ◌≤◌, ℕ, List, length, refl, sym, ap, subst, ◌∙◌, arith}
+use Rattle.std.proofs.Common.{ℕ, List, length, refl, sym, subst, ◌∙◌, arith}
 use Rattle.std.specs.List.{AllByRecursion}
 use Rattle.private_copy.specs.Shown.{copy_of}
-use Rattle.bpf_step_batch.specs.declared.entry.Entry.{Entry}
 use Rattle.loop_core_block.specs.Batches.{HasElement}
 use Rattle.loop_core_block.specs.Placing.{HasPlace}
 use Rattle.loop_core_block.specs.Runs.{start_words}

@@ -1,4 +1,4 @@
-use Rattle.std.proofs.Common.{◌≡◌, ◌+◌, ℕ, None, false, refl, sym, subst, arith}
+use Rattle.std.proofs.Common.{◌≡◌, ◌+◌, ℕ, None, false, refl, subst, arith}
 use Rattle.loop_core_block.specs.Runs.{RanMore}
 use Rattle.loop_core_block.proofs.RunLaws.{ran_none, goes_on, so_far, lane_still}
 use Rattle.loop_core_block.proofs.runner.Runner.follow_all.Goals as goal
