@@ -1,6 +1,6 @@
 -- What a program does to the elements of its maps. The maps are one list of words: the elements of map 0, then
 -- those of map 1, and so on.
-use Rattle.std.specs.Prelude.{◌≡◌, ℕ, ◌<◌, ◌==◌, if◌then◌else◌, List, [], ◌∷◌, length, slice_index, slice_set}
+use Rattle.std.specs.Prelude.{◌≡◌, ℕ, zero, suc, ◌+◌, ◌<◌, ◌==◌, if◌then◌else◌, List, [], ◌∷◌, length, slice_index, slice_set}
 use Rattle.bpf_insn_types.specs.declared.insn.Width.TheVariants.{W64}
 use Rattle.bpf_insn_types.specs.declared.insn.AluOp.{AluOp}
 use Rattle.bpf_insn_types.specs.Words.{alu}
@@ -88,6 +88,12 @@ words_after access words = slice_set words access.element (left_by access.action
 abbrev pub words_after_all : List Access → List ℕ → List ℕ
 words_after_all [] words = words
 words_after_all (access ∷ accesses) words = words_after_all accesses (words_after access words)
+
+-- the words after an action at each of the elements that follow on a first one, as many as are counted
+abbrev pub words_after_run : (first : ℕ) → (action : ℕ → Action) → (count : ℕ) → List ℕ → List ℕ
+words_after_run first action zero words = words
+words_after_run first action (suc count) words =
+    words_after (record { element = first + count; action = action count }) (words_after_run first action count words)
 
 -- a list of accesses acts on each element by itself, and makes no element and loses none
 pub record EachElement : Type 0 where

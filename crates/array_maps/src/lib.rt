@@ -13,6 +13,7 @@ mod access;
 pub mod changes;
 pub mod halves;
 pub mod maps;
+mod runs;
 pub mod store;
 pub mod words;
 

@@ -3,8 +3,11 @@
 ghost use Rattle.std.specs.Prelude.{◌≡◌, ◌≢◌, ℕ, ◌+◌, ◌<◌, ◌≤◌, ◌↔◌, length, slice_index, slice_range, slice_set, IfOk, OnOk, IfSome, IfNone, IsErrOf, false};
 ghost use Rattle.std.specs.List.{concat, sum};
 ghost use Rattle.bpf_insn_types.specs.Limits.{AreSizes, sizes_fit};
+ghost use Rattle.array_maps.specs.Accesses.{Reduce, Write, words_after_run};
 ghost use Rattle.array_maps.specs.MapList.{MapList, AreWords, base_of, zero_maps, lists, lengths, maps_of};
 
+use crate::access::Op;
+use crate::runs::{store_each, update_each};
 use crate::words::are_words;
 use bpf_insn_types::{MAX_ELEMENTS, elements_of};
 use std::alloc::{AllocError, Global};
@@ -188,6 +191,40 @@ impl Maps {
         ensures { self.new ≡ record { sizes = self.old.sizes; words = slice_set self.old.words e value } }
     {
         self.words[e as usize] = value;
+    }
+
+    /// Stores words at the elements that follow on a first one, as many as there are words. All of these
+    /// elements are there.
+    pub fn store_run(&mut self, first: u32, values: &[u64])
+        requires { first + length values.now ≤ length self.old.words }
+        ensures { self.new ≡ record {
+          sizes = self.old.sizes;
+          words = words_after_run first (λ k. Write (slice_index values.now k)) (length values.now) self.old.words;
+        } }
+    {
+        store_each(&mut self.words, first as usize, values);
+        are_words(self.words.as_slice());
+    }
+
+    /// Applies an operator, by one operand each, to the elements that follow on a first one, as many as
+    /// there are operands. All of these elements are there.
+    pub fn update_run(&mut self, first: u32, op: Op, operands: &[u64])
+        requires { first + length operands.now ≤ length self.old.words }
+        ensures { self.new ≡ record {
+          sizes = self.old.sizes;
+          words = words_after_run first (λ k. Reduce op (slice_index operands.now k)) (length operands.now)
+              self.old.words;
+        } }
+    {
+        let first = first as usize;
+        match op {
+            Op::Add => update_each(&mut self.words, first, Op::Add, operands),
+            Op::Or => update_each(&mut self.words, first, Op::Or, operands),
+            Op::And => update_each(&mut self.words, first, Op::And, operands),
+            Op::Xor => update_each(&mut self.words, first, Op::Xor, operands),
+            Op::AddH => update_each(&mut self.words, first, Op::AddH, operands),
+        }
+        are_words(self.words.as_slice());
     }
 
     /// Where the words of a map begin.
