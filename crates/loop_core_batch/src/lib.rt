@@ -20,7 +20,7 @@ ghost use Rattle.loop_core_batch.specs.Sites.{SitesTell};
 pub use elements::Elements;
 pub use loop_core_model::Access;
 use loop_core_model::law_of_operators;
-pub use site::{Site, all_commute, none_sees};
+pub use site::{Site, all_commute, leaves, none_sees};
 
 /// The law of batches: where iterations go on that ran on the words from before them, and none sees an
 /// element that an earlier one writes, the loop in order is the loop after them, on the words after

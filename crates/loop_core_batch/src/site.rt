@@ -98,7 +98,7 @@ fn sees(kind: Access) -> bool
 }
 
 /// Whether an access of this kind leaves a word.
-fn leaves(kind: Access) -> bool
+pub fn leaves(kind: Access) -> bool
     ensures { result ≡ kind_leaves kind }
 {
     match kind {
