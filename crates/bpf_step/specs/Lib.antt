@@ -1,4 +1,3 @@
-pub mod Ahead
 pub mod Iterations
 pub mod Mains
 pub mod Turns

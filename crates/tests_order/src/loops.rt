@@ -54,14 +54,14 @@ fn loops_run_in_order(rt: HostRuntime) -> Result<(), Fail> {
     are_answered(&rt, rt.alloc(), "..", "..", LOOPS)
 }
 
-/// Iterations that work on registers alone for so long that they go ahead together, as far as a row lets them.
-const AHEAD: &str =
+/// Iterations that work on registers alone for long, and what they do then.
+const COMPUTED: &str =
     "maps 2 | mov64 r1, 130 | LOOP | mov64 r5, r1 | add64 r5, 7 | mul64 r5, 3 | xor64 r5, r1 | mov64 r2, r5 | \
     rsh64 r2, 2 | xor64 r5, r2 | lsh64 r5, 1 | add64 r5, r1 | sub64 r5, 5 | or64 r5, 8 | and64 r5, 1023 | .. | \
     ldmapval r3, 0, 0 | atomic64 add [r3+0], r5 | END";
 
 /// With a jump of all of them, of none and of some, and with one that ends the loop.
-const WAYS_AHEAD: &str = "
+const COMPUTED_THEN: &str = "
     add64 r5, 1 => return 130 | loop 0 at 5: answer 130, in order | map 0: 61207 0
     jge64 r5, 0, on | add64 r5, 1000 | on: | add64 r5, 2 \
         => return 130 | loop 0 at 5: answer 130, in order | map 0: 61337 0
@@ -77,8 +77,8 @@ const WAYS_AHEAD: &str = "
 ";
 
 #[test]
-fn iterations_go_ahead_together(rt: HostRuntime) -> Result<(), Fail> {
-    are_answered(&rt, rt.alloc(), AHEAD, "..", WAYS_AHEAD)
+fn iterations_compute_before_they_access(rt: HostRuntime) -> Result<(), Fail> {
+    are_answered(&rt, rt.alloc(), COMPUTED, "..", COMPUTED_THEN)
 }
 
 /// A number of iterations, and flags.
