@@ -1,15 +1,15 @@
 -- What a batch leaves in the maps.
 use Rattle.std.proofs.Common.{◌≡◌, ℕ, zero, suc, ◌+◌, ◌-◌, ◌<◌, ◌≤◌, List, [], ◌∷◌, ◌++◌, length, map, take, drop, set, slice_index, slice_index_or, refl, sym, ap, subst, ◌∙◌, arith}
 use Rattle.std.specs.List.{AllByRecursion}
-use Rattle.std.proofs.lemmas.List.{set-get_or, length-set, drop_more, take_more, take_more_set, take_all, map-append}
+use Rattle.std.proofs.lemmas.List.{set-get_or, length-set, drop_more, take_more, take_more_set, take_all, map-append, get_or-take, length-take-le}
 use Rattle.std.proofs.lemmas.List.Elements.{All-from_recursion}
 use Rattle.array_maps.specs.declared.access.Op.{Op}
-use Rattle.array_maps.specs.Accesses.{Reduce, Access, combined, words_after}
+use Rattle.array_maps.specs.Accesses.{Action, Write, Reduce, Access, combined, words_after, words_after_run}
 use Rattle.array_maps.specs.MapList.{MapList}
 use Rattle.loop_core_model.specs.declared.access.Access.{Access as Kind}
 use Rattle.loop_core_model.specs.declared.access.Access.TheVariants.{Read as Reads, Write as Writes, Both, Reduce as Reduces}
 use Rattle.loop_core_batch.specs.declared.elements.Elements.{Elements}
-use Rattle.loop_core_batch.specs.declared.elements.Elements.TheVariants.{One}
+use Rattle.loop_core_batch.specs.declared.elements.Elements.TheVariants.{One, Run}
 use Rattle.loop_core_batch.specs.declared.site.Site.{Site}
 use Rattle.loop_core_batch.specs.BySite.{SumsAtOnce, combined_to, words_after_site, words_after_sites}
 use Rattle.bpf_step_batch.specs.declared.entry.Entry.{Entry}
@@ -118,6 +118,61 @@ reduced_at_once law op entry only lanes operand first new is any sum applied =
       action = Reduce op (slice_index entry.values lane);
     }) words) (sym is)) lanes first.words
     )
+
+-- actions at elements that follow on a first one are the accesses of a site
+run_is_site : (first : ℕ) (action : ℕ → Action) (site : ℕ → Access) (lanes : ℕ)
+    → ((lane : ℕ) → lane < lanes → record { element = first + lane; action = action lane } ≡ site lane)
+    → (words : List ℕ) → words_after_run first action lanes words ≡ words_after_site site lanes words
+run_is_site first action site zero same words = refl
+run_is_site first action site (suc lanes) same words =
+    let last : lanes < suc lanes = omega arith in
+    ap (λ (access : Access). words_after access (words_after_run first action lanes words)) (same lanes last)
+    ∙ ap (words_after (site lanes))
+    (run_is_site first action site lanes (λ lane below. same lane (omega (arith, below))) words)
+
+-- so are those by the values of the first lanes
+by_values : (first lanes : ℕ) (values : List ℕ) (action : ℕ → Action) (site : ℕ → Access) → lanes ≤ length values
+    → ((lane : ℕ) → record { element = first + lane; action = action (slice_index values lane) } ≡ site lane)
+    → (words : List ℕ) → words_after_run first (λ k. action (slice_index (take lanes values) k))
+    (length (take lanes values)) words ≡ words_after_site site lanes words
+by_values first lanes values action site room same words =
+    ap (λ (n : ℕ). words_after_run first (λ k. action (slice_index (take lanes values) k)) n words)
+    (length-take-le lanes values room)
+    ∙ run_is_site first (λ k. action (slice_index (take lanes values) k)) site lanes
+    (λ lane below. ap (λ (n : ℕ). record { element = first + lane; action = action n })
+    (get_or-take lanes values lane 0 below) ∙ same lane) words
+
+pub stored_in_run : (entry : Entry) (first lanes : ℕ) (old new : MapList) → lanes ≤ length entry.values
+    → entry.site.elements ≡ Run first
+    → new ≡ record {
+      sizes = old.sizes;
+      words = words_after_run first (λ k. Write (slice_index (take lanes entry.values) k))
+          (length (take lanes entry.values)) old.words;
+    } → new ≡ record { sizes = old.sizes; words = words_after_site (stored_by entry) lanes old.words }
+stored_in_run entry first lanes old new room is done =
+    done
+    ∙ ap (λ (words : List ℕ). record { sizes = old.sizes; words = words })
+    (by_values first lanes entry.values Write (stored_by entry) room
+    (λ lane. ap (λ (e : Elements). record {
+      element = element_by e entry.elements lane;
+      action = Write (slice_index entry.values lane);
+    }) (sym is)) old.words)
+
+pub reduced_in_run : (op : Op) (entry : Entry) (first lanes : ℕ) (old new : MapList) → lanes ≤ length entry.values
+    → entry.site.elements ≡ Run first
+    → new ≡ record {
+      sizes = old.sizes;
+      words = words_after_run first (λ k. Reduce op (slice_index (take lanes entry.values) k))
+          (length (take lanes entry.values)) old.words;
+    } → new ≡ record { sizes = old.sizes; words = words_after_site (reduced_by op entry) lanes old.words }
+reduced_in_run op entry first lanes old new room is done =
+    done
+    ∙ ap (λ (words : List ℕ). record { sizes = old.sizes; words = words })
+    (by_values first lanes entry.values (Reduce op) (reduced_by op entry) room
+    (λ lane. ap (λ (e : Elements). record {
+      element = element_by e entry.elements lane;
+      action = Reduce op (slice_index entry.values lane);
+    }) (sym is)) old.words)
 
 -- an entry's elements are there
 pub entry_within : (lanes : ℕ) (words now : List ℕ) (entries : List Entry) (index : ℕ) (other : Entry)

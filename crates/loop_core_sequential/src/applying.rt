@@ -90,7 +90,6 @@ fn store_values(entry: &Entry, lanes: u32, maps: &mut Maps)
 /// The same of elements that run from a first one.
 fn store_run(first: u32, entry: &Entry, lanes: u32, maps: &mut Maps)
     requires room { lanes ≤ 128 }
-    requires few { length maps.old.words ≤ 65536 }
     requires run { entry.now.site.elements ≡ elements.Run first }
     requires within { first + lanes ≤ length maps.old.words }
     ensures { maps.new ≡ record {
@@ -98,9 +97,7 @@ fn store_run(first: u32, entry: &Entry, lanes: u32, maps: &mut Maps)
       words = words_after_site (stored_by entry.now) lanes maps.old.words;
     } }
 {
-    for lane in 0..lanes {
-        maps.store(first + lane, entry.values[lane as usize]);
-    }
+    maps.store_run(first, &entry.values[..lanes as usize]);
 }
 
 /// The same of any elements, whose form is known where it is called.
@@ -168,7 +165,6 @@ fn reduce_by(op: Op, entry: &Entry, lanes: u32, maps: &mut Maps)
 #[inline(always)]
 fn reduce_run(op: Op, first: u32, entry: &Entry, lanes: u32, maps: &mut Maps)
     requires room { lanes ≤ 128 }
-    requires few { length maps.old.words ≤ 65536 }
     requires run { entry.now.site.elements ≡ elements.Run first }
     requires within { first + lanes ≤ length maps.old.words }
     ensures { maps.new ≡ record {
@@ -176,9 +172,7 @@ fn reduce_run(op: Op, first: u32, entry: &Entry, lanes: u32, maps: &mut Maps)
       words = words_after_site (reduced_by op entry.now) lanes maps.old.words;
     } }
 {
-    for lane in 0..lanes {
-        maps.update(first + lane, op, entry.values[lane as usize]);
-    }
+    maps.update_run(first, op, &entry.values[..lanes as usize]);
 }
 
 /// The same at any elements, whose form is known where it is called.
