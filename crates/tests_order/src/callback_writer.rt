@@ -256,7 +256,7 @@ impl CallbackWriter {
             0..4 => self.compute(),
             4 => self.shift(),
             5 => self.jump(),
-            6 if !self.is_plain => self.change(),
+            6 => self.change(),
             7 | 8 if !self.is_plain && !self.is_open => self.lookup(),
             9 if !self.is_plain => {
                 let line = self.one_of(&FRAMES);

@@ -123,3 +123,47 @@ fn words_are_gathered(rt: HostRuntime) -> Result<(), Fail> {
         "return 2092 | loop 0 at 5: answer 2092, in order | map 0: .. | map 1: 1 20 300 4000";
     are_answered(&rt, rt.alloc(), GATHERS, wanted, GATHERED)
 }
+
+/// Products with the index are changed or moved, and added up.
+const CHANGES: &str =
+    "maps 1 | mov64 r1, 2092 | LOOP | lddw r5, 9332165983064197000 | mul64 r5, r1 | .. | \
+    ldmapval r3, 0, 0 | atomic64 add [r3+0], r5 | END";
+
+const CHANGED: &str = "
+    neg64 r5 => 10402516854116600688
+    neg32 r5 => 4491523017584
+    mov64s8 r5, r5 => 18446744073709543056
+    mov64s16 r5, r5 => 1029264
+    mov64s32 r5, r5 => 18446744057542456464
+    mov32s8 r5, r5 => 4492535783056
+    mov32s16 r5, r5 => 4226248848528
+    le16 r5 => 65516688
+    le32 r5 => 4489253598352
+    le64 r5 => 8044227219592950928
+    be16 r5 => 66614208
+    be32 r5 => 4365697189672
+    be64 r5 => 8634679475521756253
+    swap16 r5 => 66614208
+    swap32 r5 => 4365697189672
+    swap64 r5 => 8634679475521756253
+    mov64 r5, r1 | neg64 r5 => 18446744073707364430
+    mov64s8 r5, r1 => 18446744073709551538
+    mov32s8 r5, r1 => 4398046511026
+    mov64 r5, r1 | be32 r5 => 4397230718976
+    lddw r5, 9332165983064197000 | be64 r5 | xor64 r5, r1 => 12934139216496676274
+    lddw r5, 9332165983064197000 | neg32 r5 | xor64 r5, r1 => 4298603712018
+    mov64 r4, r5 | mov64 r5, r1 | add64 r5, r4 => 8044227219595138114
+    mov64 r4, r1 | mov64 r4, r5 | add64 r5, r4 => 16088454439185901856
+    mov64 r5, r5 => 8044227219592950928
+    mov32 r5, r5 => 4489253598352
+    mov32 r5, r1 => 2187186
+    mov64 r4, r1 | mov32 r4, r5 | mov64 r5, r4 => 4489253598352
+    mov64 r5, -3 => 18446744073709545340
+    mov32 r5, -3 => 8985071576956
+";
+
+#[test]
+fn words_of_all_lanes_are_changed(rt: HostRuntime) -> Result<(), Fail> {
+    let wanted = "return 2092 | loop 0 at 5: answer 2092, in order | map 0: ..";
+    are_answered(&rt, rt.alloc(), CHANGES, wanted, CHANGED)
+}
