@@ -4,3 +4,6 @@ pub mod TouchLaws
 pub mod FoldLaws
 pub mod EndLaws
 pub mod FoldsInTurn
+pub mod BetweenLaws
+pub mod RunBits
+pub mod FoldRuns

@@ -4,3 +4,5 @@ pub mod Iteration
 pub mod Standing
 pub mod Ending
 pub mod Lanes
+pub mod Runs
+pub mod RunFolds

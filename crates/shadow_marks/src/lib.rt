@@ -15,6 +15,7 @@ mod ending;
 pub mod iter_flags;
 mod lanes;
 pub mod planes;
+mod runs;
 
 pub use element_flags::ElementFlags;
 pub use iter_flags::{IterFlags, MAX_MARKS};
