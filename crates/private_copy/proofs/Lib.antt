@@ -6,3 +6,4 @@ pub mod AccessLaws
 pub mod BeginLaws
 pub mod VisitLaws
 pub mod NoteLaws
+pub mod RunLaws

@@ -8,3 +8,4 @@ pub mod Shown
 pub mod Steps
 pub mod CopyLaw
 pub mod Noting
+pub mod Runs

@@ -15,6 +15,7 @@
 #![tactic(auto)]
 
 mod noting;
+mod noting_runs;
 mod page;
 mod pages;
 pub mod private;

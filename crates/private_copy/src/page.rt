@@ -4,7 +4,8 @@ ghost use Rattle.std.specs.Prelude.{◌≡◌, true};
 ghost use Rattle.private_copy.specs.Cells.{reduction_in};
 
 use crate::reduction::Reduction;
-use array_maps::Op;
+use array_maps::{Op, combine};
+use loop_core_model::Access;
 
 /// Whether the reduces of an element are combined.
 #[derive(Clone, Copy)]
@@ -60,6 +61,9 @@ impl Combining {
 }
 
 impl Cell {
+    ghost use Rattle.std.specs.Prelude.{◌<◌};
+    ghost use Rattle.private_copy.specs.Runs.{CellNotes};
+
     /// The cell of an element at which a reduce by the iteration of a number left a value.
     #[inline]
     pub(crate) fn after_reduce(value: u64, writer: u32, reduction: Reduction) -> Cell
@@ -98,6 +102,60 @@ impl Cell {
             Combining::Untouched => Reduction::Untouched,
             Combining::By(op) => Reduction::By(op, self.combined),
             Combining::Mixed => Reduction::Mixed,
+        }
+    }
+
+    /// The cell after an access of this kind, by the iteration of a number, from 1 on, which saw this word: with the
+    /// value that it left, or its operand.
+    #[inline(always)]
+    pub(crate) fn noted(self, kind: Access, word: u64, value: u64, number: u32) -> Cell
+        requires { 0 < number }
+        ensures { CellNotes self kind word value number result }
+    {
+        match kind {
+            Access::Read => Cell {
+                value: self.value,
+                combined: self.combined,
+                writer: self.writer,
+                combining: Combining::Mixed,
+            },
+            Access::Write | Access::Both => Cell {
+                value,
+                combined: 0,
+                writer: number,
+                combining: Combining::Mixed,
+            },
+            Access::Reduce(op) => Cell::after_reduce(
+                combine(op, word, value),
+                number,
+                self.reduction().with(op, value),
+            ),
+        }
+    }
+}
+
+impl Page {
+    ghost use Rattle.std.specs.Prelude.{◌+◌, ◌<◌, ◌≤◌, length};
+    ghost use Rattle.private_copy.specs.Runs.{CellsNote};
+
+    /// Notes an access of this kind at each of the cells that follow a first one, by the iteration of a number,
+    /// from 1 on, which saw these words: with the values that they left, or their operands.
+    pub(crate) fn note(
+        &mut self,
+        kind: Access,
+        low: u32,
+        words: &[u64],
+        values: &[u64],
+        number: u32,
+    )
+        requires within { low + length words.now ≤ 64 }
+        requires values { length words.now ≤ length values.now }
+        requires some { 0 < number }
+        ensures { CellsNote self.old.cells self.new.cells low (length words.now) kind words.now values.now number }
+    {
+        for lane in 0..words.len() {
+            let at = low as usize + lane;
+            self.cells[at] = self.cells[at].noted(kind, words[lane], values[lane], number);
         }
     }
 }

@@ -6,6 +6,7 @@ ghost use Rattle.private_copy.specs.Touched.{has_page, with_page};
 
 use crate::page::{BLANK, Cell, Page};
 use indexmap::IndexSet;
+use loop_core_model::Access;
 use std::alloc::{AllocError, Global};
 use std::marker::Model;
 
@@ -34,6 +35,9 @@ impl Model for Pages {
 }
 
 impl Pages {
+    ghost use Rattle.std.specs.Prelude.{slice_index};
+    ghost use Rattle.private_copy.specs.Runs.{CellNotes};
+
     /// Pages for at most 65,536 elements, none of them placed.
     pub(crate) fn try_new(alloc: Global, elements: u32) -> Result<Pages, AllocError>
         requires { elements ≤ 65536 }
@@ -167,5 +171,27 @@ impl Pages {
         if let Some(page) = &mut self.table[e as usize / 64] {
             page.cells[e as usize % 64] = cell;
         }
+    }
+
+    /// Notes an access of this kind at each of the elements that follow a first one in its page, which is placed: by
+    /// the iteration of a number, from 1 on, which saw these words, with the values that they left, or their operands.
+    pub(crate) fn note(&mut self, kind: Access, e: u32, words: &[u64], values: &[u64], number: u32)
+        requires within { e / 64 < total_of self.old }
+        requires one_page { e % 64 + length words.now ≤ 64 }
+        requires placed { has_page self.old.order (e / 64) ≡ true }
+        requires values { length words.now ≤ length values.now }
+        requires some { 0 < number }
+        ensures total { total_of self.new ≡ total_of self.old }
+        ensures order { self.new.order ≡ self.old.order }
+        ensures spare { self.new.spare ≡ self.old.spare }
+        ensures inside { (lane : ℕ) → lane < length words.now → CellNotes (cell_at self.old (e + lane)) kind
+            (slice_index words.now lane) (slice_index values.now lane) number (cell_at self.new (e + lane)) }
+        ensures others { (other : ℕ) → ((lane : ℕ) → lane < length words.now → other ≢ e + lane)
+            → cell_at self.new other ≡ cell_at self.old other }
+    {
+        let Some(page) = &mut self.table[e as usize / 64] else {
+            return;
+        };
+        page.note(kind, e % PAGE, words, values, number);
     }
 }
