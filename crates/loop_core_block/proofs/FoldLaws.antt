@@ -81,14 +81,14 @@ access_at element kind saw value = record { element = element; action = action_b
 abbrev acting_at : (element : ℕ) (action : Action) → Access
 acting_at element action = record { element = element; action = action }
 
--- an access at a row's element, where its action does the same
-module _ (old new : PrivateCopy) (words : List ℕ) (entry : Entry) (row : List ℕ) (lanes : ℕ)
-    (is : IsRow row entry lanes) where
+-- an access at a lane's element, where its action does the same
+module _ (old new : PrivateCopy) (words : List ℕ) (entry : Entry) (at : ℕ → ℕ) (lanes : ℕ)
+    (is : (lane : ℕ) → lane < lanes → at lane ≡ element_by entry.site.elements entry.elements lane) where
   abbrev saw_by : ℕ → ℕ
   saw_by lane = slice_index words (element_by entry.site.elements entry.elements lane)
 
   abbrev by_kind : Kind → ℕ → Access
-  by_kind kind lane = access_at (slice_index row lane) kind (saw_by lane) (slice_index entry.values lane)
+  by_kind kind lane = access_at (at lane) kind (saw_by lane) (slice_index entry.values lane)
 
   one : (kind : Kind) → entry.site.kind ≡ kind → (lane : ℕ) → lane < lanes → by_kind kind lane ≡ access_by words entry lane
   one kind of_kind lane below =
@@ -96,15 +96,15 @@ module _ (old new : PrivateCopy) (words : List ℕ) (entry : Entry) (row : List 
       ∙ ap (λ (k : Kind). access_at (element_by entry.site.elements entry.elements lane) k (saw_by lane)
       (slice_index entry.values lane)) (sym of_kind)
 
-  at_row : (kind : Kind) → entry.site.kind ≡ kind → (action : ℕ → Action)
-      → ((e lane : ℕ) (x : Option ℕ) → last_by_lane (λ l. acting_at (slice_index row l) (action l)) old.start e lane x
+  by_action : (kind : Kind) → entry.site.kind ≡ kind → (action : ℕ → Action)
+      → ((e lane : ℕ) (x : Option ℕ) → last_by_lane (λ l. acting_at (at l) (action l)) old.start e lane x
       ≡ last_by_lane (by_kind kind) old.start e lane x)
-      → ((e lane : ℕ) (x : Reduction) → reduction_by_lane (λ l. acting_at (slice_index row l) (action l)) e lane x
+      → ((e lane : ℕ) (x : Reduction) → reduction_by_lane (λ l. acting_at (at l) (action l)) e lane x
       ≡ reduction_by_lane (by_kind kind) e lane x)
-      → NotesSite old (λ l. acting_at (slice_index row l) (action l)) lanes new
+      → NotesSite old (λ l. acting_at (at l) (action l)) lanes new
       → NotesSite old (access_by words entry) lanes new
-  at_row kind of_kind action lasts reductions noted =
-      noted_too old new (λ l. acting_at (slice_index row l) (action l)) (access_by words entry) lanes
+  by_action kind of_kind action lasts reductions noted =
+      noted_too old new (λ l. acting_at (at l) (action l)) (access_by words entry) lanes
       (λ e lane below x. lasts e lane x
       ∙ ap (λ (a : Access). last_by_lane (λ l. a) old.start e lane x) (one kind of_kind lane below))
       (λ e lane below x. reductions e lane x
@@ -112,26 +112,26 @@ module _ (old new : PrivateCopy) (words : List ℕ) (entry : Entry) (row : List 
       noted
 
   pub reads_are : entry.site.kind ≡ Reads
-      → NotesSite old (λ l. acting_at (slice_index row l) (Read 0)) lanes new
+      → NotesSite old (λ l. acting_at (at l) (Read 0)) lanes new
       → NotesSite old (access_by words entry) lanes new
-  reads_are of_kind noted = at_row Reads of_kind (λ l. Read 0) (λ e lane x. refl) (λ e lane x. refl) noted
+  reads_are of_kind noted = by_action Reads of_kind (λ l. Read 0) (λ e lane x. refl) (λ e lane x. refl) noted
 
   pub writes_are : entry.site.kind ≡ Writes
-      → NotesSite old (λ l. acting_at (slice_index row l) (Write (slice_index entry.values l))) lanes new
+      → NotesSite old (λ l. acting_at (at l) (Write (slice_index entry.values l))) lanes new
       → NotesSite old (access_by words entry) lanes new
-  writes_are of_kind noted = at_row Writes of_kind (λ l. Write (slice_index entry.values l)) (λ e lane x. refl)
+  writes_are of_kind noted = by_action Writes of_kind (λ l. Write (slice_index entry.values l)) (λ e lane x. refl)
       (λ e lane x. refl) noted
 
   pub changes_are : entry.site.kind ≡ Both
-      → NotesSite old (λ l. acting_at (slice_index row l) (Write (slice_index entry.values l))) lanes new
+      → NotesSite old (λ l. acting_at (at l) (Write (slice_index entry.values l))) lanes new
       → NotesSite old (access_by words entry) lanes new
-  changes_are of_kind noted = at_row Both of_kind (λ l. Write (slice_index entry.values l)) (λ e lane x. refl)
+  changes_are of_kind noted = by_action Both of_kind (λ l. Write (slice_index entry.values l)) (λ e lane x. refl)
       (λ e lane x. refl) noted
 
   pub reduces_are : (op : Op) → entry.site.kind ≡ Reduces op
-      → NotesSite old (λ l. acting_at (slice_index row l) (Reduce op (slice_index entry.values l))) lanes new
+      → NotesSite old (λ l. acting_at (at l) (Reduce op (slice_index entry.values l))) lanes new
       → NotesSite old (access_by words entry) lanes new
-  reduces_are op of_kind noted = at_row (Reduces op) of_kind (λ l. Reduce op (slice_index entry.values l))
+  reduces_are op of_kind noted = by_action (Reduces op) of_kind (λ l. Reduce op (slice_index entry.values l))
       (λ e lane x. refl) (λ e lane x. refl) noted
 
 -- a copy on which the first sites are noted

@@ -12,3 +12,4 @@ pub mod RepeatLaws
 pub mod RunLaws
 pub mod SiteLaws
 pub mod SplitEnds
+pub mod RunSites

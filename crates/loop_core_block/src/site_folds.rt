@@ -14,6 +14,7 @@ ghost use Rattle.loop_core_block.specs.Placing.{HasPlace};
 use crate::folding::lead;
 use crate::repeating::element;
 use bpf_step_batch::Entry;
+use loop_core_batch::Elements;
 use loop_core_model::Access;
 use private_copy::Private;
 use shadow_marks::{NO_WRITER, Planes};
@@ -24,6 +25,7 @@ const MOST: usize = 128;
 /// Notes on a copy what the lanes of a batch did, all of them begun there. The pages of their elements are placed.
 pub(crate) fn note_all(copy: &mut Private, entries: &[Entry], lanes: u32)
     requires room { lanes ≤ 128 }
+    requires one { 0 < lanes }
     requires some { 0 < (copy_of copy.old).begun }
     requires within { (lane : ℕ) → lane < lanes → AllByRecursion (HasElement lane (length (copy_of copy.old).start))
         entries.now }
@@ -31,10 +33,26 @@ pub(crate) fn note_all(copy: &mut Private, entries: &[Entry], lanes: u32)
     ensures { CopyFolds (copy_of copy.old) (copy_of copy.new) entries.now lanes }
 {
     for entry in entries {
-        let mut row = [0; MOST];
-        spell(entry, lanes, &mut row);
-        note(copy, entry, &row[..lanes as usize]);
+        note_site(copy, entry, lanes);
     }
+}
+
+/// Notes what lanes did at a site: in one go where their elements follow each other.
+fn note_site(copy: &mut Private, entry: &Entry, lanes: u32)
+    requires room { lanes ≤ 128 }
+    requires one { 0 < lanes }
+    requires some { 0 < (copy_of copy.old).begun }
+    requires within { (lane : ℕ) → lane < lanes → HasElement lane (length (copy_of copy.old).start) entry.now }
+    requires placed { (lane : ℕ) → lane < lanes → HasPlace lane (copy_of copy.old).pages entry.now }
+    ensures { (words : List ℕ) → NotesSite (copy_of copy.old) (access_by words entry.now) lanes (copy_of copy.new) }
+{
+    if let Elements::Run(first) = entry.site.elements {
+        copy.note_run(entry.site.kind, first, lanes, &entry.values);
+        return;
+    }
+    let mut row = [0; MOST];
+    spell(entry, lanes, &mut row);
+    note(copy, entry, &row[..lanes as usize]);
 }
 
 /// Notes what lanes did at a site, at the elements of a row.
@@ -60,6 +78,7 @@ fn note(copy: &mut Private, entry: &Entry, row: &[u32])
 pub(crate) fn end_all(planes: &mut Planes, entries: &[Entry], lanes: u32, index: u32)
     requires whole { ArePlanes planes.old }
     requires room { lanes ≤ 128 }
+    requires one { 0 < lanes }
     requires few { planes.old.elements ≤ 65536 }
     requires within { (lane : ℕ) → lane < lanes → AllByRecursion (HasElement lane planes.old.elements) entries.now }
     requires index { index + lanes ≤ NO_WRITER }
@@ -88,6 +107,7 @@ fn end_site(
 )
     requires whole { ArePlanes planes.old }
     requires room { lanes ≤ 128 }
+    requires one { 0 < lanes }
     requires few { planes.old.elements ≤ 65536 }
     requires within { (lane : ℕ) → lane < lanes → HasElement lane planes.old.elements entry.now }
     requires index { index + lanes ≤ NO_WRITER }
@@ -97,6 +117,10 @@ fn end_site(
     let Some(flags) = lead(before, entry, behind) else {
         return;
     };
+    if let Elements::Run(first) = entry.site.elements {
+        planes.end_run(first, lanes, index, flags);
+        return;
+    }
     let mut row = [0; MOST];
     spell(entry, lanes, &mut row);
     planes.end_each(&row[..lanes as usize], index, flags);
