@@ -7,3 +7,4 @@ pub mod BeginLaws
 pub mod VisitLaws
 pub mod NoteLaws
 pub mod RunLaws
+pub mod OverwriteLaws

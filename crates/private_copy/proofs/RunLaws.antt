@@ -64,7 +64,7 @@ module _ (old now : List Cell) (low lanes : ℕ) (kind : Kind) (words values : L
 page_cells : (table : List Slot) (p : ℕ) → get_or (map cells_of table) p blank_cells ≡ cells_of (get_or table p None)
 page_cells table p = get_or-map cells_of table p None
 
-cell_there : (table : List Slot) (e p at : ℕ) (slot : Slot) → get_or table p None ≡ slot → e / 64 ≡ p → e % 64 ≡ at
+pub cell_there : (table : List Slot) (e p at : ℕ) (slot : Slot) → get_or table p None ≡ slot → e / 64 ≡ p → e % 64 ≡ at
     → cell_of table e ≡ get_or (cells_of slot) at blank
 cell_there table e p at slot is page place =
     ap (λ (k : ℕ). get_or (get_or (map cells_of table) k blank_cells) (e % 64) blank) page

@@ -9,3 +9,4 @@ pub mod Steps
 pub mod CopyLaw
 pub mod Noting
 pub mod Runs
+pub mod Overwriting

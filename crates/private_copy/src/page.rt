@@ -62,6 +62,7 @@ impl Combining {
 
 impl Cell {
     ghost use Rattle.std.specs.Prelude.{◌<◌};
+    ghost use Rattle.private_copy.specs.Shown.{last_in};
     ghost use Rattle.private_copy.specs.Runs.{CellNotes};
 
     /// The cell of an element at which a reduce by the iteration of a number left a value.
@@ -105,6 +106,18 @@ impl Cell {
         }
     }
 
+    /// What the last iteration that writes the element left there, where one does.
+    #[inline]
+    pub(crate) fn last(self) -> Option<u64>
+        ensures { result ≡ last_in self }
+    {
+        if self.writer == 0 {
+            None
+        } else {
+            Some(self.value)
+        }
+    }
+
     /// The cell after an access of this kind, by the iteration of a number, from 1 on, which saw this word: with the
     /// value that it left, or its operand.
     #[inline(always)]
@@ -135,8 +148,11 @@ impl Cell {
 }
 
 impl Page {
-    ghost use Rattle.std.specs.Prelude.{◌+◌, ◌<◌, ◌≤◌, length};
+    ghost use Rattle.std.specs.Prelude.{◌+◌, ◌<◌, ◌≤◌, length, slice_index_or};
+    ghost use Rattle.private_copy.specs.Cells.{blank};
+    ghost use Rattle.private_copy.specs.Shown.{last_in};
     ghost use Rattle.private_copy.specs.Runs.{CellsNote};
+    ghost use Rattle.private_copy.specs.Overwriting.{AreOverwritten};
 
     /// Notes an access of this kind at each of the cells that follow a first one, by the iteration of a number,
     /// from 1 on, which saw these words: with the values that they left, or their operands.
@@ -156,6 +172,17 @@ impl Page {
         for lane in 0..words.len() {
             let at = low as usize + lane;
             self.cells[at] = self.cells[at].noted(kind, words[lane], values[lane], number);
+        }
+    }
+
+    /// Sets each of the first n of these words, at most 64, to what the last iteration that writes its element left
+    /// there, where one does.
+    pub(crate) fn overwrite(&self, count: u32, own: &mut [u64; 64])
+        requires { count ≤ 64 }
+        ensures { AreOverwritten (λ k. last_in (slice_index_or self.now.cells k blank)) count own.old own.new }
+    {
+        for k in 0..count as usize {
+            own[k] = self.cells[k].last().unwrap_or(own[k]);
         }
     }
 }

@@ -35,7 +35,9 @@ impl Model for Pages {
 }
 
 impl Pages {
-    ghost use Rattle.std.specs.Prelude.{slice_index};
+    ghost use Rattle.std.specs.Prelude.{◌*◌, slice_index};
+    ghost use Rattle.private_copy.specs.Shown.{last_in};
+    ghost use Rattle.private_copy.specs.Overwriting.{AreOverwritten};
     ghost use Rattle.private_copy.specs.Runs.{CellNotes};
 
     /// Pages for at most 65,536 elements, none of them placed.
@@ -193,5 +195,18 @@ impl Pages {
             return;
         };
         page.note(kind, e % PAGE, words, values, number);
+    }
+
+    /// Sets each of the first n words of a page, at most 64, to what the last iteration that writes its element left
+    /// there, where one does.
+    pub(crate) fn overwrite(&self, page: u32, count: u32, own: &mut [u64; 64])
+        requires within { page < total_of self.now }
+        requires few { count ≤ 64 }
+        ensures { AreOverwritten (λ k. last_in (cell_at self.now (page * 64 + k))) count own.old own.new }
+    {
+        let Some(kept) = &self.table[page as usize] else {
+            return;
+        };
+        kept.overwrite(count, own);
     }
 }

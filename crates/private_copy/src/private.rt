@@ -59,6 +59,7 @@ impl<'a> Private<'a> {
     ghost use Rattle.private_copy.specs.Reductions.{combination};
     ghost use Rattle.private_copy.specs.Copies.{Accessed, CopyRecords, CopyRecordsWithin};
     ghost use Rattle.private_copy.specs.Visits.{visits_of};
+    ghost use Rattle.private_copy.specs.Overwriting.{AreOverwritten};
     ghost use Rattle.private_copy.specs.Shown.{copy_of, seen_word, IsBegun, IsEnded};
 
     /// A copy of these maps, which no iteration used. All page numbers are noted here.
@@ -150,6 +151,17 @@ impl<'a> Private<'a> {
         } else {
             Some(cell.value)
         }
+    }
+
+    /// Sets each of the first n words of a page, at most 64, to what the last iteration that writes its element left
+    /// there, where one does. The page has an element, and the words' elements are in range.
+    pub fn overwrite(&self, page: u32, count: u32, own: &mut [u64; 64])
+        requires there { page * 64 < length (copy_of self.now).start }
+        requires within { page * 64 + count ≤ length (copy_of self.now).start }
+        requires few { count ≤ 64 }
+        ensures { AreOverwritten (λ k. (copy_of self.now).last (page * 64 + k)) count own.old own.new }
+    {
+        self.pages.overwrite(page, count, own);
     }
 
     /// The operator by which an element was reduced and its operands combined, beginning with the first,
