@@ -1,7 +1,8 @@
 //! A block that was run.
 
-ghost use Rattle.std.specs.Prelude.{◌≡◌, ◌<◌, length, slice_get};
+ghost use Rattle.std.specs.Prelude.{◌≡◌, ◌+◌, ◌*◌, ◌<◌, ◌≤◌, length, slice_get};
 ghost use Rattle.private_copy.specs.Reductions.{combination};
+ghost use Rattle.private_copy.specs.Overwriting.{AreOverwritten};
 ghost use Rattle.loop_core_block.specs.Blocks.{HasOtherPlanes};
 
 use array_maps::Op;
@@ -89,6 +90,17 @@ impl<'a> Block<'a> {
         ensures { result ≡ (shown self.now).copy.last e }
     {
         self.copy.last_value(e)
+    }
+
+    /// Sets each of the first n words of a page, at most 64, to what its last iteration that writes the element left
+    /// there, where one does. The page has an element, and the words' elements are in range.
+    pub fn overwrite(&self, page: u32, count: u32, own: &mut [u64; 64])
+        requires there { page * 64 < length (shown self.now).copy.start }
+        requires within { page * 64 + count ≤ length (shown self.now).copy.start }
+        requires few { count ≤ 64 }
+        ensures { AreOverwritten (λ k. (shown self.now).copy.last (page * 64 + k)) count own.old own.new }
+    {
+        self.copy.overwrite(page, count, own);
     }
 
     /// The operator by which an element was reduced and its operands combined, beginning with the first, where its

@@ -48,11 +48,6 @@ at_own all own page e is here =
     let place : page * 64 + e % 64 ≡ e = omega (arith, here) in
     is (e % 64) below ∙ ap (slice_index all) place
 
--- of a page the first n elements have a block's last values, where it has any
-pub record OverwrittenSoFar (block : Held) (old now : List ℕ) (page n : ℕ) : Type 0 where
-  pub here : (k : ℕ) → k < n → slice_index now k ≡ unwrap_or ((shown block).copy.last (page * 64 + k)) (slice_index old k)
-  pub rest : (k : ℕ) → n ≤ k → slice_index now k ≡ slice_index old k
-
 -- what blocks at places leave of a word
 abbrev pub written : List Held → List ℕ → (e word : ℕ) → ℕ
 written blocks places e word = committed_of_kept false (map (kept_of e) (chosen places (map shown blocks))) word

@@ -70,10 +70,11 @@ fn overwrite(own: &mut [u64; PAGE], page: u32, elements: u32, block: &Block, tou
         return;
     }
     let first = page as usize * PAGE;
-    let count = (elements as usize).saturating_sub(first).min(PAGE);
-    for k in 0..count {
-        own[k] = block.last_value((first + k) as u32).unwrap_or(own[k]);
+    if first >= elements as usize {
+        return;
     }
+    let count = (elements as usize - first).min(PAGE);
+    block.overwrite(page, count as u32, own);
 }
 
 /// Sets each element of a page, of n elements in all, to the last value of the last of the blocks at these places that
