@@ -1,11 +1,11 @@
 -- Flags of elements that follow each other come into planes.
-use Rattle.std.proofs.Common.{◌≡◌, ℕ, ◌+◌, ◌-◌, ◌*◌, ◌<◌, ◌≤◌, Bool, true, false, ◌&&◌, ◌||◌, min, max, List, length, get_or, set, inl, inr, refl, sym, ◌∙◌, ap, subst, arith, get_or-set_same, get_or-set_other, length-set}
+use Rattle.std.proofs.Common.{◌≡◌, ℕ, ◌+◌, ◌-◌, ◌<◌, ◌≤◌, Bool, true, false, ◌&&◌, ◌||◌, min, max, List, length, inl, inr, refl, sym, ◌∙◌, ap, subst, arith}
 use Rattle.std.specs.Prelude.{slice_index, if◌then◌else◌}
 use Rattle.std.specs.Vec.{with_items}
 use Rattle.std.specs.declared.vec.Vec.{Vec}
 use Rattle.std.proofs.lemmas.List.{with_items_is}
 use Rattle.std.proofs.Math.Bool.{or-false}
-use Rattle.std.proofs.lemmas.Bool.{cases_lt, cases_eq}
+use Rattle.std.proofs.lemmas.Bool.{cases_lt}
 use Rattle.array_maps.specs.declared.access.Op.{Op}
 use Rattle.array_maps.specs.declared.access.Op.TheVariants.{Add, Or, And, Xor, AddH}
 use Rattle.loop_core_model.specs.Flags.{Flags}
@@ -18,7 +18,7 @@ use Rattle.shadow_marks.specs.declared.planes.Planes.{Planes}
 use Rattle.shadow_marks.specs.Standing.{IsBitPlane, plane_by, AreTested, ArePlanes, test_of, TestedStandAt, StandAt}
 use Rattle.shadow_marks.specs.Lanes.{over_lanes, marks_by, FoldsLanes}
 use Rattle.shadow_marks.specs.Runs.{is_between, OrsRun, ChangesRun}
-use Rattle.shadow_marks.specs.RunFolds.{OperatorsFoldRun, TestedHaveRun, TestedFoldRun}
+use Rattle.shadow_marks.specs.RunFolds.{OperatorsFoldRun, TestedFoldRun}
 use Rattle.shadow_marks.proofs.FoldLaws.{by_two, first_here, last_here}
 use Rattle.shadow_marks.proofs.BetweenLaws.{between_in, between_below, between_above, run_once}
 
@@ -29,17 +29,6 @@ and_true false = refl
 and_none : (b : Bool) → (b && false) ≡ false
 and_none true = refl
 and_none false = refl
-
--- nothing is ored
-pub nothing_ored : (words : List ℕ) (first past : ℕ) (bit : Bool) → bit ≡ false → OrsRun words words first past bit
-nothing_ored words first past bit none = record {
-  count = refl;
-  bits = λ k. sym (ap (λ (b : Bool). bit_of words k || (b && is_between first past k)) none ∙ or-false (bit_of words k));
-}
-
-pub all_ored : (old new : List ℕ) (first past : ℕ) (bit : Bool) → bit ≡ true → OrsRun old new first past true
-    → OrsRun old new first past bit
-all_ored old new first past bit is ors = subst (λ (b : Bool). OrsRun old new first past b) (sym is) ors
 
 ored_by : (old now new : List ℕ) (first past : ℕ) (a b : Bool) → now ≡ old → a ≡ b → OrsRun now new first past a
     → OrsRun old new first past b
@@ -84,71 +73,6 @@ operators_run old new first past flags add or and xor addh Or = or
 operators_run old new first past flags add or and xor addh And = and
 operators_run old new first past flags add or and xor addh Xor = xor
 operators_run old new first past flags add or and xor addh AddH = addh
-
--- numbers
-pub nothing_changed : (numbers : List ℕ) (first past : ℕ) (bit : Bool) (f : ℕ → ℕ → ℕ) → bit ≡ false
-    → ChangesRun numbers numbers first past (λ kept lane. if bit then f kept lane else kept)
-nothing_changed numbers first past bit f none = record {
-  count = refl;
-  numbers = λ k.
-      let kept : ℕ = slice_index numbers k in
-      sym (ap (λ (b : Bool). if is_between first past k then (if b then f kept (k - first) else kept) else kept) none
-      ∙ either (is_between first past k) kept);
-}
-  where
-    either : (t : Bool) (n : ℕ) → (if t then n else n) ≡ n
-    either true n = refl
-    either false n = refl
-
-pub all_changed : (old new : List ℕ) (first past : ℕ) (bit : Bool) (f : ℕ → ℕ → ℕ) → bit ≡ true
-    → ChangesRun old new first past f → ChangesRun old new first past (λ kept lane. if bit then f kept lane else kept)
-all_changed old new first past bit f is changes = record {
-  count = changes.count;
-  numbers = λ k.
-      let kept : ℕ = slice_index old k in
-      changes.numbers k
-      ∙ sym (ap (λ (b : Bool). if is_between first past k then (if b then f kept (k - first) else kept) else kept) is);
-}
-
-pub numbers_begun : (numbers : List ℕ) (first : ℕ) (f : ℕ → ℕ → ℕ) → ChangesRun numbers numbers first first f
-numbers_begun numbers first f = record {
-  count = refl;
-  numbers = λ k.
-      sym (ap (λ (b : Bool). if b then f (slice_index numbers k) (k - first) else slice_index numbers k)
-      (elim (cases_lt k first) [
-        | inl below ↦ between_below first first k below
-        | inr from ↦ between_above first first k from
-      ]));
-}
-
-pub number_on : (old now : List ℕ) (first e : ℕ) (f : ℕ → ℕ → ℕ) (value : ℕ) → first ≤ e → e < length now
-    → value ≡ f (slice_index now e) (e - first) → ChangesRun old now first e f
-    → ChangesRun old (set now e value) first (e + 1) f
-number_on old now first e f value up inside is so_far = record {
-  count = length-set now e value ∙ so_far.count;
-  numbers = λ k. elim (cases_eq k e) [
-    | inl same ↦
-        ap (λ (i : ℕ). get_or (set now e value) i 0) same ∙ get_or-set_same now e value 0 inside ∙ is
-        ∙ ap (λ (n : ℕ). f n (e - first)) (so_far.numbers e
-        ∙ ap (λ (b : Bool). if b then f (slice_index old e) (e - first) else slice_index old e)
-        (between_above first e e (omega arith)))
-        ∙ sym (ap (λ (b : Bool). if b then f (slice_index old e) (e - first) else slice_index old e)
-        (between_in first (e + 1) e up (omega arith)))
-        ∙ ap (λ (i : ℕ). if is_between first (e + 1) i then f (slice_index old i) (i - first) else slice_index old i)
-        (sym same)
-    | inr other ↦
-        get_or-set_other now e k value 0 other ∙ so_far.numbers k
-        ∙ ap (λ (b : Bool). if b then f (slice_index old k) (k - first) else slice_index old k)
-        (elim (cases_lt k first) [
-          | inl below ↦ between_below first e k below ∙ sym (between_below first (e + 1) k below)
-          | inr from ↦ elim (cases_lt k e) [
-            | inl early ↦ between_in first e k from early ∙ sym (between_in first (e + 1) k from (omega (arith, early)))
-            | inr late ↦
-                between_above first e k late ∙ sym (between_above first (e + 1) k (omega (arith, late, other)))
-          ]
-        ])
-  ];
-}
 
 -- a plane still has no bit past its end
 ored_plane : (elements : ℕ) (old new : List ℕ) (first past : ℕ) (bit : Bool) → OrsRun old new first past bit
@@ -201,23 +125,6 @@ tested_test (ByLrpd old) (ByLrpd new) first past index flags folds = refl
 tested_test (ByLrpd old) (ByFlow new) first past index flags folds = absurd folds
 tested_test (ByFlow old) (ByLrpd new) first past index flags folds = absurd folds
 tested_test (ByFlow old) (ByFlow new) first past index flags folds = refl
-
--- planes have all words that are needed
-pub has_words : (elements : ℕ) (words : List ℕ) (past : ℕ) → past ≤ elements → IsBitPlane elements words
-    → past ≤ 64 * length words
-has_words elements words past within plane = let count = plane.count in omega (arith, count, within)
-
-pub tested_have_run : (elements : ℕ) (tested : Tested) (past : ℕ) → past ≤ elements → AreTested elements tested
-    → TestedHaveRun tested past
-tested_have_run elements (ByLrpd planes) past within are = record {
-  written = has_words elements _ past within are.written;
-  written_by_two = has_words elements _ past within are.written_by_two;
-  read_only = has_words elements _ past within are.read_only;
-  read_and_written = has_words elements _ past within are.read_and_written;
-}
-tested_have_run elements (ByFlow planes) past within are =
-    let first = are.first in let last = are.last in
-    record { first = omega (arith, first, within); last = omega (arith, last, within) }
 
 -- at an element of the run, and at another
 bit_in : (old new : List ℕ) (first past e : ℕ) (bit mark : Bool) → OrsRun old new first past bit

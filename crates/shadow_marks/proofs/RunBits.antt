@@ -108,15 +108,6 @@ or_both true o b c d is = refl
 or_both false true b c d is = is
 or_both false false b c d is = refl
 
-pub run_begun : (words : List ℕ) (first : ℕ) → OrsRun words words first first true
-run_begun words first = record {
-  count = refl;
-  bits = λ k. elim (cases_lt k first) [
-    | inl below ↦ or_nothing (bit_of words k) true (is_between first first k) (between_below first first k below)
-    | inr from ↦ or_nothing (bit_of words k) true (is_between first first k) (between_above first first k from)
-  ];
-}
-
 pub run_on : (old now next : List ℕ) (first e past : ℕ) → first ≤ e → e ≤ past → length next ≡ length now
     → OrsRun old now first e true → ((k : ℕ) → bit_of next k ≡ (bit_of now k || is_between e past k))
     → OrsRun old next first past true
@@ -126,17 +117,6 @@ run_on old now next first e past up on long so_far more = record {
       more k ∙ ap (λ (b : Bool). b || is_between e past k) (so_far.bits k)
       ∙ or_both (bit_of old k) true (is_between first e k) (is_between e past k) (is_between first past k)
       (between_joined first e past k up on);
-}
-
-pub where_begun : (words others : List ℕ) (first : ℕ) → OrsRunWhere words words others first first
-where_begun words others first = record {
-  count = refl;
-  bits = λ k. elim (cases_lt k first) [
-    | inl below ↦
-        or_nothing (bit_of words k) (bit_of others k) (is_between first first k) (between_below first first k below)
-    | inr from ↦
-        or_nothing (bit_of words k) (bit_of others k) (is_between first first k) (between_above first first k from)
-  ];
 }
 
 pub where_on : (old now next others : List ℕ) (first e past : ℕ) → first ≤ e → e ≤ past → length next ≡ length now
