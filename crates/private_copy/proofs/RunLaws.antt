@@ -161,23 +161,6 @@ by_place P e lanes x inside outside = elim (cases_lt x e) [
   ]
 ]
 
--- numbers and values stay in their bounds
-pub writers_stay : (old new : PlacedPages) (e lanes : ℕ) (kind : Kind) (words values : List ℕ) (number : ℕ)
-    → RunNoted old new e lanes kind words values number → ((x : ℕ) → (cell_at old x).writer ≤ number)
-    → (x : ℕ) → (cell_at new x).writer ≤ number
-writers_stay old new e lanes kind words values number notes small x =
-    by_place (λ (y : ℕ). (cell_at new y).writer ≤ number) e lanes x
-    (λ at below. (notes.inside at below).writer (small (e + at)))
-    (λ other. subst (λ (c : Cell). c.writer ≤ number) (sym (notes.others x other)) (small x))
-
-pub values_stay : (old new : PlacedPages) (e lanes : ℕ) (kind : Kind) (words values : List ℕ) (number : ℕ)
-    → RunNoted old new e lanes kind words values number → ((x : ℕ) → (cell_at old x).value < 18446744073709551616)
-    → (x : ℕ) → (cell_at new x).value < 18446744073709551616
-values_stay old new e lanes kind words values number notes small x =
-    by_place (λ (y : ℕ). (cell_at new y).value < 18446744073709551616) e lanes x
-    (λ at below. (notes.inside at below).fits)
-    (λ other. subst (λ (c : Cell). c.value < 18446744073709551616) (sym (notes.others x other)) (small x))
-
 module _ (old new : PlacedPages) (start : List ℕ) (e lanes : ℕ) (kind : Kind) (words values : List ℕ) (number : ℕ)
     (saw : (lane : ℕ) → lane < lanes → slice_index words lane ≡ slice_index start (e + lane))
     (notes : RunNoted old new e lanes kind words values number) where
