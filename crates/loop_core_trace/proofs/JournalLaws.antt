@@ -1,0 +1,64 @@
+-- Journals that undo one access more.
+use Rattle.std.proofs.Common.{◌≡◌, ℕ, ◌<◌, List, [], ◌∷◌, ◌++◌, length, get_or, set, refl, sym, ap, subst, ◌∙◌}
+use Rattle.std.proofs.lemmas.List.{set-set, set-get_or, length-set}
+use Rattle.std.specs.List.{AllByRecursion}
+use Rattle.array_maps.specs.MapList.{MapList}
+use Rattle.loop_core_trace.specs.declared.journal.Note.{Note}
+use Rattle.loop_core_trace.specs.Journals.{unwound, Undoes}
+
+-- the last is put back first
+pub unwound_last : (notes : List Note) (note : Note) (words : List ℕ) → unwound (notes ++ note ∷ []) words
+    ≡ unwound notes (set words note.element note.word)
+unwound_last [] note words = refl
+unwound_last (first ∷ notes) note words = ap (λ (ws : List ℕ). set ws first.element first.word)
+    (unwound_last notes note words)
+
+-- of all notes but the last, and of the last
+pub all_but_last : {A : Type 0} (P : A → Type 0) (xs : List A) (x : A) → AllByRecursion P (xs ++ x ∷ [])
+    → AllByRecursion P xs × P x
+all_but_last P [] x all = (tt, all.0)
+all_but_last P (first ∷ xs) x all = let rest = all_but_last P xs x all.1 in ((all.0, rest.0), rest.1)
+
+pub all_and_last : {A : Type 0} (P : A → Type 0) (xs : List A) (x : A) → AllByRecursion P xs → P x
+    → AllByRecursion P (xs ++ x ∷ [])
+all_and_last P [] x all last = (last, tt)
+all_and_last P (first ∷ xs) x all last = (all.0, all_and_last P xs x all.1 last)
+
+-- of longer words
+pub all_within : (n m : ℕ) → m ≡ n → (notes : List Note) → AllByRecursion (λ note. note.element < n) notes
+    → AllByRecursion (λ note. note.element < m) notes
+all_within n m same notes all = subst (λ (k : ℕ). AllByRecursion (λ note. note.element < k) notes) (sym same) all
+
+-- an access that was noted
+pub undoes_next : (journal : List Note) (maps before after : MapList) (note : Note) (left : ℕ)
+    → Undoes journal maps before → note.element < length maps.words →
+    note.word ≡ get_or maps.words note.element 0 → after.sizes ≡ maps.sizes → after.words ≡ set maps.words note.element
+    left → Undoes (journal ++ note ∷ []) after before
+undoes_next journal maps before after note left undoes inside word sizes words =
+    let long : length after.words ≡ length maps.words = ap length words ∙ length-set maps.words note.element left in
+    record {
+      within = all_within (length maps.words) (length after.words) long (journal ++ note ∷ [])
+          (all_and_last (λ (n : Note). n.element < length maps.words) journal note undoes.within inside);
+      words = unwound_last journal note after.words
+          ∙ ap (unwound journal)
+          (ap (λ (ws : List ℕ). set ws note.element note.word) words
+          ∙ set-set maps.words note.element left note.word
+          ∙ ap (set maps.words note.element) word
+          ∙ set-get_or maps.words note.element 0)
+          ∙ undoes.words;
+      sizes = sizes ∙ undoes.sizes;
+    }
+
+-- the last note is undone
+pub one_undone : (journal rest : List Note) (note : Note) (words after start : List ℕ) → journal ≡ rest ++ note ∷ []
+    → after ≡ set words note.element note.word →
+    AllByRecursion (λ n. n.element < length words) journal → unwound journal words ≡ start
+    → AllByRecursion (λ n. n.element < length after) rest × (unwound rest after ≡ start)
+one_undone journal rest note words after start is put within undoes =
+    let long : length after ≡ length words = ap length put ∙ length-set words note.element note.word in (
+      all_within (length words) (length after) long rest
+          (all_but_last (λ (n : Note). n.element < length words) rest note
+          (subst (AllByRecursion (λ n. n.element < length words)) is within)).0,
+      ap (unwound rest) put ∙ sym (unwound_last rest note words) ∙ ap (λ (ns : List Note). unwound ns words) (sym is)
+          ∙ undoes,
+    )

@@ -1,0 +1,5 @@
+pub mod TouchLaws
+pub mod SlotLaws
+pub mod JournalLaws
+pub mod Underway
+pub mod GoingOn

@@ -1,0 +1,4 @@
+pub mod Touches
+pub mod Journals
+pub mod Places
+pub mod Traced

@@ -1,0 +1,38 @@
+-- What is told of an iteration that was followed at one element.
+use Rattle.std.specs.Prelude.{◌≡◌, ℕ, true, false, List, Option, Some, None}
+use Rattle.array_maps.specs.Accesses.{Access, actions_at}
+use Rattle.bpf_insn_types.specs.Program.{Program}
+use Rattle.bpf_step_model.specs.State.{LoopCall}
+use Rattle.bpf_step_model.specs.Run.{Ended}
+use Rattle.bpf_step_model.specs.Iteration.{Iterated, iteration}
+use Rattle.loop_core_model.specs.Actions.{writes, exposed}
+use Rattle.loop_core_trace.specs.declared.following.Trace.{Trace}
+use Rattle.loop_core_trace.specs.declared.slots.Slots.{Slots}
+use Rattle.loop_core_trace.specs.Places.{FirstWriteAt, ExposedReadAt, ReturnsAt}
+
+-- an iteration with these accesses doesn't write the element, or writes it first at a slot
+abbrev pub WriteIs : Program → LoopCall → (index : ℕ) → List ℕ → (element : ℕ) → List Access → Option ℕ → Type 0
+WriteIs program call index words element accesses None = writes (actions_at element accesses) ≡ false
+WriteIs program call index words element accesses (Some slot) =
+    (writes (actions_at element accesses) ≡ true) × FirstWriteAt program call index words element slot
+
+-- it has no exposed read of the element, or has it at a slot
+abbrev pub ReadIs : Program → LoopCall → (index : ℕ) → List ℕ → (element : ℕ) → List Access → Option ℕ → Type 0
+ReadIs program call index words element accesses None = exposed (actions_at element accesses) ≡ false
+ReadIs program call index words element accesses (Some slot) =
+    (exposed (actions_at element accesses) ≡ true) × ExposedReadAt program call index words element slot
+
+-- both
+pub record AreSlots (program : Program) (call : LoopCall) (index : ℕ) (words : List ℕ) (element : ℕ)
+    (accesses : List Access) (slots : Slots) : Type 0 where
+  pub write : WriteIs program call index words element accesses slots.write
+  pub read : ReadIs program call index words element accesses slots.read
+
+-- on these words the iteration ended so: it returned this at this slot, and these are its slots at the element
+pub record IsTraceOf (program : Program) (call : LoopCall) (index : ℕ) (words : List ℕ) (element : ℕ)
+    (trace : Trace) : Type 0 where
+  pub iterated : Iterated
+  pub told : iteration program 4096 call index words ≡ Ended iterated
+  pub ret : trace.ret ≡ iterated.ret
+  pub returns : ReturnsAt program call index words trace.exit trace.ret
+  pub slots : AreSlots program call index words element iterated.accesses trace.slots

@@ -1,0 +1,58 @@
+//! A journal of words, by which an iteration is undone.
+
+ghost use Rattle.std.specs.Prelude.{◌≡◌, ◌<◌, ℕ, length, Some, OnOk, IfOk};
+ghost use Rattle.std.specs.List.{AllByRecursion};
+ghost use Rattle.loop_core_trace.specs.Touches.{noted, slots_here};
+ghost use Rattle.loop_core_trace.specs.Journals.{unwound};
+
+use crate::slots::Slots;
+use crate::touch::Touch;
+use array_maps::{Maps, Store};
+use std::alloc::{AllocError, Global};
+
+/// The word that an element had before an access.
+#[derive(Clone, Copy)]
+pub(crate) struct Note {
+    /// The element's number over all maps.
+    pub(crate) element: u32,
+    /// Its word.
+    pub(crate) word: u64,
+}
+
+/// Notes the word at an access that is about to be made at a slot, and the slot where the access is of the element that
+/// is watched.
+pub(crate) fn note_access(
+    journal: &mut Vec<Note>,
+    touched: Option<Touch>,
+    words: &[u64],
+    slots: Slots,
+    slot: u32,
+    element: u32,
+) -> Result<Slots, AllocError>
+    requires within { (touch : Touch) → touched ≡ Some touch → touch.element < length words.now }
+    ensures journal { OnOk result (journal.new.items ≡ noted touched words.now journal.old.items) }
+    ensures slots { IfOk result (λ s. s ≡ slots_here touched element slot slots) }
+{
+    let Some(touch) = touched else {
+        return Ok(slots);
+    };
+    journal.push(Note {
+        element: touch.element,
+        word: words[touch.element as usize],
+    })?;
+    if touch.element == element {
+        return Ok(slots.after(touch, slot));
+    }
+    Ok(slots)
+}
+
+/// Undoes the accesses that were noted, the last first.
+pub(crate) fn undo(maps: &mut Maps, mut journal: Vec<Note>)
+    requires within { AllByRecursion (λ note. note.element < length maps.old.words) journal.items }
+    ensures sizes { maps.new.sizes ≡ maps.old.sizes }
+    ensures words { maps.new.words ≡ unwound journal.items maps.old.words }
+{
+    while let Some(note) = journal.pop() {
+        maps.store(note.element, note.word);
+    }
+}
