@@ -1,0 +1,5 @@
+pub mod Runs
+pub mod Searches
+pub mod BreakLaws
+pub mod PairLaws
+pub mod Explaining

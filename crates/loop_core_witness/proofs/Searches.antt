@@ -1,0 +1,45 @@
+-- Searching iterations in order.
+use Rattle.std.proofs.Common.{◌≡◌, ℕ, ◌+◌, ◌≤◌, ◌⊎◌, inl, inr, List, Option, None, sym, subst, arith, eqb}
+use Rattle.std.specs.Prelude.{true, false}
+use Rattle.std.proofs.lemmas.Bool.Decides.{eqb_tells}
+use Rattle.bpf_insn_types.specs.Program.{Program}
+use Rattle.bpf_step_model.specs.State.{LoopCall}
+use Rattle.loop_core_trace.specs.declared.following.Trace.{Trace}
+use Rattle.loop_core_trace.specs.Traced.{IsTraceOf}
+use Rattle.loop_core_witness.specs.declared.kind.Kind.{Kind}
+use Rattle.loop_core_witness.specs.declared.kind.Kind.TheVariants.{FirstWrite, ExposedRead}
+use Rattle.loop_core_witness.specs.Firsts.{slot_of, IsAt, Does, NoneDoes}
+
+module _ (kind : Kind) (program : Program) (call : LoopCall) (words : List ℕ) (element : ℕ) where
+  at_slot : (k : Kind) (index : ℕ) (trace : Trace) (it : IsTraceOf program call index words element trace) →
+      IsAt k program call index words element it.iterated.accesses (slot_of k trace.slots)
+  at_slot FirstWrite index trace it = it.slots.write
+  at_slot ExposedRead index trace it = it.slots.read
+
+  -- what a trace tells
+  pub traced : (index : ℕ) (trace : Trace) → IsTraceOf program call index words element trace → (slot : Option ℕ)
+      → slot ≡ slot_of kind trace.slots →
+      Does kind program call words element index slot
+  traced index trace it slot is =
+      subst (Does kind program call words element index) (sym is)
+      (record { iterated = it.iterated; told = it.told; seen = at_slot kind index trace it })
+
+  -- none yet
+  pub none_yet : (from : ℕ) → NoneDoes kind program call words element from from
+  none_yet from index low high = absurd (omega (arith, low, high))
+
+  -- one more that doesn't
+  pub none_more : (from past next : ℕ) → next ≡ past + 1 → NoneDoes kind program call words element from past
+      → Does kind program call words element past None →
+      NoneDoes kind program call words element from next
+  none_more from past next is none here index low high = go (eqb_tells index past)
+    where
+      go : ((eqb index past ≡ true) × (index ≡ past)) ⊎ ((eqb index past ≡ false) × (index ≡ past → ⊥))
+          → Does kind program call words element index None
+      go (inl same) = subst (λ (i : ℕ). Does kind program call words element i None) (sym same.1) here
+      go (inr other) = none index low (let apart = other.1 in omega (arith, high, is))
+
+  -- up to an index that is past the end
+  pub none_up_to : (from past index : ℕ) → past ≤ index → NoneDoes kind program call words element from index
+      → NoneDoes kind program call words element from past
+  none_up_to from past index over none i low high = none i low (omega (arith, over, high))

@@ -1,0 +1,22 @@
+//! Why a loop conflicts: of an element the two iterations that fail a test there, with the slots at which the one first
+//! writes it and the other has its exposed read; and the iteration that breaks the loop. Of the pairs that fail it is
+//! the one with the least reader, and of these the one with the least writer.
+//!
+//! ```text
+//! let broke = find_break(alloc, &program, &call, &start)?;
+//! let pair = find_pair(alloc, &program, &call, &start, Test::Flow, 1, broke)?;
+//! // pair.writer.index is the iteration that writes element 1, and pair.writer.slot the slot at which it does
+//! ```
+#![tactic(auto)]
+
+mod breaking;
+mod finding;
+mod kind;
+mod pairing;
+mod place;
+mod witness;
+
+pub use breaking::find_break;
+pub use pairing::find_pair;
+pub use place::Place;
+pub use witness::Witness;

@@ -1,0 +1,130 @@
+//! Finding the least pair of iterations that fails a test.
+
+ghost use Rattle.std.specs.Prelude.{◌≡◌, ◌<◌, Some, IfOk};
+ghost use Rattle.bpf_verify_sound.specs.Soundness.{OverApproximatesCall};
+ghost use Rattle.loop_core_model.specs.LeastBreak.{count_to};
+ghost use Rattle.loop_core_model.specs.declared.loop_test.Test.TheVariants.{Lrpd, Flow};
+ghost use Rattle.loop_core_witness.specs.Breaks.{index_of, AreCounted, IsBreak};
+ghost use Rattle.loop_core_witness.specs.declared.place.Place.{Place as At};
+ghost use Rattle.loop_core_witness.specs.Witnesses.{Explains};
+
+use crate::finding::find_first;
+use crate::kind::Kind;
+use crate::place::Place;
+use crate::witness::Witness;
+use array_maps::{Maps, Store};
+use bpf_step::LoopCall;
+use bpf_verify::Verified;
+use bpf_verify_sound::{law_of_accepted_programs, law_of_accepted_runs};
+use loop_core_model::Test;
+use std::alloc::{AllocError, Global};
+
+/// How many iterations count: up to the break, or all.
+fn counted_by(call: &LoopCall, broke: Option<Place>) -> u32
+    requires within { (place : At) → broke ≡ Some place → place.index < call.now.n }
+    ensures { result ≡ count_to call.now.n (index_of broke) }
+{
+    let n = call.n();
+    match broke {
+        Some(place) => place.index + 1,
+        None => n,
+    }
+}
+
+/// The least pair by the flow test: the least writer, and the first reader behind it.
+fn flow_pair(
+    alloc: Global,
+    program: &Verified,
+    call: &LoopCall,
+    start: &Maps,
+    element: u32,
+    count: u32,
+) -> Result<Option<Witness>, AllocError>
+    requires known { OverApproximatesCall program.now call.now }
+    requires sizes { start.now.sizes ≡ program.now.sizes }
+    requires counts { AreCounted program.now call.now start.now.words count }
+    ensures pair { IfOk result (Explains Flow program.now call.now start.now.words element) }
+{
+    let write = Kind::FirstWrite;
+    let Some(writer) = find_first(alloc, program, call, start, write, element, 0, count)? else {
+        return Ok(None);
+    };
+    let read = Kind::ExposedRead;
+    let behind = writer.index + 1;
+    let Some(reader) = find_first(alloc, program, call, start, read, element, behind, count)? else {
+        return Ok(None);
+    };
+    Ok(Some(Witness { writer, reader }))
+}
+
+/// The least pair by the LRPD test: the least reader and the least other writer; or where it is the only writer, that
+/// writer and the next reader.
+fn lrpd_pair(
+    alloc: Global,
+    program: &Verified,
+    call: &LoopCall,
+    start: &Maps,
+    element: u32,
+    count: u32,
+) -> Result<Option<Witness>, AllocError>
+    requires known { OverApproximatesCall program.now call.now }
+    requires sizes { start.now.sizes ≡ program.now.sizes }
+    requires counts { AreCounted program.now call.now start.now.words count }
+    ensures pair { IfOk result (Explains Lrpd program.now call.now start.now.words element) }
+{
+    let read = Kind::ExposedRead;
+    let Some(reader) = find_first(alloc, program, call, start, read, element, 0, count)? else {
+        return Ok(None);
+    };
+    let write = Kind::FirstWrite;
+    let Some(writer) = find_first(alloc, program, call, start, write, element, 0, count)? else {
+        return Ok(None);
+    };
+    if writer.index != reader.index {
+        return Ok(Some(Witness { writer, reader }));
+    }
+    let behind = writer.index + 1;
+    if let Some(other) = find_first(alloc, program, call, start, write, element, behind, count)? {
+        return Ok(Some(Witness {
+            writer: other,
+            reader,
+        }));
+    }
+    let Some(other) = find_first(alloc, program, call, start, read, element, behind, count)? else {
+        return Ok(None);
+    };
+    Ok(Some(Witness {
+        writer,
+        reader: other,
+    }))
+}
+
+/// Of the counted iterations of a loop call that main of this program made, each run on the start maps, the two that
+/// fail a test at an element, where two do: of all such pairs the one with the least reader, and of these the one with
+/// the least writer. The start maps are of the program's sizes, and `broke` is what `find_break` told of them.
+pub fn find_pair(
+    alloc: Global,
+    program: &Verified,
+    call: &LoopCall,
+    start: &Maps,
+    test: Test,
+    element: u32,
+    broke: Option<Place>,
+) -> Result<Option<Witness>, AllocError>
+    requires known { OverApproximatesCall program.now call.now }
+    requires sizes { start.now.sizes ≡ program.now.sizes }
+    requires broke { IsBreak program.now call.now start.now.words broke }
+    ensures pair { IfOk result (Explains test program.now call.now start.now.words element) }
+{
+    law_of_accepted_programs();
+    law_of_accepted_runs();
+    // These tell the proof that the program is accepted, and what words the maps have.
+    let _unit = program.unit();
+    let _sizes = start.sizes();
+    Store::words_fit(start);
+    let count = counted_by(call, broke);
+    match test {
+        Test::Flow => flow_pair(alloc, program, call, start, element, count),
+        Test::Lrpd => lrpd_pair(alloc, program, call, start, element, count),
+    }
+}
