@@ -1,0 +1,2 @@
+pub mod ListLaws
+pub mod ConflictLaws

@@ -1,0 +1,12 @@
+//! What is told of the conflicts of a loop.
+
+use loop_core_model::Verdict;
+
+/// The conflicts of a loop.
+#[derive(Drop)]
+pub struct Conflicts {
+    /// The loop's verdict: `Parallel` where no element conflicts, else `Conflict` with their number and the least.
+    pub verdict: Verdict,
+    /// The least of them, rising.
+    pub least: Vec<u32>,
+}

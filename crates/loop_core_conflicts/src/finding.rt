@@ -1,0 +1,56 @@
+//! Finding the elements of a loop that conflict.
+
+ghost use Rattle.std.specs.Prelude.{◌≡◌, None, IfOk};
+ghost use Rattle.bpf_verify_sound.specs.Soundness.{OverApproximatesCall};
+ghost use Rattle.loop_core_model.specs.Split.{even_bounds};
+ghost use Rattle.loop_core_conflicts.specs.Told.{AreConflicts};
+
+use crate::conflicts::Conflicts;
+use crate::listing::least_elements;
+use crate::plane::{conflict_plane, verdict_of};
+use array_maps::Maps;
+use bpf_step::LoopCall;
+use bpf_verify::Verified;
+use loop_core_block::run_block;
+use loop_core_model::Test;
+use loop_core_split::{NoGate, Split};
+use std::alloc::{AllocError, Global};
+
+/// The split of n iterations into one block.
+#[tactic(auto, using(crate::proofs::ListLaws::one_block))]
+fn one_block(n: u32) -> Split
+    ensures { result ≡ even_bounds n 1 }
+{
+    match Split::even(n, 1) {
+        Ok(split) => split,
+        Err(_) => unreachable!(),
+    }
+}
+
+/// The verdict by a test on a loop call that main of this program made, and the least elements that conflict: at most
+/// so
+/// many, rising. Its iterations run on the start maps, which are of the program's sizes and don't change, up to the
+/// first that breaks.
+pub fn find_conflicts(
+    alloc: Global,
+    program: &Verified,
+    call: &LoopCall,
+    start: &Maps,
+    test: Test,
+    most: u32,
+) -> Result<Conflicts, AllocError>
+    requires known { OverApproximatesCall program.now call.now }
+    requires sizes { start.now.sizes ≡ program.now.sizes }
+    ensures { IfOk result (AreConflicts test program.now call.now start.now.words most) }
+{
+    // This tells the proof how many words there are at most.
+    let _words = start.words();
+    let split = one_block(call.n());
+    let block = run_block(alloc, program, call, start, &split, 0, &NoGate, test)?;
+    let plane = conflict_plane(alloc, block.planes())?;
+    let least = least_elements(alloc, plane.as_slice(), most)?;
+    Ok(Conflicts {
+        verdict: verdict_of(plane.as_slice()),
+        least,
+    })
+}
