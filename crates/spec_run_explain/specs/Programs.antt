@@ -1,0 +1,17 @@
+-- What is told of a program's loops.
+use Rattle.std.specs.Prelude.{◌≡◌, ℕ}
+use Rattle.std.specs.List.{AllByRecursion}
+use Rattle.array_maps.specs.MapList.{MapList}
+use Rattle.bpf_insn_types.specs.Program.{Program}
+use Rattle.loop_core_model.specs.declared.loop_test.Test.{Test}
+use Rattle.spec_run.specs.AsInOrder.{IsReportByTest}
+use Rattle.spec_run_explain.specs.declared.explained.Explained.{Explained}
+use Rattle.spec_run_explain.specs.Causes.{IsCallExplained, lines_of}
+
+-- the report is that of a run whose loops may run in parallel, from the old maps to the new ones; each of its lines is
+-- explained
+pub record IsProgramExplained (test : Test) (program : Program) (argument : ℕ) (old new : MapList) (told : Explained)
+    : Type 0 where
+  pub report : IsReportByTest test program argument old new told.report
+  pub lines : lines_of told.loops.items ≡ told.report.loops.items
+  pub explained : AllByRecursion (IsCallExplained test program) told.loops.items

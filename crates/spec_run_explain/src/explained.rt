@@ -1,0 +1,34 @@
+//! What is told of a program's loops.
+
+use loop_core_model::LoopReport;
+use loop_core_witness::{Place, Witness};
+use spec_run::Report;
+
+/// Why an element conflicts.
+#[derive(Clone, Copy, Debug)]
+pub struct Cause {
+    /// The element's number over all maps.
+    pub element: u32,
+    /// The two iterations that fail the test there.
+    pub witness: Witness,
+}
+
+/// What is told of a loop call.
+#[derive(Drop)]
+pub struct LoopExplained {
+    /// Its line in the report.
+    pub line: LoopReport,
+    /// The iteration that breaks it, each run on the words as they were at the call.
+    pub broke: Option<Place>,
+    /// The least elements that conflict, rising, each with its cause.
+    pub causes: Vec<Cause>,
+}
+
+/// What is told of a program.
+#[derive(Drop)]
+pub struct Explained {
+    /// What it did.
+    pub report: Report,
+    /// Its loop calls, in order.
+    pub loops: Vec<LoopExplained>,
+}

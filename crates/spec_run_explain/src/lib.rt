@@ -1,0 +1,16 @@
+//! Runs accepted programs in order, and tells of each loop what became of it if it ran in parallel, and why it
+//! conflicts.
+//!
+//! ```text
+//! let told = explain_loops(alloc, &program, &mut maps, 0, Test::Flow, 64)?;
+//! // told.report is the report of the program, and told.loops[0].conflicts[0].witness.writer.index an iteration that
+//! // writes the least element that conflicts
+//! ```
+#![tactic(auto)]
+
+mod call;
+mod driver;
+mod explained;
+
+pub use driver::explain_loops;
+pub use explained::{Cause, Explained, LoopExplained};
