@@ -1,8 +1,8 @@
 -- The command line of the program that explains, in clap's words, and what the words of one ask for.
-use Rattle.std.specs.Prelude.{◌≡◌, List, [], Some, None, codes, true}
+use Rattle.std.specs.Prelude.{◌≡◌, Bool, List, [], Some, None, codes, true, false}
 use Rattle.clap.specs.Words.{App, Row, Rule, Text, matches_of, new_app, new_rule, one_of, with_rule}
 use Rattle.clap.specs.declared.builder.ArgAction.TheVariants.{SetTrue}
-use Rattle.bpfspec_command_line.specs.CommandLine.{IsForm, hex_rule}
+use Rattle.bpfspec_command_line.specs.CommandLine.{IsArgument, IsForm, IsTest, arg_rule, hex_rule, test_rule}
 use Rattle.bpfspec_reasons.specs.declared.units.Extent.{Extent}
 use Rattle.bpfspec_reasons.specs.declared.units.Extent.TheVariants.{Refusal, States}
 use Rattle.bpfspec_explain_serve.specs.declared.ask.Ask.{Ask}
@@ -15,13 +15,18 @@ flag_rule name = record (new_rule name) { long = Some name; action = Some SetTru
 abbrev pub states_rule : Rule
 states_rule = flag_rule (codes "states")
 
+-- --all
+abbrev pub all_rule : Rule
+all_rule = flag_rule (codes "all")
+
 -- the program without its flags; it has a version
 abbrev pub top_app : App
 top_app = record { top = record (new_app (codes "bpfspec explain")).top { has_version = true }; subs = [] }
 
--- [--hex] [--states]
+-- [--hex] [--arg N] [--test flow|lrpd] [--states] [--all]
 abbrev pub explain_app : App
-explain_app = with_rule (with_rule top_app hex_rule) states_rule
+explain_app = with_rule (with_rule (with_rule (with_rule (with_rule top_app hex_rule) arg_rule) test_rule) states_rule)
+    all_rule
 
 -- how much the arguments ask to be explained: also the states by the flag --states
 pub record IsExtent (rows : List Row) (extent : Extent) : Type 0 where
@@ -29,10 +34,19 @@ pub record IsExtent (rows : List Row) (extent : Extent) : Type 0 where
   pub unset : one_of (codes "states") rows ≡ Some (codes "false") → extent ≡ Refusal
   pub set : one_of (codes "states") rows ≡ Some (codes "true") → extent ≡ States
 
+-- whether the arguments ask for all: by the flag --all
+pub record IsAll (rows : List Row) (all : Bool) : Type 0 where
+  pub none : one_of (codes "all") rows ≡ None → all ≡ false
+  pub unset : one_of (codes "all") rows ≡ Some (codes "false") → all ≡ false
+  pub set : one_of (codes "all") rows ≡ Some (codes "true") → all ≡ true
+
 -- what arguments ask for
 pub record AsksBy (rows : List Row) (ask : Ask) : Type 0 where
   pub form : IsForm rows ask.form
   pub extent : IsExtent rows ask.extent
+  pub argument : IsArgument rows ask.argument
+  pub test : IsTest rows ask.test
+  pub all : IsAll rows ask.all
 
 -- what the words of a command line ask for
 abbrev pub Asks : List Text → Ask → Type 0

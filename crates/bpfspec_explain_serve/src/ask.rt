@@ -1,6 +1,6 @@
 //! What the command line asks for.
 
-use bpfspec_command_line::UnitForm;
+use bpfspec_command_line::{Test, UnitForm};
 use bpfspec_reasons::Extent;
 
 /// What is asked of an input.
@@ -10,4 +10,10 @@ pub struct Ask {
     pub form: UnitForm,
     /// How much of it is explained.
     pub extent: Extent,
+    /// Main's argument, where it runs.
+    pub argument: u64,
+    /// The test by which its loops conflict.
+    pub test: Test,
+    /// Whether up to 64 elements that conflict are told of each loop, and not the least alone.
+    pub all: bool,
 }

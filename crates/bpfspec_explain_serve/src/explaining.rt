@@ -1,6 +1,7 @@
 //! The reasons that follow the answer of `verify`.
 
 use crate::ask::Ask;
+use bpfspec_causes::{Wish, causes_of_hex, causes_of_text};
 use bpfspec_command_line::UnitForm;
 use bpfspec_reasons::{reasons_of_hex, reasons_of_text};
 use std::alloc::{AllocError, Global};
@@ -20,6 +21,37 @@ fn unit_section(input: &str) -> &str {
     }
 }
 
+/// The section of an input's maps: all between the first line that is exactly `%%` and the next.
+fn maps_section(input: &str) -> &str {
+    if let Some(rest) = input.strip_prefix("%%\n") {
+        return unit_section(rest);
+    }
+    match input.split_once("\n%%\n") {
+        Some((_, rest)) => unit_section(rest),
+        None => "",
+    }
+}
+
+/// How many elements that conflict are told of a loop at most.
+fn most_elements(all: bool) -> u32 {
+    if all { 64 } else { 1 }
+}
+
+/// Why the loops of an accepted program conflict.
+fn causes(alloc: Global, ask: &Ask, text: &str) -> Result<String, AllocError> {
+    let wish = Wish {
+        argument: ask.argument,
+        test: ask.test,
+        most: most_elements(ask.all),
+    };
+    let section = unit_section(text);
+    let maps = maps_section(text);
+    match ask.form {
+        UnitForm::Assembler => causes_of_text(alloc, &wish, section, maps),
+        UnitForm::Hex => causes_of_hex(alloc, &wish, section, maps),
+    }
+}
+
 /// What is written of an input after the answer of `verify`, which has the refusal itself. Memory may run out.
 pub fn reasons(alloc: Global, ask: &Ask, input: &[u8]) -> Result<String, AllocError> {
     if input.len() > MAX_INPUT {
@@ -29,8 +61,10 @@ pub fn reasons(alloc: Global, ask: &Ask, input: &[u8]) -> Result<String, AllocEr
         return String::from_str(alloc, "  the input isn't UTF-8\n");
     };
     let section = unit_section(text);
-    match ask.form {
-        UnitForm::Assembler => reasons_of_text(alloc, ask.extent, section),
-        UnitForm::Hex => reasons_of_hex(alloc, ask.extent, section),
-    }
+    let mut out = match ask.form {
+        UnitForm::Assembler => reasons_of_text(alloc, ask.extent, section)?,
+        UnitForm::Hex => reasons_of_hex(alloc, ask.extent, section)?,
+    };
+    out.push_str(causes(alloc, ask, text)?.as_str())?;
+    Ok(out)
 }

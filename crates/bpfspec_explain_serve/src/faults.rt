@@ -42,3 +42,13 @@ pub(crate) fn words_fault(alloc: Global, error: &io::Error) -> LineFault {
         Err(_) => LineFault::Memory,
     }
 }
+
+/// The fault of an option whose value is none of those that are wanted.
+pub(crate) fn value_fault(alloc: Global) -> LineFault {
+    let wrong =
+        "--arg wants a number from 0 to 18446744073709551615, and --test wants flow or lrpd";
+    match explain_command(alloc) {
+        Ok(mut command) => own_fault(alloc, &mut command, wrong),
+        Err(_) => LineFault::Memory,
+    }
+}

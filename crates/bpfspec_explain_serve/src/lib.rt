@@ -1,9 +1,10 @@
-//! The program that explains why a program is refused: first what `verify` answers to an input, and then the reasons.
+//! The program that explains why a program is refused, or why the loops of an accepted one conflict: first what
+//! `verify` answers to an input, and then the reasons.
 //!
 //! ```text
 //! let mut input = Recorded::new(alloc, Counted::new(b"maps 1\nexit\n".as_slice()));
 //! let mut output = Counted::new(Vec::new(alloc));
-//! let ask = Ask { form: UnitForm::Assembler, extent: Extent::Refusal };
+//! let ask = Ask { form: UnitForm::Assembler, extent: Extent::Refusal, argument: 0, test: Test::Flow, all: false };
 //! let served = explain(alloc, &ask, &mut input, &mut output);      // Served::Refused
 //! output.into_inner()                                              // "refused V12 at slot 0\n  line 2: exit\n.."
 //! ```
@@ -19,7 +20,7 @@ mod serving;
 
 pub use ask::Ask;
 pub use bpfspec_reasons::Extent;
-pub use bpfspec_serve::{Counted, Served, Sink, Source, UnitForm};
+pub use bpfspec_serve::{Counted, Served, Sink, Source, Test, UnitForm};
 pub use command_line::read_words;
 pub use explaining::reasons;
 pub use program::run;

@@ -1,6 +1,6 @@
 //! Whole inputs: what `verify` answers to them, with the reasons. In a row ` | ` ends a line.
 
-use bpfspec_explain_serve::{Ask, Counted, Extent, Recorded, UnitForm, explain, read_words};
+use bpfspec_explain_serve::{Ask, Counted, Extent, Recorded, Test, UnitForm, explain, read_words};
 use std::alloc::Global;
 use std::process::Abort;
 use std::str;
@@ -11,6 +11,9 @@ fn served(alloc: Global, form: UnitForm, input: &[u8]) -> Result<String, Fail> {
     let ask = Ask {
         form,
         extent: Extent::Refusal,
+        argument: 0,
+        test: Test::Flow,
+        all: false,
     };
     let mut source = Recorded::new(alloc, Counted::new(input));
     let mut sink = Counted::new(Vec::new(alloc));
@@ -85,10 +88,14 @@ fn what_is_no_text_is_served(rt: HostRuntime) -> Result<(), Fail> {
 }
 
 const COMMAND_LINES: &str = "
-    explain                  => Ok(Ask { form: Assembler, extent: Refusal })
-    explain --hex            => Ok(Ask { form: Hex, extent: Refusal })
-    explain --states         => Ok(Ask { form: Assembler, extent: States })
-    explain --states --hex   => Ok(Ask { form: Hex, extent: States })
+    explain                  => Ok(Ask { form: Assembler, extent: Refusal, argument: 0, test: Flow, all: false })
+    explain --hex            => Ok(Ask { form: Hex, extent: Refusal, argument: 0, test: Flow, all: false })
+    explain --states         => Ok(Ask { form: Assembler, extent: States, argument: 0, test: Flow, all: false })
+    explain --states --hex   => Ok(Ask { form: Hex, extent: States, argument: 0, test: Flow, all: false })
+    explain --arg 7 --all    => Ok(Ask { form: Assembler, extent: Refusal, argument: 7, test: Flow, all: true })
+    explain --test lrpd      => Ok(Ask { form: Assembler, extent: Refusal, argument: 0, test: Lrpd, all: false })
+    explain --arg x          => Err(Usage(
+    explain --test other     => Err(Usage(
     explain verify           => Err(Usage(
     explain --state          => Err(Usage(
     explain --hex --hex      => Err(Usage(

@@ -5,5 +5,8 @@ use Rattle.bpfspec_explain_serve.proofs.command_line.explain_command.Goals as go
 pub returns : goal.returns
 returns c =
     let one = with_arg c.hex_flag.result c.top_command.ensures c.hex_flag.ensures c.in_ok-arg.ensures in
-    IfOk-weaker c.arg-2.result _ _ (λ command adds. with_arg c.states_flag.result one c.states_flag.ensures adds)
-    c.arg-2.ensures
+    let two = with_arg c.arg_option.result one c.arg_option.ensures c.in_ok-arg-2.ensures in
+    let three = with_arg c.test_option.result two c.test_option.ensures c.in_ok-arg-3.ensures in
+    let four = with_arg c.states_flag.result three c.states_flag.ensures c.in_ok-arg-4.ensures in
+    IfOk-weaker c.arg-5.result _ _ (λ command adds. with_arg c.all_flag.result four c.all_flag.ensures adds)
+    c.arg-5.ensures

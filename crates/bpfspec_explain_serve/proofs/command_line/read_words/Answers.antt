@@ -3,9 +3,9 @@ use Rattle.clap.specs.Words.{App, HasMatchesOf, Row}
 use Rattle.bpfspec_explain_serve.specs.Asked.{AsksBy}
 use Rattle.bpfspec_explain_serve.proofs.command_line.read_words.Goals as goal
 
-pub returns-in-Ok : goal.returns-in-Ok
-returns-in-Ok g c =
+pub returns-in-Some : goal.returns-in-Some
+returns-in-Some g c =
     let words = map g.S.AsStr.text c.args.words.now in
     let same = subst (λ (app : App). HasMatchesOf app words c.in-Ok.matches) c.in_ok-command.ensures.app_is
     c.in-Ok.ensures.ok.2 in
-    subst (λ (rows : List Row). AsksBy rows c.ask_of.result) (same refl).0 c.ask_of.ensures
+    subst (λ (rows : List Row). AsksBy rows c.in-Some.ask) (same refl).0 c.in-Some.ensures

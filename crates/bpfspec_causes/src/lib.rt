@@ -1,0 +1,16 @@
+//! Why loops conflict, in words: what comes after the answer on an accepted program.
+//!
+//! ```text
+//! loop 0 at 5: answer 1000, conflict 32 least 1
+//!   element 1 (map 0 at 1)
+//!     iteration    0 writes it    line 30: stx64 [r2+0], r3
+//!     iteration   16 reads it     line 21: ldx64 r4, [r2+0]    ; 10_tokens.c:13: __u64 t = b->tokens + ..
+//!   and 31 elements more
+//! ```
+#![tactic(auto)]
+
+mod inputs;
+mod listing;
+mod loops;
+
+pub use inputs::{Wish, causes_of_hex, causes_of_text};

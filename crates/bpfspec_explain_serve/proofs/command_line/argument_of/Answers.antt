@@ -1,0 +1,12 @@
+use Rattle.std.proofs.Common.{ℕ, List, Result, codes}
+use Rattle.std.specs.Str.Parse.{ParsesUnsigned, ExplainsUnsignedError, HasUnsignedDigitsIfOk}
+use Rattle.std.specs.declared.num.ParseIntError.{ParseIntError}
+use Rattle.clap.specs.Words.{found_of}
+use Rattle.bpfspec_command_line.proofs.CommandLaws.{number_read}
+use Rattle.bpfspec_explain_serve.proofs.command_line.argument_of.Goals as goal
+
+pub returns : goal.returns
+returns c =
+    number_read (λ (bytes : List ℕ) (r : Result ℕ ParseIntError). ParsesUnsigned 64 10 bytes r
+    × ExplainsUnsignedError 10 bytes r × HasUnsignedDigitsIfOk bytes r)
+    64 (codes "arg") (λ bytes r parsed. parsed.0) (found_of c.args.matches.now) c.get_one.result c.get_one.ensures.value
