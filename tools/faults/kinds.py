@@ -31,13 +31,14 @@ class Fault:
         """The variables that `fail.c` reads, where call number `at` is to fail."""
         return {"FAULT_CALL": self.call, "FAULT_KIND": self.kind, "FAULT_AT": str(at)}
 
-    def is_right(self, ran: Ran, own: Ran) -> bool:
-        """Whether a run with this fault gave what it may: `own` is what the same run gives without."""
+    def is_right(self, ran: Ran, own: Ran, answer_alone: Ran) -> bool:
+        """Whether a run with this fault gave what it may: `own` is what the same run gives without, and the last is
+        its answer without the reasons, for which there may be no memory."""
         answer = Ran(ran.status, ran.output)
         if ran.errors != TOLD:
             return ran.errors == b"" and answer == own
         if self.call == "growth":
-            return answer in (own, Ran(NO_MEMORY, REFUSED))
+            return answer in (own, answer_alone, Ran(NO_MEMORY, REFUSED))
         if self.call == "thread" or self.kind in ("short", "interrupted"):
             return answer == own
         is_beginning = ran.status == NO_DEVICE and own.output.startswith(ran.output)

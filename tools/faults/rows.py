@@ -48,13 +48,19 @@ def commands() -> Iterator[tuple[str, ...]]:
     yield from (("verify",), ("order",), ("asm",), ("disasm",))
 
 
+def explanations() -> Iterator[tuple[str, ...]]:
+    """The command lines of the program that explains, of which every short row is an input."""
+    yield from (("--all",), ("--test", "lrpd"), ("--states",))
+
+
 def rows() -> list[Row]:
     """All rows, those first whose sweeps take longest. Both tests judge each alike."""
+    return [_many_elements(), _many_slots(), _long_conflict(), _long_break(), *short_rows()]
+
+
+def short_rows() -> list[Row]:
+    """The rows of few iterations."""
     return [
-        _many_elements(),
-        _many_slots(),
-        _long_conflict(),
-        _long_break(),
         _one_break(),
         _two_breaks(),
         _two_loops("zeros", (0, 0)),

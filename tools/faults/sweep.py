@@ -18,13 +18,15 @@ SHOWN = 80  # bytes of an output
 
 @dataclass(frozen=True)
 class Sweep:
-    """A row, a command that it is an input of, what that gives, and a fault to be at each of its calls in turn."""
+    """A row, a command that it is an input of, what that gives, with reasons and without, and a fault to be at each of
+    its calls in turn."""
 
     program: Program
     row: str
     words: tuple[str, ...]
     stdin: Path
     own: Ran
+    answer_alone: Ran
     fault: Fault
 
     def runs(self) -> Iterator[tuple[int, Ran]]:
@@ -60,7 +62,7 @@ def outcome_of(sweep: Sweep) -> Outcome:
     for at, ran in sweep.runs():
         outcome.runs += 1
         outcome.failed += ran.errors.startswith(TOLD)
-        if not sweep.fault.is_right(ran, sweep.own):
+        if not sweep.fault.is_right(ran, sweep.own, sweep.answer_alone):
             outcome.wrong += 1
             print(sweep.line(at, ran), file=sys.stderr, flush=True)
         if outcome.wrong == MOST_WRONG:
