@@ -1,1 +1,2 @@
 pub mod ExplainLaws
+pub mod CauseLaws

@@ -1,6 +1,7 @@
 -- Why loops conflict.
-use Rattle.std.specs.Prelude.{◌≡◌, ℕ, pos, List, [], Some, None, map}
+use Rattle.std.specs.Prelude.{◌≡◌, ℕ, pos, true, List, [], Some, None, map, length, take}
 use Rattle.std.specs.List.{AllByRecursion}
+use Rattle.array_maps.specs.Accesses.{Access}
 use Rattle.bpf_insn_types.specs.Program.{Program}
 use Rattle.bpf_step_model.specs.State.{LoopCall}
 use Rattle.bpf_step_model.specs.Run.{Ended}
@@ -8,32 +9,53 @@ use Rattle.bpf_verify_sound.specs.Soundness.{OverApproximatesCall}
 use Rattle.loop_core_model.specs.declared.loop_test.Test.{Test}
 use Rattle.loop_core_model.specs.declared.verdict.LoopReport.{LoopReport}
 use Rattle.loop_core_model.specs.declared.verdict.Verdict.TheVariants.{Refused}
+use Rattle.loop_core_model.specs.Conflict.{fails, at_element, conflicting}
+use Rattle.loop_core_model.specs.LeastBreak.{counted_runs}
 use Rattle.loop_core_model.specs.Report.{verdict}
 use Rattle.loop_core_witness.specs.Breaks.{IsBreak}
 use Rattle.loop_core_witness.specs.Witnesses.{Explains}
 use Rattle.spec_run_explain.specs.declared.explained.Cause.{Cause}
 use Rattle.spec_run_explain.specs.declared.explained.LoopExplained.{LoopExplained}
 
+-- the counted iterations of a loop call on these words fail a test at an element
+pub record FailsAt (test : Test) (program : Program) (call : LoopCall) (words : List ℕ) (element : ℕ) : Type 0 where
+  pub runs : List (List Access)
+  pub counted : counted_runs program 4096 call words ≡ Ended runs
+  pub failing : fails test (at_element element runs) ≡ true
+
+-- the elements that causes are of
+abbrev pub elements_of : List Cause → List ℕ
+elements_of causes = map (λ (c : Cause). c.element) causes
+
 -- the iterations of each cause are the least pair that fails the test at its element
 abbrev pub AreCauses : Test → Program → LoopCall → List ℕ → List Cause → Type 0
 AreCauses test program call words causes =
     AllByRecursion (λ (c : Cause). Explains test program call words c.element (Some c.witness)) causes
 
--- so a loop call on these words is explained that answers this in order
-pub record IsExplained (test : Test) (program : Program) (call : LoopCall) (words : List ℕ) (answer : ℕ)
+-- these are the elements that conflict, or the least of them, at most so many
+pub record AreLeast (test : Test) (program : Program) (call : LoopCall) (words : List ℕ) (most : ℕ)
+    (elements : List ℕ) : Type 0 where
+  pub runs : List (List Access)
+  pub counted : counted_runs program 4096 call words ≡ Ended runs
+  pub least : elements ≡ take most (conflicting test runs (length words))
+
+-- so a loop call on these words is explained that answers this in order: its causes are those of the least elements that
+-- conflict
+pub record IsExplained (test : Test) (program : Program) (call : LoopCall) (words : List ℕ) (most answer : ℕ)
     (told : LoopExplained) : Type 0 where
   pub slot : told.line.slot ≡ call.slot
   pub answer_is : told.line.answer ≡ pos answer
   pub verdict_is : verdict test program 4096 call words ≡ Ended told.line.verdict
   pub broke : IsBreak program call words told.broke
+  pub elements : AreLeast test program call words most (elements_of told.causes.items)
   pub causes : AreCauses test program call words told.causes.items
 
 -- a call that was refused has no cause, and another one is explained on the words at the call
-pub data IsCallExplained (test : Test) (program : Program) (told : LoopExplained) : Type 0 where
+pub data IsCallExplained (test : Test) (program : Program) (most : ℕ) (told : LoopExplained) : Type 0 where
   WasRefused : told.line.verdict ≡ Refused → told.broke ≡ None → told.causes.items ≡ []
-      → IsCallExplained test program told
+      → IsCallExplained test program most told
   WasMade : (call : LoopCall) (words : List ℕ) (answer : ℕ) → OverApproximatesCall program call
-      → IsExplained test program call words answer told → IsCallExplained test program told
+      → IsExplained test program call words most answer told → IsCallExplained test program most told
 
 -- the lines of loop calls
 abbrev pub lines_of : List LoopExplained → List LoopReport

@@ -10,8 +10,8 @@ use Rattle.spec_run_explain.specs.Causes.{IsCallExplained, lines_of}
 
 -- the report is that of a run whose loops may run in parallel, from the old maps to the new ones; each of its lines is
 -- explained
-pub record IsProgramExplained (test : Test) (program : Program) (argument : ℕ) (old new : MapList) (told : Explained)
-    : Type 0 where
+pub record IsProgramExplained (test : Test) (program : Program) (most argument : ℕ) (old new : MapList)
+    (told : Explained) : Type 0 where
   pub report : IsReportByTest test program argument old new told.report
   pub lines : lines_of told.loops.items ≡ told.report.loops.items
-  pub explained : AllByRecursion (IsCallExplained test program) told.loops.items
+  pub explained : AllByRecursion (IsCallExplained test program most) told.loops.items

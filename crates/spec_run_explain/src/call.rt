@@ -1,9 +1,11 @@
 //! Explaining a loop call.
 
-ghost use Rattle.std.specs.Prelude.{◌≡◌, List, [], IfOk, OnOk};
+ghost use Rattle.std.specs.Prelude.{◌≡◌, Some, IfOk};
+ghost use Rattle.std.specs.List.{All};
 ghost use Rattle.bpf_verify_sound.specs.Soundness.{OverApproximatesCall};
 ghost use Rattle.loop_core_witness.specs.Breaks.{IsBreak};
-ghost use Rattle.spec_run_explain.specs.Causes.{AreCauses, IsExplained};
+ghost use Rattle.loop_core_witness.specs.Witnesses.{Explains};
+ghost use Rattle.spec_run_explain.specs.Causes.{AreCauses, FailsAt, IsExplained, elements_of};
 
 use crate::explained::{Cause, LoopExplained};
 use array_maps::Maps;
@@ -14,9 +16,9 @@ use loop_core_model::{LoopReport, Test};
 use loop_core_witness::{Place, find_break, find_pair};
 use std::alloc::{AllocError, Global};
 
-/// Adds the cause of an element, where two iterations fail the test there.
-fn add_cause(
-    causes: &mut Vec<Cause>,
+/// The cause of an element at which the loop fails the test.
+#[tactic(auto, using(crate::proofs::CauseLaws::fails_here))]
+fn cause_of(
     alloc: Global,
     program: &Verified,
     call: &LoopCall,
@@ -24,20 +26,22 @@ fn add_cause(
     test: Test,
     element: u32,
     broke: Option<Place>,
-) -> Result<(), AllocError>
+) -> Result<Cause, AllocError>
     requires known { OverApproximatesCall program.now call.now }
     requires sizes { start.now.sizes ≡ program.now.sizes }
     requires broke { IsBreak program.now call.now start.now.words broke }
-    requires causes { AreCauses test program.now call.now start.now.words causes.old.items }
-    ensures { OnOk result (AreCauses test program.now call.now start.now.words causes.new.items) }
+    requires failing { FailsAt test program.now call.now start.now.words element }
+    ensures element { IfOk result (λ cause. cause.element ≡ element) }
+    ensures pair { IfOk result (λ cause.
+        Explains test program.now call.now start.now.words cause.element (Some cause.witness)) }
 {
-    if let Some(witness) = find_pair(alloc, program, call, start, test, element, broke)? {
-        causes.push(Cause { element, witness })?;
+    match find_pair(alloc, program, call, start, test, element, broke)? {
+        Some(witness) => Ok(Cause { element, witness }),
+        None => unreachable!(),
     }
-    Ok(())
 }
 
-/// The causes of elements.
+/// The causes of elements at which the loop fails the test.
 fn causes_of(
     alloc: Global,
     program: &Verified,
@@ -50,20 +54,14 @@ fn causes_of(
     requires known { OverApproximatesCall program.now call.now }
     requires sizes { start.now.sizes ≡ program.now.sizes }
     requires broke { IsBreak program.now call.now start.now.words broke }
-    ensures { IfOk result (λ causes. AreCauses test program.now call.now start.now.words causes.items) }
+    requires failing { All (FailsAt test program.now call.now start.now.words) elements.now }
+    ensures elements { IfOk result (λ causes. elements_of causes.items ≡ elements.now) }
+    ensures pairs { IfOk result (λ causes. AreCauses test program.now call.now start.now.words causes.items) }
 {
     let mut causes = Vec::new(alloc);
     for element in elements {
-        add_cause(
-            &mut causes,
-            alloc,
-            program,
-            call,
-            start,
-            test,
-            *element,
-            broke,
-        )?;
+        let cause = cause_of(alloc, program, call, start, test, *element, broke)?;
+        causes.push(cause)?;
     }
     Ok(causes)
 }
@@ -81,7 +79,7 @@ pub(crate) fn explain_call(
 ) -> Result<LoopExplained, AllocError>
     requires known { OverApproximatesCall program.now call.now }
     requires sizes { start.now.sizes ≡ program.now.sizes }
-    ensures { IfOk result (IsExplained test program.now call.now start.now.words answer) }
+    ensures { IfOk result (IsExplained test program.now call.now start.now.words most answer) }
 {
     let conflicts = find_conflicts(alloc, program, call, start, test, most)?;
     let broke = find_break(alloc, program, call, start)?;

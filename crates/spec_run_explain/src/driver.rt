@@ -43,7 +43,7 @@ pub fn explain_loops(
     most: u32,
 ) -> Result<Explained, AllocError>
     requires sizes { maps.old.sizes ≡ program.now.sizes }
-    ensures { IfOk result (IsProgramExplained test program.now argument maps.old maps.new) }
+    ensures { IfOk result (IsProgramExplained test program.now most argument maps.old maps.new) }
 {
     law_of_accepted_runs();
     law_of_accepted_programs();

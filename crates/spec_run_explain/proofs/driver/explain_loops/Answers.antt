@@ -23,7 +23,7 @@ loop-call-init c =
           c.new-main.result c.args.maps.now laws c.new-main.ensures.program c.new-main.ensures.at c.requires.sizes
           c.sizes-sizes.ensures.words c.words_fit.ensures c.new-lines.ensures.items;
       lines = ap lines_of c.new-loops.ensures.items ∙ sym c.new-lines.ensures.items;
-      explained = subst (AllByRecursion (IsCallExplained c.args.test c.args.program.now))
+      explained = subst (AllByRecursion (IsCallExplained c.args.test c.args.program.now c.args.most))
           (sym c.new-loops.ensures.items) tt;
     }
 
@@ -45,8 +45,8 @@ loop-call-preserved-in-Loop c =
       fits = c.unit-unit.ensures.fit;
     } in
     let told = c.in_ok-told-in-Loop.told in
-    let is : IsExplained c.args.test c.args.program.now c.in-Loop.call c.next.new.store.words c.in_order-answer.result
-    told = explained_on c.in_ok-start-in-Loop.start c.next.new.store c.in_ok-start-in-Loop.ensures
+    let is : IsExplained c.args.test c.args.program.now c.in-Loop.call c.next.new.store.words c.args.most
+    c.in_order-answer.result told = explained_on c.in_ok-start-in-Loop.start c.next.new.store c.in_ok-start-in-Loop.ensures
     c.in_ok-told-in-Loop.ensures in
     record {
       still = loops c.loop-call.invariant.still c.next.ensures.program c.in-Loop.ensures.ran
@@ -55,7 +55,7 @@ loop-call-preserved-in-Loop c =
       lines = lines_last c.loop-call.loops.items c.push-in-Loop.new.self.items told c.loop-call.lines.items
           c.push.new.self.items c.in_ok-push-in-Loop-2.ensures.items c.in_ok-push-in-Loop.ensures.items
           c.loop-call.invariant.lines;
-      explained = all_last (IsCallExplained c.args.test c.args.program.now) c.loop-call.loops.items
+      explained = all_last (IsCallExplained c.args.test c.args.program.now c.args.most) c.loop-call.loops.items
           c.push-in-Loop.new.self.items told c.in_ok-push-in-Loop-2.ensures.items c.loop-call.invariant.explained
           (WasMade c.in-Loop.call c.next.new.store.words c.in_order-answer.result (search rules) is);
     }
@@ -71,7 +71,7 @@ loop-call-preserved c =
       lines = lines_last c.loop-call.loops.items c.push-in-Refused-2.new.self.items told c.loop-call.lines.items
           c.push-in-Refused.new.self.items c.in_ok-push-in-Refused-2.ensures.items
           c.in_ok-push-in-Refused.ensures.items c.loop-call.invariant.lines;
-      explained = all_last (IsCallExplained c.args.test c.args.program.now) c.loop-call.loops.items
+      explained = all_last (IsCallExplained c.args.test c.args.program.now c.args.most) c.loop-call.loops.items
           c.push-in-Refused-2.new.self.items told c.in_ok-push-in-Refused-2.ensures.items
           c.loop-call.invariant.explained
           (WasRefused (ap (λ (line : LoopReport). line.verdict) c.refused-told.ensures.line)

@@ -14,7 +14,7 @@ invariant-loop-call l =
       still : StillRuns line_of (reported_with line_of (program_in_order l.program 4096 l.argument l.fn.maps.words))
           l.program l.main l.fn.maps l.maps l.lines.items;
       lines : lines_of l.loops.items ≡ l.lines.items;
-      explained : AllByRecursion (IsCallExplained l.test l.program) l.loops.items;
+      explained : AllByRecursion (IsCallExplained l.test l.program l.most) l.loops.items;
     }
 
 abbrev pub decreases-loop-call : goal.decreases-loop-call

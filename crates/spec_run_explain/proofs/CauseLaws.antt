@@ -1,0 +1,61 @@
+-- Causes of elements that fail a test.
+use Rattle.std.proofs.Common.{◌≡◌, ℕ, ◌+◌, ◌<◌, ◌≤◌, List, [], ◌∷◌, ◌++◌, length, take, None, sym, ap, subst, ◌∙◌}
+use Rattle.std.specs.Prelude.{true, false, slice_index_or, is_none}
+use Rattle.std.specs.List.{All, range_with_len}
+use Rattle.std.proofs.lemmas.List.{take_more, take_all, map_push}
+use Rattle.std.proofs.lemmas.List.Elements.{All-take, filter_passes}
+use Rattle.array_maps.specs.Accesses.{Access}
+use Rattle.bpf_insn_types.specs.Program.{Program}
+use Rattle.bpf_step_model.specs.State.{LoopCall}
+use Rattle.bpf_step_model.specs.Run.{Ended}
+use Rattle.loop_core_model.specs.declared.loop_test.Test.{Test}
+use Rattle.loop_core_model.specs.Actions.{joined, only_operator}
+use Rattle.loop_core_model.specs.Conflict.{fails, at_element, conflicts, conflicting}
+use Rattle.loop_core_model.proofs.OneElement.{and_true_right}
+use Rattle.loop_core_conflicts.specs.declared.conflicts.Conflicts.{Conflicts}
+use Rattle.loop_core_conflicts.specs.Told.{AreConflicts}
+use Rattle.loop_core_witness.specs.Witnesses.{Explains}
+use Rattle.spec_run_explain.specs.declared.explained.Cause.{Cause}
+use Rattle.spec_run_explain.specs.Causes.{FailsAt, elements_of}
+
+-- where a test fails, it doesn't pass
+pub fails_here : (test : Test) (program : Program) (call : LoopCall) (words : List ℕ) (element : ℕ)
+    → FailsAt test program call words element → Explains test program call words element None → ⊥
+fails_here test program call words element here none =
+    let same : Ended here.runs ≡ Ended none.runs = sym here.counted ∙ none.counted in
+    let one : here.runs ≡ none.runs = cc in
+    let both : true ≡ false = sym here.failing
+    ∙ ap (λ (runs : List (List Access)). fails test (at_element element runs)) one ∙ none.pair in
+    cc
+
+-- a test fails at each of the least elements that conflict
+pub all_fail : (test : Test) (program : Program) (call : LoopCall) (words : List ℕ) (most : ℕ) (told : Conflicts)
+    → AreConflicts test program call words most told → All (FailsAt test program call words) told.least.items
+all_fail test program call words most told are =
+    let all : All (FailsAt test program call words) (conflicting test are.runs (length words)) = λ k d below. record {
+      runs = are.runs;
+      counted = are.counted;
+      failing = and_true_right
+          (is_none (only_operator (joined (at_element (slice_index_or (conflicting test are.runs (length words)) k d)
+          are.runs))))
+          (fails test (at_element (slice_index_or (conflicting test are.runs (length words)) k d) are.runs))
+          (filter_passes (λ e. conflicts test (at_element e are.runs)) (range_with_len 0 (length words)) k d below);
+    } in
+    subst (All (FailsAt test program call words)) (sym are.least)
+    (All-take (FailsAt test program call words) most (conflicting test are.runs (length words)) all)
+
+-- one more element, and its cause
+pub one_more : (causes added : List Cause) (cause : Cause) (elements : List ℕ) (i d : ℕ) → i < length elements
+    → added ≡ causes ++ cause ∷ [] → cause.element ≡ slice_index_or elements i d
+    → elements_of causes ≡ take i elements →
+    elements_of added ≡ take (i + 1) elements
+one_more causes added cause elements i d below pushed here before =
+    ap elements_of pushed ∙ map_push (λ (c : Cause). c.element) causes cause
+    ∙ ap (λ (es : List ℕ). es ++ cause.element ∷ []) before
+    ∙ ap (λ (e : ℕ). take i elements ++ e ∷ []) here
+    ∙ sym (take_more elements i d below)
+
+-- all of them
+pub all_told : (causes : List Cause) (elements : List ℕ) (i : ℕ) → length elements ≤ i
+    → elements_of causes ≡ take i elements → elements_of causes ≡ elements
+all_told causes elements i past taken = taken ∙ take_all i elements past

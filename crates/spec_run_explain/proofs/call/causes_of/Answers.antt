@@ -1,0 +1,20 @@
+use Rattle.std.proofs.Common.{arith}
+use Rattle.spec_run_explain.proofs.CauseLaws.{one_more, all_told}
+use Rattle.spec_run_explain.proofs.ExplainLaws.{all_last}
+use Rattle.spec_run_explain.proofs.call.causes_of.Goals as goal
+
+pub loop-element-preserved : goal.loop-element-preserved
+loop-element-preserved c = record {
+  elements = one_more c.loop-element.causes.items c.push.new.self.items c.in_ok-cause.cause c.args.elements.now
+      c.loop-element.element-index _ c.loop-element-test.true c.in_ok-push.ensures.items c.in_ok-cause.ensures.element
+      c.loop-element.invariant.elements;
+  pairs = all_last _ c.loop-element.causes.items c.push.new.self.items c.in_ok-cause.cause
+      c.in_ok-push.ensures.items c.loop-element.invariant.pairs c.in_ok-cause.ensures.pair;
+}
+
+pub returns : goal.returns
+returns c = record {
+  elements = all_told c.loop-element.causes.items c.args.elements.now c.loop-element.element-index
+      (omega (arith, c.loop-element-test.false)) c.loop-element.invariant.elements;
+  pairs = c.loop-element.invariant.pairs;
+}
