@@ -7,6 +7,7 @@ use bpf_insn::{CodecError, decode};
 use bpf_insn_types::Unit;
 use bpf_text::{TextError, parse_maps, parse_unit, read_hex};
 use bpf_verify::{Verified, VerifyError, verify};
+use bpfspec_output::{Refusal, Section, print_refusal};
 use bpfspec_reasons::Page;
 use loop_core_model::Test;
 use spec_run_explain::explain_loops;
@@ -23,29 +24,43 @@ pub struct Wish {
     pub most: u32,
 }
 
-/// The maps that values spell, if there is memory and they are maps.
-fn maps_of(alloc: Global, values: &[Vec<u64>]) -> Result<Option<Maps>, AllocError> {
-    match Maps::of(alloc, values) {
-        Ok(maps) => Ok(Some(maps)),
-        Err(MapsError::Limits) => Ok(None),
+/// The maps that a program starts with, or why there are none.
+#[derive(Drop)]
+enum Start {
+    From(Maps),
+    Refused(Refusal),
+}
+
+/// What comes of maps that were to be made.
+fn start_with(made: Result<Maps, MapsError>) -> Result<Start, AllocError> {
+    match made {
+        Ok(maps) => Ok(Start::From(maps)),
+        Err(MapsError::Limits) => Ok(Start::Refused(Refusal::Sizes)),
         Err(MapsError::Memory) => Err(AllocError),
     }
 }
 
 /// The maps that a program starts with: all zero, or those of a section, where it spells any.
-fn start_maps(alloc: Global, sizes: &[u32], section: &str) -> Result<Option<Maps>, AllocError> {
+fn start_maps(alloc: Global, sizes: &[u32], section: &str) -> Result<Start, AllocError> {
     if section.is_empty() {
-        return match Maps::new(alloc, sizes) {
-            Ok(maps) => Ok(Some(maps)),
-            Err(MapsError::Limits) => Ok(None),
-            Err(MapsError::Memory) => Err(AllocError),
-        };
+        return start_with(Maps::new(alloc, sizes));
     }
     match parse_maps(alloc, section) {
-        Ok(values) => maps_of(alloc, &values),
-        Err(TextError::Refused { .. }) => Ok(None),
+        Ok(values) => start_with(Maps::of(alloc, &values)),
+        Err(TextError::Refused { fault, line }) => Ok(Start::Refused(Refusal::Text {
+            fault,
+            section: Section::Maps,
+            line,
+        })),
         Err(TextError::Memory) => Err(AllocError),
     }
+}
+
+/// Writes that a program isn't run, since its maps are refused.
+fn write_refused_maps(out: &mut String, alloc: Global, refusal: Refusal) -> Result<(), AllocError> {
+    let line = print_refusal(alloc, refusal)?;
+    let text = line.as_str();
+    write!(out, "the maps aren't taken: {text}")
 }
 
 /// Writes what is told of the loops of an accepted program that starts with these maps.
@@ -58,7 +73,7 @@ fn write_loops(
     maps: &mut Maps,
 ) -> Result<(), AllocError> {
     if maps.sizes() != program.sizes() {
-        return Ok(());
+        return write_refused_maps(out, alloc, Refusal::Sizes);
     }
     let told = explain_loops(alloc, program, maps, wish.argument, wish.test, wish.most)?;
     let listing = Listing {
@@ -86,14 +101,17 @@ fn causes_of_unit(
         Err(VerifyError::Refused { .. }) => return Ok(out),
         Err(VerifyError::Memory) => return Err(AllocError),
     };
-    if let Some(mut start) = start_maps(alloc, program.sizes(), maps)? {
-        write_loops(&mut out, alloc, wish, page, &program, &mut start)?;
+    match start_maps(alloc, program.sizes(), maps)? {
+        Start::From(mut start) => {
+            write_loops(&mut out, alloc, wish, page, &program, &mut start)?;
+        }
+        Start::Refused(refusal) => write_refused_maps(&mut out, alloc, refusal)?,
     }
     Ok(out)
 }
 
-/// What is told of the loops of a unit in assembler text that starts with the maps of a section. It is empty of a unit
-/// that isn't accepted, and where the section spells no maps of its. Memory may run out.
+/// What is told of the loops of a unit in assembler text that starts with the maps of a section, or that these maps are
+/// refused. It is empty of a unit that isn't accepted. Memory may run out.
 pub fn causes_of_text(
     alloc: Global,
     wish: &Wish,

@@ -61,11 +61,34 @@ fn hex_texts_are_served(rt: HostRuntime) -> Result<(), Fail> {
 }
 
 #[test]
-fn nothing_follows_an_accepted_program(rt: HostRuntime) -> Result<(), Fail> {
+fn maps_that_are_refused_follow_an_accepted_program(rt: HostRuntime) -> Result<(), Fail> {
     let told = served(
         rt.alloc(),
         UnitForm::Assembler,
         b"maps 1\nmov64 r0, 0\nexit\n%%\nmap 0: x",
+    )?;
+    assert_eq!(rt;
+        told.as_str(),
+        "Done accepted\nfunction 0 at 0 count 2\nthe maps aren't taken: refused A1 at maps line 1\n"
+    );
+    let told = served(
+        rt.alloc(),
+        UnitForm::Assembler,
+        b"maps 1\nmov64 r0, 0\nexit\n%%\nmap 0: 1 2",
+    )?;
+    assert_eq!(rt;
+        told.as_str(),
+        "Done accepted\nfunction 0 at 0 count 2\nthe maps aren't taken: refused P1\n"
+    );
+    Ok(())
+}
+
+#[test]
+fn nothing_follows_a_program_without_loops(rt: HostRuntime) -> Result<(), Fail> {
+    let told = served(
+        rt.alloc(),
+        UnitForm::Assembler,
+        b"maps 1\nmov64 r0, 0\nexit\n%%\nmap 0: 1",
     )?;
     assert_eq!(rt; told.as_str(), "Done accepted\nfunction 0 at 0 count 2\n");
     Ok(())
