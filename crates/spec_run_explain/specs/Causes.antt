@@ -1,11 +1,13 @@
 -- Why loops conflict.
-use Rattle.std.specs.Prelude.{◌≡◌, ℕ, pos, true, List, [], Some, None, map, length, take}
+use Rattle.std.specs.Prelude.{◌≡◌, ℕ, pos, true, List, [], ◌∷◌, Some, None, map, length, take}
 use Rattle.std.specs.List.{AllByRecursion}
 use Rattle.array_maps.specs.Accesses.{Access}
 use Rattle.bpf_insn_types.specs.Program.{Program}
 use Rattle.bpf_step_model.specs.State.{LoopCall}
-use Rattle.bpf_step_model.specs.Run.{Ended}
+use Rattle.bpf_step_model.specs.Run.{BoundedResult, Ended}
+use Rattle.bpf_step_model.specs.ProgramInOrder.{LoopMade, Finished}
 use Rattle.bpf_verify_sound.specs.Soundness.{OverApproximatesCall}
+use Rattle.bpf_step.specs.Turns.{IsFilled}
 use Rattle.loop_core_model.specs.declared.loop_test.Test.{Test}
 use Rattle.loop_core_model.specs.declared.verdict.LoopReport.{LoopReport}
 use Rattle.loop_core_model.specs.declared.verdict.Verdict.TheVariants.{Refused}
@@ -50,12 +52,27 @@ pub record IsExplained (test : Test) (program : Program) (call : LoopCall) (word
   pub elements : AreLeast test program call words most (elements_of told.causes.items)
   pub causes : AreCauses test program call words told.causes.items
 
--- a call that was refused has no cause, and another one is explained on the words at the call
-pub data IsCallExplained (test : Test) (program : Program) (most : ℕ) (told : LoopExplained) : Type 0 where
-  WasRefused : told.line.verdict ≡ Refused → told.broke ≡ None → told.causes.items ≡ []
-      → IsCallExplained test program most told
-  WasMade : (call : LoopCall) (words : List ℕ) (answer : ℕ) → OverApproximatesCall program call
-      → IsExplained test program call words most answer told → IsCallExplained test program most told
+-- so a loop call that main made is explained: a refused one has its line alone; another one is explained on the words at
+-- the call, with bytes in place of what is unwritten in its frame
+pub data IsCallExplained (test : Test) (program : Program) (most : ℕ) (made : LoopMade) (told : LoopExplained)
+    : Type 0 where
+  WasRefused : made.call ≡ None → told.line ≡ record { slot = made.slot; answer = made.answer; verdict = Refused }
+      → told.broke ≡ None → told.causes.items ≡ [] → IsCallExplained test program most made told
+  WasMade : (call filled : LoopCall) (answer : ℕ) → made.call ≡ Some call → made.answer ≡ pos answer
+      → IsFilled program call filled → OverApproximatesCall program filled
+      → IsExplained test program filled made.words most answer told → IsCallExplained test program most made told
+
+-- so loop calls are explained, one by one
+abbrev pub AreExplained : Test → Program → (most : ℕ) → List LoopMade → List LoopExplained → Type 0
+AreExplained test program most [] [] = Unit {0}
+AreExplained test program most (made ∷ calls) (told ∷ loops) =
+    IsCallExplained test program most made told × AreExplained test program most calls loops
+AreExplained test program most _ _ = ⊥
+
+-- and so are those that main makes in a program that ends
+abbrev pub IsEachExplained : Test → Program → (most : ℕ) → BoundedResult Finished → List LoopExplained → Type 0
+IsEachExplained test program most (Ended f) loops = AreExplained test program most f.loops loops
+IsEachExplained test program most _ loops = ⊥
 
 -- the lines of loop calls
 abbrev pub lines_of : List LoopExplained → List LoopReport

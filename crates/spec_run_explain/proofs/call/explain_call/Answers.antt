@@ -8,5 +8,5 @@ pub causes_of-requires-clause-failing : goal.causes_of-requires-clause-failing
 causes_of-requires-clause-failing c =
     subst (All (FailsAt c.args.test c.args.program.now c.args.call.now c.args.start.now.words))
     (sym c.as_slice.ensures.value)
-    (all_fail c.args.test c.args.program.now c.args.call.now c.args.start.now.words c.args.most
+    (all_fail c.args.test c.args.program.now c.args.call.now c.args.start.now.words _
     c.in_ok-conflicts.conflicts c.in_ok-conflicts.ensures)

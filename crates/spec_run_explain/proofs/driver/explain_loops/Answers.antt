@@ -1,5 +1,4 @@
-use Rattle.std.proofs.Common.{rules, w64, [], ◌∷◌, ◌++◌, ap, refl, sym, subst, ◌∙◌}
-use Rattle.std.specs.List.{AllByRecursion}
+use Rattle.std.proofs.Common.{rules, w64, [], ◌∷◌, ◌++◌, ap, refl, sym, ◌∙◌}
 use Rattle.std.proofs.lemmas.Int.{to_z-of_z}
 use Rattle.array_maps.specs.MapList.{MapList}
 use Rattle.bpf_verify_sound.specs.Soundness.{IsSoundProgram}
@@ -7,8 +6,9 @@ use Rattle.bpf_step.proofs.Limits.{iterations_end}
 use Rattle.loop_core_model.specs.declared.verdict.LoopReport.{LoopReport}
 use Rattle.loop_core_model.specs.Report.{loop_report}
 use Rattle.spec_run.proofs.Turns.{Laws, program_ends, starts, few_left, exits, refuses, call_sizes, loops}
-use Rattle.spec_run_explain.specs.Causes.{IsExplained, IsCallExplained, WasRefused, WasMade, lines_of}
-use Rattle.spec_run_explain.proofs.ExplainLaws.{all_last, lines_last, ran_call, explained_on}
+use Rattle.spec_run_explain.specs.Causes.{IsExplained, lines_of}
+use Rattle.spec_run_explain.proofs.CallsTold.{none_told, call_told, refusal_told, all_told}
+use Rattle.spec_run_explain.proofs.ExplainLaws.{lines_last, ran_call, explained_on}
 use Rattle.spec_run_explain.proofs.driver.explain_loops.Goals as goal
 
 pub loop-call-init : goal.loop-call-init
@@ -23,8 +23,10 @@ loop-call-init c =
           c.new-main.result c.args.maps.now laws c.new-main.ensures.program c.new-main.ensures.at c.requires.sizes
           c.sizes-sizes.ensures.words c.words_fit.ensures c.new-lines.ensures.items;
       lines = ap lines_of c.new-loops.ensures.items ∙ sym c.new-lines.ensures.items;
-      explained = subst (AllByRecursion (IsCallExplained c.args.test c.args.program.now c.args.most))
-          (sym c.new-loops.ensures.items) tt;
+      explained = none_told c.args.test c.args.program.now c.args.most c.args.argument c.new-main.result
+          c.args.maps.now.words c.new-main.ensures.at
+          (program_ends laws c.args.argument (search rules) c.args.maps.now c.requires.sizes c.sizes-sizes.ensures.words
+          c.words_fit.ensures) c.new-loops.ensures.items;
     }
 
 pub next-requires-clause-served : goal.next-requires-clause-served
@@ -55,9 +57,9 @@ loop-call-preserved-in-Loop c =
       lines = lines_last c.loop-call.loops.items c.push-in-Loop.new.self.items told c.loop-call.lines.items
           c.push.new.self.items c.in_ok-push-in-Loop-2.ensures.items c.in_ok-push-in-Loop.ensures.items
           c.loop-call.invariant.lines;
-      explained = all_last (IsCallExplained c.args.test c.args.program.now c.args.most) c.loop-call.loops.items
-          c.push-in-Loop.new.self.items told c.in_ok-push-in-Loop-2.ensures.items c.loop-call.invariant.explained
-          (WasMade c.in-Loop.call c.next.new.store.words c.in_order-answer.result (search rules) is);
+      explained = call_told c.loop-call.invariant.explained (c.next.ensures.program ∙ c.loop-call.invariant.still.same)
+          told c.push-in-Loop.new.self.items c.law_of_filled_calls.ensures sound c.in-Loop.ensures.ran
+          c.in_order-answer.ensures c.resume.ensures.at is c.in_ok-push-in-Loop-2.ensures.items;
     }
 
 pub loop-call-preserved : goal.loop-call-preserved
@@ -71,11 +73,10 @@ loop-call-preserved c =
       lines = lines_last c.loop-call.loops.items c.push-in-Refused-2.new.self.items told c.loop-call.lines.items
           c.push-in-Refused.new.self.items c.in_ok-push-in-Refused-2.ensures.items
           c.in_ok-push-in-Refused.ensures.items c.loop-call.invariant.lines;
-      explained = all_last (IsCallExplained c.args.test c.args.program.now c.args.most) c.loop-call.loops.items
-          c.push-in-Refused-2.new.self.items told c.in_ok-push-in-Refused-2.ensures.items
-          c.loop-call.invariant.explained
-          (WasRefused (ap (λ (line : LoopReport). line.verdict) c.refused-told.ensures.line)
-          c.refused-told.ensures.broke c.refused-told.ensures.causes);
+      explained = refusal_told c.loop-call.invariant.explained
+          (c.next.ensures.program ∙ c.loop-call.invariant.still.same) told c.push-in-Refused-2.new.self.items
+          c.in-Refused.ensures.ran c.refused-told.ensures.line (to_z-of_z w64 c.in-Refused.answer (search rules))
+          c.refused-told.ensures.broke c.refused-told.ensures.causes c.in_ok-push-in-Refused-2.ensures.items;
     }
 
 pub returns-in-Exit : goal.returns-in-Exit
@@ -96,5 +97,5 @@ returns-in-Exit c =
         ends = iterations_end laws.loops laws.counts c.args.program.now laws.sound;
       };
       lines = c.loop-call.invariant.lines;
-      explained = c.loop-call.invariant.explained;
+      explained = all_told c.loop-call.invariant.explained (c.next.ensures.program ∙ still.same) c.in-Exit.ensures.ran;
     }
