@@ -7,4 +7,5 @@ pub mod BeginLaws
 pub mod VisitLaws
 pub mod NoteLaws
 pub mod RunLaws
+pub mod CellLaws
 pub mod OverwriteLaws

@@ -14,6 +14,7 @@
 //! ```
 #![tactic(auto)]
 
+mod by_operator;
 mod noting;
 mod noting_runs;
 mod page;

@@ -7,9 +7,9 @@ ghost use Rattle.private_copy.specs.Shown.{copy_of};
 ghost use Rattle.private_copy.specs.Touched.{has_page, page_of, with_page};
 ghost use Rattle.private_copy.specs.Noting.{PlacesPages, HavePassed, NotesOne, NotesSite};
 
-use crate::page::Cell;
+use crate::by_operator::by_operator;
 use crate::private::Private;
-use array_maps::{Op, combine};
+use array_maps::Op;
 use std::alloc::{AllocError, Global};
 
 impl<'a> Private<'a> {
@@ -17,6 +17,22 @@ impl<'a> Private<'a> {
     /// is no memory, nothing has changed.
     #[inline]
     pub fn place(&mut self, alloc: Global, e: u32) -> Result<(), AllocError>
+        requires ended { (copy_of self.old).under_way ≡ false }
+        requires within { e < length (copy_of self.old).start }
+        ensures err { OnErr result (copy_of self.new ≡ copy_of self.old) }
+        ensures ok { OnOk result (PlacesPages (copy_of self.old) (with_page (copy_of self.old).pages (page_of e))
+            (copy_of self.new)) }
+    {
+        if self.pages.is_placed(e) {
+            return Ok(());
+        }
+        self.place_page(alloc, e)
+    }
+
+    /// The same of an element whose page need not be placed.
+    #[cold]
+    #[inline(never)]
+    fn place_page(&mut self, alloc: Global, e: u32) -> Result<(), AllocError>
         requires ended { (copy_of self.old).under_way ≡ false }
         requires within { e < length (copy_of self.old).start }
         ensures err { OnErr result (copy_of self.new ≡ copy_of self.old) }
@@ -82,6 +98,21 @@ impl<'a> Private<'a> {
           action = Reduce op (slice_index operands.now lane);
         }) (length elements.now) (copy_of self.new) }
     {
+        by_operator!(op, one, self.note_reduces_by(one, elements, operands))
+    }
+
+    /// The same with an operator that is known where this is called.
+    #[inline(always)]
+    fn note_reduces_by(&mut self, op: Op, elements: &[u32], operands: &[u64])
+        requires within { All (λ e. e < length (copy_of self.old).start) elements.now }
+        requires placed { All (λ e. has_page (copy_of self.old).pages (page_of e) ≡ true) elements.now }
+        requires operands { length elements.now ≤ length operands.now }
+        requires some { 0 < (copy_of self.old).begun }
+        ensures { NotesSite (copy_of self.old) (λ lane. record {
+          element = slice_index elements.now lane;
+          action = Reduce op (slice_index operands.now lane);
+        }) (length elements.now) (copy_of self.new) }
+    {
         for lane in 0..elements.len() {
             self.note_reduce(elements[lane], op, operands[lane]);
         }
@@ -94,8 +125,7 @@ impl<'a> Private<'a> {
         requires placed { has_page (copy_of self.old).pages (page_of e) ≡ true }
         ensures { NotesOne (copy_of self.old) (record { element = e; action = Read 0 }) (copy_of self.new) }
     {
-        let cell = self.pages.get(e);
-        self.mix(e, cell);
+        self.pages.mix(e);
     }
 
     /// Notes a plain write of an element.
@@ -110,23 +140,15 @@ impl<'a> Private<'a> {
     }
 
     /// Notes a reduce of an element.
-    #[inline]
+    #[inline(always)]
     fn note_reduce(&mut self, e: u32, op: Op, operand: u64)
         requires within { e < length (copy_of self.old).start }
         requires placed { has_page (copy_of self.old).pages (page_of e) ≡ true }
         requires some { 0 < (copy_of self.old).begun }
         ensures { NotesOne (copy_of self.old) (record { element = e; action = Reduce op operand }) (copy_of self.new) }
     {
-        let cell = self.pages.get(e);
         let word = self.start[e as usize];
-        let writer = self.begun;
-        self.keep(
-            e,
-            Cell::after_reduce(
-                combine(op, word, operand),
-                writer,
-                cell.reduction().with(op, operand),
-            ),
-        );
+        let number = self.begun;
+        self.pages.reduce(e, op, word, operand, number);
     }
 }

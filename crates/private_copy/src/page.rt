@@ -3,6 +3,7 @@
 ghost use Rattle.std.specs.Prelude.{◌≡◌, true};
 ghost use Rattle.private_copy.specs.Cells.{reduction_in};
 
+use crate::by_operator::by_operator;
 use crate::reduction::Reduction;
 use array_maps::{Op, combine};
 use loop_core_model::Access;
@@ -63,6 +64,7 @@ impl Combining {
 impl Cell {
     ghost use Rattle.std.specs.Prelude.{◌<◌};
     ghost use Rattle.private_copy.specs.Shown.{last_in};
+    ghost use Rattle.loop_core_model.specs.declared.access.Access.TheVariants.{Reduce};
     ghost use Rattle.private_copy.specs.Runs.{CellNotes};
 
     /// The cell of an element at which a reduce by the iteration of a number left a value.
@@ -118,40 +120,62 @@ impl Cell {
         }
     }
 
-    /// The cell after an access of this kind, by the iteration of a number, from 1 on, which saw this word: with the
-    /// value that it left, or its operand.
+    /// Notes an access of this kind at the element, by the iteration of a number, from 1 on, which saw this word: with
+    /// the value that it left, or its operand.
     #[inline(always)]
-    pub(crate) fn noted(self, kind: Access, word: u64, value: u64, number: u32) -> Cell
+    pub(crate) fn note(&mut self, kind: Access, word: u64, value: u64, number: u32)
         requires { 0 < number }
-        ensures { CellNotes self kind word value number result }
+        ensures { CellNotes self.old kind word value number self.new }
     {
         match kind {
-            Access::Read => Cell {
-                value: self.value,
-                combined: self.combined,
-                writer: self.writer,
-                combining: Combining::Mixed,
-            },
-            Access::Write | Access::Both => Cell {
-                value,
-                combined: 0,
-                writer: number,
-                combining: Combining::Mixed,
-            },
-            Access::Reduce(op) => Cell::after_reduce(
-                combine(op, word, value),
-                number,
-                self.reduction().with(op, value),
-            ),
+            Access::Read => {
+                // The value stays, and is a word.
+                let _value = self.value;
+                self.combining = Combining::Mixed;
+            }
+            Access::Write | Access::Both => {
+                *self = Cell {
+                    value,
+                    combined: 0,
+                    writer: number,
+                    combining: Combining::Mixed,
+                };
+            }
+            Access::Reduce(op) => self.reduce(op, word, value, number),
+        }
+    }
+
+    /// Notes a reduce of the element, by the iteration of a number, from 1 on, which saw this word.
+    #[inline(always)]
+    fn reduce(&mut self, op: Op, word: u64, operand: u64, number: u32)
+        requires { 0 < number }
+        ensures { CellNotes self.old (Reduce op) word operand number self.new }
+    {
+        self.value = combine(op, word, operand);
+        self.writer = number;
+        match self.combining {
+            Combining::Untouched => {
+                self.combined = operand;
+                self.combining = Combining::By(op);
+            }
+            Combining::By(first) => {
+                if first == op {
+                    self.combined = combine(op, self.combined, operand);
+                } else {
+                    self.combining = Combining::Mixed;
+                }
+            }
+            Combining::Mixed => {}
         }
     }
 }
 
 impl Page {
-    ghost use Rattle.std.specs.Prelude.{◌+◌, ◌<◌, ◌≤◌, length, slice_index_or};
+    ghost use Rattle.std.specs.Prelude.{◌≢◌, ℕ, ◌+◌, ◌<◌, ◌≤◌, length, slice_index_or};
+    ghost use Rattle.loop_core_model.specs.declared.access.Access.TheVariants.{Reduce};
     ghost use Rattle.private_copy.specs.Cells.{blank};
     ghost use Rattle.private_copy.specs.Shown.{last_in};
-    ghost use Rattle.private_copy.specs.Runs.{CellsNote};
+    ghost use Rattle.private_copy.specs.Runs.{CellNotes, CellsNote};
     ghost use Rattle.private_copy.specs.Overwriting.{AreOverwritten};
 
     /// Notes an access of this kind at each of the cells that follow a first one, by the iteration of a number,
@@ -169,10 +193,42 @@ impl Page {
         requires some { 0 < number }
         ensures { CellsNote self.old.cells self.new.cells low (length words.now) kind words.now values.now number }
     {
-        for lane in 0..words.len() {
-            let at = low as usize + lane;
-            self.cells[at] = self.cells[at].noted(kind, words[lane], values[lane], number);
+        match kind {
+            Access::Read => self.note_each(Access::Read, low, words, values, number),
+            Access::Write => self.note_each(Access::Write, low, words, values, number),
+            Access::Both => self.note_each(Access::Both, low, words, values, number),
+            Access::Reduce(op) => by_operator!(
+                op,
+                one,
+                self.note_each(Access::Reduce(one), low, words, values, number)
+            ),
         }
+    }
+
+    /// The same with a kind that is known where this is called.
+    #[inline(always)]
+    fn note_each(&mut self, kind: Access, low: u32, words: &[u64], values: &[u64], number: u32)
+        requires within { low + length words.now ≤ 64 }
+        requires values { length words.now ≤ length values.now }
+        requires some { 0 < number }
+        ensures { CellsNote self.old.cells self.new.cells low (length words.now) kind words.now values.now number }
+    {
+        for lane in 0..words.len() {
+            self.cells[low as usize + lane].note(kind, words[lane], values[lane], number);
+        }
+    }
+
+    /// Notes a reduce at a cell, by the iteration of a number, from 1 on, which saw this word.
+    #[inline(always)]
+    pub(crate) fn reduce(&mut self, at: u32, op: Op, word: u64, operand: u64, number: u32)
+        requires within { at < 64 }
+        requires some { 0 < number }
+        ensures here { CellNotes (slice_index_or self.old.cells at blank) (Reduce op) word operand number
+            (slice_index_or self.new.cells at blank) }
+        ensures others { (k : ℕ) → k ≢ at → slice_index_or self.new.cells k blank
+            ≡ slice_index_or self.old.cells k blank }
+    {
+        self.cells[at as usize].reduce(op, word, operand, number);
     }
 
     /// Sets each of the first n of these words, at most 64, to what the last iteration that writes its element left

@@ -1,10 +1,11 @@
 //! Pages that are placed at the first access of one of their elements.
 
 ghost use Rattle.std.specs.Prelude.{◌≡◌, ◌≢◌, ℕ, ◌+◌, ◌-◌, ◌/◌, ◌%◌, ◌<◌, ◌≤◌, [], ◌∷◌, ◌++◌, false, true, min, length, slice_get, IfOk, OnOk};
-ghost use Rattle.private_copy.specs.Cells.{total_of, cell_at, blank};
+ghost use Rattle.private_copy.specs.Cells.{total_of, cell_at, blank, mixed_cell};
 ghost use Rattle.private_copy.specs.Touched.{has_page, with_page};
 
-use crate::page::{BLANK, Cell, Page};
+use crate::page::{BLANK, Cell, Combining, Page};
+use array_maps::Op;
 use indexmap::IndexSet;
 use loop_core_model::Access;
 use std::alloc::{AllocError, Global};
@@ -38,6 +39,7 @@ impl Pages {
     ghost use Rattle.std.specs.Prelude.{◌*◌, slice_index};
     ghost use Rattle.private_copy.specs.Shown.{last_in};
     ghost use Rattle.private_copy.specs.Overwriting.{AreOverwritten};
+    ghost use Rattle.loop_core_model.specs.declared.access.Access.TheVariants.{Reduce};
     ghost use Rattle.private_copy.specs.Runs.{CellNotes};
 
     /// Pages for at most 65,536 elements, none of them placed.
@@ -111,6 +113,15 @@ impl Pages {
         }
     }
 
+    /// Whether the page of an element is placed.
+    #[inline]
+    pub(crate) fn is_placed(&self, e: u32) -> bool
+        requires { e / 64 < total_of self.now }
+        ensures { result ≡ has_page self.now.order (e / 64) }
+    {
+        self.table[(e / PAGE) as usize].is_some()
+    }
+
     /// Sees that the page of an element is placed. Where it isn't, there is a spare one.
     #[inline]
     pub(crate) fn touch(&mut self, e: u32)
@@ -173,6 +184,41 @@ impl Pages {
         if let Some(page) = &mut self.table[e as usize / 64] {
             page.cells[e as usize % 64] = cell;
         }
+    }
+
+    /// Notes a plain access that leaves the word of an element, whose page is placed.
+    #[inline(always)]
+    pub(crate) fn mix(&mut self, e: u32)
+        requires within { e / 64 < total_of self.old }
+        requires placed { has_page self.old.order (e / 64) ≡ true }
+        ensures total { total_of self.new ≡ total_of self.old }
+        ensures order { self.new.order ≡ self.old.order }
+        ensures spare { self.new.spare ≡ self.old.spare }
+        ensures here { cell_at self.new e ≡ mixed_cell (cell_at self.old e) }
+        ensures others { (other : ℕ) → other ≢ e → cell_at self.new other ≡ cell_at self.old other }
+    {
+        let Some(page) = &mut self.table[e as usize / 64] else {
+            return;
+        };
+        page.cells[e as usize % 64].combining = Combining::Mixed;
+    }
+
+    /// Notes a reduce of an element, whose page is placed, by the iteration of a number, from 1 on, which saw this word.
+    #[inline(always)]
+    pub(crate) fn reduce(&mut self, e: u32, op: Op, word: u64, operand: u64, number: u32)
+        requires within { e / 64 < total_of self.old }
+        requires placed { has_page self.old.order (e / 64) ≡ true }
+        requires some { 0 < number }
+        ensures total { total_of self.new ≡ total_of self.old }
+        ensures order { self.new.order ≡ self.old.order }
+        ensures spare { self.new.spare ≡ self.old.spare }
+        ensures here { CellNotes (cell_at self.old e) (Reduce op) word operand number (cell_at self.new e) }
+        ensures others { (other : ℕ) → other ≢ e → cell_at self.new other ≡ cell_at self.old other }
+    {
+        let Some(page) = &mut self.table[e as usize / 64] else {
+            return;
+        };
+        page.reduce(e % PAGE, op, word, operand, number);
     }
 
     /// Notes an access of this kind at each of the elements that follow a first one in its page, which is placed: by

@@ -1,5 +1,16 @@
-use Rattle.private_copy.proofs.NoteLaws.{read_noted}
+use Rattle.std.proofs.Common.{refl, ap}
+use Rattle.private_copy.specs.Shown.{last_in}
+use Rattle.private_copy.specs.Cells.{reduction_in}
 use Rattle.private_copy.proofs.private.Private.note_read.Goals as goal
 
 pub returns : goal.returns
-returns c = read_noted c.args.self.now c.mix.new.self c.args.e 0 c.get-cell.result c.get-cell.ensures c.mix.ensures
+returns c = record {
+  start = refl;
+  last = ap last_in c.mix.ensures.here;
+  other_lasts = λ other differs. ap last_in (c.mix.ensures.others other differs);
+  reduction = ap reduction_in c.mix.ensures.here;
+  other_reductions = λ other differs. ap reduction_in (c.mix.ensures.others other differs);
+  pages = c.mix.ensures.order;
+  under_way = refl;
+  begun = refl;
+}

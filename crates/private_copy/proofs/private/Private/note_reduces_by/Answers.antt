@@ -2,7 +2,7 @@ use Rattle.std.proofs.Common.{length, slice_index, arith}
 use Rattle.array_maps.specs.Accesses.{Reduce}
 use Rattle.private_copy.specs.Shown.{copy_of}
 use Rattle.private_copy.proofs.NoteLaws.{none_noted, one_noted, all_noted}
-use Rattle.private_copy.proofs.private.Private.note_reduces.Goals as goal
+use Rattle.private_copy.proofs.private.Private.note_reduces_by.Goals as goal
 
 pub loop-lane-init : goal.loop-lane-init
 loop-lane-init c = none_noted (copy_of c.args.self.now) (λ lane. record {

@@ -2,7 +2,7 @@ use Rattle.std.proofs.Common.{slice_index}
 use Rattle.array_maps.specs.Accesses.{Reduce}
 use Rattle.private_copy.specs.Shown.{copy_of}
 use Rattle.private_copy.specs.Noting.{NotesSite}
-use Rattle.private_copy.proofs.private.Private.note_reduces.Given as goal
+use Rattle.private_copy.proofs.private.Private.note_reduces_by.Given as goal
 
 abbrev pub invariant-loop-lane : goal.invariant-loop-lane
 invariant-loop-lane l = NotesSite (copy_of l.fn.self) (λ lane. record {

@@ -1,0 +1,32 @@
+-- A cell of a page in the table, after its page has changed.
+use Rattle.std.proofs.Common.{◌≡◌, ◌≢◌, ℕ, ◌/◌, ◌%◌, ◌<◌, List, length, get_or, set, None, inl, inr, refl, sym, ◌∙◌, arith, get_or-set_same, get_or-set_other}
+use Rattle.std.proofs.lemmas.Bool.{cases_eq}
+use Rattle.std.proofs.Math.Nat.{div-add-mod}
+use Rattle.private_copy.specs.Cells.{cells_of, blank}
+use Rattle.private_copy.proofs.PageLaws.{Slot, cell_of}
+use Rattle.private_copy.proofs.RunLaws.{cell_there}
+
+module _ (table : List Slot) (e : ℕ) (old slot : Slot) (within : e / 64 < length table)
+    (was : get_or table (e / 64) None ≡ old) where
+  now : get_or (set table (e / 64) slot) (e / 64) None ≡ slot
+  now = get_or-set_same table (e / 64) slot None within
+
+  pub cell_before : cell_of table e ≡ get_or (cells_of old) (e % 64) blank
+  cell_before = cell_there table e (e / 64) (e % 64) old was refl refl
+
+  pub cell_after : cell_of (set table (e / 64) slot) e ≡ get_or (cells_of slot) (e % 64) blank
+  cell_after = cell_there (set table (e / 64) slot) e (e / 64) (e % 64) slot now refl refl
+
+  pub other_cells : ((k : ℕ) → k ≢ e % 64 → get_or (cells_of slot) k blank ≡ get_or (cells_of old) k blank)
+      → (other : ℕ) → other ≢ e → cell_of (set table (e / 64) slot) other ≡ cell_of table other
+  other_cells stay other differs = elim (cases_eq (other / 64) (e / 64)) [
+    | inl page ↦
+        cell_there (set table (e / 64) slot) other (e / 64) (other % 64) slot now page refl
+        ∙ stay (other % 64) (λ same. differs
+        (let x = div-add-mod other 64 in let y = div-add-mod e 64 in omega (arith, page, same, x, y)))
+        ∙ sym (cell_there table other (e / 64) (other % 64) old was page refl)
+    | inr another ↦
+        cell_there (set table (e / 64) slot) other (other / 64) (other % 64) (get_or table (other / 64) None)
+        (get_or-set_other table (e / 64) (other / 64) slot None another) refl refl
+        ∙ sym (cell_there table other (other / 64) (other % 64) (get_or table (other / 64) None) refl refl refl)
+  ]
