@@ -62,13 +62,14 @@ at_43:
     exit
 ";
 
+// The first load of a half-word is the one of w[1]. An index is 0 to 15, and a header has 24 bytes: r1 is at byte 0 to 360.
 #[test]
 fn halves_of_values(rt: HostRuntime) -> Result<(), Fail> {
     is_told(
         &rt,
         rt.alloc(),
         HALVES_OF_VALUES,
-        "8 bytes or 4, not 2 | __u64 or __u32 | V17",
+        "line 22: ldx16 r3, [r1+2]    ; 06_checksum.c:15: sum += pkt[i].w[k]; | r1 is in map 0, at byte 0 to 360 in steps of 8; an access of a map's values has 8 bytes or 4, not 2 | __u64 or __u32 | V17",
     )
 }
 
@@ -117,13 +118,14 @@ at_32:
     exit
 ";
 
+// The first load of a byte is the one of text[i]; an index is 0 to 255, and no test of it is known of r2.
 #[test]
 fn bytes_of_values(rt: HostRuntime) -> Result<(), Fail> {
     is_told(
         &rt,
         rt.alloc(),
         BYTES_OF_VALUES,
-        "8 bytes or 4, not 1 | V17",
+        "line 27: ldx8 r5, [r4+0]    ; 11_strsearch.c:14: if (text[i + k] != pat[k]) | r4 is in map 0, at byte 0 to 255; an access of a map's values has 8 bytes or 4, not 1 | V17",
     )
 }
 
@@ -177,13 +179,14 @@ at_29:
     exit
 ";
 
+// The first store through ctx is the one of `n`, 8 bytes into the state, which is at r10-16.
 #[test]
 fn main_s_frame_written(rt: HostRuntime) -> Result<(), Fail> {
     is_told(
         &rt,
         rt.alloc(),
         MAIN_S_FRAME_WRITTEN,
-        "r2 is main's frame pointer minus 16; a callback may read main's frame and not write it | r2 comes from | the callback's ctx: r3 is the frame pointer minus 16 | V21",
+        "line 41: stx64 [r2+8], r1    ; 12_collatz.c:13: s->n++; | r2 is main's frame pointer minus 16; a callback may read main's frame and not write it | r2 comes from | the callback's ctx: r3 is the frame pointer minus 16 | V21",
     )
 }
 
@@ -223,12 +226,13 @@ at_20:
     exit
 ";
 
+// The jump back is the last of the inner loop, which begins at slot 12.
 #[test]
 fn a_loop_within_a_callback(rt: HostRuntime) -> Result<(), Fail> {
     is_told(
         &rt,
         rt.alloc(),
         A_LOOP_WITHIN_A_CALLBACK,
-        "13_sieve.c:10: for (__u32 m = 2 * p; m < N; m += p) | leads back to slot 12 | V3",
+        "line 29: jlt32 r2, 400, at_12    ; 13_sieve.c:10: for (__u32 m = 2 * p; m < N; m += p) | leads back to slot 12 | V3",
     )
 }

@@ -116,13 +116,14 @@ at_103:
     exit
 ";
 
+// The store into the frame is of r6, the address of c[i]: an index is 0 to 63, and an element has 8 bytes.
 #[test]
 fn an_address_that_was_spilled(rt: HostRuntime) -> Result<(), Fail> {
     is_told(
         &rt,
         rt.alloc(),
         AN_ADDRESS_THAT_WAS_SPILLED,
-        "memory holds numbers alone | keep addresses in r6 to r9 | V15",
+        "line 49: stx64 [r10-8], r6    ; 07_matmul.c:17: c[i] = sum; | r6 is in map 1, at byte 0 to 504 in steps of 8, r10 is the frame pointer | memory holds numbers alone | keep addresses in r6 to r9 | V15",
     )
 }
 
@@ -175,13 +176,14 @@ at_30:
     exit
 ";
 
+// k + 1 is compared, in r1, and k in r3 is any word of 32 bits still, times 8.
 #[test]
 fn an_index_compared_in_another_form(rt: HostRuntime) -> Result<(), Fail> {
     is_told(
         &rt,
         rt.alloc(),
         AN_INDEX_COMPARED_IN_ANOTHER_FORM,
-        "add64 r4, r3 | r4 is in map 0, at byte 0 | bound it | r3 comes from | V13",
+        "line 32: add64 r4, r3    ; 08_sortnet.c:14: __u64 x = v[k], y = v[k + 1]; | r3 is 0 to 34359738360 in steps of 8, r4 is in map 0, at byte 0 | bound it | r3 comes from | V13",
     )
 }
 
@@ -234,12 +236,13 @@ at_34:
     exit
 ";
 
+// r1 is compared with 8, and its copy r3 is used: where paths meet it is 0 to 999, the index.
 #[test]
 fn a_copy_of_the_compared_register(rt: HostRuntime) -> Result<(), Fail> {
     is_told(
         &rt,
         rt.alloc(),
         A_COPY_OF_THE_COMPARED_REGISTER,
-        "14_reservoir.c:18: if (j < K) | r1 is in map 0, at byte 0 to 7992 in steps of 8 | map 0 has 8 elements, 64 bytes | slot  32  add64 r1, r3 | r3 is 0 to 7992 in steps of 8 | slot  29  lsh64 r3, 3 | r3 is 0 to 999 at slot 29, where paths meet | from slot   9  jlt32 r1, 8, +19 | from slot  28  jgt64 r3, 7, +5 | r3 is 0 to 7 | slot   5  call 181 | the index, below the number of iterations: r1 is 1000 | V19",
+        "line 42: stx64 [r1+0], r2    ; 14_reservoir.c:18: if (j < K) | r1 is in map 0, at byte 0 to 7992 in steps of 8 | map 0 has 8 elements, 64 bytes | slot  32  add64 r1, r3 | r3 is 0 to 7992 in steps of 8 | slot  29  lsh64 r3, 3 | r3 is 0 to 999 at slot 29, where paths meet | from slot   9  jlt32 r1, 8, +19 | from slot  28  jgt64 r3, 7, +5 | r3 is 0 to 7 | slot   5  call 181 | the index, below the number of iterations: r1 is 1000 | V19",
     )
 }

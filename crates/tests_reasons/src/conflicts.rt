@@ -1,9 +1,8 @@
 //! Loops that conflict, that break, or that are refused: what is told of them after the answer of `verify`.
 
-use bpfspec_explain_serve::{Ask, Counted, Extent, Recorded, Test, UnitForm, explain};
+use crate::telling::ends_so;
+use bpfspec_explain_serve::Test;
 use std::alloc::Global;
-use std::process::Abort;
-use std::str;
 use std::test::Fail;
 
 /// Main, which calls a loop of some iterations with some flags.
@@ -12,36 +11,6 @@ fn with_main(alloc: Global, n: u32, flags: u32, callback: &str) -> Result<String
     let calls = format!(in alloc; "mov64 r3, 0\nmov64 r4, {flags}\n{ends}{callback}")?;
     let calls = calls.as_str();
     Ok(format!(in alloc; "maps 8\nmov64 r1, {n}\nldcode r2, callback\n{calls}")?)
-}
-
-/// What is written of an input.
-fn told(alloc: Global, test: Test, all: bool, input: &str) -> Result<String, Fail> {
-    let ask = Ask {
-        form: UnitForm::Assembler,
-        extent: Extent::Refusal,
-        argument: 0,
-        test,
-        all,
-    };
-    let mut source = Recorded::new(alloc, Counted::new(input.as_bytes()));
-    let mut sink = Counted::new(Vec::new(alloc));
-    let _served = explain(alloc, &ask, &mut source, &mut sink);
-    let output = sink.into_inner();
-    Ok(String::from_str(alloc, str::from_utf8(&output)?)?)
-}
-
-/// Asserts that the end of what is told of an input is this.
-fn ends_so(
-    rt: &impl Abort,
-    alloc: Global,
-    test: Test,
-    all: bool,
-    input: &str,
-    wanted: &str,
-) -> Result<(), Fail> {
-    let output = told(alloc, test, all, input)?;
-    assert!(rt; output.as_str().ends_with(wanted), "of\n{input}\n{output}");
-    Ok(())
 }
 
 /// Each iteration adds its element to the next.

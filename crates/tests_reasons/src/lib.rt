@@ -9,11 +9,15 @@ mod addresses_from_c;
 #[cfg(test)]
 mod conflicts;
 #[cfg(test)]
+mod conflicts_from_c;
+#[cfg(test)]
 mod hexes;
 #[cfg(test)]
 mod inputs;
 #[cfg(test)]
 mod rules;
+#[cfg(test)]
+mod states_from_c;
 #[cfg(test)]
 mod telling;
 #[cfg(test)]

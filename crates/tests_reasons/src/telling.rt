@@ -1,8 +1,10 @@
-//! What is told of a text, and the rows that say what has to be in it.
+//! What is told of a text or an input, and the rows that say what has to be in it.
 
+use bpfspec_explain_serve::{Ask, Counted, Recorded, Test, UnitForm, explain};
 use bpfspec_reasons::{Extent, reasons_of_hex, reasons_of_text};
 use std::alloc::{AllocError, Global};
 use std::process::Abort;
+use std::str;
 use std::test::Fail;
 
 /// The lines of a row.
@@ -48,5 +50,35 @@ pub fn is_told_of_hex(
 ) -> Result<(), Fail> {
     let told = reasons_of_hex(alloc, Extent::Refusal, text)?;
     tells(rt, told.as_str(), text, phrases);
+    Ok(())
+}
+
+/// What is written of an input.
+fn written(alloc: Global, test: Test, all: bool, input: &str) -> Result<String, Fail> {
+    let ask = Ask {
+        form: UnitForm::Assembler,
+        extent: Extent::Refusal,
+        argument: 0,
+        test,
+        all,
+    };
+    let mut source = Recorded::new(alloc, Counted::new(input.as_bytes()));
+    let mut sink = Counted::new(Vec::new(alloc));
+    let _served = explain(alloc, &ask, &mut source, &mut sink);
+    let output = sink.into_inner();
+    Ok(String::from_str(alloc, str::from_utf8(&output)?)?)
+}
+
+/// Asserts that the end of what is told of an input is this.
+pub fn ends_so(
+    rt: &impl Abort,
+    alloc: Global,
+    test: Test,
+    all: bool,
+    input: &str,
+    wanted: &str,
+) -> Result<(), Fail> {
+    let output = written(alloc, test, all, input)?;
+    assert!(rt; output.as_str().ends_with(wanted), "of\n{input}\n{output}");
     Ok(())
 }
