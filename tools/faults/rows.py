@@ -32,7 +32,11 @@ class Row:
 
     def text(self) -> str:
         """The whole input."""
-        return f"{self.unit}%%\n{self.values}%%\n{self.events}"
+        return f"{self.without_events()}%%\n{self.events}"
+
+    def without_events(self) -> str:
+        """Its unit and values."""
+        return f"{self.unit}%%\n{self.values}"
 
     def in_order(self) -> str:
         """What `order` prints."""
@@ -50,7 +54,7 @@ def commands() -> Iterator[tuple[str, ...]]:
 
 def explanations() -> Iterator[tuple[str, ...]]:
     """The command lines of the program that explains, of which every short row is an input."""
-    yield from (("--all",), ("--test", "lrpd"), ("--states",))
+    yield from (("--all",), ("--test", "lrpd"), ("--states",), ("--picture",))
 
 
 def rows() -> list[Row]:

@@ -2,12 +2,11 @@
 
 use crate::listing::Listing;
 use crate::loops::write_loop;
-use array_maps::{Maps, MapsError};
-use bpf_insn::{CodecError, decode};
+use crate::reading::{Start, program_of, start_maps, unit_of_hex, unit_of_text};
+use array_maps::Maps;
 use bpf_insn_types::Unit;
-use bpf_text::{TextError, parse_maps, parse_unit, read_hex};
-use bpf_verify::{Verified, VerifyError, verify};
-use bpfspec_output::{Refusal, Section, print_refusal};
+use bpf_verify::Verified;
+use bpfspec_output::{Refusal, print_refusal};
 use bpfspec_reasons::Page;
 use loop_core_model::Test;
 use spec_run_explain::explain_loops;
@@ -22,38 +21,6 @@ pub struct Wish {
     pub test: Test,
     /// Of each loop, how many elements are told at most.
     pub most: u32,
-}
-
-/// The maps that a program starts with, or why there are none.
-#[derive(Drop)]
-enum Start {
-    From(Maps),
-    Refused(Refusal),
-}
-
-/// What comes of maps that were to be made.
-fn start_with(made: Result<Maps, MapsError>) -> Result<Start, AllocError> {
-    match made {
-        Ok(maps) => Ok(Start::From(maps)),
-        Err(MapsError::Limits) => Ok(Start::Refused(Refusal::Sizes)),
-        Err(MapsError::Memory) => Err(AllocError),
-    }
-}
-
-/// The maps that a program starts with: all zero, or those of a section, where it spells any.
-fn start_maps(alloc: Global, sizes: &[u32], section: &str) -> Result<Start, AllocError> {
-    if section.is_empty() {
-        return start_with(Maps::new(alloc, sizes));
-    }
-    match parse_maps(alloc, section) {
-        Ok(values) => start_with(Maps::of(alloc, &values)),
-        Err(TextError::Refused { fault, line }) => Ok(Start::Refused(Refusal::Text {
-            fault,
-            section: Section::Maps,
-            line,
-        })),
-        Err(TextError::Memory) => Err(AllocError),
-    }
 }
 
 /// Writes that a program isn't run, since its maps are refused.
@@ -96,10 +63,8 @@ fn causes_of_unit(
     maps: &str,
 ) -> Result<String, AllocError> {
     let mut out = String::new(alloc);
-    let program = match verify(alloc, unit) {
-        Ok(program) => program,
-        Err(VerifyError::Refused { .. }) => return Ok(out),
-        Err(VerifyError::Memory) => return Err(AllocError),
+    let Some(program) = program_of(alloc, unit)? else {
+        return Ok(out);
     };
     match start_maps(alloc, program.sizes(), maps)? {
         Start::From(mut start) => {
@@ -118,14 +83,11 @@ pub fn causes_of_text(
     text: &str,
     maps: &str,
 ) -> Result<String, AllocError> {
-    match parse_unit(alloc, text) {
-        Ok(unit) => {
-            let page = Page::of(alloc, text)?;
-            causes_of_unit(alloc, wish, &page, unit, maps)
-        }
-        Err(TextError::Refused { .. }) => Ok(String::new(alloc)),
-        Err(TextError::Memory) => Err(AllocError),
-    }
+    let Some(unit) = unit_of_text(alloc, text)? else {
+        return Ok(String::new(alloc));
+    };
+    let page = Page::of(alloc, text)?;
+    causes_of_unit(alloc, wish, &page, unit, maps)
 }
 
 /// The same of a unit in hex form.
@@ -135,18 +97,9 @@ pub fn causes_of_hex(
     text: &str,
     maps: &str,
 ) -> Result<String, AllocError> {
-    let parts = match read_hex(alloc, text) {
-        Ok(parts) => parts,
-        Err(TextError::Refused { .. }) => return Ok(String::new(alloc)),
-        Err(TextError::Memory) => return Err(AllocError),
+    let Some(unit) = unit_of_hex(alloc, text)? else {
+        return Ok(String::new(alloc));
     };
-    match decode(alloc, &parts.bytes) {
-        Ok(insns) => {
-            let page = Page::none(alloc);
-            let sizes = parts.sizes;
-            causes_of_unit(alloc, wish, &page, Unit { sizes, insns }, maps)
-        }
-        Err(CodecError::Refused { .. }) => Ok(String::new(alloc)),
-        Err(CodecError::Memory) => Err(AllocError),
-    }
+    let page = Page::none(alloc);
+    causes_of_unit(alloc, wish, &page, unit, maps)
 }

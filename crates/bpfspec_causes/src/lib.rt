@@ -1,4 +1,5 @@
-//! Why loops conflict, in words: what comes after the answer on an accepted program.
+//! Why loops conflict, in words: what comes after the answer on an accepted program; and as a picture of the first loop
+//! that does, or of the events of a replay.
 //!
 //! ```text
 //! loop 0 at 5: answer 1000, conflict 32 least 1
@@ -9,8 +10,11 @@
 //! ```
 #![tactic(auto)]
 
+mod drawing;
 mod inputs;
 mod listing;
 mod loops;
+mod reading;
 
+pub use drawing::{picture_of_events, picture_of_hex, picture_of_text};
 pub use inputs::{Wish, causes_of_hex, causes_of_text};

@@ -1,2 +1,3 @@
 pub mod AskLaws
 pub mod ExplainLaws
+pub mod HeldLaws

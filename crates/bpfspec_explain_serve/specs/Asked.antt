@@ -19,14 +19,18 @@ states_rule = flag_rule (codes "states")
 abbrev pub all_rule : Rule
 all_rule = flag_rule (codes "all")
 
+-- --picture
+abbrev pub picture_rule : Rule
+picture_rule = flag_rule (codes "picture")
+
 -- the program without its flags; it has a version
 abbrev pub top_app : App
 top_app = record { top = record (new_app (codes "bpfspec explain")).top { has_version = true }; subs = [] }
 
--- [--hex] [--arg N] [--test flow|lrpd] [--states] [--all]
+-- [--hex] [--arg N] [--test flow|lrpd] [--states] [--all] [--picture]
 abbrev pub explain_app : App
-explain_app = with_rule (with_rule (with_rule (with_rule (with_rule top_app hex_rule) arg_rule) test_rule) states_rule)
-    all_rule
+explain_app = with_rule (with_rule (with_rule (with_rule (with_rule (with_rule top_app hex_rule) arg_rule) test_rule)
+    states_rule) all_rule) picture_rule
 
 -- how much the arguments ask to be explained: also the states by the flag --states
 pub record IsExtent (rows : List Row) (extent : Extent) : Type 0 where
@@ -34,11 +38,11 @@ pub record IsExtent (rows : List Row) (extent : Extent) : Type 0 where
   pub unset : one_of (codes "states") rows ≡ Some (codes "false") → extent ≡ Refusal
   pub set : one_of (codes "states") rows ≡ Some (codes "true") → extent ≡ States
 
--- whether the arguments ask for all: by the flag --all
-pub record IsAll (rows : List Row) (all : Bool) : Type 0 where
-  pub none : one_of (codes "all") rows ≡ None → all ≡ false
-  pub unset : one_of (codes "all") rows ≡ Some (codes "false") → all ≡ false
-  pub set : one_of (codes "all") rows ≡ Some (codes "true") → all ≡ true
+-- whether the arguments have a flag of this name
+pub record HasFlag (name : Text) (rows : List Row) (given : Bool) : Type 0 where
+  pub none : one_of name rows ≡ None → given ≡ false
+  pub unset : one_of name rows ≡ Some (codes "false") → given ≡ false
+  pub set : one_of name rows ≡ Some (codes "true") → given ≡ true
 
 -- what arguments ask for
 pub record AsksBy (rows : List Row) (ask : Ask) : Type 0 where
@@ -46,7 +50,8 @@ pub record AsksBy (rows : List Row) (ask : Ask) : Type 0 where
   pub extent : IsExtent rows ask.extent
   pub argument : IsArgument rows ask.argument
   pub test : IsTest rows ask.test
-  pub all : IsAll rows ask.all
+  pub all : HasFlag (codes "all") rows ask.all
+  pub picture : HasFlag (codes "picture") rows ask.picture
 
 -- what the words of a command line ask for
 abbrev pub Asks : List Text → Ask → Type 0

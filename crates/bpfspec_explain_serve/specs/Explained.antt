@@ -9,6 +9,7 @@ use Rattle.bpfspec_serve.specs.declared.program_end.ProgramEnd.TheVariants as en
 use Rattle.bpfspec_serve.specs.declared.serving.Served.{Served}
 use Rattle.bpfspec_serve.specs.declared.serving.Served.TheVariants as served
 use Rattle.bpfspec_serve.specs.HowServed.{AnswersReader, HowServed, HowWritten}
+use Rattle.bpfspec_serve.specs.Output.{Answer}
 use Rattle.bpfspec_explain_serve.specs.declared.ask.Ask.{Ask}
 use Rattle.bpfspec_explain_serve.specs.Asked.{Asks}
 
@@ -29,7 +30,7 @@ pub data HowExplained (verified result : Served) (writes_failed : ℕ → Type 0
         → HowExplained verified result writes_failed before after
 
 -- first is written what `verify` answers to what a reader has left, or that memory ran out; then the reasons
-pub record Explains (form : UnitForm) (result : Served) (left_before left_after : Option (List ℕ))
+pub record ExplainsInWords (form : UnitForm) (result : Served) (left_before left_after : Option (List ℕ))
     (reads_failed : ℕ → Type 0) (failed_before failed_after : ℕ) (before after : Option (List ℕ)) : Type 0 where
   pub verified : Served
   pub failed_between : ℕ
@@ -38,12 +39,28 @@ pub record Explains (form : UnitForm) (result : Served) (left_before left_after 
       (λ n. failed_between ≡ failed_before + n) before between
   pub explained : HowExplained verified result (λ n. failed_after ≡ failed_between + n) between after
 
+-- a picture in place of what `verify` answers to what a reader has left, which is a program that it accepts
+pub record PicturesReader (form : UnitForm) (left_before left_after : Option (List ℕ)) (picture : Answer) : Type 0 where
+  pub answer : Answer
+  pub answers : AnswersReader (Serve (Verify form)) left_before left_after answer
+  pub accepted : answer.served ≡ served.Done
+  pub done : picture.served ≡ served.Done
+
+-- an input is explained in words; or where a picture is asked for, one is written, or that memory ran out
+pub data Explains (ask : Ask) (result : Served) (left_before left_after : Option (List ℕ)) (reads_failed : ℕ → Type 0)
+    (failed_before failed_after : ℕ) (before after : Option (List ℕ)) : Type 0 where
+  In_words : ExplainsInWords ask.form result left_before left_after reads_failed failed_before failed_after before after
+      → Explains ask result left_before left_after reads_failed failed_before failed_after before after
+  Drawn : ask.picture ≡ true → HowServed (PicturesReader ask.form left_before left_after) result reads_failed
+      (λ n. failed_after ≡ failed_before + n) before after
+      → Explains ask result left_before left_after reads_failed failed_before failed_after before after
+
 -- the words of a command line ask for an explanation of an input; or for help or the version, whose text is written; or
 -- there is no memory for them; or they ask for nothing, and nothing is written to the output
 pub data HowRan (end : ProgramEnd) (left_before left_after : Option (List ℕ)) (reads_failed : ℕ → Type 0)
     (failed_before failed_after : ℕ) (before after : Option (List ℕ)) : Type 0 where
   Explained : (words : List (List ℕ)) (ask : Ask) (result : Served) → Asks words ask → end ≡ ends.Served result
-      → Explains ask.form result left_before left_after reads_failed failed_before failed_after before after
+      → Explains ask result left_before left_after reads_failed failed_before failed_after before after
       → HowRan end left_before left_after reads_failed failed_before failed_after before after
   Helped : (text : List ℕ) (result : Served) → end ≡ ends.Served result
       → HowWritten text served.Done result (λ n. failed_after ≡ failed_before + n) before after

@@ -16,4 +16,6 @@ pub struct Ask {
     pub test: Test,
     /// Whether up to 64 elements that conflict are told of each loop, and not the least alone.
     pub all: bool,
+    /// Whether a picture is drawn in place of what is told, if a loop conflicts.
+    pub picture: bool,
 }

@@ -3,7 +3,7 @@
 ghost use Rattle.std.specs.Prelude.{◌≡◌, ℕ, List, map, IfOk, IfSome};
 ghost use Rattle.clap.specs.Words.{found_of, rows_of};
 ghost use Rattle.bpfspec_command_line.specs.CommandLine.{IsArg, IsArgument, IsCommand, IsForm, IsTest, arg_rule, hex_rule, test_rule, valued_rule};
-ghost use Rattle.bpfspec_explain_serve.specs.Asked.{Asks, AsksBy, IsAll, IsExtent, all_rule, explain_app, flag_rule, states_rule, top_app};
+ghost use Rattle.bpfspec_explain_serve.specs.Asked.{Asks, AsksBy, HasFlag, IsExtent, all_rule, explain_app, flag_rule, picture_rule, states_rule, top_app};
 
 use crate::ask::Ask;
 use crate::faults::{fault_of, value_fault, words_fault};
@@ -51,6 +51,17 @@ fn all_flag<'a>(alloc: Global) -> Arg<'a>
         alloc,
         "all",
         "Tells up to 64 elements of each loop that conflicts",
+    )
+}
+
+/// --picture
+fn picture_flag<'a>(alloc: Global) -> Arg<'a>
+    ensures { IsArg picture_rule result }
+{
+    flag(
+        alloc,
+        "picture",
+        "Prints an SVG of the first loop that conflicts in place of all, if one does",
     )
 }
 
@@ -105,7 +116,8 @@ pub(crate) fn explain_command<'a>(alloc: Global) -> Result<Command<'a>, AllocErr
         .arg(arg_option(alloc))?
         .arg(test_option(alloc))?
         .arg(states_flag(alloc))?
-        .arg(all_flag(alloc))
+        .arg(all_flag(alloc))?
+        .arg(picture_flag(alloc))
 }
 
 /// The form of the unit that the words ask for in which clap found these matches.
@@ -151,11 +163,11 @@ fn test_of(matches: &ArgMatches<'_>) -> Option<Test>
     }
 }
 
-/// Whether they ask for all.
-fn all_of(matches: &ArgMatches<'_>) -> bool
-    ensures { IsAll (rows_of (found_of matches.now)) result }
+/// Whether they have a flag of this name.
+fn has_flag(matches: &ArgMatches<'_>, name: &str) -> bool
+    ensures { HasFlag name.now (rows_of (found_of matches.now)) result }
 {
-    if matches.get_flag("all") { true } else { false }
+    matches.get_flag(name)
 }
 
 /// What they ask for, or None as `argument_of` and `test_of` say.
@@ -167,13 +179,14 @@ fn ask_of(matches: &ArgMatches<'_>) -> Option<Ask>
         extent: extent_of(matches),
         argument: argument_of(matches)?,
         test: test_of(matches)?,
-        all: all_of(matches),
+        all: has_flag(matches, "all"),
+        picture: has_flag(matches, "picture"),
     })
 }
 
 /// Reads the words of a command line, the program's name first. It fails with `Help` where they ask for help or the
-/// version, with `Usage` where they aren't `[--hex] [--arg N] [--test flow|lrpd] [--states] [--all]`, N from 0 to
-/// 18446744073709551615, and with `Memory` where there is no memory.
+/// version, with `Usage` where they aren't `[--hex] [--arg N] [--test flow|lrpd] [--states] [--all] [--picture]`, N from
+/// 0 to 18446744073709551615, and with `Memory` where there is no memory.
 pub fn read_words<S: AsStr>(alloc: Global, words: &[S]) -> Result<Ask, LineFault>
     ensures { IfOk result (Asks (map S.text words.now)) }
 {

@@ -1,7 +1,9 @@
-//! The reasons that follow the answer of `verify`.
+//! The reasons that follow the answer of `verify`, and the picture in their place.
 
 use crate::ask::Ask;
-use bpfspec_causes::{Wish, causes_of_hex, causes_of_text};
+use bpfspec_causes::{
+    Wish, causes_of_hex, causes_of_text, picture_of_events, picture_of_hex, picture_of_text,
+};
 use bpfspec_command_line::UnitForm;
 use bpfspec_reasons::{reasons_of_hex, reasons_of_text};
 use std::alloc::{AllocError, Global};
@@ -21,15 +23,25 @@ fn unit_section(input: &str) -> &str {
     }
 }
 
-/// The section of an input's maps: all between the first line that is exactly `%%` and the next.
-fn maps_section(input: &str) -> &str {
+/// What comes after the first line that is exactly `%%`.
+fn after_section(input: &str) -> &str {
     if let Some(rest) = input.strip_prefix("%%\n") {
-        return unit_section(rest);
+        return rest;
     }
     match input.split_once("\n%%\n") {
-        Some((_, rest)) => unit_section(rest),
+        Some((_, rest)) => rest,
         None => "",
     }
+}
+
+/// The section of an input's maps: all between the first such line and the next.
+fn maps_section(input: &str) -> &str {
+    unit_section(after_section(input))
+}
+
+/// The section of its events: all after the second such line.
+fn events_section(input: &str) -> &str {
+    after_section(after_section(input))
 }
 
 /// How many elements that conflict are told of a loop at most.
@@ -67,4 +79,27 @@ pub fn reasons(alloc: Global, ask: &Ask, input: &[u8]) -> Result<String, AllocEr
     };
     out.push_str(causes(alloc, ask, text)?.as_str())?;
     Ok(out)
+}
+
+/// The first loop that conflicts as an SVG, if one does.
+fn picture_of_loops(alloc: Global, ask: &Ask, text: &str) -> Result<Option<String>, AllocError> {
+    let section = unit_section(text);
+    let maps = maps_section(text);
+    match ask.form {
+        UnitForm::Assembler => picture_of_text(alloc, ask.argument, ask.test, section, maps),
+        UnitForm::Hex => picture_of_hex(alloc, ask.argument, ask.test, section, maps),
+    }
+}
+
+/// The picture of an input, as an SVG: of its events, if it has any; else of its first loop that conflicts, if one does.
+/// Memory may run out.
+pub fn picture(alloc: Global, ask: &Ask, input: &[u8]) -> Result<Option<String>, AllocError> {
+    let Ok(text) = str::from_utf8(input) else {
+        return Ok(None);
+    };
+    let events = picture_of_events(alloc, events_section(text))?;
+    if events.is_some() {
+        return Ok(events);
+    }
+    picture_of_loops(alloc, ask, text)
 }

@@ -1,14 +1,16 @@
-//! An input is answered as `verify` answers it, and the reasons are written.
+//! An input is answered as `verify` answers it, and the reasons are written; or a picture is in their place.
 
-ghost use Rattle.std.specs.Prelude.{◌≡◌, ◌+◌, ◌-◌, ◌^◌, ◌<◌};
-ghost use Rattle.bpfspec_explain_serve.specs.Explained.{Explains, HowExplained, is_answered};
+ghost use Rattle.std.specs.Prelude.{◌≡◌, ◌+◌, ◌-◌, ◌^◌, ◌<◌, true};
+ghost use Rattle.bpfspec_explain_serve.specs.Explained.{Explains, ExplainsInWords, HowExplained, is_answered};
 ghost use Rattle.bpfspec_explain_serve.specs.Recording.{source_of};
 ghost use Rattle.bpfspec_serve.specs.HowServed.{HowWritten};
 
 use crate::ask::Ask;
+use crate::drawing::{picture_of, verify_input};
 use crate::explaining::reasons;
 use crate::recorded::Recorded;
-use bpfspec_serve::{Mode, Served, Sink, Source, serve, write_all};
+use bpfspec_output::MEMORY_LINE;
+use bpfspec_serve::{Mode, ReadAllError, Served, Sink, Source, serve, write_all};
 use std::alloc::Global;
 
 /// Writes a text, and returns how it was served: as wanted, unless a write failed.
@@ -33,7 +35,7 @@ fn is_answered(served: Served) -> bool
     }
 }
 
-/// Writes the reasons after an answer, if the input is at hand and there is memory for them.
+/// Writes the reasons after an answer that was written whole, if the input is at hand and there is memory for them.
 fn write_reasons<W: Sink>(
     alloc: Global,
     ask: &Ask,
@@ -41,10 +43,13 @@ fn write_reasons<W: Sink>(
     verified: Served,
     sink: &mut W,
 ) -> Served
-    requires { W.failed sink.old < 2 ^ 64 - 1 }
+    requires { is_answered verified ≡ true → W.failed sink.old < 2 ^ 64 - 1 }
     ensures { HowExplained verified result (λ n. W.failed sink.new ≡ W.failed sink.old + n) (W.taken sink.old)
         (W.taken sink.new) }
 {
+    if !is_answered(verified) {
+        return verified;
+    }
     let Some(bytes) = input else {
         return verified;
     };
@@ -55,6 +60,55 @@ fn write_reasons<W: Sink>(
 }
 
 /// Reads an input to its end, writes what `verify` answers to it, and then the reasons.
+fn explain_in_words<S: Source, W: Sink>(
+    alloc: Global,
+    ask: &Ask,
+    source: &mut Recorded<S>,
+    sink: &mut W,
+) -> Served
+    requires reads { S.failed (source_of source.old) < 2 ^ 64 - 1 }
+    requires writes { W.failed sink.old < 2 ^ 64 - 1 }
+    ensures { ExplainsInWords ask.now.form result (S.left (source_of source.old)) (S.left (source_of source.new))
+        (λ n. S.failed (source_of source.new) ≡ S.failed (source_of source.old) + n) (W.failed sink.old)
+        (W.failed sink.new) (W.taken sink.old) (W.taken sink.new) }
+{
+    let mode = Mode::Verify { form: ask.form };
+    let verified = serve(alloc, &mode, source, sink);
+    write_reasons(alloc, ask, source.bytes(), verified, sink)
+}
+
+/// Reads an input to its end, and writes a picture, if there is one of it; or else what `verify` answers to it, and then
+/// the reasons.
+fn draw<S: Source, W: Sink>(
+    alloc: Global,
+    ask: &Ask,
+    source: &mut Recorded<S>,
+    sink: &mut W,
+) -> Served
+    requires reads { S.failed (source_of source.old) < 2 ^ 64 - 1 }
+    requires writes { W.failed sink.old < 2 ^ 64 - 1 }
+    requires asked { ask.now.picture ≡ true }
+    ensures { Explains ask.now result (S.left (source_of source.old)) (S.left (source_of source.new))
+        (λ n. S.failed (source_of source.new) ≡ S.failed (source_of source.old) + n) (W.failed sink.old)
+        (W.failed sink.new) (W.taken sink.old) (W.taken sink.new) }
+{
+    let answer = match verify_input(alloc, ask.form, source) {
+        Ok(answer) => answer,
+        Err(ReadAllError::Device) => return Served::Device,
+        Err(ReadAllError::Memory) => return write(sink, MEMORY_LINE, Served::Memory),
+    };
+    match picture_of(alloc, ask, answer.served, source.bytes()) {
+        Ok(Some(picture)) => write(sink, picture.as_bytes(), Served::Done),
+        Ok(None) => {
+            let verified = write(sink, &answer.text, answer.served);
+            write_reasons(alloc, ask, source.bytes(), verified, sink)
+        }
+        Err(_) => write(sink, MEMORY_LINE, Served::Memory),
+    }
+}
+
+/// Reads an input to its end, writes what `verify` answers to it, and then the reasons. Where a picture is asked for and
+/// there is one of the input, which has to be accepted, it writes that alone; or that memory ran out.
 ///
 /// The source's and the sink's `failures` have to be below 2^64 - 1.
 pub fn explain<S: Source, W: Sink>(
@@ -65,14 +119,13 @@ pub fn explain<S: Source, W: Sink>(
 ) -> Served
     requires reads { S.failed (source_of source.old) < 2 ^ 64 - 1 }
     requires writes { W.failed sink.old < 2 ^ 64 - 1 }
-    ensures { Explains ask.now.form result (S.left (source_of source.old)) (S.left (source_of source.new))
+    ensures { Explains ask.now result (S.left (source_of source.old)) (S.left (source_of source.new))
         (λ n. S.failed (source_of source.new) ≡ S.failed (source_of source.old) + n) (W.failed sink.old)
         (W.failed sink.new) (W.taken sink.old) (W.taken sink.new) }
 {
-    let mode = Mode::Verify { form: ask.form };
-    let verified = serve(alloc, &mode, source, sink);
-    if !is_answered(verified) {
-        return verified;
+    if ask.picture {
+        draw(alloc, ask, source, sink)
+    } else {
+        explain_in_words(alloc, ask, source, sink)
     }
-    write_reasons(alloc, ask, source.bytes(), verified, sink)
 }

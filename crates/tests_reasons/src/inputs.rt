@@ -14,6 +14,7 @@ fn served(alloc: Global, form: UnitForm, input: &[u8]) -> Result<String, Fail> {
         argument: 0,
         test: Test::Flow,
         all: false,
+        picture: false,
     };
     let mut source = Recorded::new(alloc, Counted::new(input));
     let mut sink = Counted::new(Vec::new(alloc));
@@ -111,12 +112,13 @@ fn what_is_no_text_is_served(rt: HostRuntime) -> Result<(), Fail> {
 }
 
 const COMMAND_LINES: &str = "
-    explain                  => Ok(Ask { form: Assembler, extent: Refusal, argument: 0, test: Flow, all: false })
-    explain --hex            => Ok(Ask { form: Hex, extent: Refusal, argument: 0, test: Flow, all: false })
-    explain --states         => Ok(Ask { form: Assembler, extent: States, argument: 0, test: Flow, all: false })
-    explain --states --hex   => Ok(Ask { form: Hex, extent: States, argument: 0, test: Flow, all: false })
-    explain --arg 7 --all    => Ok(Ask { form: Assembler, extent: Refusal, argument: 7, test: Flow, all: true })
-    explain --test lrpd      => Ok(Ask { form: Assembler, extent: Refusal, argument: 0, test: Lrpd, all: false })
+    explain                  => Ok(Ask { form: Assembler, extent: Refusal, argument: 0, test: Flow, all: false, picture: false })
+    explain --hex            => Ok(Ask { form: Hex, extent: Refusal, argument: 0, test: Flow, all: false, picture: false })
+    explain --states         => Ok(Ask { form: Assembler, extent: States, argument: 0, test: Flow, all: false, picture: false })
+    explain --states --hex   => Ok(Ask { form: Hex, extent: States, argument: 0, test: Flow, all: false, picture: false })
+    explain --arg 7 --all    => Ok(Ask { form: Assembler, extent: Refusal, argument: 7, test: Flow, all: true, picture: false })
+    explain --picture        => Ok(Ask { form: Assembler, extent: Refusal, argument: 0, test: Flow, all: false, picture: true })
+    explain --test lrpd      => Ok(Ask { form: Assembler, extent: Refusal, argument: 0, test: Lrpd, all: false, picture: false })
     explain --arg x          => Err(Usage(
     explain --test other     => Err(Usage(
     explain verify           => Err(Usage(

@@ -61,6 +61,7 @@ fn written(alloc: Global, test: Test, all: bool, input: &str) -> Result<String, 
         argument: 0,
         test,
         all,
+        picture: false,
     };
     let mut source = Recorded::new(alloc, Counted::new(input.as_bytes()));
     let mut sink = Counted::new(Vec::new(alloc));

@@ -8,5 +8,6 @@ returns c =
     let two = with_arg c.arg_option.result one c.arg_option.ensures c.in_ok-arg-2.ensures in
     let three = with_arg c.test_option.result two c.test_option.ensures c.in_ok-arg-3.ensures in
     let four = with_arg c.states_flag.result three c.states_flag.ensures c.in_ok-arg-4.ensures in
-    IfOk-weaker c.arg-5.result _ _ (λ command adds. with_arg c.all_flag.result four c.all_flag.ensures adds)
-    c.arg-5.ensures
+    let five = with_arg c.all_flag.result four c.all_flag.ensures c.in_ok-arg-5.ensures in
+    IfOk-weaker c.arg-6.result _ _ (λ command adds. with_arg c.picture_flag.result five c.picture_flag.ensures adds)
+    c.arg-6.ensures
