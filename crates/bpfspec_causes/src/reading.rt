@@ -60,11 +60,7 @@ fn start_with(made: Result<Maps, MapsError>) -> Result<Start, AllocError> {
 }
 
 /// The maps that a program starts with: all zero, or those of a section, where it spells any.
-pub(crate) fn start_maps(
-    alloc: Global,
-    sizes: &[u32],
-    section: &str,
-) -> Result<Start, AllocError> {
+pub(crate) fn start_maps(alloc: Global, sizes: &[u32], section: &str) -> Result<Start, AllocError> {
     if section.is_empty() {
         return start_with(Maps::new(alloc, sizes));
     }

@@ -46,11 +46,7 @@ text{font:10px Verdana,Arial,sans-serif;fill:#333}
 ";
 
 /// Writes the beginning of a picture: its size, its name and its ground.
-pub(crate) fn write_head(
-    out: &mut String,
-    layout: &Layout,
-    title: &str,
-) -> Result<(), AllocError> {
+pub(crate) fn write_head(out: &mut String, layout: &Layout, title: &str) -> Result<(), AllocError> {
     let width = layout.width();
     let height = layout.height();
     out.push_str("<svg xmlns=\"http://www.w3.org/2000/svg\" role=\"img\"")?;
