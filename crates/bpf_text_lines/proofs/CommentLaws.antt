@@ -10,7 +10,8 @@ use Rattle.bpf_text_lex.proofs.LineLaws.{lines_of-newline, lines_of-last, take-c
 use Rattle.bpf_text_lines.specs.Comments.{line_at, comment_in, comment_below, comment_over, comment_or, comment_after}
 
 -- a text is cut at its first newline
-pub lines-cut : (text line rest : List ℕ) → line ≡ before_first (λ b. b == 10) text → rest ≡ after_first (λ b. b == 10) text
+pub lines-cut : (text line rest : List ℕ) → line ≡ before_first (λ b. b == 10) text
+    → rest ≡ after_first (λ b. b == 10) text
     → position_or_len (λ b. b == 10) text < length text → lines_of text ≡ line ∷ lines_of rest
 lines-cut text line rest first behind inside =
     let same : suc (position_or_len (λ b. b == 10) text) ≡ position_or_len (λ b. b == 10) text + 1 = omega arith in
@@ -94,7 +95,8 @@ no_comment [] other none_there = refl
 no_comment (b ∷ bs) other none_there = absurd (omega (arith, none_there))
 
 -- what stands over the lines below one more
-pub comment_over-more : (line : List ℕ) (above : List (List ℕ)) (content comment over : List ℕ) → content ≡ content_of line
+pub comment_over-more : (line : List ℕ) (above : List (List ℕ)) (content comment over : List ℕ)
+    → content ≡ content_of line
     → comment ≡ comment_in line → over ≡ comment_over above
     → comment_below content comment over ≡ comment_over (line ∷ above)
 unfolding comment_over

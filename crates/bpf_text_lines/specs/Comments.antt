@@ -18,8 +18,8 @@ comment_in line = trim (after_first (λ b. b == 59) line)
 abbrev pub stands_below : List ℕ → Bool
 stands_below content = is_label content || nat_lt 0 (line_slots content)
 
--- the comment over what comes below a line that says this, with this comment, and that over the line itself: a line of a
--- comment alone gives its own, labels and instructions hand on what stands over them, and other lines end it
+-- the comment over what comes below a line that says this, with this comment, and that over the line itself: a line of
+-- a comment alone gives its own, labels and instructions hand on what stands over them, and other lines end it
 abbrev pub comment_below : List ℕ → List ℕ → List ℕ → List ℕ
 comment_below [] comment above = comment
 comment_below (b ∷ bs) comment above = if stands_below (b ∷ bs) then above else []
@@ -34,8 +34,8 @@ abbrev pub comment_or : List ℕ → List ℕ → List ℕ
 comment_or [] other = other
 comment_or (b ∷ bs) other = b ∷ bs
 
--- the comment that belongs to the line of a number, with these lines above the first, the nearest of which comes first: its
--- own, or that over it
+-- the comment that belongs to the line of a number, with these lines above the first, the nearest of which comes first:
+-- its own, or that over it
 abbrev pub comment_after : List (List ℕ) → ℕ → List (List ℕ) → List ℕ
 comment_after above number [] = []
 comment_after above number (line ∷ lines) =

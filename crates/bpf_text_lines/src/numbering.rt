@@ -10,7 +10,7 @@ use bpf_text_operands::line_slots;
 use std::alloc::{AllocError, Global};
 
 /// Whether a line is a label.
-pub fn is_label(line: &[u8]) -> bool
+pub(crate) fn is_label(line: &[u8]) -> bool
     ensures { result ≡ is_label line.now }
 {
     if line.is_empty() || line[line.len() - 1] != b':' {
@@ -20,7 +20,7 @@ pub fn is_label(line: &[u8]) -> bool
 }
 
 /// How many slots a line takes; a label takes none.
-pub fn slots_of_line(line: &[u8]) -> u32
+pub(crate) fn slots_of_line(line: &[u8]) -> u32
     ensures slots { result ≡ line_slots line.now }
     ensures bound { result ≤ 2 }
 {

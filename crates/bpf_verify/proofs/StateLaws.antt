@@ -45,7 +45,8 @@ states-put program slot before states states' below inside is put =
         get_or-set_at states slot k before None same inside ∙ is ∙ sym (ap (state_before program) same)
 
 -- an instruction's second slot is none where one starts
-pub states-over : (program : Program) (slot n : ℕ) (states : List (Option State)) → StatesBelow program (slot + 1) states
+pub states-over : (program : Program) (slot n : ℕ) (states : List (Option State))
+    → StatesBelow program (slot + 1) states
     → ((k : ℕ) → slot < k → k < slot + n → insn_at program.insns k ≡ None) → StatesBelow program (slot + n) states
 states-over program slot n states below inner = record {
   at = λ k h here. by_place program slot n states below inner k h here (nat_lt slot k) refl;
@@ -64,7 +65,8 @@ states-over program slot n states below inner = record {
         below.at k within here
 
 -- up to the last slot
-pub states-up_to : (program : Program) (slot last : ℕ) (states : List (Option State)) → StatesBelow program (slot + 1) states
+pub states-up_to : (program : Program) (slot last : ℕ) (states : List (Option State))
+    → StatesBelow program (slot + 1) states
     → last ≤ slot → length states ≡ slot_count program.insns → AreStatesBefore program last states
 states-up_to program slot last states below past size = record {
   size = size;

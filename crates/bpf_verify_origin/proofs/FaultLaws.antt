@@ -30,7 +30,8 @@ fault_within-zero : (program : Program) → fault_within program 0 ≡ None
 unfolding fault_within
 fault_within-zero program = refl
 
-fault_within-suc : (program : Program) (n : ℕ) → fault_within program (suc n) ≡ unless_earlier (fault_within program n) n
+fault_within-suc : (program : Program) (n : ℕ) → fault_within program (suc n) ≡ unless_earlier (fault_within program n)
+    n
     (fault_at program n)
 unfolding fault_within
 fault_within-suc program n = refl
@@ -97,7 +98,8 @@ pub passed-fine : (program : Program) (count : ℕ) (fault : Option BrokenRule) 
     → WithinLimits program count → fault_within program (slots_before fault count) ≡ None
 passed-fine program count None is within = sym (is ∙ first_fault-within program count within)
 passed-fine program count (Some fault) is within =
-    let f : Found program count fault = found program count fault (sym (is ∙ first_fault-within program count within)) in
+    let f : Found program count fault = found program count fault (sym (is ∙ first_fault-within program count within))
+    in
     f.fine
 
 or_true : (b : Bool) → (b || true) ≡ true
@@ -114,7 +116,8 @@ passed-stop program count None is within =
     ap (λ (b : Bool). b || is_some (insn_at program.insns count))
     (ap (λ (n : ℕ). nat_eq count n) within.counted ∙ same_number count)
 passed-stop program count (Some fault) is within =
-    let f : Found program count fault = found program count fault (sym (is ∙ first_fault-within program count within)) in
+    let f : Found program count fault = found program count fault (sym (is ∙ first_fault-within program count within))
+    in
     ap (λ (b : Bool). nat_eq fault.slot (slot_count program.insns) || b) f.starts
     ∙ or_true (nat_eq fault.slot (slot_count program.insns))
 
@@ -146,7 +149,8 @@ passed-up_to program slot to = by_fault program slot to (first_fault program) re
 pub outside-none : (program : Program) → (WithinLimits program (slot_count program.insns) → ⊥)
     → passed_slots program ≡ 0
 unfolding first_fault
-outside-none program outside = by_tests program outside (nat_eq (slot_count program.insns) 0) refl (is_too_large program) refl
+outside-none program outside = by_tests program outside (nat_eq (slot_count program.insns) 0) refl
+    (is_too_large program) refl
   where
     few_of : (a b : Bool) (count : ℕ) → nat_lt 4096 count ≡ a → (a || b) ≡ false → count ≤ 4096
     few_of true b count e f = absurd cc
@@ -155,13 +159,15 @@ outside-none program outside = by_tests program outside (nat_eq (slot_count prog
     by_tests : (program : Program) → (WithinLimits program (slot_count program.insns) → ⊥) → (a : Bool)
         → nat_eq (slot_count program.insns) 0 ≡ a → (b : Bool) → is_too_large program ≡ b →
         slots_before (if a then Some (record { rule = NoSlot; slot = 0 })
-        else if b then Some (record { rule = OverLimits; slot = 0 }) else fault_within program (slot_count program.insns))
+        else if b then Some (record { rule = OverLimits; slot = 0 })
+        else fault_within program (slot_count program.insns))
         (slot_count program.insns) ≡ 0
     by_tests program outside true e b f = refl
     by_tests program outside false e true f = refl
     by_tests program outside false e false f = absurd (outside (record {
       counted = refl;
       some = grind (arith, nat_tests);
-      few = few_of (nat_lt 4096 (slot_count program.insns)) (not (sizes_fit program.sizes)) (slot_count program.insns) refl f;
+      few = few_of (nat_lt 4096 (slot_count program.insns)) (not (sizes_fit program.sizes)) (slot_count program.insns)
+          refl f;
       small = f;
     }))

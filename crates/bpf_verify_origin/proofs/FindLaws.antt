@@ -5,7 +5,8 @@ use Rattle.bpf_insn_types.specs.Slots.{slots_of}
 use Rattle.bpf_insn_types.specs.Program.{insn_at}
 use Rattle.bpf_insn_types.proofs.ProgramLaws.{insn_at-past_first, insn_at-inner, insn_at-none}
 
-drop-first_suc : (xs : List Insn) (i : ℕ) (x : Insn) → i < length xs → x ≡ get_or xs i x → drop i xs ≡ x ∷ drop (suc i) xs
+drop-first_suc : (xs : List Insn) (i : ℕ) (x : Insn) → i < length xs → x ≡ get_or xs i x → drop i xs ≡ x
+    ∷ drop (suc i) xs
 drop-first_suc [] i x h e = absurd (omega arith)
 drop-first_suc (y ∷ xs) zero x h e = ap (λ (z : Insn). z ∷ xs) (sym e)
 drop-first_suc (y ∷ xs) (suc i) x h e = drop-first_suc xs i x (omega arith) e

@@ -21,7 +21,8 @@ unfolding inflow_from
 inflow_from-zero program slot = refl
 
 inflow_from-suc : (program : Program) (count slot : ℕ) →
-    inflow_from program (suc count) slot ≡ with_edges slot count (flow_at program count) (inflow_from program count slot)
+    inflow_from program (suc count) slot ≡ with_edges slot count (flow_at program count)
+    (inflow_from program count slot)
 unfolding inflow_from
 inflow_from-suc program count slot = refl
 
@@ -42,7 +43,8 @@ inflows-none program count table none = record {
 }
 
 -- what flows from an instruction
-flow-here : (program : Program) (slot : ℕ) (insn : Insn) (before : Option State) → insn_at program.insns slot ≡ Some insn
+flow-here : (program : Program) (slot : ℕ) (insn : Insn) (before : Option State) → insn_at program.insns slot
+    ≡ Some insn
     → before ≡ state_before program slot → out_of program.sizes slot insn before ≡ flow_at program slot
 flow-here program slot insn before here is =
     ap (out_of program.sizes slot insn) is
@@ -74,7 +76,8 @@ inflows-skip program slot table from none = record {
 }
 
 -- an instruction of one or two slots
-pub inflows-over : (program : Program) (slot n : ℕ) (x : Insn) (table : List Inflow) → InflowsFrom program (slot + 1) table
+pub inflows-over : (program : Program) (slot n : ℕ) (x : Insn) (table : List Inflow)
+    → InflowsFrom program (slot + 1) table
     → n ≡ slots_of x → ((k : ℕ) → slot < k → k < slot + slots_of x → insn_at program.insns k ≡ None)
     → InflowsFrom program (slot + n) table
 inflows-over program slot n x table from is inner =
@@ -95,7 +98,8 @@ inflows-over program slot n x table from is inner =
         subst (λ (k : ℕ). InflowsFrom program k table) there from
 
 -- the last slot isn't passed
-pub not_past : (program : Program) (count slot n last : ℕ) → is_stop program last ≡ true → slot_count program.insns ≡ count
+pub not_past : (program : Program) (count slot n last : ℕ) → is_stop program last ≡ true → slot_count program.insns
+    ≡ count
     → slot < last → slot + n ≤ count → ((k : ℕ) → slot < k → k < slot + n → insn_at program.insns k ≡ None)
     → slot + n ≤ last
 not_past program count slot n last stop counted early inside inner =
@@ -116,7 +120,8 @@ not_past program count slot n last stop counted early inside inner =
         → slot + n ≤ last
     by_place program count slot n last stop counted early inside inner true e =
         let within : last < slot + n = grind (arith, nat_tests) in
-        absurd (never program last (nat_eq last (slot_count program.insns)) (is_some (insn_at program.insns last)) refl refl
+        absurd (never program last (nat_eq last (slot_count program.insns)) (is_some (insn_at program.insns last)) refl
+        refl
         stop (omega arith) (inner last early within))
     by_place program count slot n last stop counted early inside inner false e = grind (arith, nat_tests)
 
@@ -153,7 +158,8 @@ are-inflows_none program passed table none empty = record {
 }
 
 -- the abstract state between two slots
-pub between-none : (program : Program) (from to : ℕ) → insn_at program.insns from ≡ None → None ≡ state_between program from to
+pub between-none : (program : Program) (from to : ℕ) → insn_at program.insns from ≡ None
+    → None ≡ state_between program from to
 between-none program from to none =
     sym (ap (λ (i : Option Insn). received_all to None (flow_of program from i (state_before program from))) none)
 

@@ -47,7 +47,8 @@ pub inspection-is : (program : Program) (sizes : List ℕ) (insns : List Insn) (
     → AreInflows (record { sizes = sizes; insns = insns }) last inflows → length inflows ≡ count
     → IsInspection program fault states inflows
 inspection-is program sizes insns fault count last states inflows same_sizes same_insns is within at are from size =
-    let same : record { sizes = sizes; insns = insns } ≡ program = program-is program sizes insns same_sizes same_insns in
+    let same : record { sizes = sizes; insns = insns } ≡ program = program-is program sizes insns same_sizes same_insns
+    in
     let up_to : last ≡ passed_slots program =
     at ∙ passed-at program (option_map broken_rule fault) count is within.counted in
     let here : AreStatesBefore program (passed_slots program) states =

@@ -54,7 +54,8 @@ up_to-passed program slot (Some fault) is up_to within starts = record {
 -- and to no later one
 pub passed-is_up_to : (program : Program) (slot : ℕ) → IsPassedTo program slot
     → is_up_to (first_fault program) slot ≡ true
-passed-is_up_to program slot to = by_fault slot (slot_count program.insns) (first_fault program) (passed-up_to program slot to)
+passed-is_up_to program slot to = by_fault slot (slot_count program.insns) (first_fault program)
+    (passed-up_to program slot to)
   where
     by_fault : (slot count : ℕ) (fault : Option BrokenRule) → slot ≤ slots_before fault count
         → is_up_to fault slot ≡ true

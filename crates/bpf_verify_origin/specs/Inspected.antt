@@ -15,8 +15,8 @@ use Rattle.bpf_verify_origin.specs.Edges.{inflow_from, passed_slots, state_betwe
 abbrev pub broken_rule : Fault → BrokenRule
 broken_rule fault = record { rule = fault.rule; slot = fault.slot }
 
--- the verifier's pass comes to a slot: the program is within the limits, an instruction starts there, and no slot before
--- it breaks a rule
+-- the verifier's pass comes to a slot: the program is within the limits, an instruction starts there, and no slot
+-- before it breaks a rule
 pub record IsPassedTo (program : Program) (slot : ℕ) : Type 0 where
   pub within : WithinLimits program (slot_count program.insns)
   pub starts : is_some (insn_at program.insns slot) ≡ true
@@ -52,6 +52,7 @@ pub record IsInspection (program : Program) (fault : Option Fault) (states : Lis
   pub fault_is : option_map broken_rule fault ≡ first_fault program
   pub small : length states ≤ 4096
   pub within : 0 < length states → WithinLimits program (slot_count program.insns)
-  pub states_are : WithinLimits program (slot_count program.insns) → AreStatesBefore program (passed_slots program) states
+  pub states_are : WithinLimits program (slot_count program.insns) → AreStatesBefore program (passed_slots program)
+      states
   pub inflows_are : AreInflows program (passed_slots program) inflows
   pub none_past : length inflows ≤ slot_count program.insns

@@ -73,8 +73,8 @@ source_within zero program slot reg = Start
 source_within (suc edges) program slot reg =
     source_by_inflow program slot reg (inflow program slot) (λ from. source_within edges program from reg)
 
--- where the value of a register before a slot comes from: edges lead from earlier slots to later ones, so that there are
--- fewer edges back than slots
+-- where the value of a register before a slot comes from: edges lead from earlier slots to later ones, so that there
+-- are fewer edges back than slots
 abbrev pub source_before : Program → (slot reg : ℕ) → Source
 source_before program slot reg = source_within (slot + 1) program slot reg
 

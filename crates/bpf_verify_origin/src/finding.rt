@@ -6,7 +6,7 @@ ghost use Rattle.bpf_insn_types.specs.Program.{insn_at};
 use bpf_insn_types::{Insn, slots};
 
 /// The instruction that starts at a slot, if one does.
-pub fn insn_at(insns: &[Insn], slot: u32) -> Option<Insn>
+pub(crate) fn insn_at(insns: &[Insn], slot: u32) -> Option<Insn>
     ensures { result ≡ insn_at insns.now slot }
 {
     let mut left = slot;

@@ -83,7 +83,7 @@ fn mark_both(table: &mut Vec<Inflow>, from: u32, out: &Outflow)
 
 /// Where the edges into each slot come from, of those out of the slots before the last: it is the end, or an
 /// instruction starts there.
-pub fn inflows(
+pub(crate) fn inflows(
     alloc: Global,
     sizes: &[u32],
     insns: &[Insn],

@@ -10,7 +10,7 @@ use bpf_verify_transfer::flow;
 use bpf_verify_values::join_states;
 
 /// The abstract state before a slot, of those before all slots.
-pub fn state_in(states: &[Option<State>], slot: u32) -> Option<State>
+pub(crate) fn state_in(states: &[Option<State>], slot: u32) -> Option<State>
     ensures { result ≡ slice_index_or states.now slot None }
 {
     match states.get(slot as usize) {
@@ -20,7 +20,7 @@ pub fn state_in(states: &[Option<State>], slot: u32) -> Option<State>
 }
 
 /// The edges out of an instruction, if it is reached.
-pub fn outflow(sizes: &[u32], slot: u32, before: &Option<State>, insn: Insn) -> Outflow
+pub(crate) fn outflow(sizes: &[u32], slot: u32, before: &Option<State>, insn: Insn) -> Outflow
     requires { slot ≤ 4096 }
     ensures { result ≡ out_of sizes.now slot insn before.now }
 {
@@ -61,7 +61,7 @@ fn received(slot: u32, before: Option<State>, edge: &Option<Edge>) -> Option<Sta
 }
 
 /// The abstract state on those edges that lead to a slot.
-pub fn state_to(slot: u32, out: &Outflow) -> Option<State>
+pub(crate) fn state_to(slot: u32, out: &Outflow) -> Option<State>
     ensures { result ≡ received_all slot None out.now }
 {
     received(slot, received(slot, None, &out.ahead), &out.aside)

@@ -18,7 +18,7 @@ fn fetches(op: AtomicOp, src: Reg, reg: Reg) -> bool
 }
 
 /// Whether an instruction writes a register: a call writes R0 to R5.
-pub fn writes(insn: &Insn, reg: Reg) -> bool
+pub(crate) fn writes(insn: &Insn, reg: Reg) -> bool
     ensures { result ≡ writes insn.now reg }
 {
     match *insn {
@@ -54,7 +54,7 @@ fn enters(insn: &Insn, from: u32, slot: u32) -> bool
 
 /// The source that an instruction at a slot is to a register before another slot, to which all edges come from
 /// there; or none, where the instruction leaves the register as it is.
-pub fn source_at(insn: &Insn, from: u32, slot: u32, reg: Reg) -> Option<Source>
+pub(crate) fn source_at(insn: &Insn, from: u32, slot: u32, reg: Reg) -> Option<Source>
     ensures { result ≡ source_through insn.now from slot reg }
 {
     if enters(insn, from, slot) {

@@ -44,8 +44,9 @@ fn picture_of_unit(
     }
 }
 
-/// The first loop that conflicts of a unit in assembler text, which starts with the maps of a section and this argument,
-/// as an SVG; `None` where no loop conflicts, or the unit isn't accepted, or the maps are refused. Memory may run out.
+/// The first loop that conflicts of a unit in assembler text, which starts with the maps of a section and this
+/// argument, as an SVG; `None` where no loop conflicts, or the unit isn't accepted, or the maps are refused. Memory may
+/// run out.
 pub fn picture_of_text(
     alloc: Global,
     argument: u64,

@@ -15,14 +15,17 @@ use Rattle.bpfspec_explain_serve.specs.Explained.{is_answered}
 pub held_answer : (Is_answer : Answer → Type 0) (told : Served) (old new none_yet failed : ℕ) (empty held : List ℕ)
     → HowServed Is_answer told (λ n. new ≡ old + n) (λ n. failed ≡ none_yet + n) (Some empty) (Some held)
     → empty ≡ [] → failed ≡ none_yet → is_answered told ≡ true → Is_answer (record { served = told; text = held })
-held_answer Is_answer told old new none_yet failed empty held (Answered answer is fine (Written same no_more appends)) none
+held_answer Is_answer told old new none_yet failed empty held (Answered answer is fine (Written same no_more appends))
+    none
     well answered =
     let text : held ≡ answer.text = appends ∙ ap (λ (xs : List ℕ). xs ++ answer.text) none in
     subst (λ (s : Served). Is_answer (record { served = s; text = held })) (sym same)
     (subst (λ (t : List ℕ). Is_answer (record { served = answer.served; text = t })) (sym text) is)
-held_answer Is_answer told old new none_yet failed empty held (Answered answer is fine (Broke_off same one begins)) none well
+held_answer Is_answer told old new none_yet failed empty held (Answered answer is fine (Broke_off same one begins)) none
+    well
     answered = absurd (omega (arith, one, well))
-held_answer Is_answer told old new none_yet failed empty held (Out_of_memory fine (Written same no_more appends)) none well
+held_answer Is_answer told old new none_yet failed empty held (Out_of_memory fine (Written same no_more appends)) none
+    well
     answered = absurd (let e = sym (ap is_answered same) ∙ answered in cc)
 held_answer Is_answer told old new none_yet failed empty held (Out_of_memory fine (Broke_off same one begins)) none well
     answered = absurd (omega (arith, one, well))
@@ -30,12 +33,14 @@ held_answer Is_answer told old new none_yet failed empty held (Read_failed same 
     absurd (let e = sym (ap is_answered same) ∙ answered in cc)
 
 -- and no read failed
-pub reads_well : (Is_answer : Answer → Type 0) (told : Served) (old new none_yet failed : ℕ) (before after : Option (List ℕ))
+pub reads_well : (Is_answer : Answer → Type 0) (told : Served) (old new none_yet failed : ℕ)
+    (before after : Option (List ℕ))
     → HowServed Is_answer told (λ n. new ≡ old + n) (λ n. failed ≡ none_yet + n) before after
     → is_answered told ≡ true → new ≡ old
 reads_well Is_answer told old new none_yet failed before after (Answered answer is fine written) answered =
     omega (arith, fine)
-reads_well Is_answer told old new none_yet failed before after (Out_of_memory fine written) answered = omega (arith, fine)
+reads_well Is_answer told old new none_yet failed before after (Out_of_memory fine written) answered =
+    omega (arith, fine)
 reads_well Is_answer told old new none_yet failed before after (Read_failed same one fine nothing) answered =
     absurd (let e = sym (ap is_answered same) ∙ answered in cc)
 
@@ -47,13 +52,17 @@ pub read_failed : (Is_answer : Answer → Type 0) (told : Served) (old new none_
     → new ≡ old + 1
 read_failed Is_answer told old new none_yet failed before after (Answered answer is fine (Written same no_more appends))
     never well device = absurd (never answer is (sym same ∙ device))
-read_failed Is_answer told old new none_yet failed before after (Answered answer is fine (Broke_off same one begins)) never
+read_failed Is_answer told old new none_yet failed before after (Answered answer is fine (Broke_off same one begins))
+    never
     well device = absurd (omega (arith, one, well))
-read_failed Is_answer told old new none_yet failed before after (Out_of_memory fine (Written same no_more appends)) never
+read_failed Is_answer told old new none_yet failed before after (Out_of_memory fine (Written same no_more appends))
+    never
     well device = absurd (let e : served.Memory ≡ served.Device = sym same ∙ device in cc)
-read_failed Is_answer told old new none_yet failed before after (Out_of_memory fine (Broke_off same one begins)) never well
+read_failed Is_answer told old new none_yet failed before after (Out_of_memory fine (Broke_off same one begins)) never
+    well
     device = absurd (omega (arith, one, well))
-read_failed Is_answer told old new none_yet failed before after (Read_failed same one fine nothing) never well device = one
+read_failed Is_answer told old new none_yet failed before after (Read_failed same one fine nothing) never well device =
+    one
 
 -- no answer tells a device fault
 no_fault : (refusal : Refusal) → refused_as refusal ≢ served.Device
@@ -71,10 +80,12 @@ never_device job left_before left_after answer answers device =
     of_outcome answers.answers.outcome (sym (ap (λ (a : Answer). a.served) answers.answers.told) ∙ device)
 
 -- where a write failed, no read did
-pub memory_out : (Is_answer : Answer → Type 0) (told : Served) (old new none_yet failed : ℕ) (before after : Option (List ℕ))
+pub memory_out : (Is_answer : Answer → Type 0) (told : Served) (old new none_yet failed : ℕ)
+    (before after : Option (List ℕ))
     → HowServed Is_answer told (λ n. new ≡ old + n) (λ n. failed ≡ none_yet + n) before after
     → none_yet < failed → new ≡ old
-memory_out Is_answer told old new none_yet failed before after (Answered answer is fine written) more = omega (arith, fine)
+memory_out Is_answer told old new none_yet failed before after (Answered answer is fine written) more =
+    omega (arith, fine)
 memory_out Is_answer told old new none_yet failed before after (Out_of_memory fine written) more = omega (arith, fine)
 memory_out Is_answer told old new none_yet failed before after (Read_failed same one fine nothing) more =
     absurd (omega (arith, fine, more))
@@ -86,7 +97,8 @@ pub memory_told : (Is_answer : Answer → Type 0) (told : Served) (old new none_
     → told ≡ served.Memory → new ≡ old
 memory_told Is_answer told old new none_yet failed before after (Answered answer is fine written) memory =
     omega (arith, fine)
-memory_told Is_answer told old new none_yet failed before after (Out_of_memory fine written) memory = omega (arith, fine)
+memory_told Is_answer told old new none_yet failed before after (Out_of_memory fine written) memory =
+    omega (arith, fine)
 memory_told Is_answer told old new none_yet failed before after (Read_failed same one fine nothing) memory =
     absurd (let e : served.Device ≡ served.Memory = sym same ∙ memory in cc)
 

@@ -185,8 +185,8 @@ fn ask_of(matches: &ArgMatches<'_>) -> Option<Ask>
 }
 
 /// Reads the words of a command line, the program's name first. It fails with `Help` where they ask for help or the
-/// version, with `Usage` where they aren't `[--hex] [--arg N] [--test flow|lrpd] [--states] [--all] [--picture]`, N from
-/// 0 to 18446744073709551615, and with `Memory` where there is no memory.
+/// version, with `Usage` where they aren't `[--hex] [--arg N] [--test flow|lrpd] [--states] [--all] [--picture]`, N
+/// from 0 to 18446744073709551615, and with `Memory` where there is no memory.
 pub fn read_words<S: AsStr>(alloc: Global, words: &[S]) -> Result<Ask, LineFault>
     ensures { IfOk result (Asks (map S.text words.now)) }
 {
@@ -203,7 +203,7 @@ pub fn read_words<S: AsStr>(alloc: Global, words: &[S]) -> Result<Ask, LineFault
 
 /// Reads the words that the process was started with. It fails as `read_words` does, and with `Usage` where one of them
 /// isn't UTF-8.
-pub fn read_command_line<R: Env + AllocGlobal>(rt: &R) -> Result<Ask, LineFault>
+pub(crate) fn read_command_line<R: Env + AllocGlobal>(rt: &R) -> Result<Ask, LineFault>
     ensures { IfOk result (λ ask. (words : List (List ℕ)) × Asks words ask) }
 {
     let alloc = rt.alloc();

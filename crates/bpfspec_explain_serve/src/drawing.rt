@@ -22,8 +22,8 @@ pub(crate) struct Held {
     pub(crate) text: Vec<u8>,
 }
 
-/// Reads an input to its end, and gives what `verify` answers to it. It fails with `Device` where a read failed, and with
-/// `Memory` where there is no memory.
+/// Reads an input to its end, and gives what `verify` answers to it. It fails with `Device` where a read failed, and
+/// with `Memory` where there is no memory.
 pub(crate) fn verify_input<S: Source>(
     alloc: Global,
     form: UnitForm,
@@ -54,8 +54,8 @@ pub(crate) fn verify_input<S: Source>(
     }
 }
 
-/// The picture of an input that `verify` serves so, if there is one. It fails where there is no memory, or there was none
-/// for the input.
+/// The picture of an input that `verify` serves so, if there is one. It fails where there is no memory, or there was
+/// none for the input.
 pub(crate) fn picture_of(
     alloc: Global,
     ask: &Ask,

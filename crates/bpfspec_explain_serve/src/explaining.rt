@@ -91,7 +91,8 @@ fn picture_of_loops(alloc: Global, ask: &Ask, text: &str) -> Result<Option<Strin
     }
 }
 
-/// The picture of an input, as an SVG: of its events, if it has any; else of its first loop that conflicts, if one does.
+/// The picture of an input, as an SVG: of its events, if it has any; else of its first loop that conflicts, if one
+/// does.
 /// Memory may run out.
 pub fn picture(alloc: Global, ask: &Ask, input: &[u8]) -> Result<Option<String>, AllocError> {
     let Ok(text) = str::from_utf8(input) else {

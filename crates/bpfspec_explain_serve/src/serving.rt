@@ -77,8 +77,8 @@ fn explain_in_words<S: Source, W: Sink>(
     write_reasons(alloc, ask, source.bytes(), verified, sink)
 }
 
-/// Reads an input to its end, and writes a picture, if there is one of it; or else what `verify` answers to it, and then
-/// the reasons.
+/// Reads an input to its end, and writes a picture, if there is one of it; or else what `verify` answers to it, and
+/// then the reasons.
 fn draw<S: Source, W: Sink>(
     alloc: Global,
     ask: &Ask,
@@ -107,8 +107,8 @@ fn draw<S: Source, W: Sink>(
     }
 }
 
-/// Reads an input to its end, writes what `verify` answers to it, and then the reasons. Where a picture is asked for and
-/// there is one of the input, which has to be accepted, it writes that alone; or that memory ran out.
+/// Reads an input to its end, writes what `verify` answers to it, and then the reasons. Where a picture is asked for
+/// and there is one of the input, which has to be accepted, it writes that alone; or that memory ran out.
 ///
 /// The source's and the sink's `failures` have to be below 2^64 - 1.
 pub fn explain<S: Source, W: Sink>(

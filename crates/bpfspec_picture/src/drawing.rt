@@ -87,8 +87,8 @@ fn counted(n: u32, broke: Option<Place>) -> u32 {
 }
 
 /// Draws a loop call that main of this program made, each iteration run on the start maps, at the end of a text: around
-/// the first pair that fails a test, where there is one. The start maps are of the program's sizes. Gives the verdict on
-/// the loop. It fails where there is no memory.
+/// the first pair that fails a test, where there is one. The start maps are of the program's sizes. Gives the verdict
+/// on the loop. It fails where there is no memory.
 pub fn draw_loop(
     out: &mut String,
     alloc: Global,

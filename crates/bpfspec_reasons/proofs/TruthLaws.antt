@@ -67,7 +67,8 @@ first_of-none (Some slot) = refl
 first_of-none None = refl
 
 -- the first line, with more pieces
-pub first_line-more : (told more : List Piece) → first_line (told ++ more) ≡ first_of (first_line told) (first_line more)
+pub first_line-more : (told more : List Piece) → first_line (told ++ more) ≡ first_of (first_line told)
+    (first_line more)
 first_line-more [] more = refl
 first_line-more (first ∷ told) more =
     ap (first_of (line_of first)) (first_line-more told more)
@@ -121,7 +122,8 @@ told-between program told from to reg found state value same there is known =
     subst (λ (p : Program). AreTrue p (pieces.Between from to reg value ∷ [])) same
     (value-between program from to reg found state value there is known, tt)
 
-pub told-unwritten : (program : Program) (told : ExplanationOf) (slot position : ℕ) (found : Option State) (state : State)
+pub told-unwritten : (program : Program) (told : ExplanationOf) (slot position : ℕ) (found : Option State)
+    (state : State)
     (written : Bool) → program ≡ told.program → IfSome found (λ s. IsStateBefore program slot s) → found ≡ Some state
     → written ≡ all_written state.own position 1 → written ≡ false
     → AreTrue told.program (pieces.Unwritten slot position ∷ [])

@@ -134,7 +134,7 @@ fn value_before(out: &Explanation<'_>, slot: u32, base: Reg) -> AbstractValue {
 }
 
 /// Adds what breaks a rule of accesses.
-pub fn add_access_rule(
+pub(crate) fn add_access_rule(
     out: &mut Explanation<'_>,
     rule: Rule,
     slot: u32,

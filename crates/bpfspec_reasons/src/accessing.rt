@@ -13,7 +13,7 @@ pub struct Access {
 }
 
 /// The access of memory that an instruction makes, if it makes one: a lookup reads a key of 4 bytes at r2.
-pub fn access_of(insn: &Insn) -> Option<Access> {
+pub(crate) fn access_of(insn: &Insn) -> Option<Access> {
     match *insn {
         Insn::Load {
             size,

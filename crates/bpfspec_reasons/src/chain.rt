@@ -200,9 +200,9 @@ fn add_link(out: &mut Explanation<'_>, source: Source, followed: Reg) -> Result<
     }
 }
 
-/// Adds where the value of a register before a slot comes from, back to an instruction that makes it of no register. Where
-/// paths meet it goes on along the one that leaves the most values; an instruction that only copies is left out.
-pub fn add_chain(out: &mut Explanation<'_>, slot: u32, start: Reg) -> Result<(), AllocError>
+/// Adds where the value of a register before a slot comes from, back to an instruction that makes it of no register.
+/// Where paths meet it goes on along the one that leaves the most values; an instruction that only copies is left out.
+pub(crate) fn add_chain(out: &mut Explanation<'_>, slot: u32, start: Reg) -> Result<(), AllocError>
     ensures { out.new ≡ out.old }
 {
     out.words("  ")?;

@@ -34,7 +34,7 @@ pub enum Form {
 }
 
 /// The operands of a form, as an example.
-pub fn example(form: Form) -> &'static str {
+pub(crate) fn example(form: Form) -> &'static str {
     match form {
         Form::Arithmetic => " r1, r2` or `.. r1, 5",
         Form::One => " r1",
@@ -54,7 +54,7 @@ pub fn example(form: Form) -> &'static str {
 }
 
 /// How many operands a form has.
-pub fn operand_count(form: Form) -> usize {
+pub(crate) fn operand_count(form: Form) -> usize {
     match form {
         Form::Bare => 0,
         Form::One | Form::Jump | Form::Call => 1,
@@ -96,7 +96,7 @@ const MNEMONICS: [(&str, Form); 96] = [
 ];
 
 /// The form of a mnemonic, if the word is one.
-pub fn form_of(word: &str) -> Option<Form> {
+pub(crate) fn form_of(word: &str) -> Option<Form> {
     for (mnemonic, form) in &MNEMONICS {
         if *mnemonic == word {
             return Some(*form);
@@ -106,6 +106,6 @@ pub fn form_of(word: &str) -> Option<Form> {
 }
 
 /// All mnemonics, to be gone over.
-pub fn mnemonics() -> &'static [(&'static str, Form)] {
+pub(crate) fn mnemonics() -> &'static [(&'static str, Form)] {
     &MNEMONICS
 }

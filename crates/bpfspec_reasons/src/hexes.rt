@@ -33,7 +33,7 @@ fn write_slot(out: &mut String, bytes: &[u8], slot: usize) -> Result<(), AllocEr
 }
 
 /// Writes why bytes are no instructions: those of the slot with the first fault, and what is wrong with them.
-pub fn write_byte_reasons(
+pub(crate) fn write_byte_reasons(
     out: &mut String,
     bytes: &[u8],
     fault: CodecFault,

@@ -126,7 +126,7 @@ fn add_missing_map(out: &mut Explanation<'_>, insn: &Insn) -> Result<(), AllocEr
 }
 
 /// Adds what breaks a rule that speaks of an instruction alone.
-pub fn add_insn_rule(
+pub(crate) fn add_insn_rule(
     out: &mut Explanation<'_>,
     rule: Rule,
     slot: u32,

@@ -37,7 +37,7 @@ fn made_by_alu(state: &State, op: AluOp, dst: Reg, operand: Operand) -> Made {
 }
 
 /// What an instruction makes the register of that it writes, by the abstract state before it.
-pub fn made_of(state: &State, insn: &Insn) -> Made {
+pub(crate) fn made_of(state: &State, insn: &Insn) -> Made {
     match *insn {
         Insn::Alu {
             op,
@@ -52,7 +52,7 @@ pub fn made_of(state: &State, insn: &Insn) -> Made {
 }
 
 /// What is said of an instruction that makes a register of no other.
-pub fn made_anew(insn: &Insn, reg: Reg) -> &'static str {
+pub(crate) fn made_anew(insn: &Insn, reg: Reg) -> &'static str {
     match *insn {
         Insn::Load { .. } | Insn::LoadSx { .. } => "what memory has: any number of its size",
         Insn::Atomic { .. } => "what memory had: any number of its size",

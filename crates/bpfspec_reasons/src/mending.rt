@@ -3,7 +3,7 @@
 use bpf_verify_model::Rule;
 
 /// What usually mends a program that breaks a rule, in a sentence.
-pub fn mend(rule: Rule) -> &'static str {
+pub(crate) fn mend(rule: Rule) -> &'static str {
     match rule {
         Rule::NoSlot => "write instructions after the line `maps`",
         Rule::OverLimits => "make the program or its maps smaller",

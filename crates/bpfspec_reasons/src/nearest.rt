@@ -66,7 +66,10 @@ fn fewest_edits(alloc: Global, word: &str) -> Result<Option<&'static str>, Alloc
 }
 
 /// The mnemonic nearest to a word that is none, if one is near. Upper and lower case are the same to it.
-pub fn nearest_mnemonic(alloc: Global, word: &str) -> Result<Option<&'static str>, AllocError> {
+pub(crate) fn nearest_mnemonic(
+    alloc: Global,
+    word: &str,
+) -> Result<Option<&'static str>, AllocError> {
     if word.len() > 16 {
         return Ok(None);
     }

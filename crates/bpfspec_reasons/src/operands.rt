@@ -11,7 +11,7 @@ use bpf_verify_values::{is_number, is_unwritten};
 use std::alloc::AllocError;
 
 /// Whether an instruction reads no register.
-pub fn reads_none(insn: &Insn) -> bool {
+pub(crate) fn reads_none(insn: &Insn) -> bool {
     for number in 0..11u8 {
         if reads(insn, reg(number)) {
             return false;
@@ -21,7 +21,11 @@ pub fn reads_none(insn: &Insn) -> bool {
 }
 
 /// Adds what each register is that an instruction reads, on one line: `r1 is 5, r2 is not written`.
-pub fn add_operands(out: &mut Explanation<'_>, slot: u32, insn: &Insn) -> Result<(), AllocError>
+pub(crate) fn add_operands(
+    out: &mut Explanation<'_>,
+    slot: u32,
+    insn: &Insn,
+) -> Result<(), AllocError>
     ensures { out.new ≡ out.old }
 {
     let mut between = "";
@@ -136,7 +140,7 @@ fn argument(state: &State, insn: &Insn) -> Option<Reg> {
 }
 
 /// The register whose value breaks a rule that speaks of registers.
-pub fn blamed(rule: Rule, state: &State, insn: &Insn) -> Option<Reg> {
+pub(crate) fn blamed(rule: Rule, state: &State, insn: &Insn) -> Option<Reg> {
     match rule {
         Rule::UnwrittenRegister => first_that(state, insn, Wanted::Unwritten),
         Rule::ArithmeticOperand => computed_with(state, insn),

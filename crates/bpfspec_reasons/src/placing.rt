@@ -20,9 +20,9 @@ fn write_comment(out: &mut String, comment: &str) -> Result<(), AllocError> {
     write!(out, "    ; {comment}")
 }
 
-/// Writes the line of an instruction at a slot: its number, itself, and its comment. Where a page has none, it writes the
-/// slot and the instruction.
-pub fn write_line(
+/// Writes the line of an instruction at a slot: its number, itself, and its comment. Where a page has none, it writes
+/// the slot and the instruction.
+pub(crate) fn write_line(
     out: &mut String,
     alloc: Global,
     page: &Page<'_>,
@@ -43,7 +43,7 @@ pub fn write_line(
 }
 
 /// Writes a slot and its instruction, in columns.
-pub fn write_step(
+pub(crate) fn write_step(
     out: &mut String,
     alloc: Global,
     slot: u32,

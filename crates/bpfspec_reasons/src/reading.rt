@@ -5,7 +5,7 @@ use bpf_verify_model::Helper;
 use bpf_verify_values::helper_of;
 
 /// Whether two registers are one.
-pub fn same(a: Reg, b: Reg) -> bool {
+pub(crate) fn same(a: Reg, b: Reg) -> bool {
     a.number() == b.number()
 }
 
@@ -44,7 +44,7 @@ fn atomic_reads(op: AtomicOp, dst: Reg, src: Reg, reg: Reg) -> bool {
 }
 
 /// Whether an instruction reads a register.
-pub fn reads(insn: &Insn, reg: Reg) -> bool {
+pub(crate) fn reads(insn: &Insn, reg: Reg) -> bool {
     match *insn {
         Insn::Alu {
             op,

@@ -130,8 +130,9 @@ fn add_reasons(out: &mut Explanation<'_>, fault: &Fault) -> Result<(), AllocErro
     add_mend(out, fault.rule)
 }
 
-/// Why a program is refused: the line of its first fault, what the registers are of which the rule speaks, what the rule
-/// asks, where their values come from, and what usually helps. Of an accepted program it has no piece. Memory may run out.
+/// Why a program is refused: the line of its first fault, what the registers are of which the rule speaks, what the
+/// rule asks, where their values come from, and what usually helps. Of an accepted program it has no piece. Memory may
+/// run out.
 pub fn explain_refusal<'a>(
     alloc: Global,
     inspection: &'a Inspection,

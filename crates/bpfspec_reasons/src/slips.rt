@@ -5,7 +5,7 @@ use crate::nearest::nearest_mnemonic;
 use std::alloc::{AllocError, Global};
 
 /// A slip in characters that can't be told from others by sight.
-pub fn hidden_slip(content: &str) -> Option<&'static str> {
+pub(crate) fn hidden_slip(content: &str) -> Option<&'static str> {
     if content.contains('\r') {
         return Some("the line has a carriage return: lines end with a newline alone");
     }
@@ -186,7 +186,7 @@ fn write_label_slip(out: &mut String, operands: &str) -> Result<(), AllocError> 
 
 /// Adds what is wrong with the form of a line after the first, and how such a line is written. The line is without its
 /// comment.
-pub fn write_slip(out: &mut String, alloc: Global, content: &str) -> Result<(), AllocError> {
+pub(crate) fn write_slip(out: &mut String, alloc: Global, content: &str) -> Result<(), AllocError> {
     let word = content.split_ascii_whitespace().next().unwrap_or("");
     let operands = content.strip_prefix(word).unwrap_or("").trim();
     if let Some(slip) = common_slip(content) {

@@ -61,7 +61,7 @@ fn add_arguments(out: &mut Explanation<'_>, slot: u32, insn: &Insn) -> Result<()
 }
 
 /// Adds what breaks a rule that speaks of registers.
-pub fn add_state_rule(
+pub(crate) fn add_state_rule(
     out: &mut Explanation<'_>,
     rule: Rule,
     slot: u32,

@@ -93,7 +93,7 @@ fn write_more(out: &mut String, fault: TextFault) -> Result<(), AllocError> {
 }
 
 /// Adds why a unit's assembler text is refused: the line as it stands, what was expected there, and the nearest word.
-pub fn write_text_reasons(
+pub(crate) fn write_text_reasons(
     out: &mut String,
     alloc: Global,
     text: &str,
@@ -109,7 +109,7 @@ pub fn write_text_reasons(
 }
 
 /// Adds why a unit's text in hex form is refused: the line as it stands, and what was expected there.
-pub fn write_hex_reasons(
+pub(crate) fn write_hex_reasons(
     out: &mut String,
     text: &str,
     fault: TextFault,

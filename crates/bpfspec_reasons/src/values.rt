@@ -74,7 +74,7 @@ fn write_position(out: &mut String, pointer: &str, position: u32) -> Result<(), 
 }
 
 /// Adds that a byte of the own frame isn't written.
-pub fn write_unwritten(out: &mut String, position: u32) -> Result<(), AllocError> {
+pub(crate) fn write_unwritten(out: &mut String, position: u32) -> Result<(), AllocError> {
     if position >= 512 {
         return Ok(());
     }
@@ -83,7 +83,7 @@ pub fn write_unwritten(out: &mut String, position: u32) -> Result<(), AllocError
 }
 
 /// Adds how many elements a map has, and how many bytes they have.
-pub fn write_elements(out: &mut String, map: u32, count: u32) -> Result<(), AllocError> {
+pub(crate) fn write_elements(out: &mut String, map: u32, count: u32) -> Result<(), AllocError> {
     let elements = if count == 1 { "element" } else { "elements" };
     let bytes = u64::from(count) * 8;
     write!(out, "map {map} has {count} {elements}, {bytes} bytes")
@@ -113,20 +113,24 @@ fn write_value(out: &mut String, value: &AbstractValue) -> Result<(), AllocError
 }
 
 /// Adds a register's name.
-pub fn write_reg(out: &mut String, reg: Reg) -> Result<(), AllocError> {
+pub(crate) fn write_reg(out: &mut String, reg: Reg) -> Result<(), AllocError> {
     let number = reg.number();
     write!(out, "r{number}")
 }
 
 /// Adds what a register is: `r3 is 0 to 7`.
-pub fn write_known(out: &mut String, reg: Reg, value: &AbstractValue) -> Result<(), AllocError> {
+pub(crate) fn write_known(
+    out: &mut String,
+    reg: Reg,
+    value: &AbstractValue,
+) -> Result<(), AllocError> {
     write_reg(out, reg)?;
     out.push_str(" is ")?;
     write_value(out, value)
 }
 
 /// How far apart a value's least and greatest number are: 0 where it is one number alone or no number.
-pub fn width_of(value: &AbstractValue) -> u64 {
+pub(crate) fn width_of(value: &AbstractValue) -> u64 {
     match *value {
         AbstractValue::Number(range) => range.hi().wrapping_sub(range.lo()),
         AbstractValue::Area(_, range) | AbstractValue::AreaOrNull(_, range) => {

@@ -7,7 +7,7 @@ use crate::values::{write_elements, write_known, write_reg, write_unwritten};
 use std::alloc::{AllocError, Global};
 
 /// Writes a piece at the end of a text. Lines are those of the page.
-pub fn write_piece(
+pub(crate) fn write_piece(
     out: &mut String,
     alloc: Global,
     page: &Page<'_>,

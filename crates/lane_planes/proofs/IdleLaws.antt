@@ -124,7 +124,8 @@ module _ (elements page : ℕ) (marks : ℕ → Marks) (idle : (e : ℕ) → e /
     clear_plane : (words : List ℕ) → IsBitPlane elements words → ((e : ℕ) → e / 64 ≡ page → e < elements
         → bit_of words e ≡ false) → slice_index words page < 2 ^ 64 → slice_index words page ≡ 0
     clear_plane words whole each fits =
-        zero_word words page fits (λ e here. ⊎_elim (λ (below : e < elements). each e here below) (λ (out : elements ≤ e).
+        zero_word words page fits (λ e here. ⊎_elim (λ (below : e < elements). each e here below)
+        (λ (out : elements ≤ e).
         whole.past e out) (cases_lt e elements))
 
     idle_tested : (tested : Tested) → AreTested elements tested → WordsFit tested

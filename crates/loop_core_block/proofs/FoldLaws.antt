@@ -90,7 +90,8 @@ module _ (old new : PrivateCopy) (words : List ℕ) (entry : Entry) (at : ℕ �
   abbrev by_kind : Kind → ℕ → Access
   by_kind kind lane = access_at (at lane) kind (saw_by lane) (slice_index entry.values lane)
 
-  one : (kind : Kind) → entry.site.kind ≡ kind → (lane : ℕ) → lane < lanes → by_kind kind lane ≡ access_by words entry lane
+  one : (kind : Kind) → entry.site.kind ≡ kind → (lane : ℕ) → lane < lanes → by_kind kind lane ≡ access_by words entry
+      lane
   one kind of_kind lane below =
       ap (λ (e : ℕ). access_at e kind (saw_by lane) (slice_index entry.values lane)) (is lane below)
       ∙ ap (λ (k : Kind). access_at (element_by entry.site.elements entry.elements lane) k (saw_by lane)

@@ -56,7 +56,8 @@ has_elements sites elements = list_any (λ (site : Site). are_same site.elements
 -- the flags of a lane at its element of a site, which count at the first site of that element
 abbrev pub lead_of : (before : List Site) → Site → (behind : List Site) → Option Flags
 lead_of before site behind =
-    if has_elements before site.elements then None else Some (flags_over site.elements behind (flagged no_flags site.kind))
+    if has_elements before site.elements then None
+        else Some (flags_over site.elements behind (flagged no_flags site.kind))
 
 -- a site's elements, and the flags that count there
 pub record Lead : Type 0 where

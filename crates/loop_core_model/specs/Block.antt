@@ -24,7 +24,8 @@ break_from index (it ∷ rest) = if it.ret == 1 then Some index else break_from 
 
 -- what was run, and unless it broke what is run after it
 abbrev pub unless_break : BoundedResult (List Iterated) → List Iterated → BoundedResult (List Iterated)
-unless_break behind iterations = if has_break iterations then Ended iterations else mapped (λ others. iterations ++ others) behind
+unless_break behind iterations = if has_break iterations then Ended iterations
+    else mapped (λ others. iterations ++ others) behind
 
 -- the scan of two adjacent intervals is the scan of the first and then, unless it broke, of the second
 abbrev pub ScansFollow : Type 0

@@ -16,19 +16,24 @@ use Rattle.bpf_step_batch.specs.declared.entry.Entry.{Entry}
 use Rattle.bpf_step_batch.specs.Logs.{element_by, action_by, access_by, log_by, site_of, stored_by, reduced_by, IsLogged}
 
 -- accesses that leave the same at the same elements
-pub same_site : (a b : ℕ → Access) → ((lane : ℕ) (words : List ℕ) → words_after (a lane) words ≡ words_after (b lane) words) → (lanes : ℕ) (words : List ℕ) →
+pub same_site : (a b : ℕ → Access) → ((lane : ℕ) (words : List ℕ) → words_after (a lane) words ≡ words_after (b lane)
+    words) → (lanes : ℕ) (words : List ℕ) →
     words_after_site a lanes words ≡ words_after_site b lanes words
 same_site a b same zero words = refl
-same_site a b same (suc lanes) words = ap (words_after (a lanes)) (same_site a b same lanes words) ∙ same lanes (words_after_site b lanes words)
+same_site a b same (suc lanes) words = ap (words_after (a lanes)) (same_site a b same lanes words)
+    ∙ same lanes (words_after_site b lanes words)
 
 -- by its kind
-by_kind : (words : List ℕ) (entry : Entry) (kind : Kind) → entry.site.kind ≡ kind → (lane : ℕ) → access_by words entry lane ≡ record {
+by_kind : (words : List ℕ) (entry : Entry) (kind : Kind) → entry.site.kind ≡ kind → (lane : ℕ)
+    → access_by words entry lane ≡ record {
   element = element_by entry.site.elements entry.elements lane;
-  action = action_by kind (slice_index words (element_by entry.site.elements entry.elements lane)) (slice_index entry.values lane);
+  action = action_by kind (slice_index words (element_by entry.site.elements entry.elements lane))
+      (slice_index entry.values lane);
 }
 by_kind words entry kind is lane = ap (λ (k : Kind). record {
   element = element_by entry.site.elements entry.elements lane;
-  action = action_by k (slice_index words (element_by entry.site.elements entry.elements lane)) (slice_index entry.values lane);
+  action = action_by k (slice_index words (element_by entry.site.elements entry.elements lane))
+      (slice_index entry.values lane);
 }) is
 
 pub stores_are : (words : List ℕ) (entry : Entry) → entry.site.kind ≡ Writes → (lanes : ℕ) (now : List ℕ) →
@@ -41,18 +46,22 @@ pub changes_are : (words : List ℕ) (entry : Entry) → entry.site.kind ≡ Bot
 changes_are words entry is lanes now = same_site (stored_by entry) (access_by words entry)
     (λ lane ws. ap (λ (a : Access). words_after a ws) (sym (by_kind words entry Both is lane))) lanes now
 
-pub reduces_are : (words : List ℕ) (entry : Entry) (op : Op) → entry.site.kind ≡ Reduces op → (lanes : ℕ) (now : List ℕ) →
+pub reduces_are : (words : List ℕ) (entry : Entry) (op : Op) → entry.site.kind ≡ Reduces op → (lanes : ℕ) (now : List ℕ)
+    →
     words_after_site (reduced_by op entry) lanes now ≡ words_after_site (access_by words entry) lanes now
 reduces_are words entry op is lanes now = same_site (reduced_by op entry) (access_by words entry)
     (λ lane ws. ap (λ (a : Access). words_after a ws) (sym (by_kind words entry (Reduces op) is lane))) lanes now
 
 -- reads leave all as it was
-pub reads_are : (words : List ℕ) (entry : Entry) → entry.site.kind ≡ Reads → (lanes : ℕ) (now : List ℕ) → now ≡ words_after_site (access_by words entry) lanes now
+pub reads_are : (words : List ℕ) (entry : Entry) → entry.site.kind ≡ Reads → (lanes : ℕ) (now : List ℕ)
+    → now ≡ words_after_site (access_by words entry) lanes now
 reads_are words entry is zero now = refl
 reads_are words entry is (suc lanes) now =
     reads_are words entry is lanes now
-    ∙ sym (set-get_or (words_after_site (access_by words entry) lanes now) (element_by entry.site.elements entry.elements lanes) 0)
-    ∙ ap (λ (a : Access). words_after a (words_after_site (access_by words entry) lanes now)) (sym (by_kind words entry Reads is lanes))
+    ∙ sym (set-get_or (words_after_site (access_by words entry) lanes now) (element_by entry.site.elements
+        entry.elements lanes) 0)
+    ∙ ap (λ (a : Access). words_after a (words_after_site (access_by words entry) lanes now))
+        (sym (by_kind words entry Reads is lanes))
 
 -- the words stay as many
 pub length-after_site : (site : ℕ → Access) (lanes : ℕ) (words : List ℕ)
@@ -75,7 +84,8 @@ pub lane_applied : (site : ℕ → Access) (lane : ℕ) (access : Access) (first
 lane_applied site lane access first now new so_far same is =
     is
     ∙ ap (λ (maps : MapList). record { sizes = maps.sizes; words = words_after access maps.words }) so_far
-    ∙ ap (λ (a : Access). record { sizes = first.sizes; words = words_after a (words_after_site site lane first.words) })
+    ∙ ap (λ (a : Access). record { sizes = first.sizes; words = words_after a (words_after_site site lane first.words)
+        })
     same
     ∙ ap (λ (words : List ℕ). record { sizes = first.sizes; words = words }) (sym (site_more site lane first.words))
 
@@ -193,7 +203,8 @@ pub entry_applied : (words now new : List ℕ) (lanes index : ℕ) (entries : Li
     ≡ words_after_sites (log_by words (drop index entries)) lanes now
 entry_applied words now new lanes index entries other below is =
     ap (words_after_sites (log_by words (drop (index + 1) entries)) lanes) is
-    ∙ sym (ap (λ (es : List Entry). words_after_sites (log_by words es) lanes now) (drop_more entries index other below))
+    ∙ sym (ap (λ (es : List Entry). words_after_sites (log_by words es) lanes now) (drop_more entries index other
+        below))
 
 -- an entry leaves as many words
 pub entry_keeps : (words now new : List ℕ) (lanes index count : ℕ) (entries : List Entry) (other : Entry)

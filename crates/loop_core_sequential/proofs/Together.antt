@@ -25,7 +25,8 @@ use Rattle.loop_core_sequential.specs.Rests.{rest_from, WentOn}
 
 module _ (its : EachIterationSimulates) (program : Program) (sound : IsSoundProgram program) (ops : List PlainOp)
     (are : AreOps program ops) (call : LoopCall) (known : OverApproximatesCall program call) (bytes : List ℕ)
-    (long : length bytes ≡ 512) (same : map Some bytes ≡ call.frame) (words : List ℕ) (fit : AreMapWords program words) where
+    (long : length bytes ≡ 512) (same : map Some bytes ≡ call.frame) (words : List ℕ) (fit : AreMapWords program words)
+        where
   -- a lane that returns 0 is an iteration that goes on
   goes_on : (index : ℕ) → index < call.n → (accesses : List Access)
       → ReturnsZero ops call.callback index bytes words accesses → GoesOn program 4096 call index words accesses

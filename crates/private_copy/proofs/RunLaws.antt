@@ -40,7 +40,8 @@ module _ (old now : List Cell) (low lanes : ℕ) (kind : Kind) (words values : L
       get_or-set_same now (low + lanes) kept blank room in
       subst (λ (c : Cell). CellNotes (get_or old (low + lanes) blank) kind (slice_index words lanes)
       (slice_index values lanes) number c) (sym is)
-      (subst (λ (c : Cell). CellNotes c kind (slice_index words lanes) (slice_index values lanes) number kept) was notes)
+      (subst (λ (c : Cell). CellNotes c kind (slice_index words lanes) (slice_index values lanes) number kept) was
+      notes)
 
   pub one_cell_more : CellsNote old (set now (low + lanes) kept) low (lanes + 1) kind words values number
   one_cell_more = record {
@@ -205,7 +206,8 @@ over_joined step lanes (suc more) x =
     (let e : lanes + suc more ≡ suc (lanes + more) = omega arith in ap (λ (n : ℕ). over_lanes step n x) e)
     ∙ ap (step (lanes + more)) (over_joined step lanes more x)
 
-over_alike : {X : Type 0} → (a b : ℕ → X → X) (lanes : ℕ) (x : X) → ((lane : ℕ) → lane < lanes → (y : X) → a lane y ≡ b lane y)
+over_alike : {X : Type 0} → (a b : ℕ → X → X) (lanes : ℕ) (x : X) → ((lane : ℕ) → lane < lanes → (y : X)
+    → a lane y ≡ b lane y)
     → over_lanes a lanes x ≡ over_lanes b lanes x
 over_alike a b zero x same = refl
 over_alike a b (suc lanes) x same =
@@ -222,7 +224,8 @@ runs_joined old now next first lane count kind values part is so_far more =
     λ l below.
     ap (λ (v : ℕ). (let a : Access = record { element = first + lane + l; action = noted_by kind v } in a)) (is l below)
     ∙ (let e : first + lane + l ≡ first + (lane + l) = omega arith in
-    ap (λ (n : ℕ). (let a : Access = record { element = n; action = noted_by kind (slice_index values (lane + l)) } in a))
+    ap (λ (n : ℕ). (let a : Access = record { element = n; action = noted_by kind (slice_index values (lane + l)) } in
+    a))
     e) in
     record {
       start = more.start ∙ so_far.start;

@@ -18,7 +18,8 @@ impl<'a> Private<'a> {
     /// are in range, their pages are placed, and an iteration was begun.
     pub fn note_run(&mut self, kind: Access, first: u32, lanes: u32, values: &[u64])
         requires within { first + lanes ≤ length (copy_of self.old).start }
-        requires placed { (lane : ℕ) → lane < lanes → has_page (copy_of self.old).pages (page_of (first + lane)) ≡ true }
+        requires placed { (lane : ℕ) → lane < lanes → has_page (copy_of self.old).pages (page_of (first + lane))
+            ≡ true }
         requires values { lanes ≤ length values.now }
         requires some { 0 < (copy_of self.old).begun }
         ensures { NotesSite (copy_of self.old) (run_site first kind values.now) lanes (copy_of self.new) }

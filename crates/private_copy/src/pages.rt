@@ -203,7 +203,8 @@ impl Pages {
         page.cells[e as usize % 64].combining = Combining::Mixed;
     }
 
-    /// Notes a reduce of an element, whose page is placed, by the iteration of a number, from 1 on, which saw this word.
+    /// Notes a reduce of an element, whose page is placed, by the iteration of a number, from 1 on, which saw this
+    /// word.
     #[inline(always)]
     pub(crate) fn reduce(&mut self, e: u32, op: Op, word: u64, operand: u64, number: u32)
         requires within { e / 64 < total_of self.old }

@@ -111,7 +111,8 @@ lesser_none : (o : Option ℕ) → lesser o None ≡ o
 lesser_none None = refl
 lesser_none (Some n) = refl
 
-pub first_here : (writes : Bool) (first : Option ℕ) (old new index : ℕ) → old ≡ first_number first → index < 4294967295 →
+pub first_here : (writes : Bool) (first : Option ℕ) (old new index : ℕ) → old ≡ first_number first → index < 4294967295
+    →
     new ≡ (if writes then min old index else old) → new ≡ first_number (lesser first (if writes then Some index
     else None))
 first_here true None old new index was small is = let e : min old index ≡ index = omega arith in is ∙ e

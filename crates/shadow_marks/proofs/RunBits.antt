@@ -63,7 +63,8 @@ or_nothing false false c none = refl
 module _ (words : List ℕ) (word low high : ℕ) (inside : word < length words) (small : high ≤ 64) where
   word_set : (value : ℕ) (k : ℕ) (more : Bool) → (k / 64 ≡ word
       → eqb (bit_at value (k % 64)) 1 ≡ (bit_of words k || (more && is_between low high (k % 64))))
-      → bit_of (set words word value) k ≡ (bit_of words k || (more && is_between (64 * word + low) (64 * word + high) k))
+      → bit_of (set words word value) k ≡ (bit_of words k || (more && is_between (64 * word + low) (64 * word + high)
+      k))
   word_set value k more here = elim (cases_eq (k / 64) word) [
     | inl row ↦
         ap (λ (r : ℕ). eqb (bit_at (get_or (set words word value) r 0) (k % 64)) 1) row

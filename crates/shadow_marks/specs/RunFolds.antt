@@ -13,7 +13,8 @@ use Rattle.shadow_marks.specs.Runs.{is_between, OrsRun, ChangesRun}
 
 -- the planes of operators after the flags of such elements came into them
 abbrev pub OperatorsFoldRun : (old new : OperatorPlanes) (first past : ℕ) (flags : Flags) → Type 0
-OperatorsFoldRun old new first past flags = (op : Op) → OrsRun (plane_by old op) (plane_by new op) first past (flags.by op)
+OperatorsFoldRun old new first past flags = (op : Op) → OrsRun (plane_by old op) (plane_by new op) first past
+    (flags.by op)
 
 -- planes of a test that have all elements up to one
 pub record LrpdHaveRun (planes : LrpdPlanes) (past : ℕ) : Type 0 where

@@ -167,7 +167,8 @@ fn or_run_where(words: &mut [u64], others: &[u64], first: u32, past: u32, condit
     requires within { past ≤ 64 * length words.old }
     requires others { past ≤ 64 * length others.now }
     ensures count { length words.new ≡ length words.old }
-    ensures bits { (k : ℕ) → bit_of words.new k ≡ (bit_of words.old k || (condition && (bit_of others.now k && is_between
+    ensures bits { (k : ℕ) → bit_of words.new k ≡ (bit_of words.old k
+        || (condition && (bit_of others.now k && is_between
         first past k))) }
 {
     if condition {

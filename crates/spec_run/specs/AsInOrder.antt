@@ -11,8 +11,8 @@ use Rattle.spec_run_plan.specs.Plans.{IsPlan}
 use Rattle.spec_run.specs.declared.report.Report.{Report}
 use Rattle.spec_run.specs.Reports.{IsReportOf}
 
--- what a run gives is what the program gives whose loops run in order, from the old maps, where main takes at most 4,096
--- instructions up to each turn, and an iteration at most as many; each valid call's verdict is that of the test
+-- what a run gives is what the program gives whose loops run in order, from the old maps, where main takes at most
+-- 4,096 instructions up to each turn, and an iteration at most as many; each valid call's verdict is that of the test
 abbrev pub IsReportByTest : Test → Program → (argument : ℕ) → (old new : MapList) → Report → Type 0
 IsReportByTest test program argument old new report =
     IsReportOf (report_by test program 4096 argument old.words) program argument old new report

@@ -61,6 +61,7 @@ ran_call test {program} {call} {start} {left} {answer} {told} one_loop sound ran
 -- on maps that are the same
 pub explained_on : {test : Test} {program : Program} {call : LoopCall} {most answer : ℕ} {told : LoopExplained}
     (start now : MapList) → start ≡ now →
-    IsExplained test program call start.words most answer told → IsExplained test program call now.words most answer told
+    IsExplained test program call start.words most answer told → IsExplained test program call now.words most answer
+    told
 explained_on {test} {program} {call} {most} {answer} {told} start now same is =
     subst (λ (maps : MapList). IsExplained test program call maps.words most answer told) same is

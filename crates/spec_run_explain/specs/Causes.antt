@@ -41,8 +41,8 @@ pub record AreLeast (test : Test) (program : Program) (call : LoopCall) (words :
   pub counted : counted_runs program 4096 call words ≡ Ended runs
   pub least : elements ≡ take most (conflicting test runs (length words))
 
--- so a loop call on these words is explained that answers this in order: its causes are those of the least elements that
--- conflict
+-- so a loop call on these words is explained that answers this in order: its causes are those of the least elements
+-- that conflict
 pub record IsExplained (test : Test) (program : Program) (call : LoopCall) (words : List ℕ) (most answer : ℕ)
     (told : LoopExplained) : Type 0 where
   pub slot : told.line.slot ≡ call.slot
@@ -52,8 +52,8 @@ pub record IsExplained (test : Test) (program : Program) (call : LoopCall) (word
   pub elements : AreLeast test program call words most (elements_of told.causes.items)
   pub causes : AreCauses test program call words told.causes.items
 
--- so a loop call that main made is explained: a refused one has its line alone; another one is explained on the words at
--- the call, with bytes in place of what is unwritten in its frame
+-- so a loop call that main made is explained: a refused one has its line alone; another one is explained on the words
+-- at the call, with bytes in place of what is unwritten in its frame
 pub data IsCallExplained (test : Test) (program : Program) (most : ℕ) (made : LoopMade) (told : LoopExplained)
     : Type 0 where
   WasRefused : made.call ≡ None → told.line ≡ record { slot = made.slot; answer = made.answer; verdict = Refused }

@@ -8,8 +8,9 @@ use Rattle.spec_run.specs.AsInOrder.{IsReportByTest}
 use Rattle.spec_run_explain.specs.declared.explained.Explained.{Explained}
 use Rattle.spec_run_explain.specs.Causes.{IsEachExplained, lines_of}
 
--- the report is that of a run whose loops may run in parallel, from the old maps to the new ones; its lines are those of
--- the loops that are explained, and these are, one by one, the loop calls that main makes where the program runs in order
+-- the report is that of a run whose loops may run in parallel, from the old maps to the new ones; its lines are those
+-- of the loops that are explained, and these are, one by one, the loop calls that main makes where the program runs in
+-- order
 pub record IsProgramExplained (test : Test) (program : Program) (most argument : ℕ) (old new : MapList)
     (told : Explained) : Type 0 where
   pub report : IsReportByTest test program argument old new told.report

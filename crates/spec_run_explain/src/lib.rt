@@ -3,8 +3,8 @@
 //!
 //! ```text
 //! let told = explain_loops(alloc, &program, &mut maps, 0, Test::Flow, 64)?;
-//! // told.report is the report of the program, and told.loops[0].causes[0].witness.writer.index an iteration that
-//! // writes the least element that conflicts
+//! // told.report is the report of the program, and told.loops[0].causes[0].witness.writer.index an iteration that //
+//! writes the least element that conflicts
 //! ```
 #![tactic(auto)]
 

@@ -138,7 +138,8 @@ module _ (test : Test) (program : Program) (call : LoopCall) (words : List ℕ) 
     did_draw = subst (λ (s : SeatRecord). DidMore old s (still.draws ++ number ∷ []) still.looks (breaks_of blocks))
         (sym draws) (record {
           board = still.did.board;
-          drew = ap (λ (ds : List ℕ). ds ++ number ∷ []) still.did.drew ∙ append_assoc old.history.draws still.draws (number
+          drew = ap (λ (ds : List ℕ). ds ++ number ∷ []) still.did.drew ∙ append_assoc old.history.draws still.draws
+              (number
               ∷ []);
           saw = still.did.saw;
           posted = still.did.posted;

@@ -38,7 +38,8 @@ module _ (test : Test) (program : Program) (argument : ℕ) (old new : MapList) 
 
       split_refused_of : (valid : Option ValidLoop) → first_loop program 4096 argument old.words ≡ Ended valid
           → IsFirstLoop program new valid (Some found)
-          → (fault : SplitFault) → split_fault bounds found.call.n ≡ Some fault → ComesTo test program argument old.words
+          → (fault : SplitFault) → split_fault bounds found.call.n ≡ Some fault
+          → ComesTo test program argument old.words
           bounds events (Err (Split fault))
       split_refused_of None told is fault amiss = absurd is
       split_refused_of (Some valid) told is fault amiss = record {

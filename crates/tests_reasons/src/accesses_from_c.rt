@@ -62,7 +62,8 @@ at_43:
     exit
 ";
 
-// The first load of a half-word is the one of w[1]. An index is 0 to 15, and a header has 24 bytes: r1 is at byte 0 to 360.
+// The first load of a half-word is the one of w[1]. An index is 0 to 15, and a header has 24 bytes: r1 is at byte 0 to
+// 360.
 #[test]
 fn halves_of_values(rt: HostRuntime) -> Result<(), Fail> {
     is_told(

@@ -1,4 +1,5 @@
-//! Loops that conflict over arrays, of programs that clang made of C: examples from C, with what has to be told of them.
+//! Loops that conflict over arrays, of programs that clang made of C: examples from C, with what has to be told of
+//! them.
 //! Each iteration runs on the words at the call.
 
 use crate::telling::ends_so;

@@ -24,7 +24,7 @@ fn tells(rt: &impl Abort, told: &str, text: &str, phrases: &str) {
 }
 
 /// Asserts of each row that what is told of its text has its phrases: the text, ` => ` and phrases, parted by ` | `.
-pub fn are_told(rt: &impl Abort, alloc: Global, rows: &str) -> Result<(), Fail> {
+pub(crate) fn are_told(rt: &impl Abort, alloc: Global, rows: &str) -> Result<(), Fail> {
     for row in rows.trim().lines() {
         let (text, phrases) = row.split_once(" => ").ok_or("a row")?;
         let text = lines_of(alloc, text)?;
@@ -35,14 +35,19 @@ pub fn are_told(rt: &impl Abort, alloc: Global, rows: &str) -> Result<(), Fail> 
 }
 
 /// Asserts that what is told of a text has phrases, parted by ` | `.
-pub fn is_told(rt: &impl Abort, alloc: Global, text: &str, phrases: &str) -> Result<(), Fail> {
+pub(crate) fn is_told(
+    rt: &impl Abort,
+    alloc: Global,
+    text: &str,
+    phrases: &str,
+) -> Result<(), Fail> {
     let told = reasons_of_text(alloc, Extent::Refusal, text)?;
     tells(rt, told.as_str(), text, phrases);
     Ok(())
 }
 
 /// The same of a text in hex form.
-pub fn is_told_of_hex(
+pub(crate) fn is_told_of_hex(
     rt: &impl Abort,
     alloc: Global,
     text: &str,
@@ -71,7 +76,7 @@ fn written(alloc: Global, test: Test, all: bool, input: &str) -> Result<String, 
 }
 
 /// Asserts that the end of what is told of an input is this.
-pub fn ends_so(
+pub(crate) fn ends_so(
     rt: &impl Abort,
     alloc: Global,
     test: Test,

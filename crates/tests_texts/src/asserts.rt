@@ -1,5 +1,5 @@
-//! Assertions as calls. A test is proved as any function, and the sooner the less it does itself: `assert_eq!` puts some
-//! twenty steps into it, a call one.
+//! Assertions as calls. A test is proved as any function, and the sooner the less it does itself: `assert_eq!` puts
+//! some twenty steps into it, a call one.
 
 use std::fmt::Debug;
 use std::process::Abort;

@@ -210,8 +210,8 @@ fn a_later_write_is_judged_by_the_test(rt: HostRuntime) -> Result<(), Fail> {
     programs_are_told(&rt, rt.alloc(), Test::Lrpd, BY_LRPD)
 }
 
-/// Iterations that write an element each, of 64 pages, and add to one. Behind it is what is told but for the elements of
-/// map 0, which are the numbers below 4096.
+/// Iterations that write an element each, of 64 pages, and add to one. Behind it is what is told but for the elements
+/// of map 0, which are the numbers below 4096.
 const MANY_ELEMENTS: &str =
     "maps 4096 1 | mov64 r1, 4096 | LOOP | AT | stx64 [r3+0], r1 | ldmapval r5, 1, 0 | atomic64 add [r5+0], r1 | END \
         => return 4096 | loop 0 at 5: answer 4096, parallel | map 0:.. | map 1: 8386560";

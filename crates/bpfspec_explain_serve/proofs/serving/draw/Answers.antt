@@ -9,7 +9,8 @@ use Rattle.bpfspec_explain_serve.proofs.serving.draw.Goals as goal
 
 pub returns-in-Err-Device : goal.returns-in-Err-Device
 returns-in-Err-Device g c =
-    Drawn c.requires.asked (Read_failed refl (c.verify_input.ensures.device (search rules)) (omega arith) (nothing_more _))
+    Drawn c.requires.asked (Read_failed refl (c.verify_input.ensures.device (search rules)) (omega arith)
+    (nothing_more _))
 
 pub returns-in-Err-Memory : goal.returns-in-Err-Memory
 returns-in-Err-Memory g c =
@@ -32,7 +33,8 @@ returns-in-Ok-None g c = In_words (record {
   failed_between = g.W.Sink.failed c.write-verified.new.sink;
   between = g.W.Sink.taken c.write-verified.new.sink;
   answered = Answered (record { served = c.in-Ok.answer.served; text = c.in-Ok.answer.text.items })
-      c.in-Ok.ensures.answer (omega (arith, c.in-Ok.ensures.ok)) (written_as _ _ c.deref.ensures.value c.write-verified.ensures);
+      c.in-Ok.ensures.answer (omega (arith, c.in-Ok.ensures.ok)) (written_as _ _ c.deref.ensures.value
+      c.write-verified.ensures);
   explained = c.write_reasons.ensures;
 })
 

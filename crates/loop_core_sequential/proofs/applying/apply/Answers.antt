@@ -16,7 +16,8 @@ apply_entry-requires-clause-few c =
 
 pub apply_entry-requires-clause-within : goal.apply_entry-requires-clause-within
 apply_entry-requires-clause-within c =
-    entry_within c.args.lanes c.args.maps.now.words c.loop-entry.maps.words c.args.entries.now c.loop-entry.entry-index _
+    entry_within c.args.lanes c.args.maps.now.words c.loop-entry.maps.words c.args.entries.now c.loop-entry.entry-index
+        _
     c.requires.logged c.loop-entry-test.true c.loop-entry.invariant.count
 
 pub loop-entry-preserved : goal.loop-entry-preserved
@@ -28,7 +29,8 @@ loop-entry-preserved c =
           c.loop-entry.entry-index _ c.args.entries.now _ (ap (λ (maps : MapList). maps.words) done)
           c.loop-entry.invariant.count;
       words = entry_applied c.args.maps.now.words c.loop-entry.maps.words c.apply_entry.new.maps.words c.args.lanes
-          c.loop-entry.entry-index c.args.entries.now _ c.loop-entry-test.true (ap (λ (maps : MapList). maps.words) done)
+          c.loop-entry.entry-index c.args.entries.now _ c.loop-entry-test.true (ap (λ (maps : MapList). maps.words)
+              done)
           ∙ c.loop-entry.invariant.words;
     }
 

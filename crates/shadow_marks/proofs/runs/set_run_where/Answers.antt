@@ -22,5 +22,6 @@ loop-e-preserved c =
           c.loop-e.invariant.ored
           (λ k. word_ored_where c.loop-e.words (c.loop-e.e / 64) (c.loop-e.e % 64) c.min-high.result inside
           (omega (arith, is)) c.args.others.now c.mask.result k c.mask.ensures
-          ∙ ap (λ (n : ℕ). bit_of c.loop-e.words k || (bit_of c.args.others.now k && is_between n (64 * (c.loop-e.e / 64) + c.min-high.result) k)) at);
+          ∙ ap (λ (n : ℕ). bit_of c.loop-e.words k || (bit_of c.args.others.now k
+          && is_between n (64 * (c.loop-e.e / 64) + c.min-high.result) k)) at);
     }

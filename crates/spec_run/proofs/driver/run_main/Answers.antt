@@ -59,7 +59,8 @@ returns-in-Exit g c =
       sizes = end.sizes;
       kept = end.kept;
       told = end.told;
-      calls = program_ends laws c.args.argument (search rules) c.args.maps.now c.requires.sizes c.sizes-sizes.ensures.words
+      calls = program_ends laws c.args.argument (search rules) c.args.maps.now c.requires.sizes
+          c.sizes-sizes.ensures.words
           c.words_fit.ensures;
       ends = iterations_end laws.loops laws.counts c.args.program.now laws.sound;
     }

@@ -48,7 +48,8 @@ loop-call-preserved-in-Loop c =
     } in
     let told = c.in_ok-told-in-Loop.told in
     let is : IsExplained c.args.test c.args.program.now c.in-Loop.call c.next.new.store.words c.args.most
-    c.in_order-answer.result told = explained_on c.in_ok-start-in-Loop.start c.next.new.store c.in_ok-start-in-Loop.ensures
+    c.in_order-answer.result told = explained_on c.in_ok-start-in-Loop.start c.next.new.store
+    c.in_ok-start-in-Loop.ensures
     c.in_ok-told-in-Loop.ensures in
     record {
       still = loops c.loop-call.invariant.still c.next.ensures.program c.in-Loop.ensures.ran

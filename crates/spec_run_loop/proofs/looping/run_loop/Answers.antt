@@ -12,5 +12,6 @@ carry_out-verdict-requires-clause-decided g c =
 pub returns-clause-outcome : goal.returns-clause-outcome
 returns-clause-outcome g c =
     subst (λ (start : MapList). IsOutcome c.args.test c.args.program.now c.args.call.now start
-    c.carry_out-verdict.result.verdict c.carry_out-verdict.result.answer c.carry_out-verdict.new.maps) c.in_ok-maps.ensures
+    c.carry_out-verdict.result.verdict c.carry_out-verdict.result.answer c.carry_out-verdict.new.maps)
+    c.in_ok-maps.ensures
     c.carry_out-verdict.ensures

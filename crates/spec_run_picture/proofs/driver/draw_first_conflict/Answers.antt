@@ -18,7 +18,8 @@ loop-call-init c =
       sound = record { accepted = c.unit-unit.ensures.accepted; fits = c.unit-unit.ensures.fit };
     } in (
       starts (loop_report c.args.test c.args.program.now 4096) c.args.program.now c.args.argument c.new-main.result
-          c.args.maps.now laws c.new-main.ensures.program c.new-main.ensures.at c.requires.sizes c.sizes-sizes.ensures.words
+          c.args.maps.now laws c.new-main.ensures.program c.new-main.ensures.at c.requires.sizes
+          c.sizes-sizes.ensures.words
           c.words_fit.ensures c.new-lines.ensures.items,
       sym (ap has_conflict c.new-lines.ensures.items),
     )
@@ -50,7 +51,8 @@ loop-call-preserved-in-Loop c =
     ≡ Ended line.verdict) c.in_ok-start-in-Loop.ensures c.in_ok-line-in-Loop.ensures.verdict in (
       loops c.loop-call.invariant.0 c.next.ensures.program c.in-Loop.ensures.ran
           (ran_call c.args.test c.law_of_filled_calls.ensures sound c.in_order-answer.ensures judged)
-          c.resume.ensures.program c.resume.ensures.at c.in_ok-line-in-Loop.ensures.slot c.in_ok-line-in-Loop.ensures.answer
+          c.resume.ensures.program c.resume.ensures.at c.in_ok-line-in-Loop.ensures.slot
+          c.in_ok-line-in-Loop.ensures.answer
           c.in_ok-push-in-Loop.ensures.items,
       one_more _ _ _ _ line c.in_ok-push-in-Loop.ensures.items c.loop-call.invariant.1
           c.in_ok-picture-in-Loop.ensures,
@@ -59,7 +61,8 @@ loop-call-preserved-in-Loop c =
 pub loop-call-preserved : goal.loop-call-preserved
 loop-call-preserved c = (
   refuses c.loop-call.invariant.0 c.next.ensures.program c.in-Refused.ensures.ran
-      (λ slot answer words. refl) (to_z-of_z w64 c.in-Refused.answer (search rules)) c.in_ok-push-in-Refused.ensures.items,
+      (λ slot answer words. refl) (to_z-of_z w64 c.in-Refused.answer (search rules))
+      c.in_ok-push-in-Refused.ensures.items,
   one_more _ _ _ _ _ c.in_ok-push-in-Refused.ensures.items c.loop-call.invariant.1 (or_false _),
 )
 

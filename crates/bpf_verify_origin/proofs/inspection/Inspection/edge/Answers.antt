@@ -17,7 +17,8 @@ returns-then-from-gt4096-clause-whole c = λ to.
     ))
 
 pub returns-in-None-clause-whole : goal.returns-in-None-clause-whole
-returns-in-None-clause-whole c = λ to. between-none c.args.self.now c.args.from c.args.to (sym c.insn.ensures ∙ c.in-None.is)
+returns-in-None-clause-whole c = λ to. between-none c.args.self.now c.args.from c.args.to (sym c.insn.ensures
+    ∙ c.in-None.is)
 
 pub returns-in-Some-clause-whole : goal.returns-in-Some-clause-whole
 returns-in-Some-clause-whole c = λ to.

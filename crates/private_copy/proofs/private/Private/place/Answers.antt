@@ -10,7 +10,8 @@ returns-then-is_placed-clause-ok c =
       start = refl;
       last = λ e. refl;
       reduction = λ e. refl;
-      pages = ap (λ (b : Bool). if b then pages else pages ++ page_of c.args.e ∷ []) (sym (sym c.is_placed.ensures ∙ c.if-is_placed.true));
+      pages = ap (λ (b : Bool). if b then pages else pages ++ page_of c.args.e ∷ []) (sym (sym c.is_placed.ensures
+          ∙ c.if-is_placed.true));
       under_way = refl;
       begun = refl;
     }

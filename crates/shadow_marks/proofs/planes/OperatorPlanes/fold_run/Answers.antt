@@ -46,8 +46,13 @@ returns c =
       addh = with_items c.args.self.now.addh c.or_run-5.new.words;
     })
     c.args.first c.args.past (flags_in c.args.flags)
-    (ored_in c.args.self.now.add _ _ c.args.first c.args.past _ _ c.deref_mut.ensures.value c.has.ensures c.or_run.ensures)
-    (ored_in c.args.self.now.or _ _ c.args.first c.args.past _ _ c.deref_mut-2.ensures.value c.has-2.ensures c.or_run-2.ensures)
-    (ored_in c.args.self.now.and _ _ c.args.first c.args.past _ _ c.deref_mut-3.ensures.value c.has-3.ensures c.or_run-3.ensures)
-    (ored_in c.args.self.now.xor _ _ c.args.first c.args.past _ _ c.deref_mut-4.ensures.value c.has-4.ensures c.or_run-4.ensures)
-    (ored_in c.args.self.now.addh _ _ c.args.first c.args.past _ _ c.deref_mut-5.ensures.value c.has-5.ensures c.or_run-5.ensures)
+    (ored_in c.args.self.now.add _ _ c.args.first c.args.past _ _ c.deref_mut.ensures.value c.has.ensures
+    c.or_run.ensures)
+    (ored_in c.args.self.now.or _ _ c.args.first c.args.past _ _ c.deref_mut-2.ensures.value c.has-2.ensures
+    c.or_run-2.ensures)
+    (ored_in c.args.self.now.and _ _ c.args.first c.args.past _ _ c.deref_mut-3.ensures.value c.has-3.ensures
+    c.or_run-3.ensures)
+    (ored_in c.args.self.now.xor _ _ c.args.first c.args.past _ _ c.deref_mut-4.ensures.value c.has-4.ensures
+    c.or_run-4.ensures)
+    (ored_in c.args.self.now.addh _ _ c.args.first c.args.past _ _ c.deref_mut-5.ensures.value c.has-5.ensures
+    c.or_run-5.ensures)

@@ -17,7 +17,8 @@ returns c =
     c.requires.in_range c.requires.index
     (record {
       elements = refl;
-      plain = ored_in c.args.self.now.plain _ _ c.args.first (c.args.first + c.args.lanes) _ _ c.deref_mut.ensures.value c.has.ensures
+      plain = ored_in c.args.self.now.plain _ _ c.args.first (c.args.first + c.args.lanes) _ _ c.deref_mut.ensures.value
+          c.has.ensures
           c.or_run.ensures;
       operators = c.fold_run.ensures;
       tested = c.fold_run-2.ensures;
