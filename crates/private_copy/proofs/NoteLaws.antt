@@ -2,13 +2,13 @@
 use Rattle.std.proofs.Common.{◌≡◌, ℕ, ◌+◌, Bool, true, false, eqb, List, Option, refl, sym, ◌∙◌, ap, subst}
 use Rattle.std.specs.Prelude.{slice_index, if◌then◌else◌}
 use Rattle.std.proofs.lemmas.Bool.{eqb-true, eqb-false}
-use Rattle.array_maps.specs.Accesses.{Access, Action, Read}
+use Rattle.array_maps.specs.Accesses.{Access, Action}
 use Rattle.shadow_marks.specs.Lanes.{over_lanes}
 use Rattle.shadow_marks.proofs.FoldsInTurn.{over_more}
 use Rattle.private_copy.specs.declared.page.Cell.{Cell}
 use Rattle.private_copy.specs.declared.private.Private.{Private}
 use Rattle.private_copy.specs.declared.reduction.Reduction.{Reduction}
-use Rattle.private_copy.specs.Cells.{cell_at, mixed_cell, reduction_in}
+use Rattle.private_copy.specs.Cells.{cell_at, reduction_in}
 use Rattle.private_copy.specs.Reductions.{reduction_after}
 use Rattle.private_copy.specs.Copies.{PrivateCopy, last_after}
 use Rattle.private_copy.specs.Shown.{copy_of, last_in}
@@ -30,12 +30,6 @@ noted old new e action kept is lasts reduces = record {
   under_way = is.under_way;
   begun = is.begun;
 }
-
--- a read
-pub read_noted : (old new : Private) (e saw : ℕ) (cell : Cell) → cell ≡ cell_at old.pages e
-    → CellIsSet old e (mixed_cell cell) new
-    → NotesOne (copy_of old) (record { element = e; action = Read saw }) (copy_of new)
-read_noted old new e saw cell is set_there = noted old new e (Read saw) (mixed_cell cell) set_there (ap last_in is) refl
 
 -- of no lane
 pub none_noted : (copy : PrivateCopy) (site : ℕ → Access) → NotesSite copy site 0 copy
