@@ -19,10 +19,10 @@ use thiserror::Error;
 pub enum MapsError {
     /// M1: the sizes break the limits: 1 to 16 maps, each of at least 1 element, and at most 65,536
     /// elements over all.
-    #[error("M1")]
+    #[error("M1: there have to be 1 to 16 maps of at least 1 element, and at most 65,536 elements in all")]
     Limits,
     /// There was no memory.
-    #[error("memory")]
+    #[error("out of memory")]
     Memory,
 }
 

@@ -12,6 +12,6 @@ pub enum BoardError {
     #[error("B2: fewer seats than workers")]
     Seats,
     /// A growth was refused: there was no memory.
-    #[error("no memory for a board")]
+    #[error("out of memory")]
     Memory,
 }

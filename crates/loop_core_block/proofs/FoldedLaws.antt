@@ -170,7 +170,7 @@ module _ (old new : Runner) (placed passed : Private) (entries : List Entry) (in
         let marks : Marks = marks_of (visits_of first runs e) in
         subst (λ (m : Marks). StandAt new.planes e m)
         (either_order (marks_by_lead index e) (leads_of [] entries) (leads_swap index e (leads_of [] entries)) lanes
-            marks
+        marks
         ∙ marks_lanes lanes (start_words old) entries may logged first index e runs at lanes (omega arith))
         (ends.marks e marks (stand.marks e (omega (arith, inside, same))));
   }

@@ -90,7 +90,7 @@ after_one actions word a accesses one (inr none) false is = inr none.1
 last_step : (xs : List (List Action)) (actions : List Action) (a : Access) (accesses : List Access) (word e : ℕ)
     → (is_write a.action ≡ true → NoneWrite accesses) → MayWrite actions word (a ∷ accesses)
     → ((done : List Action) → MayWrite done word accesses
-        → last_over e word accesses (last_value (xs ++ done ∷ []) word)
+    → last_over e word accesses (last_value (xs ++ done ∷ []) word)
     ≡ last_value (xs ++ (done ++ actions_at e accesses) ∷ []) word) → (here : Bool)
     → last_over e word accesses (if here then last_after (last_value (xs ++ actions ∷ []) word) a.action word
     else last_value (xs ++ actions ∷ []) word)
@@ -300,7 +300,7 @@ module _ (lanes : ℕ) (words : List ℕ) (e : ℕ) where
   first_swaps : (a : Entry) (entries : List Entry)
       → AllByRecursion (λ (other : Entry). FoldBoth lanes a.site other.site) entries
       → AllByRecursion (Swap (λ (site : ℕ → Access). last_by_lane site words e) (access_by words a))
-          (log_by words entries)
+      (log_by words entries)
       × AllByRecursion (Swap (λ (site : ℕ → Access). reduction_by_lane site e) (access_by words a))
       (log_by words entries)
   first_swaps a [] all = (tt, tt)

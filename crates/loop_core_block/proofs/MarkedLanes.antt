@@ -288,7 +288,7 @@ module _ (words : List ℕ) (lane e index : ℕ) where
       ≡ with_visit (actions_of entries) m)
       → (at : Bool) → is_at entry ≡ at
       → over_sites (marks_by_lead index e) (leads_of (before ++ entry ∷ []) entries) lane
-          (by_lead before entry entries m)
+      (by_lead before entry entries m)
       ≡ with_visit (if at then action_of entry ∷ actions_of entries else actions_of entries) m
   leads_step before entry entries m none agree all rest true is =
       let at : element_at lane entry ≡ e = eqb-true (element_at lane entry) e is in

@@ -40,7 +40,7 @@ module _ (entry : Entry) (first lanes : ℕ) where
       → FoldsLanes old new (element_by entry.site.elements entry.elements) lanes index flags
   run_ends old new index flags is folds =
       subst (λ (elements : Elements). FoldsLanes old new (element_by elements entry.elements) lanes index flags)
-          (sym is)
+      (sym is)
       folds
 
 module _ (old new : PrivateCopy) (words : List ℕ) (entry : Entry) (first lanes : ℕ)

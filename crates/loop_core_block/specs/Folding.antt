@@ -57,7 +57,7 @@ has_elements sites elements = list_any (λ (site : Site). are_same site.elements
 abbrev pub lead_of : (before : List Site) → Site → (behind : List Site) → Option Flags
 lead_of before site behind =
     if has_elements before site.elements then None
-        else Some (flags_over site.elements behind (flagged no_flags site.kind))
+    else Some (flags_over site.elements behind (flagged no_flags site.kind))
 
 -- a site's elements, and the flags that count there
 pub record Lead : Type 0 where

@@ -77,7 +77,7 @@ overwritten_next elements page word blocks places old now new n b touched tells 
     record {
       each = λ k below there. kept_next false word (page * 64 + k) blocks places n (slice_index now k)
           (written blocks places (page * 64 + k) (slice_index old k)) b touched (slice_index new k)
-              (tells k below there)
+          (tells k below there)
           inside within is bit (made k below there) (so_far.each k below there);
       past = λ k out. past k out ∙ so_far.past k out;
     }

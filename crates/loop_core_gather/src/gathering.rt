@@ -29,10 +29,10 @@ use thiserror::Error;
 #[derive(Debug, Drop, Error)]
 pub enum GatherError {
     /// The blocks have a fault.
-    #[error("{0:?}")]
+    #[error("the blocks aren't those of the loop: {0:?}")]
     Fault(GatherFault),
     /// There was no memory.
-    #[error("memory")]
+    #[error("out of memory")]
     Memory,
 }
 

@@ -11,7 +11,7 @@ pub enum ReplayError {
     #[error("{0}")]
     Fault(ReplayFault),
     /// There was no memory.
-    #[error("memory")]
+    #[error("out of memory")]
     Memory,
 }
 

@@ -26,10 +26,10 @@ same_site a b same (suc lanes) words = ap (words_after (a lanes)) (same_site a b
 -- by its kind
 by_kind : (words : List ℕ) (entry : Entry) (kind : Kind) → entry.site.kind ≡ kind → (lane : ℕ)
     → access_by words entry lane ≡ record {
-  element = element_by entry.site.elements entry.elements lane;
-  action = action_by kind (slice_index words (element_by entry.site.elements entry.elements lane))
-      (slice_index entry.values lane);
-}
+      element = element_by entry.site.elements entry.elements lane;
+      action = action_by kind (slice_index words (element_by entry.site.elements entry.elements lane))
+          (slice_index entry.values lane);
+    }
 by_kind words entry kind is lane = ap (λ (k : Kind). record {
   element = element_by entry.site.elements entry.elements lane;
   action = action_by k (slice_index words (element_by entry.site.elements entry.elements lane))
@@ -59,9 +59,9 @@ reads_are words entry is zero now = refl
 reads_are words entry is (suc lanes) now =
     reads_are words entry is lanes now
     ∙ sym (set-get_or (words_after_site (access_by words entry) lanes now) (element_by entry.site.elements
-        entry.elements lanes) 0)
+    entry.elements lanes) 0)
     ∙ ap (λ (a : Access). words_after a (words_after_site (access_by words entry) lanes now))
-        (sym (by_kind words entry Reads is lanes))
+    (sym (by_kind words entry Reads is lanes))
 
 -- the words stay as many
 pub length-after_site : (site : ℕ → Access) (lanes : ℕ) (words : List ℕ)
@@ -84,8 +84,10 @@ pub lane_applied : (site : ℕ → Access) (lane : ℕ) (access : Access) (first
 lane_applied site lane access first now new so_far same is =
     is
     ∙ ap (λ (maps : MapList). record { sizes = maps.sizes; words = words_after access maps.words }) so_far
-    ∙ ap (λ (a : Access). record { sizes = first.sizes; words = words_after a (words_after_site site lane first.words)
-        })
+    ∙ ap (λ (a : Access). record {
+      sizes = first.sizes;
+      words = words_after a (words_after_site site lane first.words);
+    })
     same
     ∙ ap (λ (words : List ℕ). record { sizes = first.sizes; words = words }) (sym (site_more site lane first.words))
 
@@ -204,7 +206,7 @@ pub entry_applied : (words now new : List ℕ) (lanes index : ℕ) (entries : Li
 entry_applied words now new lanes index entries other below is =
     ap (words_after_sites (log_by words (drop (index + 1) entries)) lanes) is
     ∙ sym (ap (λ (es : List Entry). words_after_sites (log_by words es) lanes now) (drop_more entries index other
-        below))
+    below))
 
 -- an entry leaves as many words
 pub entry_keeps : (words now new : List ℕ) (lanes index count : ℕ) (entries : List Entry) (other : Entry)

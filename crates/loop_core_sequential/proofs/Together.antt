@@ -26,51 +26,51 @@ use Rattle.loop_core_sequential.specs.Rests.{rest_from, WentOn}
 module _ (its : EachIterationSimulates) (program : Program) (sound : IsSoundProgram program) (ops : List PlainOp)
     (are : AreOps program ops) (call : LoopCall) (known : OverApproximatesCall program call) (bytes : List ℕ)
     (long : length bytes ≡ 512) (same : map Some bytes ≡ call.frame) (words : List ℕ) (fit : AreMapWords program words)
-        where
-  -- a lane that returns 0 is an iteration that goes on
-  goes_on : (index : ℕ) → index < call.n → (accesses : List Access)
-      → ReturnsZero ops call.callback index bytes words accesses → GoesOn program 4096 call index words accesses
-  goes_on index below accesses returns = record {
-    iterated = record { ret = 0; steps = returns.steps; accesses = accesses; words = words_after_all accesses words };
-    ended = its program sound ops are 4096 call known index below
-        (machine call.callback (begun_with index) bytes bytes)
-        (begins call index call.callback (begun_with index) bytes bytes refl
-        (record { count = refl; given = refl; ctx = refl }) long same)
-        words fit
-        ∙ ap (followed plain_exited) (returns.ran bytes long);
-    returned = refl;
-    made = refl;
-  }
+  where
+    -- a lane that returns 0 is an iteration that goes on
+    goes_on : (index : ℕ) → index < call.n → (accesses : List Access)
+        → ReturnsZero ops call.callback index bytes words accesses → GoesOn program 4096 call index words accesses
+    goes_on index below accesses returns = record {
+      iterated = record { ret = 0; steps = returns.steps; accesses = accesses; words = words_after_all accesses words };
+      ended = its program sound ops are 4096 call known index below
+          (machine call.callback (begun_with index) bytes bytes)
+          (begins call index call.callback (begun_with index) bytes bytes refl
+          (record { count = refl; given = refl; ctx = refl }) long same)
+          words fit
+          ∙ ap (followed plain_exited) (returns.ran bytes long);
+      returned = refl;
+      made = refl;
+    }
 
-  -- so the loop goes on after them
-  lanes_on : LoopBySites → (start first lanes : ℕ) → start ≡ call.callback → first + lanes ≤ call.n
-      → (entries : List Entry) → AreLanes ops start first lanes bytes words entries
-      → AllUnseen lanes (map site_of entries) → AllCommute lanes (map site_of entries) → (left : ℕ)
-      → loop_from program 4096 call (lanes + left) first words
-      ≡ loop_from program 4096 call left (first + lanes) (words_after_sites (log_by words entries) lanes words)
-  lanes_on law start first lanes at within entries lanes_are unseen commute left =
-      law program 4096 call first lanes left words (map site_of entries) (log_by words entries)
-      (λ lane below. goes_on (first + lane) (omega (arith, within, below)) (of_lane (log_by words entries) lane)
-      (subst (λ (slot : ℕ). ReturnsZero ops slot (first + lane) bytes words (of_lane (log_by words entries) lane)) at
-      (lanes_are.returns lane below)))
-      (log_of_sites lanes words entries lanes_are.logged) unseen commute
+    -- so the loop goes on after them
+    lanes_on : LoopBySites → (start first lanes : ℕ) → start ≡ call.callback → first + lanes ≤ call.n
+        → (entries : List Entry) → AreLanes ops start first lanes bytes words entries
+        → AllUnseen lanes (map site_of entries) → AllCommute lanes (map site_of entries) → (left : ℕ)
+        → loop_from program 4096 call (lanes + left) first words
+        ≡ loop_from program 4096 call left (first + lanes) (words_after_sites (log_by words entries) lanes words)
+    lanes_on law start first lanes at within entries lanes_are unseen commute left =
+        law program 4096 call first lanes left words (map site_of entries) (log_by words entries)
+        (λ lane below. goes_on (first + lane) (omega (arith, within, below)) (of_lane (log_by words entries) lane)
+        (subst (λ (slot : ℕ). ReturnsZero ops slot (first + lane) bytes words (of_lane (log_by words entries) lane)) at
+        (lanes_are.returns lane below)))
+        (log_of_sites lanes words entries lanes_are.logged) unseen commute
 
-  pub lanes_went : LoopBySites → (start first lanes : ℕ) → start ≡ call.callback → first + lanes ≤ call.n
-      → (entries : List Entry) → AreLanes ops start first lanes bytes words entries
-      → AllUnseen lanes (map site_of entries) → AllCommute lanes (map site_of entries) → (old new : MapList)
-      → old.words ≡ words
-      → new ≡ record { sizes = old.sizes; words = words_after_sites (log_by words entries) lanes words }
-      → WentOn program call first (first + lanes) old new
-  lanes_went law start first lanes at within entries lanes_are unseen commute old new were applied =
-      let more : call.n - first ≡ lanes + (call.n - (first + lanes)) = omega (arith, within) in
-      record {
-        within = within;
-        rest = ap (rest_from program call first) were
-            ∙ ap (λ (left : ℕ). loop_from program 4096 call left first words) more
-            ∙ lanes_on law start first lanes at within entries lanes_are unseen commute (call.n - (first + lanes))
-            ∙ sym (ap (λ (maps : MapList). rest_from program call (first + lanes) maps.words) applied);
-        sizes = ap (λ (maps : MapList). maps.sizes) applied;
-      }
+    pub lanes_went : LoopBySites → (start first lanes : ℕ) → start ≡ call.callback → first + lanes ≤ call.n
+        → (entries : List Entry) → AreLanes ops start first lanes bytes words entries
+        → AllUnseen lanes (map site_of entries) → AllCommute lanes (map site_of entries) → (old new : MapList)
+        → old.words ≡ words
+        → new ≡ record { sizes = old.sizes; words = words_after_sites (log_by words entries) lanes words }
+        → WentOn program call first (first + lanes) old new
+    lanes_went law start first lanes at within entries lanes_are unseen commute old new were applied =
+        let more : call.n - first ≡ lanes + (call.n - (first + lanes)) = omega (arith, within) in
+        record {
+          within = within;
+          rest = ap (rest_from program call first) were
+              ∙ ap (λ (left : ℕ). loop_from program 4096 call left first words) more
+              ∙ lanes_on law start first lanes at within entries lanes_are unseen commute (call.n - (first + lanes))
+              ∙ sym (ap (λ (maps : MapList). rest_from program call (first + lanes) maps.words) applied);
+          sizes = ap (λ (maps : MapList). maps.sizes) applied;
+        }
 
 -- the bytes of a call's frame are 512
 pub frame_long : (program : Program) (call : LoopCall) (bytes : List ℕ) → OverApproximatesCall program call

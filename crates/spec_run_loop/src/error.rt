@@ -7,13 +7,13 @@ use thiserror::Error;
 #[derive(Debug, Drop, Error)]
 pub enum RunError {
     /// P1: the maps' sizes differ from the program's.
-    #[error("P1")]
+    #[error("P1: the maps' sizes differ from the program's")]
     Sizes,
     /// P2: the plan breaks a limit.
-    #[error("P2")]
+    #[error("P2: the plan isn't of 1 to 16 workers and 1 to 64 blocks of the loop's iterations")]
     Plan,
     /// There was no memory.
-    #[error("memory")]
+    #[error("out of memory")]
     Memory,
 }
 

@@ -31,10 +31,10 @@ pub struct Replayed {
 #[derive(Clone, Copy, Debug, Error)]
 pub enum ReplayRefusal {
     /// Main makes no valid loop call.
-    #[error("no loop")]
+    #[error("main makes no valid loop call")]
     NoLoop,
     /// S1 to S3: the bounds don't split its iterations.
-    #[error("{0:?}")]
+    #[error("the bounds don't split the loop's iterations: {0:?}")]
     Split(SplitError),
     /// E1 to E3: the events are no schedule of it.
     #[error("{0}")]
@@ -48,7 +48,7 @@ pub enum NoReplay {
     #[error("{0}")]
     Refused(ReplayRefusal),
     /// There was no memory.
-    #[error("memory")]
+    #[error("out of memory")]
     Memory,
 }
 

@@ -20,5 +20,5 @@ loop-entry-preserved c = repeated_more c.args.copy.now c.loop-entry.copy c.repea
 pub returns : goal.returns
 returns c = λ words. c.loop-entry.invariant.effects words c.loop-entry.copy
     (subst (λ (es : List Entry). Effects AccessEffect c.loop-entry.copy (accesses_by words es c.args.lane)
-        c.loop-entry.copy)
+    c.loop-entry.copy)
     (sym (drop_of_length-le c.args.entries.now c.loop-entry-test.false)) refl)

@@ -16,7 +16,7 @@ end_site-requires-clause-whole c = c.loop-at.invariant.shape.whole
 pub end_site-requires-clause-within : goal.end_site-requires-clause-within
 end_site-requires-clause-within c lane below =
     subst (λ (n : ℕ). HasElement lane n (slice_index_or c.args.entries.now c.loop-at.at no_entry))
-        (sym c.loop-at.invariant.shape.elements)
+    (sym c.loop-at.invariant.shape.elements)
     (at_entry (λ l e. HasElement l c.args.planes.now.elements e) c.args.entries.now c.args.lanes c.loop-at.at no_entry
     c.loop-at-test.true c.requires.within lane below)
 

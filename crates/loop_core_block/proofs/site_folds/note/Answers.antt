@@ -10,15 +10,15 @@ returns-in-Read c = λ words. reads_are (copy_of c.args.copy.now) (copy_of c.not
 pub returns-in-Write : goal.returns-in-Write
 returns-in-Write c = λ words. writes_are (copy_of c.args.copy.now) (copy_of c.note_writes.new.self) words
     c.args.entry.now (λ lane. slice_index c.args.row.now lane) (length c.args.row.now) c.requires.row c.in-Write.is
-        c.note_writes.ensures
+    c.note_writes.ensures
 
 pub returns-in-Both : goal.returns-in-Both
 returns-in-Both c = λ words. changes_are (copy_of c.args.copy.now) (copy_of c.note_writes-in-Both.new.self) words
     c.args.entry.now (λ lane. slice_index c.args.row.now lane) (length c.args.row.now) c.requires.row c.in-Both.is
-        c.note_writes-in-Both.ensures
+    c.note_writes-in-Both.ensures
 
 pub returns-in-Reduce : goal.returns-in-Reduce
 returns-in-Reduce c = λ words. reduces_are (copy_of c.args.copy.now) (copy_of c.note_reduces.new.self) words
     c.args.entry.now (λ lane. slice_index c.args.row.now lane) (length c.args.row.now) c.requires.row c.in-Reduce.op
-        c.in-Reduce.is
+    c.in-Reduce.is
     c.note_reduces.ensures

@@ -37,7 +37,7 @@ note-requires-clause-row c lane below =
 pub note-requires-clause-within : goal.note-requires-clause-within
 note-requires-clause-within c =
     row_within (take c.args.lanes c.spell.new.row) c.args.entry.now c.args.lanes
-        (length (copy_of c.args.copy.now).start)
+    (length (copy_of c.args.copy.now).start)
     (row_taken c.spell.new.row c.args.entry.now c.args.lanes c.spell.ensures)
     (row_long c.spell.new.row c.args.lanes (omega (arith, c.requires.room))) c.requires.within
 

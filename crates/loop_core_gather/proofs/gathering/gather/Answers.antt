@@ -31,7 +31,7 @@ pub planes_in_one-requires-clause-places : goal.planes_in_one-requires-clause-pl
 planes_in_one-requires-clause-places c =
     places_at c.args.test c.args.program.now c.args.call.now c.args.start.now.words c.args.split.now c.args.blocks.items
     c.deref-2.result.now c.requires.ran (made (goal.at.planes_in_one-requires-clause-places c).In-Ok)
-        c.in-Ok.counting.least
+    c.in-Ok.counting.least
     c.in-Ok.counting.places.items c.requires.split c.in-Ok.ensures.counts c.as_mut_slice.result.now c.deref-5.result.now
     c.as_mut_slice.ensures.value c.deref-5.ensures.0
 
@@ -40,14 +40,14 @@ counted-requires c =
     subst (λ (n : ℕ). count_to n c.in-Ok.counting.least ≤ n) (sym c.n.ensures)
     (answer_fits c.args.test c.args.program.now c.args.call.now c.args.start.now.words c.args.split.now
     c.args.blocks.items c.deref-2.result.now c.requires.ran (made (goal.at.counted-requires c).In-Ok)
-        c.in-Ok.counting.least
+    c.in-Ok.counting.least
     c.in-Ok.counting.places.items c.requires.split c.in-Ok.ensures.counts)
 
 pub touched_pages-requires-clause-places : goal.touched_pages-requires-clause-places
 touched_pages-requires-clause-places c =
     places_at c.args.test c.args.program.now c.args.call.now c.args.start.now.words c.args.split.now c.args.blocks.items
     c.deref-2.result.now c.requires.ran (made (goal.at.touched_pages-requires-clause-places c).In-Ok)
-        c.in-Ok.counting.least
+    c.in-Ok.counting.least
     c.in-Ok.counting.places.items c.requires.split c.in-Ok.ensures.counts c.deref-3.result.now c.deref-4.result.now
     c.deref-3.ensures.value c.deref-4.ensures.0
 
@@ -92,7 +92,7 @@ returns-clause-told c =
     subst (λ (ws : List ℕ). HasOutcome c.args.test c.args.program.now c.args.call.now c.args.start.now.words
     (let o : Outcome = record { verdict = c.verdict_of.result; answer = c.counted.result; words = ws } in o))
     (sym (words_same (map shown c.args.blocks.items) _ (same_copies at.In_ok-planes) c.in_ok-planes.planes places
-        start))
+    start))
     (all_tell c.args.test c.args.program.now c.args.call.now c.args.start.now.words c.args.split.now
     c.args.blocks.items c.deref-2.result.now c.requires.ran (made at.In-Ok) c.in-Ok.counting.least places
     c.requires.split c.in-Ok.ensures.counts c.in_ok-planes.planes c.in_ok-conflicting.conflicting.items

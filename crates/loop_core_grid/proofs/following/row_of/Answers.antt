@@ -11,7 +11,7 @@ loop-at-preserved c =
     let element = get_or c.args.elements.now c.loop-at.at 0 in
     let told : IsTraceOf c.args.program.now c.args.call.now c.args.index c.args.start.now.words element
     c.in_ok-trace.trace = subst (λ (maps : MapList). IsTraceOf c.args.program.now c.args.call.now c.args.index
-        maps.words
+    maps.words
     element c.in_ok-trace.trace) c.loop-at.invariant.same c.in_ok-trace.ensures.traced in
     let cell : Cell = record { element = element; slots = c.in_ok-trace.trace.slots } in
     let more = c.loop-at-test.true in

@@ -17,7 +17,7 @@ apply_entry-requires-clause-few c =
 pub apply_entry-requires-clause-within : goal.apply_entry-requires-clause-within
 apply_entry-requires-clause-within c =
     entry_within c.args.lanes c.args.maps.now.words c.loop-entry.maps.words c.args.entries.now c.loop-entry.entry-index
-        _
+    _
     c.requires.logged c.loop-entry-test.true c.loop-entry.invariant.count
 
 pub loop-entry-preserved : goal.loop-entry-preserved
@@ -30,7 +30,7 @@ loop-entry-preserved c =
           c.loop-entry.invariant.count;
       words = entry_applied c.args.maps.now.words c.loop-entry.maps.words c.apply_entry.new.maps.words c.args.lanes
           c.loop-entry.entry-index c.args.entries.now _ c.loop-entry-test.true (ap (λ (maps : MapList). maps.words)
-              done)
+          done)
           ∙ c.loop-entry.invariant.words;
     }
 

@@ -24,7 +24,7 @@ returns g c = record {
   ran = IfOk-weaker c.one_by_one-2.result (RanMore c.args.to c.args.next c.one_by_one.new.self c.one_by_one-2.new.self)
       (RanMore c.args.index c.args.next c.args.self.now c.one_by_one-2.new.self)
       (λ o ran. ran_both c.args.index c.args.to c.args.next c.args.self.now c.one_by_one.new.self
-          c.one_by_one-2.new.self
+      c.one_by_one-2.new.self
       o c.requires.rising c.requires.on
       (subst (λ (o : Option ℕ). RanMore c.args.index c.args.to c.args.self.now c.one_by_one.new.self o)
       c.in_default.is c.in_ok-broke.ensures.ran) ran)

@@ -28,7 +28,7 @@ returns g c =
     ∙ sym (held_length held.planes (chosen held.counting.items (map shown held.blocks.items)) held.start.now)
     ∙ ap (λ (ws : List ℕ). length ws) words) in
     let same_pages : c.deref-2.result.now ≡ c.deref-3.result.now = c.deref-2.ensures.value ∙ sym c.deref-3.ensures.value
-        in
+    in
     let zipped : AllZip (IsPageOf c.args.self.now.words) c.deref-3.result.now c.deref-4.result.now =
     subst (λ (ps : List ℕ). AllZip (IsPageOf all) ps c.deref-4.result.now) same_pages
     (subst (λ (own : List (List ℕ)). AllZip (IsPageOf all) c.deref-2.result.now own) (sym c.deref-4.ensures.value)
@@ -36,7 +36,7 @@ returns g c =
     let have : HaveAllTouched c.self.inside.touched.items c.deref-3.result.now =
     subst (λ (ps : List ℕ). HaveAllTouched held.touched.items ps) (sym c.deref-3.ensures.value)
     (subst (λ (ws : List ℕ). HaveAllTouched ws c.in_ok-pages.pages.items) c.deref.ensures.value c.in_ok-pages.ensures)
-        in
+    in
     let made : c.set_pages.new.words ≡ c.args.self.now.words =
     c.set_pages.ensures all long zipped (λ e below out.
     let within : e < length c.self.inside.start.now = subst (λ (ws : List ℕ). e < length ws) start below in

@@ -15,7 +15,7 @@ run-requires-clause-slots c =
 pub apply-requires-clause-logged : goal.apply-requires-clause-logged
 apply-requires-clause-logged c =
     (lanes_there c.operations.result.0.now c.callback.result c.args.index c.args.lanes c.frame-frame.result.now
-        c.words.result.now
+    c.words.result.now
     c.args.maps.now.words (entries_of c.run.new.self) c.entries-entries.result.now c.words.ensures.words
     c.entries-entries.ensures.entries (c.run.ensures c.if-not-run.false)).logged
 
@@ -34,7 +34,7 @@ returns c =
     c.law_of_batches.ensures.sites c.callback.result c.args.index c.args.lanes c.callback.ensures c.requires.within
     c.entries-entries.result.now
     (lanes_there c.operations.result.0.now c.callback.result c.args.index c.args.lanes c.frame-frame.result.now
-        c.words.result.now
+    c.words.result.now
     c.args.maps.now.words (entries_of c.run.new.self) c.entries-entries.result.now c.words.ensures.words
     c.entries-entries.ensures.entries (c.run.ensures c.if-not-run.false))
     in_order.0 in_order.1 c.args.maps.now c.apply.new.maps refl c.apply.ensures
