@@ -1,5 +1,1 @@
-pub mod AloneLaws
 pub mod EvenLaws
-pub mod WorkerLaws
-pub mod StillWorks
-pub mod CompleteLaws

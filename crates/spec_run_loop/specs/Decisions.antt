@@ -6,7 +6,9 @@ use Rattle.bpf_step_model.specs.Run.{Ended}
 use Rattle.loop_core_model.specs.declared.loop_test.Test.{Test}
 use Rattle.loop_core_model.specs.declared.verdict.Verdict.TheVariants.{Parallel}
 use Rattle.loop_core_model.specs.Report.{verdict}
-use Rattle.loop_core_model.specs.Outcome.{outcome}
+use Rattle.loop_core_model.specs.Outcome.{Outcome, outcome}
+use Rattle.loop_core_block.specs.Loops.{LoopOf}
+use Rattle.loop_core_gather.specs.Gathered.{HasOutcome}
 use Rattle.spec_run_loop.specs.declared.decision.Decision.{Decision}
 use Rattle.spec_run_loop.specs.declared.decision.Decision.TheVariants.{Commit, Discard}
 
@@ -24,3 +26,7 @@ pub record Passes (test : Test) (program : Program) (call : LoopCall) (words : L
 abbrev pub IsDecision : Test → Program → LoopCall → List ℕ → Decision → Type 0
 IsDecision test program call words (Commit answer left) = Passes test program call words answer left.items
 IsDecision test program call words (Discard told) = verdict test program 4096 call words ≡ Ended told
+
+-- gathered blocks tell a loop's verdict; and where it passes, its answer and its words
+abbrev pub HasOutcomeOf : LoopOf → Outcome → Type 0
+HasOutcomeOf l o = HasOutcome l.test l.program l.call l.start.words o

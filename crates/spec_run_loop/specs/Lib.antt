@@ -1,5 +1,2 @@
 pub mod Plans
-pub mod Workers
 pub mod Decisions
-pub mod Worked
-pub mod CompleteLaw

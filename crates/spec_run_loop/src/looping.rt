@@ -6,15 +6,13 @@ ghost use Rattle.loop_core_model.specs.Intervals.{blocks_of};
 ghost use Rattle.loop_core_block.specs.LoopBlocks.{RecordsRunOf};
 ghost use Rattle.loop_core_block.specs.Shown.{shown};
 ghost use Rattle.loop_core_gather.specs.Gathered.{IsOutcome};
-ghost use Rattle.spec_run_loop.specs.Decisions.{IsDecision};
+ghost use Rattle.spec_run_loop.specs.Decisions.{HasOutcomeOf, IsDecision};
 ghost use Rattle.spec_run_loop.specs.Plans.{IsLoopPlan};
-ghost use Rattle.spec_run_loop.specs.Workers.{AreFaultless, HasOutcomeOf};
+ghost use Rattle.spec_run_workers.specs.Workers.{AreFaultless};
 
 use crate::decision::{Decision, LoopAnswer};
 use crate::error::RunError;
-use crate::law_of_workers;
 use crate::paying::{busy_workers, worthwhile_split};
-use crate::worker::{run_alone, run_workers};
 use array_maps::Maps;
 use bpf_step::LoopCall;
 use bpf_verify::Verified;
@@ -24,6 +22,7 @@ use loop_core_event::MAX_WORKERS;
 use loop_core_gather::{GatherError, Gathered, LoopOutcome, gather};
 use loop_core_model::{Test, Verdict};
 use loop_core_split::{Gate, Split};
+use spec_run_workers::{law_of_workers, run_alone, run_workers};
 use std::alloc::{AllocError, Global};
 use std::thread::Threads;
 

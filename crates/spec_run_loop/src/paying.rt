@@ -20,6 +20,10 @@ const SHARE: u64 = 2_000_000;
 /// A loop of fewer shares is run by the calling thread alone.
 const LEAST_SHARES: u64 = 4;
 
+/// For how many elements marks and copies are kept at most, over all blocks, where there is no worker more than blocks:
+/// some 36 bytes for each that a block touches.
+const MOST_KEPT: u32 = 1_048_576;
+
 /// How many shares a loop is, by its iterations and the most instructions of one.
 fn shares_of(program: &Verified, call: &LoopCall) -> u64 {
     let each = BOOKKEEPING + u64::from(most_instructions(program, call.callback()));
@@ -54,7 +58,7 @@ pub(crate) fn busy_workers<G: Gate>(
 
 /// How many even blocks a loop is run over, of at most this many. Where the gate holds nobody, only those that are
 /// worth what each of them costs, which keeps marks of all elements: one by one worker; by several as many as they are,
-/// or one for as many iterations as there are elements.
+/// or one for as many iterations as there are elements, of as many as may be kept.
 fn worthwhile_blocks<G: Gate>(
     call: &LoopCall,
     start: &Maps,
@@ -74,8 +78,9 @@ fn worthwhile_blocks<G: Gate>(
     if workers == 1 {
         return 1;
     }
-    let elements = start.words().len() as u32;
-    (call.n() / elements.max(1)).max(workers).min(most)
+    let elements = (start.words().len() as u32).max(1);
+    let worth = (call.n() / elements).min(MOST_KEPT / elements);
+    worth.max(workers).min(most)
 }
 
 /// The even split of a loop into worthwhile blocks, at most this many.

@@ -5,8 +5,8 @@ use Rattle.loop_core_block.specs.Loops.{LoopOf}
 use Rattle.loop_core_block.specs.LoopBlocks.{RecordsRunOf}
 use Rattle.loop_core_block.specs.Shown.{shown}
 use Rattle.loop_core_gather.specs.Gathered.{all_gathered}
-use Rattle.spec_run_loop.specs.Workers.{AreFaultless}
-use Rattle.spec_run_loop.proofs.WorkerLaws.{not_both}
+use Rattle.spec_run_workers.specs.Workers.{AreFaultless}
+use Rattle.spec_run_workers.proofs.WorkerLaws.{not_both}
 use Rattle.spec_run_loop.proofs.looping.gather_all.Goals as goal
 
 pub gather-requires-clause-ran : goal.gather-requires-clause-ran

@@ -4,8 +4,8 @@ use Rattle.loop_core_model.specs.Intervals.{blocks_of}
 use Rattle.loop_core_block.specs.Loops.{LoopOf, IsSpeculative}
 use Rattle.loop_core_block.specs.LoopBlocks.{RecordsRunOf}
 use Rattle.loop_core_block.specs.Shown.{shown}
-use Rattle.spec_run_loop.proofs.StillWorks.{all_images}
-use Rattle.spec_run_loop.proofs.WorkerLaws.{boards, ran, complete}
+use Rattle.spec_run_workers.proofs.StillWorks.{all_images}
+use Rattle.spec_run_workers.proofs.WorkerLaws.{boards, ran, complete}
 use Rattle.spec_run_loop.proofs.looping.speculate_by_workers.Goals as goal
 
 pub run_workers-requires-clause-blocks : goal.run_workers-requires-clause-blocks

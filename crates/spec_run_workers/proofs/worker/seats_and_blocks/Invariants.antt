@@ -2,8 +2,8 @@ use Rattle.std.proofs.Common.{◌≤◌, ◌-◌, All, IfOk, map, vec_len}
 use Rattle.loop_board.specs.Seats.{BoardId}
 use Rattle.loop_core_block.specs.Loops.{LoopOf}
 use Rattle.loop_core_block.specs.Shown.{shown}
-use Rattle.spec_run_loop.specs.Workers.{board_worker, IsWorkerAt, AreOfWorkers}
-use Rattle.spec_run_loop.proofs.worker.seats_and_blocks.Given as goal
+use Rattle.spec_run_workers.specs.Workers.{board_worker, IsWorkerAt, AreOfWorkers}
+use Rattle.spec_run_workers.proofs.worker.seats_and_blocks.Given as goal
 
 abbrev pub invariant-loop-worker : goal.invariant-loop-worker
 invariant-loop-worker l = record {

@@ -17,7 +17,7 @@ use Rattle.loop_core_model.proofs.SplitLaws.{faultless, rising}
 use Rattle.loop_board.specs.Seats.{SeatRecord, after_draw, after_none, after_look, after_post}
 use Rattle.loop_core_block.specs.Blocks.{BlockOf}
 use Rattle.loop_core_block.specs.Ran.{RecordsRun}
-use Rattle.spec_run_loop.specs.Worked.{runs_of, numbers_of, breaks_of, StandsIn, DidMore, Worked, WorkerStopped, Took, NotRun}
+use Rattle.spec_run_workers.specs.Worked.{runs_of, numbers_of, breaks_of, StandsIn, DidMore, Worked, WorkerStopped, Took, NotRun}
 
 -- one more than the greatest number drawn
 abbrev pub above : List ℕ → ℕ

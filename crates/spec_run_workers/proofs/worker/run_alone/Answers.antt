@@ -1,7 +1,7 @@
 use Rattle.loop_core_block.specs.LoopBlocks.{RecordsRunOf}
 use Rattle.loop_core_block.specs.Shown.{shown}
-use Rattle.spec_run_loop.proofs.AloneLaws.{all_of_one, alone_faultless}
-use Rattle.spec_run_loop.proofs.worker.run_alone.Goals as goal
+use Rattle.spec_run_workers.proofs.AloneLaws.{all_of_one, alone_faultless}
+use Rattle.spec_run_workers.proofs.worker.run_alone.Goals as goal
 
 pub returns-clause-ran : goal.returns-clause-ran
 returns-clause-ran g c =

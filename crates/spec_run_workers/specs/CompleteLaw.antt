@@ -11,7 +11,7 @@ use Rattle.loop_board.specs.History.{Legal}
 use Rattle.loop_board.specs.Seats.{SeatRecord, new_seat, histories}
 use Rattle.loop_core_block.specs.Blocks.{BlockOf}
 use Rattle.loop_core_block.specs.Ran.{as_gathered, RecordsRun}
-use Rattle.spec_run_loop.specs.Worked.{Worked}
+use Rattle.spec_run_workers.specs.Worked.{Worked}
 
 -- a worker that is done: its seat, and the blocks that it ran
 pub record WorkerOf : Type 0 where

@@ -12,7 +12,6 @@ use Rattle.loop_core_model.specs.Intervals.{blocks_of, start_of, end_of}
 use Rattle.loop_core_block.specs.declared.block.Block.{Block as Held}
 use Rattle.loop_core_block.specs.Ran.{as_gathered}
 use Rattle.loop_core_block.specs.Shown.{shown}
-use Rattle.loop_core_gather.specs.Gathered.{all_gathered}
 
 by_tests : (bounds : List ℕ) (blocks : List Block) → lacks_some bounds blocks ≡ false → twice blocks ≡ false →
     list_any (λ (b : Block). not (stands_in bounds b)) blocks ≡ false → gather_fault bounds blocks ≡ None
@@ -65,8 +64,8 @@ pub alone_faultless : (program : Program) (call : LoopCall) (words bounds : List
     (b : Held) → before ≡ [] → blocks ≡ before ++ b ∷ [] →
     blocks_of bounds ≡ 1 → (shown b).number ≡ 0 → (shown b).first ≡ start_of bounds 0 → (shown b).past ≡ end_of bounds 0
     →
-    gather_fault bounds (all_gathered program call words (map shown blocks)) ≡ None
+    gather_fault bounds (map (as_gathered program call words) (map shown blocks)) ≡ None
 alone_faultless program call words bounds blocks before b none is one number first past =
-    ap (λ (bs : List Held). gather_fault bounds (all_gathered program call words (map shown bs))) (is
+    ap (λ (bs : List Held). gather_fault bounds (map (as_gathered program call words) (map shown bs))) (is
     ∙ ap (λ (bs : List Held). bs ++ b ∷ []) none)
     ∙ alone_in bounds b.number b.first b.past (as_gathered program call words (shown b)).ran one number first past

@@ -14,11 +14,11 @@ use Rattle.loop_core_block.specs.Blocks.{BlockOf}
 use Rattle.loop_core_block.specs.Loops.{LoopOf}
 use Rattle.loop_core_block.specs.LoopBlocks.{RecordsRunOf}
 use Rattle.loop_core_block.specs.Ran.{as_gathered}
-use Rattle.spec_run_loop.specs.Worked.{Worked}
-use Rattle.spec_run_loop.specs.CompleteLaw.{WorkerOf, seats_of, blocks_of_all, IsWorkerOf, WorkersComplete}
-use Rattle.spec_run_loop.proofs.StillWorks.{all_append}
-use Rattle.spec_run_loop.proofs.CompleteLaws.{each_runs}
-use Rattle.spec_run_loop.specs.Workers.{IsWorkerAt, AreOfWorkers}
+use Rattle.spec_run_workers.specs.Worked.{Worked}
+use Rattle.spec_run_workers.specs.CompleteLaw.{WorkerOf, seats_of, blocks_of_all, IsWorkerOf, WorkersComplete}
+use Rattle.spec_run_workers.proofs.StillWorks.{all_append}
+use Rattle.spec_run_workers.proofs.CompleteLaws.{each_runs}
+use Rattle.spec_run_workers.specs.Workers.{IsWorkerAt, AreOfWorkers}
 
 -- what holds of each image by index holds of all images
 pub images_all : {A B : Type 0} (P : B → Type 0) (f : A → B) (xs : List A) → All (λ x. P (f x)) xs

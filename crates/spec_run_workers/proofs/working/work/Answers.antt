@@ -4,9 +4,9 @@ use Rattle.std.proofs.lemmas.List.{map-append}
 use Rattle.loop_core_block.specs.declared.block.Block.{Block}
 use Rattle.loop_core_block.specs.Ran.{RecordsRun}
 use Rattle.loop_core_block.specs.Shown.{shown}
-use Rattle.spec_run_loop.specs.Worked.{WorkerStopped}
-use Rattle.spec_run_loop.proofs.StillWorks.{on_err, less_left, all_images, begins, drew_one, stops_behind, goes_on}
-use Rattle.spec_run_loop.proofs.working.work.Goals as goal
+use Rattle.spec_run_workers.specs.Worked.{WorkerStopped}
+use Rattle.spec_run_workers.proofs.StillWorks.{on_err, less_left, all_images, begins, drew_one, stops_behind, goes_on}
+use Rattle.spec_run_workers.proofs.working.work.Goals as goal
 
 pub loop-number-init : goal.loop-number-init
 loop-number-init g c =

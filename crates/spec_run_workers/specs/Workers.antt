@@ -2,14 +2,13 @@
 use Rattle.std.specs.Prelude.{◌≡◌, ℕ, List, map, length, None}
 use Rattle.std.specs.List.{AllByRecursion}
 use Rattle.loop_core_model.specs.Gather.{gather_fault}
-use Rattle.loop_core_model.specs.Outcome.{Outcome}
 use Rattle.loop_board.specs.Seats.{BoardId, SeatRecord}
 use Rattle.loop_core_block.specs.Blocks.{BlockOf}
 use Rattle.loop_core_block.specs.Loops.{LoopOf}
+use Rattle.loop_core_block.specs.Ran.{as_gathered}
 use Rattle.loop_core_block.specs.Shown.{shown}
-use Rattle.loop_core_gather.specs.Gathered.{all_gathered, HasOutcome}
-use Rattle.spec_run_loop.specs.CompleteLaw.{WorkerOf, seats_of, blocks_of_all, IsWorkerOf}
-use Rattle.spec_run_loop.specs.declared.worker.Worker.{Worker}
+use Rattle.spec_run_workers.specs.CompleteLaw.{WorkerOf, seats_of, blocks_of_all, IsWorkerOf}
+use Rattle.spec_run_workers.specs.declared.worker.Worker.{Worker}
 
 -- a worker as contracts see it
 abbrev pub board_worker : Worker → WorkerOf
@@ -31,8 +30,4 @@ pub record AreOfWorkers (l : LoopOf) (board : BoardId) (number : ℕ) (seats : L
 
 -- of a loop's blocks none is missing, doubled or foreign
 abbrev pub AreFaultless : LoopOf → List BlockOf → Type 0
-AreFaultless l blocks = gather_fault l.bounds (all_gathered l.program l.call l.start.words blocks) ≡ None
-
--- gathered blocks tell a loop's verdict; and where it passes, its answer and its words
-abbrev pub HasOutcomeOf : LoopOf → Outcome → Type 0
-HasOutcomeOf l o = HasOutcome l.test l.program l.call l.start.words o
+AreFaultless l blocks = gather_fault l.bounds (map (as_gathered l.program l.call l.start.words) blocks) ≡ None

@@ -26,9 +26,9 @@ use Rattle.loop_board.specs.Seats.{histories}
 use Rattle.loop_board.proofs.Sums.{times-append, times_first, times_more, once_below-below}
 use Rattle.loop_core_block.specs.Blocks.{BlockOf}
 use Rattle.loop_core_block.specs.Ran.{iterations_of, as_gathered, RecordsRun}
-use Rattle.spec_run_loop.specs.Worked.{runs_of, numbers_of, breaks_of, StandsIn}
-use Rattle.spec_run_loop.specs.CompleteLaw.{WorkerOf, seats_of, blocks_of_all, IsWorkerOf, WorkersComplete}
-use Rattle.spec_run_loop.proofs.StillWorks.{all_append}
+use Rattle.spec_run_workers.specs.Worked.{runs_of, numbers_of, breaks_of, StandsIn}
+use Rattle.spec_run_workers.specs.CompleteLaw.{WorkerOf, seats_of, blocks_of_all, IsWorkerOf, WorkersComplete}
+use Rattle.spec_run_workers.proofs.StillWorks.{all_append}
 
 -- what the seats did
 abbrev histories_of : List WorkerOf → List History

@@ -3,10 +3,10 @@ use Rattle.loop_core_model.specs.Intervals.{blocks_of}
 use Rattle.loop_core_block.specs.Loops.{LoopOf}
 use Rattle.loop_core_block.specs.LoopBlocks.{RecordsRunOf}
 use Rattle.loop_core_block.specs.Shown.{shown}
-use Rattle.spec_run_loop.specs.CompleteLaw.{WorkerOf}
-use Rattle.spec_run_loop.specs.Workers.{IsWorkerAt}
-use Rattle.spec_run_loop.proofs.WorkerLaws.{images_all, worker_at}
-use Rattle.spec_run_loop.proofs.worker.one_worker.Goals as goal
+use Rattle.spec_run_workers.specs.CompleteLaw.{WorkerOf}
+use Rattle.spec_run_workers.specs.Workers.{IsWorkerAt}
+use Rattle.spec_run_workers.proofs.WorkerLaws.{images_all, worker_at}
+use Rattle.spec_run_workers.proofs.worker.one_worker.Goals as goal
 
 pub work-requires-clause-blocks : goal.work-requires-clause-blocks
 work-requires-clause-blocks g c κs outlives = c.requires.blocks ∙ ap (λ (l : LoopOf). blocks_of l.bounds)

@@ -3,10 +3,10 @@ use Rattle.std.proofs.lemmas.Grind.{common_steps}
 use Rattle.std.proofs.lemmas.List.{map-append}
 use Rattle.loop_core_block.specs.declared.block.Block.{Block}
 use Rattle.loop_core_block.specs.Shown.{shown}
-use Rattle.spec_run_loop.specs.declared.worker.Worker.{Worker}
-use Rattle.spec_run_loop.specs.Workers.{board_worker, IsWorkerAt, AreOfWorkers}
-use Rattle.spec_run_loop.proofs.WorkerLaws.{popped, one_more}
-use Rattle.spec_run_loop.proofs.worker.seats_and_blocks.Goals as goal
+use Rattle.spec_run_workers.specs.declared.worker.Worker.{Worker}
+use Rattle.spec_run_workers.specs.Workers.{board_worker, IsWorkerAt, AreOfWorkers}
+use Rattle.spec_run_workers.proofs.WorkerLaws.{popped, one_more}
+use Rattle.spec_run_workers.proofs.worker.seats_and_blocks.Goals as goal
 
 pub loop-worker-preserved : goal.loop-worker-preserved
 loop-worker-preserved c = record {

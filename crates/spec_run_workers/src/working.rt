@@ -7,7 +7,7 @@ ghost use Rattle.loop_core_model.specs.Split.{split_fault};
 ghost use Rattle.loop_core_model.specs.Intervals.{blocks_of};
 ghost use Rattle.loop_core_block.specs.Ran.{RecordsRun};
 ghost use Rattle.loop_core_block.specs.Shown.{shown};
-ghost use Rattle.spec_run_loop.specs.Worked.{Worked, WorkerStopped, Took, NotRun};
+ghost use Rattle.spec_run_workers.specs.Worked.{Worked, WorkerStopped, Took, NotRun};
 
 use array_maps::Maps;
 use bpf_step::LoopCall;

@@ -1,7 +1,7 @@
 use Rattle.std.proofs.Common.{◌-◌, map}
 use Rattle.loop_core_block.specs.Shown.{shown}
-use Rattle.spec_run_loop.proofs.StillWorks.{above, StillWorks}
-use Rattle.spec_run_loop.proofs.working.work.Given as goal
+use Rattle.spec_run_workers.proofs.StillWorks.{above, StillWorks}
+use Rattle.spec_run_workers.proofs.working.work.Given as goal
 
 abbrev pub invariant-loop-number : goal.invariant-loop-number
 invariant-loop-number g l = StillWorks l.fn.test l.program l.call l.start.words l.split l.fn.seat l.seat

@@ -6,7 +6,7 @@ ghost use Rattle.loop_board.specs.Seats.{BoardId, new_seat};
 ghost use Rattle.loop_core_block.specs.Loops.{LoopOf};
 ghost use Rattle.loop_core_block.specs.LoopBlocks.{RecordsRunOf};
 ghost use Rattle.loop_core_block.specs.Shown.{shown};
-ghost use Rattle.spec_run_loop.specs.Workers.{board_worker, IsWorkerAt, AreOfWorkers, AreFaultless};
+ghost use Rattle.spec_run_workers.specs.Workers.{board_worker, IsWorkerAt, AreOfWorkers, AreFaultless};
 
 use crate::working::work;
 use loop_board::{Board, BoardSeat};
@@ -85,7 +85,7 @@ fn seats_and_blocks<'a>(
 }
 
 /// Runs the one block of a loop in the calling thread.
-pub(crate) fn run_alone<'a, G: Gate>(
+pub fn run_alone<'a, G: Gate>(
     of: &SpeculativeLoop<'_, 'a>,
     gate: &G,
 ) -> Result<Vec<Block<'a>>, AllocError>
@@ -101,7 +101,7 @@ pub(crate) fn run_alone<'a, G: Gate>(
 
 /// Runs all workers of a board's new seats, each in a thread of its own where one can be started, and gives their
 /// seats and their blocks.
-pub(crate) fn run_workers<'a, R: Threads + Sync, G: Gate>(
+pub fn run_workers<'a, R: Threads + Sync, G: Gate>(
     rt: &R,
     of: &SpeculativeLoop<'_, 'a>,
     board: &Board,

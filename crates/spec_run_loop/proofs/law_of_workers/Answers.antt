@@ -1,5 +1,0 @@
-use Rattle.spec_run_loop.proofs.CompleteLaws.{workers_complete}
-use Rattle.spec_run_loop.proofs.law_of_workers.Goals as goal
-
-pub returns : goal.returns
-returns c = workers_complete

@@ -1,0 +1,4 @@
+pub mod AloneLaws
+pub mod WorkerLaws
+pub mod StillWorks
+pub mod CompleteLaws

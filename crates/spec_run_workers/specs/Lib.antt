@@ -1,0 +1,3 @@
+pub mod Workers
+pub mod Worked
+pub mod CompleteLaw
