@@ -2,22 +2,20 @@
 use Rattle.std.proofs.Common.{◌≡◌, ◌≢◌, ℕ, ◌/◌, ◌%◌, ◌<◌, List, length, get_or, set, None, inl, inr, refl, sym, ◌∙◌, arith, get_or-set_same, get_or-set_other}
 use Rattle.std.proofs.lemmas.Bool.{cases_eq}
 use Rattle.std.proofs.Math.Nat.{div-add-mod}
-use Rattle.private_copy.specs.Cells.{cells_of, blank}
-use Rattle.private_copy.proofs.PageLaws.{Slot, cell_of}
-use Rattle.private_copy.proofs.RunLaws.{cell_there}
+use Rattle.private_copy.proofs.PageLaws.{Slot, cell_of, slot_cell, cell_there}
 
 module _ (table : List Slot) (e : ℕ) (old slot : Slot) (within : e / 64 < length table)
     (was : get_or table (e / 64) None ≡ old) where
   now : get_or (set table (e / 64) slot) (e / 64) None ≡ slot
   now = get_or-set_same table (e / 64) slot None within
 
-  pub cell_before : cell_of table e ≡ get_or (cells_of old) (e % 64) blank
+  pub cell_before : cell_of table e ≡ slot_cell old (e % 64)
   cell_before = cell_there table e (e / 64) (e % 64) old was refl refl
 
-  pub cell_after : cell_of (set table (e / 64) slot) e ≡ get_or (cells_of slot) (e % 64) blank
+  pub cell_after : cell_of (set table (e / 64) slot) e ≡ slot_cell slot (e % 64)
   cell_after = cell_there (set table (e / 64) slot) e (e / 64) (e % 64) slot now refl refl
 
-  pub other_cells : ((k : ℕ) → k ≢ e % 64 → get_or (cells_of slot) k blank ≡ get_or (cells_of old) k blank)
+  pub other_cells : ((k : ℕ) → k ≢ e % 64 → slot_cell slot k ≡ slot_cell old k)
       → (other : ℕ) → other ≢ e → cell_of (set table (e / 64) slot) other ≡ cell_of table other
   other_cells stay other differs = elim (cases_eq (other / 64) (e / 64)) [
     | inl page ↦

@@ -1,3 +1,4 @@
+pub mod PageCells
 pub mod PageLaws
 pub mod ReductionLaws
 pub mod IterationLaws
@@ -7,5 +8,7 @@ pub mod BeginLaws
 pub mod VisitLaws
 pub mod NoteLaws
 pub mod RunLaws
+pub mod ColumnLaws
+pub mod NotedCells
 pub mod CellLaws
 pub mod OverwriteLaws

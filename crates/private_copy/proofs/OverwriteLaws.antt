@@ -6,11 +6,9 @@ use Rattle.std.specs.Option.{unwrap_or}
 use Rattle.std.proofs.lemmas.Bool.{cases_eq}
 use Rattle.private_copy.specs.declared.page.Cell.{Cell}
 use Rattle.private_copy.specs.declared.page.Page.{Page}
-use Rattle.private_copy.specs.Cells.{cells_of, blank}
 use Rattle.private_copy.specs.Shown.{last_in}
 use Rattle.private_copy.specs.Overwriting.{AreOverwritten}
-use Rattle.private_copy.proofs.PageLaws.{Slot, cell_of, unplaced_cell}
-use Rattle.private_copy.proofs.RunLaws.{cell_there}
+use Rattle.private_copy.proofs.PageLaws.{Slot, cell_of, slot_cell, cell_there, unplaced_cell}
 
 pub none_yet : (told : ℕ → Option ℕ) (words : List ℕ) → AreOverwritten told 0 words words
 none_yet told words = record { inside = λ k below. absurd (omega (arith, below)); past = λ k above. refl }
@@ -39,7 +37,7 @@ page_of page k below = omega (arith, below)
 
 pub page_overwritten : (table : List Slot) (page count : ℕ) (slot : Slot) (old new : List ℕ)
     → get_or table page None ≡ slot → count ≤ 64
-    → AreOverwritten (λ k. last_in (get_or (cells_of slot) k blank)) count old new
+    → AreOverwritten (λ k. last_in (slot_cell slot k)) count old new
     → AreOverwritten (λ k. last_in (cell_of table (page * 64 + k))) count old new
 page_overwritten table page count slot old new is few are = record {
   inside = λ k below.

@@ -1,5 +1,5 @@
 -- What placing a page does to the lists of pages.
-use Rattle.std.proofs.Common.{◌≡◌, ◌≢◌, ℕ, ◌+◌, ◌-◌, ◌/◌, ◌%◌, ◌<◌, ◌≤◌, Bool, true, false, ◌||◌, eqb, Option, Some, None, List, [], ◌∷◌, ◌++◌, length, take, get_or, set, replicate, is_some, map, refl, sym, ◌∙◌, ap, subst, inl, inr, arith, length-set, get_or-set_same, get_or-set_other, eq-eqb, ne_eqb}
+use Rattle.std.proofs.Common.{◌≡◌, ℕ, ◌+◌, ◌-◌, ◌/◌, ◌%◌, ◌<◌, ◌≤◌, Bool, true, false, ◌||◌, eqb, Option, Some, None, List, [], ◌∷◌, ◌++◌, length, take, get_or, set, replicate, is_some, map, refl, sym, ◌∙◌, ap, subst, inl, inr, arith, length-set, get_or-set_same, get_or-set_other, eq-eqb, ne_eqb}
 use Rattle.std.specs.List.{position, swap}
 use Rattle.std.proofs.lemmas.Bool.{eqb-true, cases_eq, cases_lt}
 use Rattle.std.proofs.lemmas.List.{take_all, take-set-le, take_more, get_or-take, length-take, get_or_default}
@@ -8,14 +8,15 @@ use Rattle.std.proofs.lemmas.List.Quantifiers.{position-Some}
 use Rattle.std.specs.Prelude.{Box, if◌then◌else◌}
 use Rattle.std.specs.declared.alloc.Global.{Global}
 use Rattle.std.proofs.Math.ListN.{get_or-map, get_or-eq_default}
-use Rattle.std.proofs.Math.Nat.{mod-lt, div-add-mod}
+use Rattle.std.proofs.Math.Nat.{mod-lt}
 use Rattle.std.proofs.Math.Seq.{map-set_same}
 use Rattle.std.proofs.Math.Bool.{or-false}
 use Rattle.std.proofs.lemmas.List.{get_or-replicate, length-replicate}
 use Rattle.private_copy.specs.declared.page.Cell.{Cell}
 use Rattle.private_copy.specs.declared.page.Page.{Page}
-use Rattle.private_copy.specs.Cells.{blank, blank_cells, cells_of, IsBlank}
+use Rattle.private_copy.specs.Cells.{blank, blank_cells, cell_in, cells_of, IsBlank}
 use Rattle.private_copy.specs.Touched.{has_page}
+use Rattle.private_copy.proofs.PageCells.{first_cell_at, blank_page_cells}
 
 abbrev pub Slot : Type 0
 Slot = Option (Box Page Global)
@@ -123,7 +124,7 @@ blank_is_some (Some page) h = refl
 
 pub blank_has_cells : (slot : Slot) → IsBlank slot → cells_of slot ≡ blank_cells
 blank_has_cells None h = absurd h
-blank_has_cells (Some page) h = h
+blank_has_cells (Some page) h = blank_page_cells page.value h
 
 not_some : (slot : Slot) → is_some slot ≡ false → cells_of slot ≡ blank_cells
 not_some None h = refl
@@ -140,50 +141,34 @@ cells_stay table p slot blank_slot none =
 abbrev pub cell_of : List Slot → ℕ → Cell
 cell_of table e = get_or (get_or (map cells_of table) (e / 64) blank_cells) (e % 64) blank
 
-page_of_table : (table : List Slot) (p : ℕ) → get_or (map cells_of table) p blank_cells ≡ cells_of (get_or table p None)
+pub page_of_table : (table : List Slot) (p : ℕ) → get_or (map cells_of table) p blank_cells
+    ≡ cells_of (get_or table p None)
 page_of_table table p = get_or-map cells_of table p None
 
-blank_cell : (e : ℕ) → get_or blank_cells (e % 64) blank ≡ blank
-blank_cell e = get_or-replicate 64 (e % 64) blank blank (mod-lt e (omega arith))
+-- the cell at a place of a page, which is there or not
+abbrev pub slot_cell : Slot → ℕ → Cell
+slot_cell None k = blank
+slot_cell (Some page) k = cell_in page.value k
+
+slot_cell_at : (slot : Slot) (k : ℕ) → k < 64 → get_or (cells_of slot) k blank ≡ slot_cell slot k
+slot_cell_at None k below = get_or-replicate 64 k blank blank below
+slot_cell_at (Some page) k below = first_cell_at page.value 64 k below
+
+pub cell_there : (table : List Slot) (e p at : ℕ) (slot : Slot) → get_or table p None ≡ slot → e / 64 ≡ p → e % 64 ≡ at
+    → cell_of table e ≡ slot_cell slot at
+cell_there table e p at slot is page place =
+    ap (λ (k : ℕ). get_or (get_or (map cells_of table) k blank_cells) (e % 64) blank) page
+    ∙ ap (λ (cs : List Cell). get_or cs (e % 64) blank) (page_of_table table p ∙ ap cells_of is)
+    ∙ slot_cell_at slot (e % 64) (mod-lt e (omega arith))
+    ∙ ap (slot_cell slot) place
 
 pub unplaced_cell : (table : List Slot) (e : ℕ) → get_or table (e / 64) None ≡ None → cell_of table e ≡ blank
-unplaced_cell table e none = ap (λ cells. get_or cells (e % 64) blank) (page_of_table table (e / 64) ∙ ap cells_of none)
-    ∙ blank_cell e
+unplaced_cell table e none = cell_there table e (e / 64) (e % 64) None none refl refl
 
 pub none_placed : (n p : ℕ) (none : Slot) → none ≡ None → get_or (replicate n none) p None ≡ None
 none_placed n p none is = elim (cases_lt p n) [
   | inl h ↦ get_or-replicate n p none None h ∙ is
   | inr h ↦ let long = length-replicate n none in get_or-eq_default (replicate n none) None (omega (arith, h, long))
-]
-
--- a cell that is set
-pub set_here : (table : List Slot) (e : ℕ) (cells : List Cell) (cell : Cell) (slot : Slot) → e / 64 < length table
-    → e % 64 < length cells →
-    cells_of slot ≡ set cells (e % 64) cell → cell_of (set table (e / 64) slot) e ≡ cell
-set_here table e cells cell slot within inside is =
-    ap (λ cs. get_or cs (e % 64) blank) (page_of_table (set table (e / 64) slot) (e / 64)
-    ∙ ap cells_of (get_or-set_same table (e / 64) slot None within) ∙ is)
-    ∙ get_or-set_same cells (e % 64) cell blank inside
-
-same_element : (a b : ℕ) → a / 64 ≡ b / 64 → a % 64 ≡ b % 64 → a ≡ b
-same_element a b q r = let x = div-add-mod a 64 in let y = div-add-mod b 64 in omega (arith, q, r, x, y)
-
-pub set_others : (table : List Slot) (e other : ℕ) (cell : Cell) (old slot : Slot) → e / 64 < length table
-    → get_or table (e / 64) None ≡ old →
-    cells_of slot ≡ set (cells_of old) (e % 64) cell → other ≢ e → cell_of (set table (e / 64) slot) other
-    ≡ cell_of table other
-set_others table e other cell old slot within was is differ = elim (cases_eq (other / 64) (e / 64)) [
-  | inl page ↦
-      ap (λ cs. get_or cs (other % 64) blank) (page_of_table (set table (e / 64) slot) (other / 64)
-      ∙ ap (λ (k : ℕ). cells_of (get_or (set table (e / 64) slot) k None)) page
-      ∙ ap cells_of (get_or-set_same table (e / 64) slot None within) ∙ is)
-      ∙ get_or-set_other (cells_of old) (e % 64) (other % 64) cell blank (λ h. differ (same_element other e page h))
-      ∙ ap (λ cs. get_or cs (other % 64) blank) (sym (page_of_table table (other / 64)
-      ∙ ap (λ (k : ℕ). cells_of (get_or table k None)) page ∙ ap cells_of was))
-  | inr another ↦
-      ap (λ cs. get_or cs (other % 64) blank) (page_of_table (set table (e / 64) slot) (other / 64)
-      ∙ ap cells_of (get_or-set_other table (e / 64) (other / 64) slot None another)
-      ∙ sym (page_of_table table (other / 64)))
 ]
 
 -- numbers are noted one after another

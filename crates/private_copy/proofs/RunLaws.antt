@@ -1,80 +1,26 @@
 -- Accesses at elements that follow each other.
-use Rattle.std.proofs.Common.{◌≡◌, ◌≢◌, ℕ, zero, suc, ◌+◌, ◌-◌, ◌/◌, ◌%◌, ◌<◌, ◌≤◌, Bool, eqb, List, length, get_or, set, map, take, drop, Option, None, inl, inr, refl, sym, ◌∙◌, ap, subst, arith, length-set, get_or-set_same, get_or-set_other, eq-eqb, ne_eqb}
+use Rattle.std.proofs.Common.{◌≡◌, ◌≢◌, ℕ, zero, suc, ◌+◌, ◌-◌, ◌/◌, ◌%◌, ◌<◌, ◌≤◌, Bool, eqb, List, length, get_or, set, take, drop, Option, None, inl, inr, refl, sym, ◌∙◌, ap, subst, arith, get_or-set_same, get_or-set_other, eq-eqb, ne_eqb}
 use Rattle.std.specs.Prelude.{slice_index, if◌then◌else◌}
 use Rattle.std.proofs.lemmas.Bool.{cases_eq, cases_lt}
 use Rattle.std.proofs.lemmas.List.{get_or-take, get_or-drop}
-use Rattle.std.proofs.Math.ListN.{get_or-map}
 use Rattle.std.proofs.Math.Nat.{div-add-mod}
 use Rattle.array_maps.specs.Accesses.{Access}
 use Rattle.loop_core_model.specs.declared.access.Access.{Access as Kind}
 use Rattle.shadow_marks.specs.Lanes.{over_lanes}
 use Rattle.private_copy.specs.declared.page.Cell.{Cell}
 use Rattle.private_copy.specs.declared.reduction.Reduction.{Reduction}
-use Rattle.private_copy.specs.Cells.{PlacedPages, cell_at, cells_of, blank, blank_cells, reduction_in}
+use Rattle.private_copy.specs.Cells.{PlacedPages, cell_at, cells_of, blank, reduction_in}
 use Rattle.private_copy.specs.Reductions.{reduction_after}
 use Rattle.private_copy.specs.Copies.{PrivateCopy, last_after}
 use Rattle.private_copy.specs.Shown.{last_in}
 use Rattle.private_copy.specs.Noting.{NotesSite, last_by_lane, reduction_by_lane}
 use Rattle.private_copy.specs.Runs.{noted_by, run_site, CellNotes, CellsNote}
-use Rattle.private_copy.proofs.PageLaws.{Slot, cell_of}
-
--- cells, one after another
-pub no_cell_yet : (cells : List Cell) (low : ℕ) (kind : Kind) (words values : List ℕ) (number : ℕ)
-    → CellsNote cells cells low 0 kind words values number
-no_cell_yet cells low kind words values number = record {
-  count = refl;
-  inside = λ lane below. absurd (omega (arith, below));
-  others = λ k other. refl;
-}
-
-module _ (old now : List Cell) (low lanes : ℕ) (kind : Kind) (words values : List ℕ) (number : ℕ) (kept : Cell)
-    (so_far : CellsNote old now low lanes kind words values number) (room : low + lanes < length now)
-    (notes : CellNotes (get_or now (low + lanes) blank) kind (slice_index words lanes) (slice_index values lanes) number
-    kept) where
-  here_noted : CellNotes (get_or old (low + lanes) blank) kind (slice_index words lanes) (slice_index values lanes)
-      number (get_or (set now (low + lanes) kept) (low + lanes) blank)
-  here_noted =
-      let was : get_or now (low + lanes) blank ≡ get_or old (low + lanes) blank =
-      so_far.others (low + lanes) (λ lane below same. omega (arith, below, same)) in
-      let is : get_or (set now (low + lanes) kept) (low + lanes) blank ≡ kept =
-      get_or-set_same now (low + lanes) kept blank room in
-      subst (λ (c : Cell). CellNotes (get_or old (low + lanes) blank) kind (slice_index words lanes)
-      (slice_index values lanes) number c) (sym is)
-      (subst (λ (c : Cell). CellNotes c kind (slice_index words lanes) (slice_index values lanes) number kept) was
-      notes)
-
-  pub one_cell_more : CellsNote old (set now (low + lanes) kept) low (lanes + 1) kind words values number
-  one_cell_more = record {
-    count = length-set now (low + lanes) kept ∙ so_far.count;
-    inside = λ lane below. elim (cases_eq lane lanes) [
-      | inl same ↦
-          subst (λ (l : ℕ). CellNotes (get_or old (low + l) blank) kind (slice_index words l) (slice_index values l)
-          number (get_or (set now (low + lanes) kept) (low + l) blank)) (sym same) here_noted
-      | inr other ↦
-          subst (λ (c : Cell). CellNotes (get_or old (low + lane) blank) kind (slice_index words lane)
-          (slice_index values lane) number c)
-          (sym (get_or-set_other now (low + lanes) (low + lane) kept blank (λ same. other (omega (arith, same)))))
-          (so_far.inside lane (omega (arith, below, other)))
-    ];
-    others = λ k other.
-        get_or-set_other now (low + lanes) k kept blank (other lanes (omega arith))
-        ∙ so_far.others k (λ lane below. other lane (omega (arith, below)));
-  }
+use Rattle.private_copy.proofs.PageLaws.{Slot, cell_of, page_of_table, slot_cell, cell_there}
 
 -- cells of a page in the table
-page_cells : (table : List Slot) (p : ℕ) → get_or (map cells_of table) p blank_cells ≡ cells_of (get_or table p None)
-page_cells table p = get_or-map cells_of table p None
-
-pub cell_there : (table : List Slot) (e p at : ℕ) (slot : Slot) → get_or table p None ≡ slot → e / 64 ≡ p → e % 64 ≡ at
-    → cell_of table e ≡ get_or (cells_of slot) at blank
-cell_there table e p at slot is page place =
-    ap (λ (k : ℕ). get_or (get_or (map cells_of table) k blank_cells) (e % 64) blank) page
-    ∙ ap (λ (cs : List Cell). get_or cs (e % 64) blank) (page_cells table p ∙ ap cells_of is)
-    ∙ ap (λ (k : ℕ). get_or (cells_of slot) k blank) place
-
 module _ (table : List Slot) (e lanes : ℕ) (kind : Kind) (words values : List ℕ) (number : ℕ) (old slot : Slot)
     (within : e / 64 < length table) (was : get_or table (e / 64) None ≡ old) (one_page : e % 64 + lanes ≤ 64)
-    (notes : CellsNote (cells_of old) (cells_of slot) (e % 64) lanes kind words values number) where
+    (notes : CellsNote (slot_cell old) (slot_cell slot) (e % 64) lanes kind words values number) where
   table_inside : (lane : ℕ) → lane < lanes
       → CellNotes (cell_of table (e + lane)) kind (slice_index words lane) (slice_index values lane) number
       (cell_of (set table (e / 64) slot) (e + lane))
@@ -86,7 +32,7 @@ module _ (table : List Slot) (e lanes : ℕ) (kind : Kind) (words values : List 
       subst (λ (c : Cell). CellNotes c kind (slice_index words lane) (slice_index values lane) number
       (cell_of (set table (e / 64) slot) (e + lane)))
       (sym (cell_there table (e + lane) (e / 64) (e % 64 + lane) old was page place))
-      (subst (λ (c : Cell). CellNotes (get_or (cells_of old) (e % 64 + lane) blank) kind (slice_index words lane)
+      (subst (λ (c : Cell). CellNotes (slot_cell old (e % 64 + lane)) kind (slice_index words lane)
       (slice_index values lane) number c)
       (sym (cell_there (set table (e / 64) slot) (e + lane) (e / 64) (e % 64 + lane) slot now page place))
       (notes.inside lane below))
@@ -110,9 +56,9 @@ module _ (table : List Slot) (e lanes : ℕ) (kind : Kind) (words values : List 
         ∙ sym (cell_there table other (e / 64) (other % 64) old was page refl)
     | inr another ↦
         ap (λ (cs : List Cell). get_or cs (other % 64) blank)
-        (page_cells (set table (e / 64) slot) (other / 64)
+        (page_of_table (set table (e / 64) slot) (other / 64)
         ∙ ap cells_of (get_or-set_other table (e / 64) (other / 64) slot None another)
-        ∙ sym (page_cells table (other / 64)))
+        ∙ sym (page_of_table table (other / 64)))
   ]
 
 -- steps of lanes whose elements follow each other come to one at an element of them, and to none at another

@@ -1,5 +1,6 @@
 -- The cells of elements, as pages keep them.
-use Rattle.std.specs.Prelude.{◌≡◌, ℕ, ◌/◌, ◌%◌, Box, List, length, replicate, slice_index_or, Option, Some, None}
+use Rattle.std.specs.Prelude.{◌≡◌, ℕ, ◌/◌, ◌%◌, Box, List, length, map, replicate, slice_index, slice_index_or, Option, Some, None}
+use Rattle.std.specs.List.{range_with_len}
 use Rattle.std.specs.declared.alloc.Global.{Global}
 use Rattle.private_copy.specs.declared.reduction.Reduction.{Reduction}
 use Rattle.private_copy.specs.declared.reduction.Reduction.TheVariants.{Untouched as NoReduction, By as ReducedBy, Mixed as MixedReduction}
@@ -30,19 +31,41 @@ reduction_by Mixed combined = MixedReduction
 abbrev pub reduction_in : Cell → Reduction
 reduction_in cell = reduction_by cell.combining cell.combined
 
--- a page of such cells
+-- the cell of a page at a place: its entry in each column
+abbrev pub cell_in : Page → ℕ → Cell
+cell_in page k = record {
+  value = slice_index page.values k;
+  combined = slice_index page.combined k;
+  writer = slice_index page.writers k;
+  combining = slice_index_or page.combining k Untouched;
+}
+
+-- the first n of its cells
+unfoldable pub first_cells : Page → ℕ → List Cell
+first_cells page n = map (cell_in page) (range_with_len 0 n)
+
+-- 64 blank cells
 abbrev pub blank_cells : List Cell
 blank_cells = replicate 64 blank
 
 -- the cells of a page, which is there or not
 abbrev pub cells_of : Option (Box Page Global) → List Cell
 cells_of None = blank_cells
-cells_of (Some page) = page.value.cells
+cells_of (Some page) = first_cells page.value 64
 
--- a page that is there has blank cells
+-- a page of blank cells
+abbrev pub blank_page : Page
+blank_page = record {
+  values = replicate 64 0;
+  combined = replicate 64 0;
+  writers = replicate 64 0;
+  combining = replicate 64 Untouched;
+}
+
+-- a page that is there is blank
 abbrev pub IsBlank : Option (Box Page Global) → Type 0
 IsBlank None = ⊥
-IsBlank (Some page) = page.value.cells ≡ blank_cells
+IsBlank (Some page) = page.value ≡ blank_page
 
 -- Pages, as contracts see them: the cells of all, whether they are placed or not; the numbers of those that were
 -- placed, in order; and how many more can be placed

@@ -3,6 +3,7 @@ pub mod Touched
 pub mod Copies
 pub mod Visits
 pub mod Cells
+pub mod Columns
 pub mod Inside
 pub mod Shown
 pub mod Steps
@@ -10,3 +11,4 @@ pub mod CopyLaw
 pub mod Noting
 pub mod Runs
 pub mod Overwriting
+pub mod Placed

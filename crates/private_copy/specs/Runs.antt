@@ -1,10 +1,10 @@
 -- Accesses of one kind, noted at elements that follow each other.
-use Rattle.std.specs.Prelude.{◌≡◌, ◌≢◌, ℕ, ◌+◌, ◌^◌, ◌<◌, ◌≤◌, List, length, slice_index, slice_index_or}
+use Rattle.std.specs.Prelude.{◌≡◌, ◌≢◌, ℕ, ◌+◌, ◌^◌, ◌<◌, ◌≤◌, List, slice_index}
 use Rattle.array_maps.specs.Accesses.{Access, Action, Read as Reads, Write as Writes, Reduce as Reduces}
 use Rattle.loop_core_model.specs.declared.access.Access.{Access as Kind}
 use Rattle.loop_core_model.specs.declared.access.Access.TheVariants.{Read, Write, Both, Reduce}
 use Rattle.private_copy.specs.declared.page.Cell.{Cell}
-use Rattle.private_copy.specs.Cells.{blank, reduction_in}
+use Rattle.private_copy.specs.Cells.{reduction_in}
 use Rattle.private_copy.specs.Reductions.{reduction_after}
 use Rattle.private_copy.specs.Copies.{last_after}
 use Rattle.private_copy.specs.Shown.{last_in}
@@ -28,14 +28,11 @@ pub record CellNotes (old : Cell) (kind : Kind) (word value number : ℕ) (new :
   pub last : last_in new ≡ last_after (last_in old) (noted_by kind value) word
   pub reduction : reduction_in new ≡ reduction_after (reduction_in old) (noted_by kind value)
   pub writer : old.writer ≤ number → new.writer ≤ number
-  pub fits : new.value < 2 ^ 64
+  pub fits : old.value < 2 ^ 64 → new.value < 2 ^ 64
 
--- a page's cells after one was noted at each of those that follow a first one, lane by lane
-pub record CellsNote (old new : List Cell) (low lanes : ℕ) (kind : Kind) (words values : List ℕ) (number : ℕ)
+-- a page's cells, by their places, after one was noted at each of those that follow a first one, lane by lane
+pub record CellsNote (old new : ℕ → Cell) (low lanes : ℕ) (kind : Kind) (words values : List ℕ) (number : ℕ)
     : Type 0 where
-  pub count : length new ≡ length old
   pub inside : (lane : ℕ) → lane < lanes
-      → CellNotes (slice_index_or old (low + lane) blank) kind (slice_index words lane) (slice_index values lane) number
-      (slice_index_or new (low + lane) blank)
-  pub others : (k : ℕ) → ((lane : ℕ) → lane < lanes → k ≢ low + lane)
-      → slice_index_or new k blank ≡ slice_index_or old k blank
+      → CellNotes (old (low + lane)) kind (slice_index words lane) (slice_index values lane) number (new (low + lane))
+  pub others : (k : ℕ) → ((lane : ℕ) → lane < lanes → k ≢ low + lane) → new k ≡ old k

@@ -4,12 +4,13 @@ ghost use Rattle.std.specs.Prelude.{◌≡◌, true};
 ghost use Rattle.private_copy.specs.Cells.{reduction_in};
 
 use crate::by_operator::by_operator;
+use crate::columns::{apply_run, combine_run, fill_run, number_run, set_run};
 use crate::reduction::Reduction;
 use array_maps::{Op, combine};
 use loop_core_model::Access;
 
 /// Whether the reduces of an element are combined.
-#[derive(Clone, Copy)]
+#[derive(Clone, Copy, PartialEq)]
 pub(crate) enum Combining {
     /// There was no access.
     Untouched,
@@ -19,7 +20,7 @@ pub(crate) enum Combining {
     Mixed,
 }
 
-/// What is kept of one element, in 24 bytes.
+/// What is kept of one element.
 #[derive(Clone, Copy)]
 pub(crate) struct Cell {
     /// What the last iteration that writes the element left, where there is one.
@@ -40,14 +41,18 @@ pub(crate) const BLANK: Cell = Cell {
     combining: Combining::Untouched,
 };
 
-/// The cells of 64 elements.
+/// The cells of 64 elements, column by column: a column has an entry for each of them.
 #[derive(Drop)]
 pub(crate) struct Page {
-    pub(crate) cells: [Cell; 64],
+    pub(crate) values: [u64; 64],
+    pub(crate) combined: [u64; 64],
+    pub(crate) writers: [u32; 64],
+    pub(crate) combining: [Combining; 64],
 }
 
 impl Combining {
     ghost use Rattle.private_copy.specs.declared.page.Combining.TheVariants.{Mixed};
+    ghost use Rattle.private_copy.specs.Columns.{combining_after, combined_after};
 
     /// Whether there was a plain access, or there were reduces by different operators.
     #[inline]
@@ -57,6 +62,42 @@ impl Combining {
         match self {
             Combining::Mixed => true,
             Combining::Untouched | Combining::By(_) => false,
+        }
+    }
+
+    /// The same after one reduce more by this operator.
+    #[inline(always)]
+    pub(crate) fn with(self, op: Op) -> Combining
+        ensures { result ≡ combining_after self op }
+    {
+        match self {
+            Combining::Untouched => Combining::By(op),
+            Combining::By(first) => {
+                if first == op {
+                    Combining::By(op)
+                } else {
+                    Combining::Mixed
+                }
+            }
+            Combining::Mixed => Combining::Mixed,
+        }
+    }
+
+    /// What is combined so far together with the operand of one reduce more by this operator; the operand alone where
+    /// nothing is combined by it.
+    #[inline(always)]
+    pub(crate) fn combine_with(self, so_far: u64, op: Op, operand: u64) -> u64
+        ensures { result ≡ combined_after self so_far op operand }
+    {
+        match self {
+            Combining::By(first) => {
+                if first == op {
+                    combine(op, so_far, operand)
+                } else {
+                    operand
+                }
+            }
+            Combining::Untouched | Combining::Mixed => operand,
         }
     }
 }
@@ -120,31 +161,6 @@ impl Cell {
         }
     }
 
-    /// Notes an access of this kind at the element, by the iteration of a number, from 1 on, which saw this word: with
-    /// the value that it left, or its operand.
-    #[inline(always)]
-    pub(crate) fn note(&mut self, kind: Access, word: u64, value: u64, number: u32)
-        requires { 0 < number }
-        ensures { CellNotes self.old kind word value number self.new }
-    {
-        match kind {
-            Access::Read => {
-                // The value stays, and is a word.
-                let _value = self.value;
-                self.combining = Combining::Mixed;
-            }
-            Access::Write | Access::Both => {
-                *self = Cell {
-                    value,
-                    combined: 0,
-                    writer: number,
-                    combining: Combining::Mixed,
-                };
-            }
-            Access::Reduce(op) => self.reduce(op, word, value, number),
-        }
-    }
-
     /// Notes a reduce of the element, by the iteration of a number, from 1 on, which saw this word.
     #[inline(always)]
     fn reduce(&mut self, op: Op, word: u64, operand: u64, number: u32)
@@ -171,12 +187,76 @@ impl Cell {
 }
 
 impl Page {
-    ghost use Rattle.std.specs.Prelude.{◌≢◌, ℕ, ◌+◌, ◌<◌, ◌≤◌, length, slice_index_or};
-    ghost use Rattle.loop_core_model.specs.declared.access.Access.TheVariants.{Reduce};
-    ghost use Rattle.private_copy.specs.Cells.{blank};
+    ghost use Rattle.std.specs.Prelude.{◌≢◌, ℕ, ◌+◌, ◌<◌, ◌≤◌, List, length};
+    ghost use Rattle.loop_core_model.specs.declared.access.Access.TheVariants.{Read, Write, Both, Reduce};
+    ghost use Rattle.private_copy.specs.Cells.{cell_in, mixed_cell, blank_page};
     ghost use Rattle.private_copy.specs.Shown.{last_in};
     ghost use Rattle.private_copy.specs.Runs.{CellNotes, CellsNote};
     ghost use Rattle.private_copy.specs.Overwriting.{AreOverwritten};
+
+    /// The page of elements that weren't accessed.
+    pub(crate) fn blank() -> Page
+        ensures { result ≡ blank_page }
+    {
+        Page {
+            values: [0; 64],
+            combined: [0; 64],
+            writers: [0; 64],
+            combining: [Combining::Untouched; 64],
+        }
+    }
+
+    /// The cell at a place.
+    #[inline]
+    pub(crate) fn get(&self, at: u32) -> Cell
+        requires { at < 64 }
+        ensures { result ≡ cell_in self.now at }
+    {
+        let at = at as usize;
+        Cell {
+            value: self.values[at],
+            combined: self.combined[at],
+            writer: self.writers[at],
+            combining: self.combining[at],
+        }
+    }
+
+    /// Sets the cell at a place.
+    #[inline]
+    pub(crate) fn set(&mut self, at: u32, cell: Cell)
+        requires { at < 64 }
+        ensures here { cell_in self.new at ≡ cell }
+        ensures others { (k : ℕ) → k ≢ at → cell_in self.new k ≡ cell_in self.old k }
+    {
+        let at = at as usize;
+        self.values[at] = cell.value;
+        self.combined[at] = cell.combined;
+        self.writers[at] = cell.writer;
+        self.combining[at] = cell.combining;
+    }
+
+    /// Notes a plain access that leaves the word, at a cell.
+    #[inline(always)]
+    pub(crate) fn mix(&mut self, at: u32)
+        requires { at < 64 }
+        ensures here { cell_in self.new at ≡ mixed_cell (cell_in self.old at) }
+        ensures others { (k : ℕ) → k ≢ at → cell_in self.new k ≡ cell_in self.old k }
+    {
+        self.combining[at as usize] = Combining::Mixed;
+    }
+
+    /// Notes a reduce at a cell, by the iteration of a number, from 1 on, which saw this word.
+    #[inline(always)]
+    pub(crate) fn reduce(&mut self, at: u32, op: Op, word: u64, operand: u64, number: u32)
+        requires within { at < 64 }
+        requires some { 0 < number }
+        ensures here { CellNotes (cell_in self.old at) (Reduce op) word operand number (cell_in self.new at) }
+        ensures others { (k : ℕ) → k ≢ at → cell_in self.new k ≡ cell_in self.old k }
+    {
+        let mut cell = self.get(at);
+        cell.reduce(op, word, operand, number);
+        self.set(at, cell);
+    }
 
     /// Notes an access of this kind at each of the cells that follow a first one, by the iteration of a number,
     /// from 1 on, which saw these words: with the values that they left, or their operands.
@@ -191,54 +271,78 @@ impl Page {
         requires within { low + length words.now ≤ 64 }
         requires values { length words.now ≤ length values.now }
         requires some { 0 < number }
-        ensures { CellsNote self.old.cells self.new.cells low (length words.now) kind words.now values.now number }
+        ensures { CellsNote (cell_in self.old) (cell_in self.new) low (length words.now) kind words.now values.now
+            number }
     {
+        let low = low as usize;
+        let lanes = words.len();
         match kind {
-            Access::Read => self.note_each(Access::Read, low, words, values, number),
-            Access::Write => self.note_each(Access::Write, low, words, values, number),
-            Access::Both => self.note_each(Access::Both, low, words, values, number),
-            Access::Reduce(op) => by_operator!(
-                op,
-                one,
-                self.note_each(Access::Reduce(one), low, words, values, number)
-            ),
+            Access::Read => self.note_reads(low, lanes),
+            Access::Write => self.note_writes(low, lanes, values, number),
+            Access::Both => self.note_writes(low, lanes, values, number),
+            Access::Reduce(op) => {
+                by_operator!(op, one, self.note_reduces(one, low, words, values, number))
+            }
         }
     }
 
-    /// The same with a kind that is known where this is called.
+    /// Notes plain accesses that leave the words.
+    #[inline]
+    fn note_reads(&mut self, low: usize, lanes: usize)
+        requires { low + lanes ≤ 64 }
+        ensures { (words values : List ℕ) (number : ℕ)
+            → CellsNote (cell_in self.old) (cell_in self.new) low lanes Read words values number }
+    {
+        fill_run(&mut self.combining, low, lanes, Combining::Mixed);
+    }
+
+    /// Notes plain accesses that leave values.
+    #[inline]
+    fn note_writes(&mut self, low: usize, lanes: usize, values: &[u64], number: u32)
+        requires within { low + lanes ≤ 64 }
+        requires values { lanes ≤ length values.now }
+        requires some { 0 < number }
+        ensures writes { (words : List ℕ)
+            → CellsNote (cell_in self.old) (cell_in self.new) low lanes Write words values.now number }
+        ensures both { (words : List ℕ)
+            → CellsNote (cell_in self.old) (cell_in self.new) low lanes Both words values.now number }
+    {
+        set_run(&mut self.values, low, lanes, values);
+        number_run(&mut self.writers, low, lanes, number);
+        fill_run(&mut self.combining, low, lanes, Combining::Mixed);
+    }
+
+    /// Notes reduces by an operator that is known where this is called.
     #[inline(always)]
-    fn note_each(&mut self, kind: Access, low: u32, words: &[u64], values: &[u64], number: u32)
+    fn note_reduces(&mut self, op: Op, low: usize, words: &[u64], operands: &[u64], number: u32)
         requires within { low + length words.now ≤ 64 }
-        requires values { length words.now ≤ length values.now }
+        requires operands { length words.now ≤ length operands.now }
         requires some { 0 < number }
-        ensures { CellsNote self.old.cells self.new.cells low (length words.now) kind words.now values.now number }
+        ensures { CellsNote (cell_in self.old) (cell_in self.new) low (length words.now) (Reduce op) words.now
+            operands.now number }
     {
-        for lane in 0..words.len() {
-            self.cells[low as usize + lane].note(kind, words[lane], values[lane], number);
-        }
-    }
-
-    /// Notes a reduce at a cell, by the iteration of a number, from 1 on, which saw this word.
-    #[inline(always)]
-    pub(crate) fn reduce(&mut self, at: u32, op: Op, word: u64, operand: u64, number: u32)
-        requires within { at < 64 }
-        requires some { 0 < number }
-        ensures here { CellNotes (slice_index_or self.old.cells at blank) (Reduce op) word operand number
-            (slice_index_or self.new.cells at blank) }
-        ensures others { (k : ℕ) → k ≢ at → slice_index_or self.new.cells k blank
-            ≡ slice_index_or self.old.cells k blank }
-    {
-        self.cells[at as usize].reduce(op, word, operand, number);
+        let lanes = words.len();
+        apply_run(&mut self.values, low, op, words, operands);
+        number_run(&mut self.writers, low, lanes, number);
+        combine_run(
+            &mut self.combined,
+            &mut self.combining,
+            low,
+            lanes,
+            op,
+            operands,
+        );
     }
 
     /// Sets each of the first n of these words, at most 64, to what the last iteration that writes its element left
     /// there, where one does.
     pub(crate) fn overwrite(&self, count: u32, own: &mut [u64; 64])
         requires { count ≤ 64 }
-        ensures { AreOverwritten (λ k. last_in (slice_index_or self.now.cells k blank)) count own.old own.new }
+        ensures { AreOverwritten (λ k. last_in (cell_in self.now k)) count own.old own.new }
     {
-        for k in 0..count as usize {
-            own[k] = self.cells[k].last().unwrap_or(own[k]);
+        for k in 0..count {
+            let word = own[k as usize];
+            own[k as usize] = self.get(k).last().unwrap_or(word);
         }
     }
 }

@@ -4,7 +4,7 @@ ghost use Rattle.std.specs.Prelude.{◌≡◌, ◌≢◌, ℕ, ◌+◌, ◌-◌,
 ghost use Rattle.private_copy.specs.Cells.{total_of, cell_at, blank, mixed_cell};
 ghost use Rattle.private_copy.specs.Touched.{has_page, with_page};
 
-use crate::page::{BLANK, Cell, Combining, Page};
+use crate::page::{BLANK, Cell, Page};
 use array_maps::Op;
 use indexmap::IndexSet;
 use loop_core_model::Access;
@@ -89,7 +89,7 @@ impl Pages {
         ensures spare { OnOk result (wanted ≤ self.new.spare) }
     {
         while self.spare.len() < wanted {
-            let page = Box::new(alloc, Page { cells: [BLANK; 64] })?;
+            let page = Box::new(alloc, Page::blank())?;
             self.spare.push(Some(page))?;
         }
         Ok(())
@@ -165,7 +165,7 @@ impl Pages {
         ensures { result ≡ cell_at self.now e }
     {
         match &self.table[e as usize / 64] {
-            Some(page) => page.cells[e as usize % 64],
+            Some(page) => page.get(e % PAGE),
             None => BLANK,
         }
     }
@@ -181,9 +181,10 @@ impl Pages {
         ensures here { cell_at self.new e ≡ cell }
         ensures others { (other : ℕ) → other ≢ e → cell_at self.new other ≡ cell_at self.old other }
     {
-        if let Some(page) = &mut self.table[e as usize / 64] {
-            page.cells[e as usize % 64] = cell;
-        }
+        let Some(page) = &mut self.table[e as usize / 64] else {
+            return;
+        };
+        page.set(e % PAGE, cell);
     }
 
     /// Notes a plain access that leaves the word of an element, whose page is placed.
@@ -200,7 +201,7 @@ impl Pages {
         let Some(page) = &mut self.table[e as usize / 64] else {
             return;
         };
-        page.cells[e as usize % 64].combining = Combining::Mixed;
+        page.mix(e % PAGE);
     }
 
     /// Notes a reduce of an element, whose page is placed, by the iteration of a number, from 1 on, which saw this

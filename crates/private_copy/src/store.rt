@@ -104,15 +104,7 @@ impl<'a> Private<'a> {
         if mixed {
             return;
         }
-        self.keep(
-            e,
-            Cell {
-                value: cell.value,
-                combined: cell.combined,
-                writer: cell.writer,
-                combining: Combining::Mixed,
-            },
-        );
+        self.pages.mix(e);
     }
 
     /// Keeps a word that the iteration leaves at an element by a plain access.

@@ -1,7 +1,7 @@
 use Rattle.std.proofs.Common.{◌/◌, ◌%◌, ◌<◌, sym, ◌∙◌, ap, subst, arith, length, Some, None}
 use Rattle.std.proofs.lemmas.List.{get_or_default, length-map}
 use Rattle.private_copy.specs.declared.page.Page.{Page}
-use Rattle.private_copy.specs.Cells.{PlacedPages, total_of, cells_of, cell_at}
+use Rattle.private_copy.specs.Cells.{PlacedPages, total_of, cell_in, cells_of, cell_at}
 use Rattle.private_copy.specs.Runs.{CellsNote}
 use Rattle.private_copy.proofs.RunLaws.{table_notes, table_others}
 use Rattle.private_copy.proofs.pages.Pages.note.Goals as goal
@@ -15,8 +15,9 @@ returns-clause-inside c lane below =
     ∙ sym c.index_mut.ensures.value ∙ c.in-Some.is in
     table_notes c.self.inside.table.items c.args.e (length c.args.words.now) c.args.kind c.args.words.now
     c.args.values.now c.args.number (Some c.in-Some.page) _ within was c.requires.one_page
-    (subst (λ (page : Page). CellsNote page.cells c.note.new.self.cells (c.args.e % 64) (length c.args.words.now)
-    c.args.kind c.args.words.now c.args.values.now c.args.number) c.deref_mut.ensures.value c.note.ensures)
+    (subst (λ (page : Page). CellsNote (cell_in page) (cell_in c.note.new.self) (c.args.e % 64)
+    (length c.args.words.now) c.args.kind c.args.words.now c.args.values.now c.args.number)
+    c.deref_mut.ensures.value c.note.ensures)
     c.args.self.now (λ x. ap (λ (v : PlacedPages). cell_at v x) c.self.view_is) lane below
 
 pub returns-clause-others : goal.returns-clause-others
@@ -28,6 +29,7 @@ returns-clause-others c other differ =
     ∙ sym c.index_mut.ensures.value ∙ c.in-Some.is in
     table_others c.self.inside.table.items c.args.e (length c.args.words.now) c.args.kind c.args.words.now
     c.args.values.now c.args.number (Some c.in-Some.page) _ within was c.requires.one_page
-    (subst (λ (page : Page). CellsNote page.cells c.note.new.self.cells (c.args.e % 64) (length c.args.words.now)
-    c.args.kind c.args.words.now c.args.values.now c.args.number) c.deref_mut.ensures.value c.note.ensures) other differ
+    (subst (λ (page : Page). CellsNote (cell_in page) (cell_in c.note.new.self) (c.args.e % 64)
+    (length c.args.words.now) c.args.kind c.args.words.now c.args.values.now c.args.number)
+    c.deref_mut.ensures.value c.note.ensures) other differ
     ∙ ap (λ (v : PlacedPages). cell_at v other) c.self.view_is

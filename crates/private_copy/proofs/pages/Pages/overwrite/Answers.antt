@@ -1,8 +1,7 @@
 use Rattle.std.proofs.Common.{◌<◌, ◌*◌, ◌+◌, sym, ◌∙◌, ap, subst, arith, length, Some, None}
 use Rattle.std.proofs.lemmas.List.{get_or_default, length-map}
 use Rattle.private_copy.specs.declared.page.Page.{Page}
-use Rattle.private_copy.specs.Cells.{PlacedPages, total_of, cells_of, cell_at, blank}
-use Rattle.std.specs.Prelude.{slice_index_or}
+use Rattle.private_copy.specs.Cells.{PlacedPages, total_of, cell_in, cells_of, cell_at}
 use Rattle.private_copy.specs.Shown.{last_in}
 use Rattle.private_copy.specs.Overwriting.{AreOverwritten}
 use Rattle.private_copy.proofs.OverwriteLaws.{page_overwritten, none_overwritten, default_none}
@@ -30,5 +29,5 @@ returns c =
     c.args.own.now c.overwrite.new.own) c.self.view_is
     (page_overwritten c.self.inside.table.items c.args.page c.args.count (Some c.in-Some.kept) c.args.own.now
     c.overwrite.new.own some c.requires.few
-    (subst (λ (page : Page). AreOverwritten (λ k. last_in (slice_index_or page.cells k blank)) c.args.count
+    (subst (λ (page : Page). AreOverwritten (λ k. last_in (cell_in page k)) c.args.count
     c.args.own.now c.overwrite.new.own) c.deref.ensures c.overwrite.ensures))

@@ -1,9 +1,9 @@
-use Rattle.std.proofs.Common.{◌≢◌, ℕ, ◌<◌, ◌/◌, ◌%◌, ◌≡◌, sym, ◌∙◌, ap, subst, arith, get_or, length, Some, None}
+use Rattle.std.proofs.Common.{◌≡◌, ◌≢◌, ℕ, ◌<◌, ◌/◌, ◌%◌, sym, ◌∙◌, ap, subst, arith, length, Some, None}
 use Rattle.std.proofs.lemmas.List.{get_or_default, length-map}
 use Rattle.loop_core_model.specs.declared.access.Access.TheVariants.{Reduce}
 use Rattle.private_copy.specs.declared.page.Cell.{Cell}
 use Rattle.private_copy.specs.declared.page.Page.{Page}
-use Rattle.private_copy.specs.Cells.{PlacedPages, total_of, cells_of, cell_at, blank}
+use Rattle.private_copy.specs.Cells.{PlacedPages, total_of, cell_in, cells_of, cell_at}
 use Rattle.private_copy.specs.Runs.{CellNotes}
 use Rattle.private_copy.proofs.CellLaws.{cell_before, cell_after, other_cells}
 use Rattle.private_copy.proofs.pages.Pages.reduce.Goals as goal
@@ -16,13 +16,13 @@ returns-clause-here c =
     let within : c.args.e / 64 < length table = omega (arith, c.requires.within, long, all) in
     let was = get_or_default table (c.args.e / 64) None c.index_mut.result.now within ∙ sym c.index_mut.ensures.value
     ∙ c.in-Some.is in
-    let before = ap (λ (page : Page). get_or page.cells (c.args.e % 64) blank) c.deref_mut.ensures.value
+    let before = ap (λ (page : Page). cell_in page (c.args.e % 64)) c.deref_mut.ensures.value
     ∙ sym (cell_before table c.args.e (Some c.in-Some.page) (Some c.in-Some.page) within was)
     ∙ ap (λ (v : PlacedPages). cell_at v c.args.e) c.self.view_is in
     subst (λ (new : Cell). CellNotes (cell_at c.args.self.now c.args.e) (Reduce c.args.op) c.args.word c.args.operand
     c.args.number new) (sym (cell_after table c.args.e (Some c.in-Some.page) _ within was))
     (subst (λ (old : Cell). CellNotes old (Reduce c.args.op) c.args.word c.args.operand c.args.number
-    (get_or c.reduce.new.self.cells (c.args.e % 64) blank)) before c.reduce.ensures.here)
+    (cell_in c.reduce.new.self (c.args.e % 64))) before c.reduce.ensures.here)
 
 pub returns-clause-others : goal.returns-clause-others
 returns-clause-others c other differ =
@@ -33,6 +33,6 @@ returns-clause-others c other differ =
     let was = get_or_default table (c.args.e / 64) None c.index_mut.result.now within ∙ sym c.index_mut.ensures.value
     ∙ c.in-Some.is in
     other_cells table c.args.e (Some c.in-Some.page) _ within was
-    (subst (λ (page : Page). (k : ℕ) → k ≢ c.args.e % 64 → get_or c.reduce.new.self.cells k blank
-    ≡ get_or page.cells k blank) c.deref_mut.ensures.value c.reduce.ensures.others) other differ
+    (subst (λ (page : Page). (k : ℕ) → k ≢ c.args.e % 64 → cell_in c.reduce.new.self k
+    ≡ cell_in page k) c.deref_mut.ensures.value c.reduce.ensures.others) other differ
     ∙ ap (λ (v : PlacedPages). cell_at v other) c.self.view_is

@@ -1,0 +1,18 @@
+use Rattle.std.proofs.Common.{rules, arith, slice_index}
+use Rattle.array_maps.specs.Accesses.{combined}
+use Rattle.private_copy.proofs.ColumnLaws.{no_entry_yet, one_entry_more, all_entries}
+use Rattle.private_copy.proofs.columns.apply_each.Goals as goal
+
+pub loop-lane-init : goal.loop-lane-init
+loop-lane-init c = no_entry_yet c.args.entries.now 0 c.args.low
+    (λ lane kept. combined c.args.op kept (slice_index c.args.operands.now lane))
+
+pub loop-lane-preserved : goal.loop-lane-preserved
+loop-lane-preserved c = one_entry_more c.args.entries.now c.loop-lane.entries 0 c.args.low c.loop-lane.lane
+    (λ lane kept. combined c.args.op kept (slice_index c.args.operands.now lane)) _
+    c.loop-lane.invariant (search rules) (search rules)
+
+pub returns : goal.returns
+returns c = all_entries c.args.entries.now c.loop-lane.entries 0 c.args.low c.loop-lane.lane c.args.lanes
+    (λ lane kept. combined c.args.op kept (slice_index c.args.operands.now lane))
+    (omega (arith, c.loop-lane-test.false, c.loop-lane.auto.lane-end)) c.loop-lane.invariant
