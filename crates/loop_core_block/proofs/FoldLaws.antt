@@ -18,10 +18,11 @@ use Rattle.private_copy.specs.declared.reduction.Reduction.{Reduction}
 use Rattle.private_copy.specs.Touched.{has_page, page_of}
 use Rattle.private_copy.specs.Copies.{PrivateCopy}
 use Rattle.private_copy.specs.Noting.{last_by_lane, reduction_by_lane, NotesSite}
-use Rattle.loop_core_batch.specs.declared.elements.Elements.TheVariants.{One}
+use Rattle.loop_core_batch.specs.declared.elements.Elements.{Elements}
+use Rattle.loop_core_batch.specs.declared.elements.Elements.TheVariants.{One, Between}
 use Rattle.bpf_step_batch.specs.declared.entry.Entry.{Entry}
 use Rattle.bpf_step_batch.specs.Logs.{element_by, action_by, access_by, log_by, site_of}
-use Rattle.loop_core_block.specs.Batches.{HasElement}
+use Rattle.loop_core_block.specs.Batches.{HasElement, IsRow}
 use Rattle.loop_core_block.specs.Folding.{by_site, lead_of, leads_of, marks_by_flags, marks_by_lead, EndsSite, PlanesFold, CopyFolds}
 use Rattle.loop_core_block.specs.Placing.{HasPlace}
 use Rattle.loop_core_block.proofs.Grid.{over_same}
@@ -30,10 +31,17 @@ use Rattle.loop_core_block.proofs.Grid.{over_same}
 abbrev pub no_entry : Entry
 no_entry = record { site = record { kind = Reads; elements = One 0 }; elements = []; values = [] }
 
--- a row has the elements of the first lanes
-abbrev pub IsRow : (row : List ℕ) → Entry → (lanes : ℕ) → Type 0
-IsRow row entry lanes = (lane : ℕ) → lane < lanes
-    → slice_index row lane ≡ element_by entry.site.elements entry.elements lane
+-- a row of one element is that of a site of it, and a site of any elements has its own
+pub one_row : (row : List ℕ) (entry : Entry) (only lanes : ℕ) → entry.site.elements ≡ One only → lanes ≤ 128
+    → ((lane : ℕ) → lane < 128 → slice_index row lane ≡ only) → IsRow row entry lanes
+one_row row entry only lanes is room each lane below =
+    each lane (omega (arith, room, below))
+    ∙ sym (ap (λ (elements : Elements). element_by elements entry.elements lane) is)
+
+pub own_row : (entry : Entry) (low high lanes : ℕ) → entry.site.elements ≡ Between low high
+    → IsRow entry.elements entry lanes
+own_row entry low high lanes is lane below =
+    sym (ap (λ (elements : Elements). element_by elements entry.elements lane) is)
 
 -- what is told of each lane at an entry is so of each element of its row
 pub row_within : (row : List ℕ) (entry : Entry) (lanes count : ℕ) → IsRow row entry lanes → length row ≡ lanes
@@ -290,6 +298,13 @@ module _ (entries : List Entry) (lanes index at : ℕ) (d : Entry) (below : at <
       → EndsSite lead now next (element_by entry.site.elements entry.elements) lanes index
       → PlanesComeTo old now entries lanes index at → PlanesComeTo old next entries lanes index (at + 1)
   site_ended old now next ends so_far = by_lead old now next lead refl ends so_far
+
+-- flags that count and came to a site's elements end it
+pub some_end : (old new : Planes) (element : ℕ → ℕ) (lanes index : ℕ) (counted : Option Flags) (flags : Flags)
+    → counted ≡ Some flags → FoldsLanes old new element lanes index flags
+    → EndsSite counted old new element lanes index
+some_end old new element lanes index counted flags is folds =
+    subst (λ (l : Option Flags). EndsSite l old new element lanes index) (sym is) folds
 
 -- flags that came to the elements of a row came to those of its entry
 pub row_folds : (old new : Planes) (row : List ℕ) (entry : Entry) (lanes index : ℕ) (flags : Flags)

@@ -20,7 +20,7 @@ use Rattle.bpf_step_batch.specs.Batches.{ReturnsZero, AreLanes}
 use Rattle.loop_core_block.specs.Batches.{HasElement, AreIterations}
 
 -- a lane's elements are there
-elements_within : (lanes lane : ℕ) (words : List ℕ) (entries : List Entry) → lane < lanes
+pub elements_within : (lanes lane : ℕ) (words : List ℕ) (entries : List Entry) → lane < lanes
     → AllByRecursion (IsLogged lanes words) entries → AllByRecursion (HasElement lane (length words)) entries
 elements_within lanes lane words [] below logged = tt
 elements_within lanes lane words (entry ∷ entries) below logged =

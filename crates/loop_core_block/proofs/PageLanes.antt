@@ -16,7 +16,7 @@ use Rattle.loop_core_batch.specs.declared.elements.Elements.{Elements}
 use Rattle.loop_core_batch.specs.declared.elements.Elements.TheVariants.{One, Run}
 use Rattle.bpf_step_batch.specs.declared.entry.Entry.{Entry}
 use Rattle.bpf_step_batch.specs.Logs.{element_by, accesses_by}
-use Rattle.loop_core_block.specs.Placing.{pages_by_lane, HasPlace, KeepsPage, PlacesLanes, PlacesLane}
+use Rattle.loop_core_block.specs.Placing.{pages_by_lane, HasPlace, HasPlaces, KeepsPage, PlacesLanes, PlacesLane}
 
 or_true : (b : Bool) → (b || true) ≡ true
 or_true true = refl
@@ -77,6 +77,15 @@ module _ (words : List ℕ) where
       ap (λ (l : List ℕ). pages_by_lane words entries lane l)
       (ap (λ (b : Bool). if b then pages else pages ++ page ∷ []) all.0)
       ∙ none_new entries lane pages all.1
+
+  -- nor by any lane
+  none_for_lanes : (entries : List Entry) (pages : List ℕ) (bound : ℕ)
+      → ((lane : ℕ) → lane < bound → AllByRecursion (HasPlace lane pages) entries) → (lanes : ℕ) → lanes ≤ bound
+      → over_lanes (pages_by_lane words entries) lanes pages ≡ pages
+  none_for_lanes entries pages bound all zero within = refl
+  none_for_lanes entries pages bound all (suc lanes) within =
+      ap (pages_by_lane words entries lanes) (none_for_lanes entries pages bound all lanes (omega (arith, within)))
+      ∙ none_new entries lanes pages (all lanes (omega (arith, within)))
 
   -- of later lanes with the same pages too
   place_later : (entries : List Entry) (from to lane : ℕ) (pages : List ℕ) → AllByRecursion (KeepsPage from to) entries
@@ -139,6 +148,20 @@ none_placed_yet copy entries = record {
   last = λ e. refl;
   reduction = λ e. refl;
   pages = refl;
+  under_way = refl;
+  begun = refl;
+}
+
+-- where the pages of all lanes are there
+pub placed_before : (copy : PrivateCopy) (entries : List Entry) (lanes : ℕ) → All (HasPlaces lanes copy.pages) entries
+    → PlacesLanes copy copy entries lanes
+placed_before copy entries lanes all = record {
+  start = refl;
+  last = λ e. refl;
+  reduction = λ e. refl;
+  pages = sym (none_for_lanes copy.start entries copy.pages lanes
+      (λ lane below. recursion_from_All (HasPlace lane copy.pages) entries (λ k d inside. all k d inside lane below))
+      lanes (omega arith));
   under_way = refl;
   begun = refl;
 }

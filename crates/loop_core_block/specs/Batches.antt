@@ -1,5 +1,5 @@
 -- Iterations that were run together, one a lane.
-use Rattle.std.specs.Prelude.{ℕ, ◌+◌, ◌<◌, List, length}
+use Rattle.std.specs.Prelude.{◌≡◌, ℕ, ◌+◌, ◌<◌, List, length, slice_index}
 use Rattle.std.specs.List.{AllByRecursion}
 use Rattle.bpf_insn_types.specs.Program.{Program}
 use Rattle.bpf_step_model.specs.State.{LoopCall}
@@ -10,6 +10,11 @@ use Rattle.bpf_step_batch.specs.Logs.{element_by, accesses_by}
 -- a lane's element at an entry is below a count
 abbrev pub HasElement : (lane count : ℕ) → Entry → Type 0
 HasElement lane count entry = element_by entry.site.elements entry.elements lane < count
+
+-- a row begins with the elements of n lanes at an entry
+abbrev pub IsRow : (row : List ℕ) → Entry → (lanes : ℕ) → Type 0
+IsRow row entry lanes = (lane : ℕ) → lane < lanes
+    → slice_index row lane ≡ element_by entry.site.elements entry.elements lane
 
 -- the iteration of an index on these words ends and returns 0, with the accesses that entries have of a lane, whose
 -- elements are there

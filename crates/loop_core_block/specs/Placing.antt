@@ -16,6 +16,10 @@ pages_by_lane words entries lane pages = pages_after pages (accesses_by words en
 abbrev pub HasPlace : (lane : ℕ) → List ℕ → Entry → Type 0
 HasPlace lane pages entry = has_page pages (page_of (element_by entry.site.elements entry.elements lane)) ≡ true
 
+-- those of n lanes are
+abbrev pub HasPlaces : (lanes : ℕ) → List ℕ → Entry → Type 0
+HasPlaces lanes pages entry = (lane : ℕ) → lane < lanes → HasPlace lane pages entry
+
 -- from a lane up to another the elements are of one page
 abbrev pub KeepsPage : (from to : ℕ) → Entry → Type 0
 KeepsPage from to entry = (lane : ℕ) → from ≤ lane → lane < to

@@ -1,11 +1,14 @@
 //! The pages of a batch's elements, placed as if its lanes came one after another.
 
-ghost use Rattle.std.specs.Prelude.{◌≡◌, ℕ, ◌<◌, ◌≤◌, false, List, length, OnOk, IfOk};
-ghost use Rattle.std.specs.List.{AllByRecursion};
+ghost use Rattle.std.specs.Prelude.{◌≡◌, ℕ, ◌<◌, ◌≤◌, true, false, List, length, OnOk, IfOk};
+ghost use Rattle.std.specs.List.{All, AllByRecursion};
 ghost use Rattle.private_copy.specs.Shown.{copy_of};
-ghost use Rattle.bpf_step_batch.specs.Logs.{element_by};
+ghost use Rattle.private_copy.specs.Touched.{has_page, page_of};
+ghost use Rattle.private_copy.specs.Placed.{ArePlaced};
+ghost use Rattle.loop_core_batch.specs.Sites.{MayAccess};
+ghost use Rattle.bpf_step_batch.specs.Logs.{element_by, IsLogged};
 ghost use Rattle.loop_core_block.specs.Batches.{HasElement};
-ghost use Rattle.loop_core_block.specs.Placing.{PlacesLanes, PlacesLane, KeepsPage};
+ghost use Rattle.loop_core_block.specs.Placing.{HasPlaces, PlacesLanes, PlacesLane, KeepsPage};
 
 use crate::repeating::element;
 use bpf_step_batch::Entry;
@@ -17,7 +20,7 @@ use std::alloc::{AllocError, Global};
 const PAGE: u32 = 64;
 
 /// Sees that the pages of the elements of the first lanes are placed, lane by lane. It looks at those lanes alone at
-/// which a site may enter another page.
+/// which a site may enter another page, and at none where all pages that they may touch are placed.
 pub(crate) fn place_all(
     copy: &mut Private,
     alloc: Global,
@@ -25,16 +28,60 @@ pub(crate) fn place_all(
     lanes: u32,
 ) -> Result<(), AllocError>
     requires ended { (copy_of copy.old).under_way ≡ false }
+    requires some { 0 < lanes }
     requires room { lanes ≤ 128 }
-    requires within { (lane : ℕ) → lane < lanes → AllByRecursion (HasElement lane (length (copy_of copy.old).start))
-        entries.now }
+    requires logged { AllByRecursion (IsLogged lanes (copy_of copy.old).start) entries.now }
     ensures { OnOk result (PlacesLanes (copy_of copy.old) (copy_of copy.new) entries.now lanes) }
 {
+    if are_placed(copy, entries, lanes) {
+        return Ok(());
+    }
     let mut lane = 0;
     while lane < lanes {
         lane = place_lane(copy, alloc, entries, lane, lanes)?;
     }
     Ok(())
+}
+
+/// Whether all pages that lanes may touch are placed. It looks for at most as many as there are lanes for each site,
+/// and else says no.
+fn are_placed(copy: &Private, entries: &[Entry], lanes: u32) -> bool
+    requires some { 0 < lanes }
+    requires room { lanes ≤ 128 }
+    requires logged { AllByRecursion (IsLogged lanes (copy_of copy.now).start) entries.now }
+    ensures { result ≡ true → All (HasPlaces lanes (copy_of copy.now).pages) entries.now }
+{
+    for entry in entries {
+        if !is_site_placed(copy, entry.site.elements, lanes) {
+            return false;
+        }
+    }
+    true
+}
+
+/// The same of one site.
+fn is_site_placed(copy: &Private, elements: Elements, lanes: u32) -> bool
+    requires some { 0 < lanes }
+    requires room { lanes ≤ 128 }
+    ensures { result ≡ true → (lane e : ℕ) → lane < lanes → MayAccess elements lane e
+        → has_page (copy_of copy.now).pages (page_of e) ≡ true }
+{
+    match elements {
+        Elements::One(only) => copy.are_placed(only, only),
+        Elements::Run(first) => copy.are_placed(first, first.saturating_add(lanes - 1)),
+        Elements::Between { low, high } => is_range_placed(copy, low, high, lanes),
+    }
+}
+
+/// The same of the elements from one to another.
+fn is_range_placed(copy: &Private, low: u32, high: u32, lanes: u32) -> bool
+    requires room { lanes ≤ 128 }
+    ensures { result ≡ true → ArePlaced (copy_of copy.now) low high }
+{
+    if high.saturating_sub(low) >= PAGE * lanes {
+        return false;
+    }
+    copy.are_placed(low, high)
 }
 
 /// Sees that the pages of a lane's elements are placed. Gives the next lane at which a site may enter another page.

@@ -5,19 +5,20 @@ ghost use Rattle.std.specs.List.{All, AllByRecursion};
 ghost use Rattle.private_copy.specs.Shown.{copy_of};
 ghost use Rattle.private_copy.specs.Touched.{has_page, page_of};
 ghost use Rattle.private_copy.specs.Noting.{NotesSite};
+ghost use Rattle.shadow_marks.specs.Kept.{flags_in};
 ghost use Rattle.shadow_marks.specs.Standing.{ArePlanes};
+ghost use Rattle.shadow_marks.specs.Lanes.{FoldsLanes};
 ghost use Rattle.bpf_step_batch.specs.Logs.{access_by, element_by, site_of};
-ghost use Rattle.loop_core_block.specs.Batches.{HasElement};
+ghost use Rattle.loop_core_block.specs.Batches.{HasElement, IsRow};
 ghost use Rattle.loop_core_block.specs.Folding.{lead_of, EndsSite, PlanesFold, CopyFolds};
 ghost use Rattle.loop_core_block.specs.Placing.{HasPlace};
 
 use crate::folding::lead;
-use crate::repeating::element;
 use bpf_step_batch::Entry;
 use loop_core_batch::Elements;
 use loop_core_model::Access;
 use private_copy::Private;
-use shadow_marks::{NO_WRITER, Planes};
+use shadow_marks::{ElementFlags, NO_WRITER, Planes};
 
 /// The most lanes of a batch.
 const MOST: usize = 128;
@@ -46,12 +47,22 @@ fn note_site(copy: &mut Private, entry: &Entry, lanes: u32)
     requires placed { (lane : ℕ) → lane < lanes → HasPlace lane (copy_of copy.old).pages entry.now }
     ensures { (words : List ℕ) → NotesSite (copy_of copy.old) (access_by words entry.now) lanes (copy_of copy.new) }
 {
-    if let Elements::Run(first) = entry.site.elements {
-        copy.note_run(entry.site.kind, first, lanes, &entry.values);
-        return;
+    match entry.site.elements {
+        Elements::One(only) => note_row(copy, entry, &all_at(only), lanes),
+        Elements::Run(first) => copy.note_run(entry.site.kind, first, lanes, &entry.values),
+        Elements::Between { low: _, high: _ } => note_row(copy, entry, &entry.elements, lanes),
     }
-    let mut row = [0; MOST];
-    spell(entry, lanes, &mut row);
+}
+
+/// Notes what lanes did at a site, at the first elements of a row.
+fn note_row(copy: &mut Private, entry: &Entry, row: &[u32; MOST], lanes: u32)
+    requires room { lanes ≤ 128 }
+    requires some { 0 < (copy_of copy.old).begun }
+    requires row { IsRow row.now entry.now lanes }
+    requires within { (lane : ℕ) → lane < lanes → HasElement lane (length (copy_of copy.old).start) entry.now }
+    requires placed { (lane : ℕ) → lane < lanes → HasPlace lane (copy_of copy.old).pages entry.now }
+    ensures { (words : List ℕ) → NotesSite (copy_of copy.old) (access_by words entry.now) lanes (copy_of copy.new) }
+{
     note(copy, entry, &row[..lanes as usize]);
 }
 
@@ -59,8 +70,7 @@ fn note_site(copy: &mut Private, entry: &Entry, lanes: u32)
 fn note(copy: &mut Private, entry: &Entry, row: &[u32])
     requires room { length row.now ≤ 128 }
     requires some { 0 < (copy_of copy.old).begun }
-    requires row { (lane : ℕ) → lane < length row.now → slice_index row.now lane ≡ element_by entry.now.site.elements
-        entry.now.elements lane }
+    requires row { IsRow row.now entry.now (length row.now) }
     requires within { All (λ e. e < length (copy_of copy.old).start) row.now }
     requires placed { All (λ e. has_page (copy_of copy.old).pages (page_of e) ≡ true) row.now }
     ensures { (words : List ℕ) → NotesSite (copy_of copy.old) (access_by words entry.now) (length row.now) (copy_of
@@ -79,7 +89,6 @@ pub(crate) fn end_all(planes: &mut Planes, entries: &[Entry], lanes: u32, index:
     requires whole { ArePlanes planes.old }
     requires room { lanes ≤ 128 }
     requires one { 0 < lanes }
-    requires few { planes.old.elements ≤ 65536 }
     requires within { (lane : ℕ) → lane < lanes → AllByRecursion (HasElement lane planes.old.elements) entries.now }
     requires index { index + lanes ≤ NO_WRITER }
     ensures { PlanesFold planes.old planes.new entries.now lanes index }
@@ -108,7 +117,6 @@ fn end_site(
     requires whole { ArePlanes planes.old }
     requires room { lanes ≤ 128 }
     requires one { 0 < lanes }
-    requires few { planes.old.elements ≤ 65536 }
     requires within { (lane : ℕ) → lane < lanes → HasElement lane planes.old.elements entry.now }
     requires index { index + lanes ≤ NO_WRITER }
     ensures { EndsSite (lead_of (map site_of before.now) entry.now.site (map site_of behind.now)) planes.old planes.new
@@ -117,23 +125,40 @@ fn end_site(
     let Some(flags) = lead(before, entry, behind) else {
         return;
     };
-    if let Elements::Run(first) = entry.site.elements {
-        planes.end_run(first, lanes, index, flags);
-        return;
+    match entry.site.elements {
+        Elements::One(only) => end_row(planes, entry, &all_at(only), lanes, index, flags),
+        Elements::Run(first) => planes.end_run(first, lanes, index, flags),
+        Elements::Between { low: _, high: _ } => {
+            end_row(planes, entry, &entry.elements, lanes, index, flags);
+        }
     }
-    let mut row = [0; MOST];
-    spell(entry, lanes, &mut row);
+}
+
+/// Ends on planes lanes that had the same flags, each at its element of a site: the first elements of a row.
+fn end_row(
+    planes: &mut Planes,
+    entry: &Entry,
+    row: &[u32; MOST],
+    lanes: u32,
+    index: u32,
+    flags: ElementFlags,
+)
+    requires whole { ArePlanes planes.old }
+    requires room { lanes ≤ 128 }
+    requires row { IsRow row.now entry.now lanes }
+    requires within { (lane : ℕ) → lane < lanes → HasElement lane planes.old.elements entry.now }
+    requires index { index + lanes ≤ NO_WRITER }
+    ensures { FoldsLanes planes.old planes.new (element_by entry.now.site.elements entry.now.elements) lanes index
+        (flags_in flags) }
+{
     planes.end_each(&row[..lanes as usize], index, flags);
 }
 
-/// Writes the elements of the first lanes at a site into a row.
-fn spell(entry: &Entry, lanes: u32, row: &mut [u32; 128])
-    requires room { lanes ≤ 128 }
-    requires few { (lane : ℕ) → lane < lanes → element_by entry.now.site.elements entry.now.elements lane < 65536 }
-    ensures { (lane : ℕ) → lane < lanes → slice_index row.new lane ≡ element_by entry.now.site.elements
-        entry.now.elements lane }
+/// A row of one element for each lane.
+#[inline]
+fn all_at(only: u32) -> [u32; MOST]
+    ensures long { length result ≡ 128 }
+    ensures each { (lane : ℕ) → lane < 128 → slice_index result lane ≡ only }
 {
-    for lane in 0..lanes {
-        row[lane as usize] = element(entry, lane);
-    }
+    [only; MOST]
 }

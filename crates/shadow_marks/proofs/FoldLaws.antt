@@ -31,11 +31,11 @@ and_false : (b : Bool) → (b && false) ≡ false
 and_false true = refl
 and_false false = refl
 
-ored_here : (old new : List ℕ) (e : ℕ) (bit : Bool) → OrsBit old new e bit → bit_of new e ≡ (bit_of old e || bit)
+pub ored_here : (old new : List ℕ) (e : ℕ) (bit : Bool) → OrsBit old new e bit → bit_of new e ≡ (bit_of old e || bit)
 ored_here old new e bit ors =
     ors.bits e ∙ ap (λ b. bit_of old e || (bit && b)) (eq-eqb e e refl) ∙ ap (λ b. bit_of old e || b) (and_true bit)
 
-ored_there : (old new : List ℕ) (e : ℕ) (bit : Bool) → OrsBit old new e bit → (k : ℕ) → k ≢ e
+pub ored_there : (old new : List ℕ) (e : ℕ) (bit : Bool) → OrsBit old new e bit → (k : ℕ) → k ≢ e
     → bit_of new k ≡ bit_of old k
 ored_there old new e bit ors k other =
     ors.bits k ∙ ap (λ b. bit_of old k || (bit && b)) (ne_eqb k e other) ∙ ap (λ b. bit_of old k || b) (and_false bit)

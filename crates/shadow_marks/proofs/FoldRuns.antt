@@ -44,7 +44,7 @@ changed_by old now new first past f a b same is changes =
     (subst (λ (bit : Bool). ChangesRun now new first past (λ kept lane. if bit then f kept lane else kept)) is changes)
 
 -- vectors that were lent out
-refilled : {Z : Type 0} → (v : Vec ℕ Z) (now new : List ℕ) → now ≡ v.items → length new ≡ length now
+pub refilled : {Z : Type 0} → (v : Vec ℕ Z) (now new : List ℕ) → now ≡ v.items → length new ≡ length now
     → (with_items v new).items ≡ new
 refilled v now new same long = with_items_is v new (long ∙ ap length same ∙ sym v.ok.0)
 

@@ -7,3 +7,5 @@ pub mod FoldsInTurn
 pub mod BetweenLaws
 pub mod RunBits
 pub mod FoldRuns
+pub mod LanesInTurn
+pub mod LaneFoldLaws

@@ -6,3 +6,4 @@ pub mod Ending
 pub mod Lanes
 pub mod Runs
 pub mod RunFolds
+pub mod LaneFolds

@@ -115,7 +115,7 @@ impl FlowPlanes {
 
 /// Keeps the lesser of an element's number and another.
 #[inline]
-fn lower(numbers: &mut [u32], e: u32, number: u32)
+pub(crate) fn lower(numbers: &mut [u32], e: u32, number: u32)
     requires { e < length numbers.old }
     ensures { ChangesNumber numbers.old numbers.new e (min (slice_index numbers.old e) number) }
 {
@@ -126,7 +126,7 @@ fn lower(numbers: &mut [u32], e: u32, number: u32)
 
 /// Keeps the greater of an element's number and another.
 #[inline]
-fn raise(numbers: &mut [u32], e: u32, number: u32)
+pub(crate) fn raise(numbers: &mut [u32], e: u32, number: u32)
     requires { e < length numbers.old }
     ensures { ChangesNumber numbers.old numbers.new e (max (slice_index numbers.old e) number) }
 {

@@ -3,8 +3,13 @@ use Rattle.std.specs.List.{AllByRecursion}
 use Rattle.private_copy.specs.Shown.{copy_of}
 use Rattle.loop_core_block.specs.Batches.{HasElement}
 use Rattle.loop_core_block.specs.Placing.{PlacesLanes}
-use Rattle.loop_core_block.proofs.PageLanes.{none_placed_yet, lanes_placed}
+use Rattle.loop_core_block.proofs.LaneLaws.{elements_within}
+use Rattle.loop_core_block.proofs.PageLanes.{none_placed_yet, placed_before, lanes_placed}
 use Rattle.loop_core_block.proofs.placing.place_all.Goals as goal
+
+pub returns-then-are_placed : goal.returns-then-are_placed
+returns-then-are_placed c = placed_before (copy_of c.args.copy.now) c.args.entries.now c.args.lanes
+    (c.are_placed.ensures c.if-are_placed.true)
 
 pub loop-lane-init : goal.loop-lane-init
 loop-lane-init c = record {
@@ -15,7 +20,9 @@ loop-lane-init c = record {
 pub place_lane-requires-clause-within : goal.place_lane-requires-clause-within
 place_lane-requires-clause-within c =
     subst (λ (n : ℕ). AllByRecursion (HasElement c.loop-lane.lane n) c.args.entries.now)
-    (sym (ap length c.loop-lane.invariant.placed.start)) (c.requires.within c.loop-lane.lane c.loop-lane-test.true)
+    (sym (ap length c.loop-lane.invariant.placed.start))
+    (elements_within c.args.lanes c.loop-lane.lane (copy_of c.args.copy.now).start c.args.entries.now
+    c.loop-lane-test.true c.requires.logged)
 
 pub loop-lane-preserved : goal.loop-lane-preserved
 loop-lane-preserved c = record {

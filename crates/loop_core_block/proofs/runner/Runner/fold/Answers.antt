@@ -11,9 +11,6 @@ use Rattle.loop_core_block.proofs.runner.Runner.fold.Goals as goal
 pub place_all-requires-clause-ended : goal.place_all-requires-clause-ended
 place_all-requires-clause-ended c = c.requires.so_far.2.copy.ended
 
-pub place_all-requires-clause-within : goal.place_all-requires-clause-within
-place_all-requires-clause-within c = λ lane below. (c.requires.are lane below).within
-
 pub pass-requires-clause-ended : goal.pass-requires-clause-ended
 pass-requires-clause-ended c = c.in_ok-place_all.ensures.under_way ∙ c.requires.so_far.2.copy.ended
 
@@ -42,12 +39,6 @@ note_all-requires-clause-placed c = λ lane below.
 
 pub end_all-requires-clause-whole : goal.end_all-requires-clause-whole
 end_all-requires-clause-whole c = c.requires.so_far.2.planes.whole
-
-pub end_all-requires-clause-few : goal.end_all-requires-clause-few
-end_all-requires-clause-few c =
-    let many = c.requires.so_far.2.elements in
-    let small = c.args.self.now.copy.small in
-    omega (arith, many, small)
 
 pub end_all-requires-clause-within : goal.end_all-requires-clause-within
 end_all-requires-clause-within c = λ lane below.

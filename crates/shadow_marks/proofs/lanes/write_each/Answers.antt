@@ -1,0 +1,12 @@
+use Rattle.std.proofs.Common.{Bool, length, sym, subst}
+use Rattle.std.specs.Prelude.{slice_index}
+use Rattle.shadow_marks.specs.LaneFolds.{WritesLanes}
+use Rattle.shadow_marks.proofs.LanesInTurn.{not_written}
+use Rattle.shadow_marks.proofs.lanes.write_each.Goals as goal
+
+pub returns-else-condition : goal.returns-else-condition
+returns-else-condition c =
+    subst (λ (b : Bool). WritesLanes c.args.words.now c.args.words.now c.args.by_two.now c.args.by_two.now
+    (λ lane. slice_index c.args.elements.now lane) (length c.args.elements.now) b) (sym c.if-condition.false)
+    (not_written c.args.words.now c.args.by_two.now (λ lane. slice_index c.args.elements.now lane)
+    (length c.args.elements.now))
