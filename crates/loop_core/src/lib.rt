@@ -9,14 +9,19 @@
 //! let blocks = vec![in alloc; first, second]?;
 //! let gathered = gather(alloc, &program, &call, &maps, &split, blocks, Test::Flow)?;
 //! // gathered.verdict() is Verdict::Parallel, gathered.answer() 8, and gathered.element(0) what the loop leaves there
+//! let pages = gathered.left_pages(alloc)?;
 //! drop(gathered);                                                         // the maps were lent to it
-//! let answer = in_order(&program, &call, &mut maps);                      // 8 too, and the maps have it
+//! let mut ordered = maps.try_copy(alloc)?;
+//! let answer = in_order(&program, &call, &mut ordered);                   // 8 too
+//! store_pages(&mut maps, &pages);                                         // the maps are as those in order
 //! ```
 #![tactic(auto)]
 
 pub use loop_core_block::{Block, SpeculativeLoop, run_block};
 pub use loop_core_event::{Event, EventKind};
-pub use loop_core_gather::{GatherError, GatherFault, Gathered, LoopOutcome, gather, settle};
+pub use loop_core_gather::{
+    GatherError, GatherFault, Gathered, LeftPage, LoopOutcome, gather, settle, store_pages,
+};
 pub use loop_core_model::{Test, Verdict};
 pub use loop_core_replay::{ReplayError, ReplayFault, replay_loop};
 pub use loop_core_sequential::in_order;

@@ -16,7 +16,6 @@ use Rattle.loop_core_model.specs.Planes.{elements_in_plane, plane_verdict}
 use Rattle.loop_core_model.specs.declared.faults.GatherFault.{GatherFault}
 use Rattle.loop_core_model.specs.Split.{split_fault}
 use Rattle.loop_core_model.specs.Gather.{gather_fault}
-use Rattle.loop_core_model.specs.Outcome.{Outcome}
 use Rattle.shadow_marks.specs.declared.planes.Planes.{Planes}
 use Rattle.shadow_marks.specs.Standing.{ArePlanes, StandFor, words_for, test_of}
 use Rattle.private_copy.specs.Touched.{has_page}
@@ -26,7 +25,7 @@ use Rattle.loop_core_block.specs.Ran.{RecordsRun}
 use Rattle.loop_core_block.specs.Shown.{shown}
 use Rattle.loop_core_gather.specs.declared.summary.Summary.{Summary}
 use Rattle.loop_core_gather.specs.Counting.{told_fault, Counts}
-use Rattle.loop_core_gather.specs.Held.{told_of, chosen, visits_at, left_words, IsUntouchedElement, TellsUntouched, AreHeld}
+use Rattle.loop_core_gather.specs.Held.{told_of, chosen, visits_at, left_words, IsUntouchedElement, TellsUntouched, AreHeld, GatheredOf}
 use Rattle.loop_core_gather.specs.Touched.{is_page_marked, AreMarked}
 use Rattle.loop_core_gather.specs.Gathered.{all_gathered, HasOutcome}
 use Rattle.loop_core_gather.proofs.BlocksCount.{summary_of, BlocksCount}
@@ -135,6 +134,7 @@ module _ (test : Test) (program : Program) (call : LoopCall) (words : List ℕ) 
           verdict = v;
           answer = n;
           words = left_words planes (chosen places blocks) start;
+          start = start;
         })
     all_tell planes plane v n start count test_is stand fit conflicting verdict_is answer_is start_is =
         let each : BlockOf → ℕ → List Visit = visits_in program call words in
@@ -156,19 +156,22 @@ module _ (test : Test) (program : Program) (call : LoopCall) (words : List ℕ) 
         in
         let first = tells test program call words bounds blocks least places split all_ran counted planes count stands
         plane fit is in
-        subst (λ (ws : List ℕ). HasOutcome test program call words (let o : Outcome = record {
+        subst (λ (ws : List ℕ). HasOutcome test program call words (let o : GatheredOf = record {
           verdict = v;
           answer = n;
           words = left_words planes (chosen places blocks) ws;
+          start = ws;
         } in o)) (sym start_is)
-        (subst (λ (m : ℕ). HasOutcome test program call words (let o : Outcome = record {
+        (subst (λ (m : ℕ). HasOutcome test program call words (let o : GatheredOf = record {
           verdict = v;
           answer = m;
           words = left_words planes (chosen places blocks) words;
+          start = words;
         } in o)) (sym answer_is)
-        (subst (λ (u : Verdict). HasOutcome test program call words (let o : Outcome = record {
+        (subst (λ (u : Verdict). HasOutcome test program call words (let o : GatheredOf = record {
           verdict = u;
           answer = count_to call.n least;
           words = left_words planes (chosen places blocks) words;
+          start = words;
         } in o))
         (sym verdict_is) first))

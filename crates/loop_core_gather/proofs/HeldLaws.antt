@@ -4,13 +4,12 @@ use Rattle.std.specs.Prelude.{slice_index}
 use Rattle.std.specs.List.{All}
 use Rattle.std.proofs.lemmas.List.{length-map, get_or-map}
 use Rattle.loop_core_model.specs.Kept.{committed_of_kept}
-use Rattle.loop_core_model.specs.Outcome.{Outcome}
 use Rattle.shadow_marks.specs.declared.planes.Planes.{Planes}
 use Rattle.private_copy.proofs.AccessLaws.{shown_at, shown_length}
 use Rattle.loop_core_block.specs.declared.block.Block.{Block as Held}
 use Rattle.loop_core_block.specs.Blocks.{BlockOf}
 use Rattle.loop_core_block.specs.Shown.{shown}
-use Rattle.loop_core_gather.specs.Held.{chosen, is_reduction, kept_of, left_at, left_words, TellsUntouched}
+use Rattle.loop_core_gather.specs.Held.{chosen, is_reduction, kept_of, left_at, left_words, TellsUntouched, GatheredOf}
 use Rattle.loop_core_gather.proofs.ChoiceLaws.{left_alone}
 
 pub held_length : (planes : Planes) (blocks : List BlockOf) (start : List ℕ) → length (left_words planes blocks start)
@@ -46,7 +45,7 @@ starts_are blocks now elements many same count all =
 
 -- what is left at an element, where it is known whether it is reduction-only
 pub element_is : (planes : Planes) (blocks now : List Held) (places at : List ℕ) (start : List ℕ) (e : ℕ)
-    (reduced : Bool) (o : Outcome) → is_reduction planes e ≡ reduced → e < length start →
+    (reduced : Bool) (o : GatheredOf) → is_reduction planes e ≡ reduced → e < length start →
     now ≡ blocks → at ≡ places → left_words planes (chosen places (map shown blocks)) start ≡ o.words →
     committed_of_kept reduced (map (kept_of e) (chosen at (map shown now))) (slice_index start e) ≡ slice_index o.words
     e
@@ -71,7 +70,7 @@ untouched_at blocks now places at touched elements e word same_blocks same_place
     (subst (λ (w : ℕ). TellsUntouched w e (map shown blocks) places) (sym is) (tells e inside)))
 
 -- and where no bit is set the start word is left
-pub start_is_left : (planes : Planes) (blocks : List Held) (places start touched : List ℕ) (e word : ℕ) (o : Outcome)
+pub start_is_left : (planes : Planes) (blocks : List Held) (places start touched : List ℕ) (e word : ℕ) (o : GatheredOf)
     → e < length start → left_words planes (chosen places (map shown blocks)) start ≡ o.words →
     word ≡ slice_index touched (e / 64) → word ≡ 0
     → ((k : ℕ) → k < length start → TellsUntouched (slice_index touched (k / 64)) k (map shown blocks) places) →

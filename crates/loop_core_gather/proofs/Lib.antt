@@ -6,9 +6,9 @@ pub mod ChoiceLaws
 pub mod JoiningLaws
 pub mod TellingLaws
 pub mod MergingLaws
-pub mod CommitLaws
 pub mod PageLaws
 pub mod SharingLaws
+pub mod StoringLaws
 pub mod CopyLaws
 pub mod GatheringLaws
 pub mod HeldLaws

@@ -1,15 +1,13 @@
--- Pages that were touched, what is left at them, and words that are set by it.
-use Rattle.std.proofs.Common.{◌≡◌, ◌≢◌, ℕ, zero, suc, ◌+◌, ◌/◌, ◌%◌, ◌<◌, ◌≤◌, Bool, true, false, ◌||◌, eqb, List, [], ◌∷◌, ◌++◌, drop, length, get_or, refl, sym, ◌∙◌, ap, subst, inl, inr, arith, eq-eqb, add-one}
+-- Pages that were touched, and what is left at them.
+use Rattle.std.proofs.Common.{◌≡◌, ◌≢◌, ℕ, ◌+◌, ◌/◌, ◌<◌, ◌≤◌, true, false, ◌||◌, eqb, List, [], ◌∷◌, ◌++◌, take, length, get_or, refl, sym, ◌∙◌, ap, subst, inl, inr, arith, eq-eqb}
 use Rattle.std.specs.Prelude.{slice_index}
-use Rattle.std.specs.List.{AllZip}
-use Rattle.std.proofs.Math.ListN.{drop_of_length-le}
-use Rattle.std.proofs.Math.Seq.{drop-cons}
-use Rattle.std.proofs.lemmas.Bool.{cases_eq, ne_eqb}
-use Rattle.std.proofs.lemmas.List.{ext_get_or}
+use Rattle.std.specs.List.{AllByRecursion, AllZip}
+use Rattle.std.proofs.lemmas.Bool.{cases_eq}
+use Rattle.std.proofs.lemmas.List.{take_more, take_all}
 use Rattle.std.proofs.lemmas.List.Folds.{list_any-append}
 use Rattle.private_copy.specs.Touched.{has_page}
-use Rattle.loop_core_gather.specs.Pages.{IsPageOf, HaveAllTouched}
-use Rattle.loop_core_gather.proofs.PageLaws.{at_own}
+use Rattle.loop_core_gather.specs.declared.storing.LeftPage.{LeftPage}
+use Rattle.loop_core_gather.specs.Pages.{IsPageOf, HaveAllTouched, ChangesWithin, IsLeftAt, numbers_of, AreLeft}
 use Rattle.loop_core_gather.proofs.UntouchedLaws.{not_both, or_true}
 
 -- of the pages below one those that were touched are in a list
@@ -52,57 +50,55 @@ none_there touched pages page all within out =
       | inr set ↦ absurd (not_both (has_page pages page) (all page within set) out)
     ]
 
--- what holds of two lists place by place
-zipped_at : {A B : Type 0} (R : A → B → Type 0) (xs : List A) (ys : List B) (k : ℕ) (d : A) (e : B) → k < length xs
-    → AllZip R xs ys → R (get_or xs k d) (get_or ys k e)
-zipped_at R [] ys k d e inside all = absurd (omega (arith, inside))
-zipped_at R (x ∷ xs) [] k d e inside all = absurd all
-zipped_at R (x ∷ xs) (y ∷ ys) zero d e inside all = all.0
-zipped_at R (x ∷ xs) (y ∷ ys) (suc k) d e inside all = zipped_at R xs ys k d e (omega (arith, inside)) all.1
+-- the pages of these numbers, and of one more
+zip_more : (left numbers : List ℕ) (pages : List LeftPage) (number : ℕ) (page : LeftPage)
+    → AllZip (IsLeftAt left) numbers pages → IsLeftAt left number page
+    → AllZip (IsLeftAt left) (numbers ++ number ∷ []) (pages ++ page ∷ [])
+zip_more left [] [] number page all one = (one, tt)
+zip_more left [] (p ∷ pages) number page all one = absurd all
+zip_more left (n ∷ numbers) [] number page all one = absurd all
+zip_more left (n ∷ numbers) (p ∷ pages) number page all one =
+    (all.0, zip_more left numbers pages number page all.1 one)
 
--- the first n of these pages are set
-pub record SetSoFar (old now pages : List ℕ) (left : List (List ℕ)) (n : ℕ) : Type 0 where
-  pub count : length now ≡ length old
-  pub each : (all : List ℕ) → AllZip (IsPageOf all) pages left
-      → ((e : ℕ) → e < length old → has_page pages (e / 64) ≡ false → slice_index old e ≡ slice_index all e)
-      → (e : ℕ) → e < length old → has_page (drop n pages) (e / 64) ≡ false → slice_index now e ≡ slice_index all e
+pub zip_next : (left numbers : List ℕ) (pages new : List LeftPage) (n number : ℕ) (page : LeftPage) → n < length numbers
+    → number ≡ get_or numbers n 0 → IsLeftAt left number page → new ≡ pages ++ page ∷ []
+    → AllZip (IsLeftAt left) (take n numbers) pages → AllZip (IsLeftAt left) (take (n + 1) numbers) new
+zip_next left numbers pages new n number page inside is one made so_far =
+    subst (λ (ps : List LeftPage). AllZip (IsLeftAt left) (take (n + 1) numbers) ps) (sym made)
+    (subst (λ (ns : List ℕ). AllZip (IsLeftAt left) ns (pages ++ page ∷ []))
+    (ap (λ (k : ℕ). take n numbers ++ k ∷ []) is ∙ sym (take_more numbers n 0 inside))
+    (zip_more left (take n numbers) pages number page so_far one))
 
-pub set_none : (old pages : List ℕ) (left : List (List ℕ)) → SetSoFar old old pages left 0
-set_none old pages left = record { count = refl; each = λ all own rest. rest }
+-- and all of them
+pub zip_all : (left numbers : List ℕ) (pages : List LeftPage) (n : ℕ) → length numbers ≤ n
+    → AllZip (IsLeftAt left) (take n numbers) pages → AllZip (IsLeftAt left) numbers pages
+zip_all left numbers pages n past all =
+    subst (λ (ns : List ℕ). AllZip (IsLeftAt left) ns pages) (take_all n numbers past) all
 
--- and one page more
-pub set_next : (old now new pages : List ℕ) (left : List (List ℕ)) (n page : ℕ) (own any : List ℕ) → n < length pages
-    → page ≡ get_or pages n 0 → own ≡ get_or left n any → length new ≡ length now
-    → ((e : ℕ) → e < length now → e / 64 ≡ page → slice_index new e ≡ slice_index own (e % 64))
-    → ((e : ℕ) → e / 64 ≢ page → slice_index new e ≡ slice_index now e)
-    → SetSoFar old now pages left n → SetSoFar old new pages left (n + 1)
-set_next old now new pages left n page own any inside page_is own_is count here others so_far = record {
-  count = count ∙ so_far.count;
-  each = λ all zipped rest e below out. elim (cases_eq (e / 64) page) [
-    | inl same ↦
-        (let at = zipped_at (IsPageOf all) pages left n 0 any inside zipped in
-        let is : IsPageOf all page own =
-        subst (λ (p : ℕ). IsPageOf all p own) (sym page_is)
-        (subst (λ (ws : List ℕ). IsPageOf all (get_or pages n 0) ws) (sym own_is) at) in
-        let still : e < length now = omega (arith, below, so_far.count) in
-        here e still same ∙ at_own all own page e is same)
-    | inr apart ↦
-        (let out_now : has_page (drop n pages) (e / 64) ≡ false =
-        ap (λ (ps : List ℕ). has_page ps (e / 64)) (drop-cons pages n 0 inside)
-        ∙ ap (λ (p : ℕ). eqb (e / 64) p || has_page (drop (suc n) pages) (e / 64)) (sym page_is)
-        ∙ ap (λ (b : Bool). b || has_page (drop (suc n) pages) (e / 64)) (ne_eqb (e / 64) page apart)
-        ∙ ap (λ (m : ℕ). has_page (drop m pages) (e / 64)) (sym (add-one n)) ∙ out in
-        others e apart ∙ so_far.each all zipped rest e below out_now)
-  ];
+-- they have these numbers
+numbers_are : (left numbers : List ℕ) (pages : List LeftPage) → AllZip (IsLeftAt left) numbers pages
+    → numbers_of pages ≡ numbers
+numbers_are left [] [] all = refl
+numbers_are left [] (p ∷ pages) all = absurd all
+numbers_are left (n ∷ numbers) [] all = absurd all
+numbers_are left (n ∷ numbers) (p ∷ pages) all =
+    ap (λ (k : ℕ). k ∷ numbers_of pages) all.0.number_is
+    ∙ ap (λ (ns : List ℕ). n ∷ ns) (numbers_are left numbers pages all.1)
+
+each_is : (left numbers : List ℕ) (pages : List LeftPage) → AllZip (IsLeftAt left) numbers pages
+    → AllByRecursion (λ (page : LeftPage). IsPageOf left page.number page.words) pages
+each_is left [] [] all = tt
+each_is left [] (p ∷ pages) all = absurd all
+each_is left (n ∷ numbers) [] all = absurd all
+each_is left (n ∷ numbers) (p ∷ pages) all = (
+  subst (λ (k : ℕ). IsPageOf left k p.words) (sym all.0.number_is) all.0.words_are,
+  each_is left numbers pages all.1,
+)
+
+-- pages of these numbers hold what is left
+pub are_left : (start left numbers now : List ℕ) (pages : List LeftPage) → now ≡ numbers
+    → ChangesWithin numbers start left → AllZip (IsLeftAt left) now pages → AreLeft start left pages
+are_left start left numbers now pages same within all = record {
+  each = each_is left now pages all;
+  within = subst (λ (ns : List ℕ). ChangesWithin ns start left) (sym (numbers_are left now pages all ∙ same)) within;
 }
-
--- and all
-pub set_all : (old now pages : List ℕ) (left : List (List ℕ)) (n : ℕ) → length pages ≤ n
-    → SetSoFar old now pages left n → (all : List ℕ) → length all ≡ length old → AllZip (IsPageOf all) pages left
-    → ((e : ℕ) → e < length old → has_page pages (e / 64) ≡ false → slice_index old e ≡ slice_index all e)
-    → now ≡ all
-set_all old now pages left n past so_far all long zipped rest =
-    ext_get_or 0 now all (so_far.count ∙ sym long) (λ e below.
-    let inside : e < length old = omega (arith, below, so_far.count) in
-    so_far.each all zipped rest e inside
-    (ap (λ (ps : List ℕ). has_page ps (e / 64)) (drop_of_length-le pages past)))

@@ -220,10 +220,12 @@ module _ (test : Test) (program : Program) (call : LoopCall) (words : List ℕ) 
         verdict = plane_verdict plane;
         answer = count_to call.n least;
         words = left_words planes counting words;
+        start = words;
       })
       tells = record {
         told = ap (mapped (λ (rs : List (List Access)). judged (conflicting test rs (length words)))) counted_is
             ∙ ap Ended (sym judged_is);
         passes = passes;
         count = shown_length (left_at planes counting words) (length words);
+        starts = refl;
       }

@@ -12,16 +12,24 @@ use Rattle.loop_core_model.specs.Gather.{Block}
 use Rattle.loop_core_model.specs.Outcome.{Outcome, outcome}
 use Rattle.loop_core_block.specs.Blocks.{BlockOf}
 use Rattle.loop_core_block.specs.Ran.{as_gathered}
+use Rattle.loop_core_gather.specs.Held.{GatheredOf}
 
 -- blocks as they are gathered
 abbrev pub all_gathered : Program → LoopCall → List ℕ → List BlockOf → List Block
 all_gathered program call words blocks = map (as_gathered program call words) blocks
 
--- the verdict is the loop's; and where it passes, the answer and the words are those of its outcome
-pub record HasOutcome (test : Test) (program : Program) (call : LoopCall) (words : List ℕ) (o : Outcome) : Type 0 where
-  pub told : verdict test program 4096 call words ≡ Ended o.verdict
-  pub passes : o.verdict ≡ Parallel → outcome test program 4096 call words ≡ Ended o
-  pub count : length o.words ≡ length words
+-- the outcome that gathered blocks tell
+abbrev pub outcome_of : GatheredOf → Outcome
+outcome_of g = record { verdict = g.verdict; answer = g.answer; words = g.words }
+
+-- the verdict is the loop's; where it passes, the answer and the words are those of its outcome; and these words are
+-- the start words
+pub record HasOutcome (test : Test) (program : Program) (call : LoopCall) (words : List ℕ) (g : GatheredOf) : Type 0
+  where
+    pub told : verdict test program 4096 call words ≡ Ended g.verdict
+    pub passes : g.verdict ≡ Parallel → outcome test program 4096 call words ≡ Ended (outcome_of g)
+    pub count : length g.words ≡ length words
+    pub starts : g.start ≡ words
 
 -- the outcome of a loop call from these maps: the verdict, the answer, and the maps after it, which are of the same
 -- sizes

@@ -4,6 +4,7 @@ use Rattle.std.specs.Int.{bit_at}
 use Rattle.std.specs.List.{All, count_by, filter_map, range_with_len}
 use Rattle.array_maps.specs.Accesses.{operators}
 use Rattle.loop_core_model.specs.declared.loop_test.Test.{Test}
+use Rattle.loop_core_model.specs.declared.verdict.Verdict.{Verdict}
 use Rattle.loop_core_model.specs.Actions.{joined}
 use Rattle.loop_core_model.specs.Marks.{Visit}
 use Rattle.loop_core_model.specs.Planes.{bit_of}
@@ -76,3 +77,11 @@ pub record AreHeld (elements : ℕ) (blocks : List BlockOf) (places : List ℕ) 
   pub count : planes.elements ≡ elements
   pub pages : length touched ≡ words_for elements
   pub untouched : (e : ℕ) → e < elements → TellsUntouched (slice_index touched (e / 64)) e blocks places
+
+-- gathered blocks as contracts see them: the loop's verdict, and what it answers and leaves after a pass from these
+-- start words
+pub record GatheredOf : Type 0 where
+  pub verdict : Verdict
+  pub answer : ℕ
+  pub words : List ℕ
+  pub start : List ℕ

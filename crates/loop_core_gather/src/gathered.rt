@@ -1,14 +1,14 @@
 //! What gathered blocks tell of a loop.
 
 ghost use Rattle.std.specs.Prelude.{◌≡◌, ◌<◌, length, slice_index, IfOk};
-ghost use Rattle.loop_core_gather.specs.Pages.{IsPageOf};
+ghost use Rattle.loop_core_gather.specs.Pages.{IsPageOf, ChangesWithin, AreLeft};
 
-use crate::committing::commit;
 use crate::kept::{combined, last_written};
 use crate::merged::{is_reduction, reduced_in_page};
 use crate::order::PLACES;
 use crate::pages::{PAGE, overwrite_in_turn, page_by_elements, page_of};
-use crate::sharing::{SHARED_PAGES, left_in_threads, set_pages, touched_numbers};
+use crate::sharing::{SHARED_PAGES, left_in_threads, left_in_turn, touched_numbers};
+use crate::storing::LeftPage;
 use arrayvec::ArrayVec;
 use loop_core_block::Block;
 use loop_core_model::Verdict;
@@ -18,7 +18,7 @@ use std::marker::Model;
 use std::thread::Threads;
 
 /// Blocks of a loop, gathered: the loop's verdict, and after a pass what it answers and leaves. In contracts it is
-/// the outcome of a pass.
+/// the outcome of a pass, and the start words.
 #[derive(Drop)]
 pub struct Gathered<'a> {
     pub(crate) verdict: Verdict,
@@ -36,15 +36,15 @@ pub struct Gathered<'a> {
 impl<'a> Model for Gathered<'a> {
     ghost use Rattle.std.specs.Prelude.{map, length};
     ghost use Rattle.loop_core_block.specs.Shown.{shown};
-    ghost use Rattle.loop_core_model.specs.Outcome.{Outcome};
-    ghost use Rattle.loop_core_gather.specs.Held.{chosen, left_words, AreHeld};
+    ghost use Rattle.loop_core_gather.specs.Held.{chosen, left_words, AreHeld, GatheredOf};
 
-    ghost Value = { Outcome };
+    ghost Value = { GatheredOf };
 
     ghost view = { λ g. record {
       verdict = g.verdict;
       answer = g.answer;
       words = left_words g.planes (chosen g.counting.items (map shown g.blocks.items)) g.start.now;
+      start = g.start.now;
     } };
 
     ghost invariant = { λ g. AreHeld (length g.start.now) (map shown g.blocks.items) g.counting.items g.planes
@@ -114,31 +114,35 @@ impl<'a> Gathered<'a> {
         own
     }
 
-    /// What the loop leaves at each element after a pass, in order. Only elements of pages that were touched are
-    /// worked out.
-    pub fn left_words(&self, alloc: Global) -> Result<Vec<u64>, AllocError>
-        ensures { IfOk result (λ words. words.items ≡ self.now.words) }
+    /// The numbers of the pages that were touched, in order. At the elements of all others the start words are left.
+    fn page_numbers(&self, alloc: Global) -> Result<Vec<u32>, AllocError>
+        ensures { IfOk result (λ numbers. ChangesWithin numbers.items self.now.start self.now.words) }
     {
-        let mut words = self.start.to_vec(alloc)?;
-        commit(words.as_mut_slice(), self.touched.as_slice(), self);
-        Ok(words)
+        touched_numbers(alloc, &self.touched)
+    }
+
+    /// What the loop leaves after a pass, at the pages that were touched, in order. At the elements of all others the
+    /// start words are left.
+    pub fn left_pages(&self, alloc: Global) -> Result<Vec<LeftPage>, AllocError>
+        ensures { IfOk result (λ pages. AreLeft self.now.start self.now.words pages.items) }
+    {
+        let numbers = self.page_numbers(alloc)?;
+        left_in_turn(alloc, self, &numbers)
     }
 
     /// The same, worked out by several threads where enough pages were touched.
-    pub fn left_words_in_threads<R: Threads + Sync>(
+    pub fn left_pages_in_threads<R: Threads + Sync>(
         &self,
         rt: &R,
         alloc: Global,
-    ) -> Result<Vec<u64>, AllocError>
-        ensures { IfOk result (λ words. words.items ≡ self.now.words) }
+    ) -> Result<Vec<LeftPage>, AllocError>
+        ensures { IfOk result (λ pages. AreLeft self.now.start self.now.words pages.items) }
     {
-        let pages = touched_numbers(alloc, &self.touched)?;
-        if pages.len() < SHARED_PAGES {
-            return self.left_words(alloc);
+        let numbers = self.page_numbers(alloc)?;
+        if numbers.len() < SHARED_PAGES {
+            left_in_turn(alloc, self, &numbers)
+        } else {
+            left_in_threads(rt, alloc, self, &numbers)
         }
-        let left = left_in_threads(rt, alloc, self, &pages)?;
-        let mut words = self.start.to_vec(alloc)?;
-        set_pages(words.as_mut_slice(), &pages, &left);
-        Ok(words)
     }
 }

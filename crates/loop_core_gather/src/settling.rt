@@ -5,6 +5,7 @@ ghost use Rattle.bpf_verify_sound.specs.Soundness.{OverApproximatesCall};
 ghost use Rattle.loop_core_gather.specs.Gathered.{HasOutcome, IsOutcome};
 
 use crate::gathered::Gathered;
+use crate::storing::store_pages;
 use array_maps::Maps;
 use bpf_step::LoopCall;
 use bpf_verify::Verified;
@@ -21,6 +22,16 @@ pub struct LoopOutcome {
     pub answer: u32,
     /// The maps after it.
     pub maps: Maps,
+}
+
+/// Stores what a loop leaves that passes in maps that have its start words.
+fn commit(alloc: Global, gathered: &Gathered, maps: &mut Maps) -> Result<(), AllocError>
+    requires { maps.old.words ≡ gathered.now.start }
+    ensures { IfOk result (λ _. maps.new ≡ record { sizes = maps.old.sizes; words = gathered.now.words }) }
+{
+    let pages = gathered.left_pages(alloc)?;
+    store_pages(maps, &pages);
+    Ok(())
 }
 
 /// What a loop call comes to that main of this program made, and whose blocks were gathered for this test: after a
@@ -42,7 +53,7 @@ pub fn settle(
     let mut maps = start.try_copy(alloc)?;
     let verdict = gathered.verdict();
     let answer = if verdict == Verdict::Parallel {
-        maps.set_words(gathered.left_words(alloc)?);
+        commit(alloc, gathered, &mut maps)?;
         gathered.answer()
     } else {
         in_order(program, call, &mut maps)

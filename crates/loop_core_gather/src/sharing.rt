@@ -1,13 +1,11 @@
-//! Words after a pass, worked out by several threads.
+//! Pages after a pass, worked out by one thread or several.
 
-ghost use Rattle.std.specs.Prelude.{◌≡◌, ℕ, ◌/◌, ◌<◌, ◌≤◌, false, List, length, slice_index, IfOk};
+ghost use Rattle.std.specs.Prelude.{◌≤◌, length, IfOk};
 ghost use Rattle.std.specs.List.{AllZip};
-ghost use Rattle.private_copy.specs.Touched.{has_page};
-ghost use Rattle.loop_core_gather.specs.Pages.{IsPageOf, HaveAllTouched};
+ghost use Rattle.loop_core_gather.specs.Pages.{IsLeftAt, HaveAllTouched};
 
-use crate::committing::set_page;
 use crate::gathered::Gathered;
-use crate::pages::PAGE;
+use crate::storing::LeftPage;
 use rayon::prelude::*;
 use std::alloc::{AllocError, Global};
 use std::thread::Threads;
@@ -32,34 +30,47 @@ pub(crate) fn touched_numbers(alloc: Global, touched: &[u64]) -> Result<Vec<u32>
     Ok(pages)
 }
 
-/// What a pass leaves at these pages, in order, worked out by several threads: each page by one of them.
+/// A page, and what a pass leaves there.
+fn left_page(gathered: &Gathered, number: u32) -> LeftPage
+    ensures { IsLeftAt gathered.now.words number result }
+{
+    LeftPage {
+        number,
+        words: gathered.page(number),
+    }
+}
+
+/// The pages of these numbers, in order, and what a pass leaves there.
+pub(crate) fn left_in_turn(
+    alloc: Global,
+    gathered: &Gathered,
+    numbers: &[u32],
+) -> Result<Vec<LeftPage>, AllocError>
+    ensures { IfOk result (λ pages. AllZip (IsLeftAt gathered.now.words) numbers.now pages.items) }
+{
+    let mut pages = Vec::with_capacity(alloc, numbers.len())?;
+    for number in numbers {
+        pages.push(left_page(gathered, *number))?;
+    }
+    Ok(pages)
+}
+
+/// The same, worked out by several threads: each page by one of them.
 pub(crate) fn left_in_threads<R: Threads + Sync>(
     rt: &R,
     alloc: Global,
     gathered: &Gathered,
-    pages: &[u32],
-) -> Result<Vec<[u64; PAGE]>, AllocError>
-    ensures { IfOk result (λ left. AllZip (IsPageOf gathered.now.words) pages.now left.items) }
+    numbers: &[u32],
+) -> Result<Vec<LeftPage>, AllocError>
+    ensures { IfOk result (λ pages. AllZip (IsLeftAt gathered.now.words) numbers.now pages.items) }
 {
-    pages
+    numbers
         .par_iter()
         .with_min_len(LEAST_SHARE)
         .map(
-            |page: &u32| -> [u64; PAGE]
-                ensures { IsPageOf gathered.entry.now.words page.now result }
-            { gathered.page(*page) },
+            |number: &u32| -> LeftPage
+                ensures { IsLeftAt gathered.entry.now.words number.now result }
+            { left_page(gathered, *number) },
         )
         .collect(rt, alloc)
-}
-
-/// Sets each element of these pages to what is left there, of words that have it at all others.
-pub(crate) fn set_pages(words: &mut [u64], pages: &[u32], left: &[[u64; PAGE]])
-    requires { length left.now ≡ length pages.now }
-    ensures { (all : List ℕ) → length all ≡ length words.old → AllZip (IsPageOf all) pages.now left.now
-        → ((e : ℕ) → e < length words.old → has_page pages.now (e / 64) ≡ false → slice_index words.old e
-        ≡ slice_index all e) → words.new ≡ all }
-{
-    for (k, page) in pages.iter().enumerate() {
-        set_page(words, *page, &left[k]);
-    }
 }

@@ -11,6 +11,7 @@
 #![tactic(auto)]
 
 mod driver;
+mod freed_memory;
 mod judges;
 mod report;
 mod running;

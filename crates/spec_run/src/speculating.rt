@@ -7,6 +7,7 @@ ghost use Rattle.spec_run.specs.AsInOrder.{RunsAsInOrder};
 ghost use Rattle.spec_run_plan.specs.Plans.{IsPlan};
 
 use crate::driver::run_main;
+use crate::freed_memory::keep_freed_memory;
 use crate::report::Report;
 use array_maps::Maps;
 use bpf_step::LoopCall;
@@ -45,6 +46,7 @@ pub fn run<R: Threads + Sync, G: Gate>(
     if !plan.is_within_limits() {
         return Err(RunError::Plan);
     }
+    keep_freed_memory(alloc);
     let mut left = maps.try_copy(alloc)?;
     law_of_filled_calls();
     // This tells the proof that the program is accepted.

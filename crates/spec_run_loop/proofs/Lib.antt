@@ -1,1 +1,2 @@
 pub mod EvenLaws
+pub mod PassLaws

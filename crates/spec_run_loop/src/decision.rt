@@ -8,14 +8,15 @@ ghost use Rattle.spec_run_loop.specs.Decisions.{IsDecision};
 use array_maps::Maps;
 use bpf_step::LoopCall;
 use bpf_verify::Verified;
+use loop_core_gather::{LeftPage, store_pages};
 use loop_core_model::{Test, Verdict};
 use loop_core_sequential::in_order;
 
 /// What becomes of a loop by its gathered blocks.
 #[derive(Drop)]
 pub(crate) enum Decision {
-    /// It passes: its call answers this, and it leaves these words.
-    Commit { answer: u32, words: Vec<u64> },
+    /// It passes: its call answers this, and it leaves these pages, and the others as they were.
+    Commit { answer: u32, pages: Vec<LeftPage> },
     /// It doesn't: what was run is discarded, and it runs in order.
     Discard { verdict: Verdict },
 }
@@ -43,8 +44,8 @@ impl Decision {
         ensures { IsOutcome test program.now call.now maps.old result.verdict result.answer maps.new }
     {
         match self {
-            Decision::Commit { answer, words } => {
-                maps.set_words(words);
+            Decision::Commit { answer, pages } => {
+                store_pages(maps, &pages);
                 LoopAnswer {
                     verdict: Verdict::Parallel,
                     answer,

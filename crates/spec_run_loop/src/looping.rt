@@ -6,6 +6,7 @@ ghost use Rattle.loop_core_model.specs.Intervals.{blocks_of};
 ghost use Rattle.loop_core_block.specs.LoopBlocks.{RecordsRunOf};
 ghost use Rattle.loop_core_block.specs.Shown.{shown};
 ghost use Rattle.loop_core_gather.specs.Gathered.{IsOutcome};
+ghost use Rattle.loop_core_gather.specs.Pages.{AreLeft};
 ghost use Rattle.spec_run_loop.specs.Decisions.{HasOutcomeOf, IsDecision};
 ghost use Rattle.spec_run_loop.specs.Plans.{IsLoopPlan};
 ghost use Rattle.spec_run_workers.specs.Workers.{AreFaultless};
@@ -19,7 +20,7 @@ use bpf_verify::Verified;
 use loop_board::Board;
 use loop_core_block::{Block, SpeculativeLoop};
 use loop_core_event::MAX_WORKERS;
-use loop_core_gather::{GatherError, Gathered, LoopOutcome, gather};
+use loop_core_gather::{GatherError, Gathered, LeftPage, LoopOutcome, gather};
 use loop_core_model::{Test, Verdict};
 use loop_core_split::{Gate, Split};
 use spec_run_workers::{law_of_workers, run_alone, run_workers};
@@ -94,23 +95,42 @@ fn needs_no_workers<G: Gate>(of: &SpeculativeLoop, gate: &G) -> bool
     of.split.blocks() == 1 && !gate.may_hold()
 }
 
-/// What a loop leaves that passes, by element: worked out by several threads where more than one worker ran it.
-fn left_words<R: Threads + Sync>(
+/// Runs the blocks of a loop by 1 to 16 workers, or the one there is in the calling thread, and gathers them.
+fn speculate<'a, R: Threads + Sync, G: Gate>(
+    rt: &R,
+    of: &SpeculativeLoop<'_, 'a>,
+    workers: u32,
+    gate: &G,
+) -> Result<Gathered<'a>, AllocError>
+    requires some { 0 < workers }
+    requires few { workers ≤ 16 }
+    ensures { IfOk result (HasOutcomeOf of.now) }
+{
+    if needs_no_workers(of, gate) {
+        speculate_alone(of, gate)
+    } else {
+        speculate_by_workers(rt, of, workers, gate)
+    }
+}
+
+/// What a loop leaves that passes, by page: worked out by several threads where more than one worker ran it.
+fn left_pages<R: Threads + Sync>(
     rt: &R,
     alloc: Global,
     workers: u32,
     gathered: &Gathered,
-) -> Result<Vec<u64>, AllocError>
-    ensures { IfOk result (λ words. words.items ≡ gathered.now.words) }
+) -> Result<Vec<LeftPage>, AllocError>
+    ensures { IfOk result (λ pages. AreLeft gathered.now.start gathered.now.words pages.items) }
 {
     if workers == 1 {
-        gathered.left_words(alloc)
+        gathered.left_pages(alloc)
     } else {
-        gathered.left_words_in_threads(rt, alloc)
+        gathered.left_pages_in_threads(rt, alloc)
     }
 }
 
 /// What becomes of a loop that is run by 1 to 16 workers.
+#[tactic(auto, using(crate::proofs::PassLaws::passes_so))]
 fn decided<R: Threads + Sync, G: Gate>(
     rt: &R,
     of: &SpeculativeLoop,
@@ -121,15 +141,11 @@ fn decided<R: Threads + Sync, G: Gate>(
     requires few { workers ≤ 16 }
     ensures { IfOk result (IsDecision of.now.test of.now.program of.now.call of.now.start.words) }
 {
-    let gathered = if needs_no_workers(of, gate) {
-        speculate_alone(of, gate)?
-    } else {
-        speculate_by_workers(rt, of, workers, gate)?
-    };
+    let gathered = speculate(rt, of, workers, gate)?;
     match gathered.verdict() {
         Verdict::Parallel => Ok(Decision::Commit {
             answer: gathered.answer(),
-            words: left_words(rt, of.alloc, workers, &gathered)?,
+            pages: left_pages(rt, of.alloc, workers, &gathered)?,
         }),
         verdict => Ok(Decision::Discard { verdict }),
     }
@@ -202,12 +218,12 @@ pub fn run_loop_evenly<R: Threads + Sync, G: Gate>(
 }
 
 /// Runs a loop call that main of this program made, from these maps, by n workers, each in a thread of its
-/// own, over the blocks of a split. A loop that passes the test is committed on a copy of the maps, by several threads
-/// where there are several workers and it touched many pages; any other is run in order on one. It waits for its
-/// threads, and where one can't be started, the others do its share. Where the gate holds nobody, only what pays is
-/// done: a loop of little work, and any by one worker, is run by the calling thread alone, as one block, and any other
-/// by no more workers than have enough to do, over fewer, even blocks where each would have few iterations beside its
-/// elements.
+/// own, over the blocks of a split. What a loop leaves that passes the test is worked out, by several threads where
+/// there are several workers and it touched many pages, and stored in a copy of the maps; any other is run in order on
+/// one. It waits for its threads, and where one can't be started, the others do its share. Where the gate holds nobody,
+/// only what pays is done: a loop of little work, and any by one worker, is run by the calling thread alone, as one
+/// block, and any other by no more workers than have enough to do, over fewer, even blocks where each would have few
+/// iterations beside its elements.
 ///
 /// It fails with `Sizes` (P1) where the maps' sizes differ from the program's; else with `Plan` (P2) where the
 /// workers aren't 1 to 16 or the split isn't of the call's iterations; and with `Memory`.

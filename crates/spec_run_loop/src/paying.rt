@@ -20,8 +20,8 @@ const SHARE: u64 = 2_000_000;
 /// A loop of fewer shares is run by the calling thread alone.
 const LEAST_SHARES: u64 = 4;
 
-/// For how many elements marks and copies are kept at most, over all blocks, where there is no worker more than blocks:
-/// some 36 bytes for each that a block touches.
+/// For how many elements all blocks of a loop together keep marks and copies at most, though each worker has a block:
+/// some 31 bytes for each element that a block touches.
 const MOST_KEPT: u32 = 1_048_576;
 
 /// How many shares a loop is, by its iterations and the most instructions of one.

@@ -3,7 +3,7 @@
 ghost use Rattle.tests_blocks.specs.Stages.{IsStage};
 
 use crate::stage::{Stage, stage_of};
-use loop_core::{NoGate, Split, Test, Verdict, gather, in_order, run_block};
+use loop_core::{NoGate, Split, Test, Verdict, gather, in_order, run_block, store_pages};
 use std::alloc::Global;
 use std::process::Abort;
 use std::test::Fail;
@@ -12,7 +12,7 @@ use std::test::Fail;
 const ADDS: &str =
     "maps 1 | mov64 r1, 8 | LOOP | ldmapval r2, 0, 0 | atomic64 add [r2+0], r1 | END | %% | map 0: 5";
 
-/// Runs the loop in two blocks and gathers them, and runs it in order.
+/// Runs the loop in two blocks, gathers them and stores what they leave, and runs it in order on a copy.
 fn comes_to_33(rt: &impl Abort, alloc: Global, stage: Stage) -> Result<(), Fail>
     requires { IsStage stage }
 {
@@ -52,9 +52,13 @@ fn comes_to_33(rt: &impl Abort, alloc: Global, stage: Stage) -> Result<(), Fail>
     assert_eq!(rt; gathered.answer(), 8);
     assert!(rt; gathered.elements() == 1);
     assert_eq!(rt; gathered.element(0), 33);
+    let pages = gathered.left_pages(alloc)?;
     drop(gathered);
-    let answer = in_order(&program, &call, &mut maps);
+    let mut ordered = maps.try_copy(alloc)?;
+    let answer = in_order(&program, &call, &mut ordered);
     assert_eq!(rt; answer, 8);
+    assert_eq!(rt; ordered.words(), [33].as_slice());
+    store_pages(&mut maps, &pages);
     assert_eq!(rt; maps.words(), [33].as_slice());
     Ok(())
 }

@@ -1,13 +1,12 @@
 use Rattle.std.proofs.Common.{◌≡◌, ◌≤◌, ◌++◌, ℕ, List, map, length, take, drop, Some, sym, ◌∙◌, ap, subst, arith}
 use Rattle.loop_core_model.specs.LeastBreak.{count_to}
-use Rattle.loop_core_model.specs.Outcome.{Outcome}
 use Rattle.loop_core_model.specs.Planes.{plane_verdict}
 use Rattle.private_copy.specs.Copies.{PrivateCopy}
 use Rattle.loop_core_block.specs.declared.block.Block.{Block as Held}
 use Rattle.loop_core_block.specs.Blocks.{BlockOf}
 use Rattle.loop_core_block.specs.Shown.{shown}
 use Rattle.loop_core_gather.specs.Gathered.{HasOutcome}
-use Rattle.loop_core_gather.specs.Held.{told_of, HaveCopiesOf}
+use Rattle.loop_core_gather.specs.Held.{told_of, HaveCopiesOf, GatheredOf}
 use Rattle.loop_core_gather.proofs.CopyLaws.{taken, words_same, held_same}
 use Rattle.loop_core_gather.proofs.GatheringLaws.{faulty, faultless, places_at, same_stand, answer_fits, are_held, all_tell}
 use Rattle.loop_core_gather.proofs.gathering.gather.Goals.{In-Ok, In_ok-planes}
@@ -90,7 +89,12 @@ returns-clause-told c =
     c.requires.split c.in-Ok.ensures.counts c.in_ok-planes.planes c.as_mut_slice.result.now c.deref-5.result.now
     c.as_mut_slice.ensures.value c.deref-5.ensures.0 c.in_ok-planes.ensures.visits in
     subst (λ (ws : List ℕ). HasOutcome c.args.test c.args.program.now c.args.call.now c.args.start.now.words
-    (let o : Outcome = record { verdict = c.verdict_of.result; answer = c.counted.result; words = ws } in o))
+    (let o : GatheredOf = record {
+      verdict = c.verdict_of.result;
+      answer = c.counted.result;
+      words = ws;
+      start = c.words-words.result.now;
+    } in o))
     (sym (words_same (map shown c.args.blocks.items) _ (same_copies at.In_ok-planes) c.in_ok-planes.planes places
     start))
     (all_tell c.args.test c.args.program.now c.args.call.now c.args.start.now.words c.args.split.now

@@ -2,7 +2,7 @@ use Rattle.std.proofs.Common.{List, ℕ, ◌∙◌, sym, ap, subst}
 use Rattle.std.specs.List.{AllZip}
 use Rattle.rayon.proofs.ListFacts.{IfOk-then}
 use Rattle.rayon.proofs.ToStd.{slice-AllZip}
-use Rattle.loop_core_gather.specs.Pages.{IsPageOf}
+use Rattle.loop_core_gather.specs.Pages.{IsLeftAt}
 use Rattle.loop_core_gather.proofs.sharing.left_in_threads.Goals as goal
 
 pub returns : goal.returns
@@ -12,6 +12,6 @@ returns g c =
     let same = ap (λ f. f.0.now.words) c.map.ensures.f in
     IfOk-then c.collect.result _ _ c.collect.ensures (λ v h.
     let chain = h.1 in
-    let each = slice-AllZip chain.0 c.args.pages.now (chain.1 ∙ slice) (IsPageOf _) h.0 chain.2 in
-    subst (AllZip (IsPageOf c.args.gathered.now.words) c.args.pages.now) (sym h.2)
-    (subst (λ (ws : List ℕ). AllZip (IsPageOf ws) c.args.pages.now h.0) same each))
+    let each = slice-AllZip chain.0 c.args.numbers.now (chain.1 ∙ slice) (IsLeftAt _) h.0 chain.2 in
+    subst (AllZip (IsLeftAt c.args.gathered.now.words) c.args.numbers.now) (sym h.2)
+    (subst (λ (ws : List ℕ). AllZip (IsLeftAt ws) c.args.numbers.now h.0) same each))

@@ -1,9 +1,8 @@
 use Rattle.std.proofs.Common.{◌≡◌, ◌+◌, ◌/◌, ◌<◌, rules, true, false, length, map, sym, ◌∙◌, ap, arith}
 use Rattle.std.specs.Prelude.{slice_index}
 use Rattle.std.proofs.lemmas.List.{get_or_default}
-use Rattle.loop_core_model.specs.Outcome.{Outcome}
 use Rattle.loop_core_block.specs.Shown.{shown}
-use Rattle.loop_core_gather.specs.Held.{chosen}
+use Rattle.loop_core_gather.specs.Held.{chosen, GatheredOf}
 use Rattle.loop_core_gather.proofs.HeldLaws.{start_within, starts_at, element_is, untouched_at, start_is_left}
 use Rattle.loop_core_gather.proofs.gathered.Gathered.element.Goals.{After-self, Else-touched-eq0}
 use Rattle.loop_core_gather.proofs.gathered.Gathered.element.Goals as goal
@@ -13,7 +12,7 @@ inside : (c : After-self) → c.args.e < length c.self.inside.start.now
 inside c =
     let held = c.self.inside in
     start_within held.planes (chosen held.counting.items (map shown held.blocks.items)) held.start.now
-    c.args.self.now.words c.args.e (ap (λ (o : Outcome). o.words) c.self.view_is) c.requires
+    c.args.self.now.words c.args.e (ap (λ (o : GatheredOf). o.words) c.self.view_is) c.requires
 
 -- and its page one of those that blocks touched or not
 page_inside : (c : After-self) → c.args.e / 64 < length c.self.inside.touched.items
@@ -73,7 +72,7 @@ returns-then-touched-eq0 c =
     (page_inside at.After-self) in
     let unset : c.index-touched.result.now ≡ 0 = first_of (search rules, omega arith) in
     start_is_left held.planes held.blocks.items held.counting.items held.start.now held.touched.items c.args.e
-    c.index-touched.result.now c.args.self.now (inside at.After-self) (ap (λ (o : Outcome). o.words) c.self.view_is)
+    c.index-touched.result.now c.args.self.now (inside at.After-self) (ap (λ (o : GatheredOf). o.words) c.self.view_is)
     word unset c.self.invariant.untouched
 
 pub returns-then-is_reduction : goal.returns-then-is_reduction
@@ -83,7 +82,7 @@ returns-then-is_reduction c =
     ∙ element_is held.planes held.blocks.items c.deref.result.now held.counting.items
     c.deref-then-is_reduction.result.now held.start.now c.args.e true c.args.self.now
     (sym c.is_reduction.ensures ∙ c.if-is_reduction.true) (inside (goal.at.returns-then-is_reduction c).After-self)
-    c.deref.ensures.value c.deref-then-is_reduction.ensures.0 (ap (λ (o : Outcome). o.words) c.self.view_is)
+    c.deref.ensures.value c.deref-then-is_reduction.ensures.0 (ap (λ (o : GatheredOf). o.words) c.self.view_is)
 
 pub returns-else-is_reduction : goal.returns-else-is_reduction
 returns-else-is_reduction c =
@@ -93,4 +92,4 @@ returns-else-is_reduction c =
     c.deref-else-is_reduction-2.result.now held.start.now c.args.e false c.args.self.now
     (sym c.is_reduction.ensures ∙ c.if-is_reduction.false) (inside (goal.at.returns-else-is_reduction c).After-self)
     c.deref-else-is_reduction.ensures.value c.deref-else-is_reduction-2.ensures.0
-    (ap (λ (o : Outcome). o.words) c.self.view_is)
+    (ap (λ (o : GatheredOf). o.words) c.self.view_is)

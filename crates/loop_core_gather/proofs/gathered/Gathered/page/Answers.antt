@@ -3,9 +3,8 @@ use Rattle.std.specs.Prelude.{slice_index}
 use Rattle.std.proofs.lemmas.Bool.{cases_lt}
 use Rattle.std.proofs.lemmas.List.{get_or_default, get_or_past}
 use Rattle.loop_core_model.specs.Kept.{committed_of_kept}
-use Rattle.loop_core_model.specs.Outcome.{Outcome}
 use Rattle.loop_core_block.specs.Shown.{shown}
-use Rattle.loop_core_gather.specs.Held.{chosen, kept_of}
+use Rattle.loop_core_gather.specs.Held.{chosen, kept_of, GatheredOf}
 use Rattle.loop_core_gather.proofs.HeldLaws.{held_length, starts_are, element_is, untouched_at}
 use Rattle.loop_core_gather.proofs.PageLaws.{none_reduction_only}
 use Rattle.loop_core_gather.proofs.gathered.Gathered.page.Goals as goal
@@ -35,7 +34,7 @@ pub returns : goal.returns
 returns c k below =
     let held = c.self.inside in
     let e = c.args.page * 64 + k in
-    let words = ap (λ (o : Outcome). o.words) c.self.view_is in
+    let words = ap (λ (o : GatheredOf). o.words) c.self.view_is in
     let blocks = c.deref.result.now in
     let places = c.deref-2.result.now in
     elim (cases_lt (c.args.page * 64 + k) (length c.self.inside.start.now)) [

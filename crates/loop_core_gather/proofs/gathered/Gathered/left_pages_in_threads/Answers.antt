@@ -1,0 +1,16 @@
+use Rattle.rayon.proofs.ListFacts.{IfOk-then}
+use Rattle.loop_core_gather.proofs.SharingLaws.{are_left}
+use Rattle.loop_core_gather.proofs.gathered.Gathered.left_pages_in_threads.Goals as goal
+
+pub returns-then-len-lt-SHARED_PAGES : goal.returns-then-len-lt-SHARED_PAGES
+returns-then-len-lt-SHARED_PAGES g c =
+    IfOk-then c.left_in_turn.result _ _ c.left_in_turn.ensures (λ pages all.
+    are_left c.args.self.now.start c.args.self.now.words c.in_ok-numbers.numbers.items c.deref.result.now pages.items
+    c.deref.ensures.value c.in_ok-numbers.ensures all)
+
+pub returns : goal.returns
+returns g c =
+    let deref = c.deref-else-len-lt-SHARED_PAGES in
+    IfOk-then c.left_in_threads.result _ _ c.left_in_threads.ensures (λ pages all.
+    are_left c.args.self.now.start c.args.self.now.words c.in_ok-numbers.numbers.items deref.result.now pages.items
+    deref.ensures.value c.in_ok-numbers.ensures all)
