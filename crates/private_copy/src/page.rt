@@ -1,6 +1,7 @@
 //! A page: what is kept of 64 elements.
 
-ghost use Rattle.std.specs.Prelude.{◌≡◌, true};
+ghost use Rattle.std.specs.Prelude.{◌≡◌, ◌==◌, true, None, Some, if◌then◌else◌};
+ghost use Rattle.std.specs.Option.{unwrap_or};
 ghost use Rattle.private_copy.specs.Cells.{reduction_in};
 
 use crate::by_operator::by_operator;
@@ -341,8 +342,17 @@ impl Page {
         ensures { AreOverwritten (λ k. last_in (cell_in self.now k)) count own.old own.new }
     {
         for k in 0..count {
-            let word = own[k as usize];
-            own[k as usize] = self.get(k).last().unwrap_or(word);
+            let k = k as usize;
+            own[k] = last_or(self.values[k], self.writers[k], own[k]);
         }
     }
+}
+
+/// The value that an iteration of this number left, or the word where the number is 0, which is none's. Both are read
+/// before it is decided, so that a loop of it has no branch.
+#[inline(always)]
+fn last_or(value: u64, writer: u32, word: u64) -> u64
+    ensures { result ≡ unwrap_or (if writer == 0 then None else Some value) word }
+{
+    if writer == 0 { word } else { value }
 }
