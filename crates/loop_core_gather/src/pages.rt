@@ -23,10 +23,26 @@ fn word_at(words: &[u64], e: usize) -> u64
     if e < words.len() { words[e] } else { 0 }
 }
 
-/// The words of a page.
+/// The words of a page that has all 64.
+fn whole_page(words: &[u64], page: u32) -> [u64; PAGE]
+    requires { page * 64 + 64 ≤ length words.now }
+    ensures { IsPageOf words.now page result }
+{
+    let first = page as usize * PAGE;
+    let mut own = [0; PAGE];
+    for k in 0..PAGE {
+        own[k] = words[first + k];
+    }
+    own
+}
+
+/// The words of a page, and 0 past the last.
 pub(crate) fn page_of(words: &[u64], page: u32) -> [u64; PAGE]
     ensures { IsPageOf words.now page result }
 {
+    if (page as usize + 1) * PAGE <= words.len() {
+        return whole_page(words, page);
+    }
     let mut own = [0; PAGE];
     for k in 0..PAGE {
         own[k] = word_at(words, page as usize * PAGE + k);
