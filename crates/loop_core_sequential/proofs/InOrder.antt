@@ -9,22 +9,31 @@ use Rattle.bpf_step_model.specs.Iteration.{Iterated, iteration}
 use Rattle.bpf_step_model.specs.LoopInOrder.{behind, loop_from, loop_in_order}
 use Rattle.bpf_step.specs.Iterations.{CallbackOf, RanCallback}
 use Rattle.loop_core_sequential.specs.Loops.{RanLoopInOrder}
-use Rattle.loop_core_sequential.specs.Rests.{rest_from, WentOn, BrokeOff, RanTo, answer_of}
+use Rattle.loop_core_sequential.specs.Rests.{rest_to, WentOn, BrokeOff, RanTo, answer_of}
 use Rattle.loop_core_sequential.proofs.MapEffects.{map_effect, sizes_kept}
 
 -- nothing was done
 pub stayed : (program : Program) (call : LoopCall) (index : ℕ) (maps : MapList) → index ≤ call.n
     → WentOn program call index index maps maps
-stayed program call index maps within = record { within = within; rest = refl; sizes = refl }
+stayed program call index maps within = record {
+  on = omega arith;
+  within = within;
+  rest = λ past over. refl;
+  sizes = refl;
+}
 
 -- one after another
 pub went_both : (program : Program) (call : LoopCall) (from mid to : ℕ) (old now new : MapList)
     → WentOn program call from mid old now → WentOn program call mid to now new → WentOn program call from to old new
-went_both program call from mid to old now new first second = record {
-  within = second.within;
-  rest = first.rest ∙ second.rest;
-  sizes = second.sizes ∙ first.sizes;
-}
+went_both program call from mid to old now new first second =
+    let low = first.on in
+    let high = second.on in
+    record {
+      on = omega (arith, low, high);
+      within = second.within;
+      rest = λ past over. first.rest past (omega (arith, high, over)) ∙ second.rest past over;
+      sizes = second.sizes ∙ first.sizes;
+    }
 
 -- to an index that is the same
 pub went_to : (program : Program) (call : LoopCall) (from next to : ℕ) (old new : MapList) → next ≡ to
@@ -34,12 +43,27 @@ went_to program call from next to old new same went = subst (λ (i : ℕ). WentO
 pub ran_both : (program : Program) (call : LoopCall) (from mid to : ℕ) (old now new : MapList) (answer : Option ℕ)
     → WentOn program call from mid old now → RanTo program call mid to now new answer
     → RanTo program call from to old new answer
-ran_both program call from mid to old now new (Some answer) first second = record {
-  rest = first.rest ∙ second.rest;
-  sizes = second.sizes ∙ first.sizes;
-}
+ran_both program call from mid to old now new (Some answer) first second =
+    let low = first.on in
+    let high = second.on in
+    record {
+      on = omega (arith, low, high);
+      rest = λ past over. first.rest past (omega (arith, high, over)) ∙ second.rest past over;
+      sizes = second.sizes ∙ first.sizes;
+    }
 ran_both program call from mid to old now new None first second = went_both program call from mid to old now new first
     second
+
+-- what broke off before an index broke off before any later one
+pub broke_before : (program : Program) (call : LoopCall) (from next to : ℕ) (old new : MapList) (answer : ℕ)
+    → next ≤ to → BrokeOff program call from next old new answer → BrokeOff program call from to old new answer
+broke_before program call from next to old new answer later broke =
+    let on = broke.on in
+    record {
+      on = omega (arith, on, later);
+      rest = λ past over. broke.rest past (omega (arith, later, over));
+      sizes = broke.sizes;
+    }
 
 -- the loop after an iteration that ended
 behind_it : (program : Program) (call : LoopCall) (index left : ℕ) (words : List ℕ) (it : Iterated)
@@ -55,20 +79,20 @@ one_more n index below = omega (arith, below)
 module _ (program : Program) (call : LoopCall) (from index : ℕ) (first now : MapList)
     (went : WentOn program call from index first now) (below : index < call.n) (ret steps : ℕ) (new : MapList)
     (ran : RanCallback (λ (maps : MapList). maps.words) map_effect program call index now ret steps new) where
-  goes_on : (b : Bool) → (ret == 1) ≡ b → rest_from program call from first.words
+  goes_on : (past : ℕ) → index < past → (b : Bool) → (ret == 1) ≡ b → rest_to program call past from first.words
       ≡ (if b then Ended (record { answer = index + 1; words = new.words })
-      else rest_from program call (index + 1) new.words)
-  goes_on b test =
+      else rest_to program call past (index + 1) new.words)
+  goes_on past over b test =
       let it = ran.iterated in
       let words : it.words ≡ new.words = sym ran.words_are in
-      went.rest
-      ∙ ap (λ (left : ℕ). loop_from program 4096 call left index now.words) (one_more call.n index below)
-      ∙ behind_it program call index (call.n - (index + 1)) now.words it ran.told
+      went.rest past (omega (arith, over))
+      ∙ ap (λ (left : ℕ). loop_from program 4096 call left index now.words) (one_more past index over)
+      ∙ behind_it program call index (past - (index + 1)) now.words it ran.told
       ∙ ap (λ (t : Bool). if t then Ended (record { answer = index + 1; words = it.words })
-      else rest_from program call (index + 1) it.words)
+      else rest_to program call past (index + 1) it.words)
       (ap (λ (r : ℕ). r == 1) (sym ran.ret_is) ∙ test)
       ∙ ap (λ (ws : List ℕ). if b then Ended (record { answer = index + 1; words = ws })
-      else rest_from program call (index + 1) ws) words
+      else rest_to program call past (index + 1) ws) words
 
   not_one : (b : Bool) → (ret == 1) ≡ b → ¬ (ret ≡ 1) → b ≡ false
   not_one false test other = refl
@@ -76,18 +100,24 @@ module _ (program : Program) (call : LoopCall) (from index : ℕ) (first now : M
 
   -- after an iteration that doesn't return 1
   pub next : ¬ (ret ≡ 1) → WentOn program call from (index + 1) first new
-  next other = record {
-    within = omega (arith, below);
-    rest = goes_on false (not_one (ret == 1) refl other);
-    sizes = sizes_kept now new ran.iterated.accesses ran.effects ∙ went.sizes;
-  }
+  next other =
+      let on = went.on in
+      record {
+        on = omega (arith, on);
+        within = omega (arith, below);
+        rest = λ past over. goes_on past (omega (arith, over)) false (not_one (ret == 1) refl other);
+        sizes = sizes_kept now new ran.iterated.accesses ran.effects ∙ went.sizes;
+      }
 
   -- after one that does
-  pub breaks : ret ≡ 1 → BrokeOff program call from first new (index + 1)
-  breaks one = record {
-    rest = goes_on true (ap (λ (r : ℕ). r == 1) one);
-    sizes = sizes_kept now new ran.iterated.accesses ran.effects ∙ went.sizes;
-  }
+  pub breaks : (to : ℕ) → index < to → ret ≡ 1 → BrokeOff program call from to first new (index + 1)
+  breaks to before one =
+      let on = went.on in
+      record {
+        on = omega (arith, on, before);
+        rest = λ past over. goes_on past (omega (arith, before, over)) true (ap (λ (r : ℕ). r == 1) one);
+        sizes = sizes_kept now new ran.iterated.accesses ran.effects ∙ went.sizes;
+      }
 
   -- there are as many words as before
   pub counted : length new.words ≡ sum program.sizes
@@ -103,7 +133,7 @@ of_callback callback other same index now ret steps new ran = subst (λ (o : Cal
 
 -- all of it
 whole : (program : Program) (call : LoopCall) (words : List ℕ) → loop_in_order program 4096 call words
-    ≡ rest_from program call 0 words
+    ≡ rest_to program call call.n 0 words
 whole program call words =
     let all : call.n ≡ call.n - 0 = omega arith in
     ap (λ (left : ℕ). loop_from program 4096 call left 0 words) all
@@ -113,13 +143,13 @@ pub ran_all : (program : Program) (call : LoopCall) (n : ℕ) (old new : MapList
     → RanLoopInOrder program call old new given
 ran_all program call n old new (Some answer) given all broke is =
     subst (RanLoopInOrder program call old new) (sym is) (record {
-      told = whole program call old.words ∙ broke.rest;
+      told = whole program call old.words ∙ broke.rest call.n (omega (arith, all));
       kept = broke.sizes;
     })
 ran_all program call n old new None given all went is =
     let none_left : call.n - n ≡ 0 = omega (arith, all) in
     subst (RanLoopInOrder program call old new) (sym is) (record {
-      told = whole program call old.words ∙ went.rest
+      told = whole program call old.words ∙ went.rest call.n (omega (arith, all))
           ∙ ap (λ (left : ℕ). loop_from program 4096 call left n new.words) none_left;
       kept = went.sizes;
     })

@@ -21,7 +21,11 @@ use Rattle.bpf_step_batch.specs.Logs.{site_of, log_by}
 use Rattle.bpf_step_batch.specs.Steps.{machine}
 use Rattle.bpf_step_batch.specs.Batches.{ReturnsZero, AreLanes}
 use Rattle.bpf_step_batch.proofs.LogLaws.{log_of_sites}
-use Rattle.loop_core_sequential.specs.Rests.{rest_from, WentOn}
+use Rattle.loop_core_sequential.specs.Rests.{rest_to, WentOn}
+
+-- iterations that are left, of which lanes are the first
+lanes_left : (past first lanes : ℕ) → first + lanes ≤ past → past - first ≡ lanes + (past - (first + lanes))
+lanes_left past first lanes over = omega (arith, over)
 
 module _ (its : EachIterationSimulates) (program : Program) (sound : IsSoundProgram program) (ops : List PlainOp)
     (are : AreOps program ops) (call : LoopCall) (known : OverApproximatesCall program call) (bytes : List ℕ)
@@ -62,13 +66,14 @@ module _ (its : EachIterationSimulates) (program : Program) (sound : IsSoundProg
         → new ≡ record { sizes = old.sizes; words = words_after_sites (log_by words entries) lanes words }
         → WentOn program call first (first + lanes) old new
     lanes_went law start first lanes at within entries lanes_are unseen commute old new were applied =
-        let more : call.n - first ≡ lanes + (call.n - (first + lanes)) = omega (arith, within) in
         record {
+          on = omega arith;
           within = within;
-          rest = ap (rest_from program call first) were
-              ∙ ap (λ (left : ℕ). loop_from program 4096 call left first words) more
-              ∙ lanes_on law start first lanes at within entries lanes_are unseen commute (call.n - (first + lanes))
-              ∙ sym (ap (λ (maps : MapList). rest_from program call (first + lanes) maps.words) applied);
+          rest = λ past over.
+              ap (rest_to program call past first) were
+              ∙ ap (λ (left : ℕ). loop_from program 4096 call left first words) (lanes_left past first lanes over)
+              ∙ lanes_on law start first lanes at within entries lanes_are unseen commute (past - (first + lanes))
+              ∙ sym (ap (λ (maps : MapList). rest_to program call past (first + lanes) maps.words) applied);
           sizes = ap (λ (maps : MapList). maps.sizes) applied;
         }
 

@@ -1,4 +1,4 @@
--- What is left of a loop in order, at an index.
+-- What is left of a loop in order, at an index, where it ends before another.
 use Rattle.std.specs.Prelude.{◌≡◌, ℕ, ◌-◌, ◌≤◌, List, Option, Some, None}
 use Rattle.array_maps.specs.MapList.{MapList}
 use Rattle.bpf_insn_types.specs.Program.{Program}
@@ -6,26 +6,31 @@ use Rattle.bpf_step_model.specs.State.{LoopCall}
 use Rattle.bpf_step_model.specs.Run.{BoundedResult, Ended}
 use Rattle.bpf_step_model.specs.LoopInOrder.{Looped, loop_from}
 
--- the loop in order from an index on: an iteration takes at most 4,096 instructions
-abbrev pub rest_from : Program → LoopCall → (index : ℕ) → List ℕ → BoundedResult Looped
-rest_from program call index words = loop_from program 4096 call (call.n - index) index words
+-- the loop in order from an index up to, and without, another: an iteration takes at most 4,096 instructions
+abbrev pub rest_to : Program → LoopCall → (past index : ℕ) → List ℕ → BoundedResult Looped
+rest_to program call past index words = loop_from program 4096 call (past - index) index words
 
--- from one index to another it went on: what was left of it on the old maps is what is left of it on the new ones,
--- which are of the old sizes
+-- from one index to another it went on: wherever it ends from there on, what was left of it on the old maps is what is
+-- left of it on the new ones, which are of the old sizes
 pub record WentOn (program : Program) (call : LoopCall) (index next : ℕ) (old new : MapList) : Type 0 where
+  pub on : index ≤ next
   pub within : next ≤ call.n
-  pub rest : rest_from program call index old.words ≡ rest_from program call next new.words
+  pub rest : (past : ℕ) → next ≤ past → rest_to program call past index old.words ≡ rest_to program call past next
+      new.words
   pub sizes : new.sizes ≡ old.sizes
 
--- from an index on it broke off: what was left of it on the old maps ends with this answer and leaves the new ones,
--- which are of the old sizes
-pub record BrokeOff (program : Program) (call : LoopCall) (index : ℕ) (old new : MapList) (answer : ℕ) : Type 0 where
-  pub rest : rest_from program call index old.words ≡ Ended (record { answer = answer; words = new.words })
-  pub sizes : new.sizes ≡ old.sizes
+-- from one index on it broke off before another: wherever it ends from there on, what was left of it on the old maps
+-- ends with this answer and leaves the new ones, which are of the old sizes
+pub record BrokeOff (program : Program) (call : LoopCall) (index next : ℕ) (old new : MapList) (answer : ℕ) : Type 0
+  where
+    pub on : index ≤ next
+    pub rest : (past : ℕ) → next ≤ past → rest_to program call past index old.words
+        ≡ Ended (record { answer = answer; words = new.words })
+    pub sizes : new.sizes ≡ old.sizes
 
 -- from one index to another it broke off with an answer, or went on
 abbrev pub RanTo : Program → LoopCall → (index next : ℕ) → (old new : MapList) → Option ℕ → Type 0
-RanTo program call index next old new (Some answer) = BrokeOff program call index old new answer
+RanTo program call index next old new (Some answer) = BrokeOff program call index next old new answer
 RanTo program call index next old new None = WentOn program call index next old new
 
 -- the loop's answer: that with which it broke off, or n

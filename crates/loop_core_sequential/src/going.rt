@@ -21,22 +21,25 @@ const LEAST: u32 = 32;
 const LONGEST_PAUSE: u32 = 1024;
 
 impl Batches {
-    /// Does iterations from an index on together, where they are the loop in order so. Gives the index after
-    /// them.
+    /// Does iterations from an index on together, no more than up to another, where they are the loop in order so.
+    /// Gives the index after them.
     pub(crate) fn go(
         &mut self,
         program: &Verified,
         call: &LoopCall,
         index: u32,
+        to: u32,
         maps: &mut Maps,
     ) -> u32
         requires known { OverApproximatesCall program.now call.now }
-        requires below { index < call.now.n }
+        requires below { index < to }
+        requires within { to ≤ call.now.n }
         requires sizes { maps.old.sizes ≡ program.now.sizes }
         ensures on { index ≤ result }
+        ensures within { result ≤ to }
         ensures went { WentOn program.now call.now index result maps.old maps.new }
     {
-        let lanes = self.lanes.min(call.n() - index);
+        let lanes = self.lanes.min(to - index);
         match self.tried(program, call, index, lanes, maps) {
             Tried::Went => {
                 self.pause = 1;
@@ -50,16 +53,16 @@ impl Batches {
         }
     }
 
-    /// The index at which a batch is tried again, after one at an index below n was given up: up to it iterations
-    /// go alone. Pauses grow fourfold.
-    pub(crate) fn resume(&mut self, index: u32, n: u32) -> u32
-        requires { index < n }
+    /// The index at which a batch is tried again, after one at an index below another was given up: up to it
+    /// iterations go alone. Pauses grow fourfold.
+    pub(crate) fn resume(&mut self, index: u32, to: u32) -> u32
+        requires { index < to }
         ensures on { index < result }
-        ensures within { result ≤ n }
+        ensures within { result ≤ to }
     {
         let alone = MOST * self.pause;
         self.pause = (4 * self.pause).min(LONGEST_PAUSE);
-        index.saturating_add(alone).min(n)
+        index.saturating_add(alone).min(to)
     }
 
     /// Does so many iterations from an index on together, where they are the loop in order so; else nothing.

@@ -1,6 +1,6 @@
 //! A loop in order.
 
-ghost use Rattle.std.specs.Prelude.{◌≡◌};
+ghost use Rattle.std.specs.Prelude.{◌≡◌, ◌≤◌};
 ghost use Rattle.bpf_verify_sound.specs.Soundness.{OverApproximatesCall};
 ghost use Rattle.loop_core_sequential.specs.Loops.{RanLoopInOrder};
 ghost use Rattle.loop_core_sequential.specs.Rests.{RanTo, answer_of};
@@ -23,11 +23,30 @@ pub fn in_order(program: &Verified, call: &LoopCall, maps: &mut Maps) -> u32
     ensures { RanLoopInOrder program.now call.now maps.old maps.new result }
 {
     let n = call.n();
+    answer(range_in_order(program, call, 0, n, maps), n)
+}
+
+/// Runs the iterations of a loop call that main of this program made from an index up to, and not with, another,
+/// one after another on the maps, up to the first that returns 1, or all. Gives the loop's answer where one did: its
+/// index and 1. The maps are of the program's sizes. Iterations that may go together do.
+pub fn range_in_order(
+    program: &Verified,
+    call: &LoopCall,
+    from: u32,
+    to: u32,
+    maps: &mut Maps,
+) -> Option<u32>
+    requires known { OverApproximatesCall program.now call.now }
+    requires in_order { from ≤ to }
+    requires within { to ≤ call.now.n }
+    requires sizes { maps.old.sizes ≡ program.now.sizes }
+    ensures { RanTo program.now call.now from to maps.old maps.new result }
+{
     let mut callback = Callback::new(program, call);
-    if n < FEWEST {
-        return answer(alone(program, call, &mut callback, 0, n, maps), n);
+    if to - from < FEWEST {
+        return alone(program, call, &mut callback, from, to, maps);
     }
-    answer(in_batches(program, call, &mut callback, n, maps), n)
+    in_batches(program, call, &mut callback, from, to, maps)
 }
 
 /// The loop's answer: that with which it broke off, or n.
@@ -40,35 +59,37 @@ fn answer(broke_off: Option<u32>, n: u32) -> u32
     }
 }
 
-/// Runs all n iterations, in batches where they may go together, and else one by one. Gives the loop's answer
-/// where one returned 1.
+/// Runs the iterations from an index up to another, in batches where they may go together, and else one by one.
+/// Gives the loop's answer where one returned 1.
 #[inline(never)]
 fn in_batches<'a>(
     program: &Verified,
     call: &LoopCall,
     callback: &mut Callback<'a>,
-    n: u32,
+    from: u32,
+    to: u32,
     maps: &mut Maps,
 ) -> Option<u32>
     requires known { OverApproximatesCall program.now call.now }
     requires callback { callback.old ≡ record { program = program.now; call = call.now } }
-    requires n { n ≡ call.now.n }
+    requires in_order { from ≤ to }
+    requires within { to ≤ call.now.n }
     requires sizes { maps.old.sizes ≡ program.now.sizes }
-    ensures { RanTo program.now call.now 0 n maps.old maps.new result }
+    ensures { RanTo program.now call.now from to maps.old maps.new result }
 {
     let mut batches = Batches::new();
-    let mut index = 0;
-    while index < n {
-        let next = batches.go(program, call, index, maps);
+    let mut index = from;
+    while index < to {
+        let next = batches.go(program, call, index, to, maps);
         if index < next {
             index = next;
             continue;
         }
-        let to = batches.resume(index, n);
-        if let Some(answer) = alone(program, call, callback, index, to, maps) {
+        let resume = batches.resume(index, to);
+        if let Some(answer) = alone(program, call, callback, index, resume, maps) {
             return Some(answer);
         }
-        index = to;
+        index = resume;
     }
     None
 }

@@ -1,2 +1,3 @@
 pub mod EvenLaws
 pub mod PassLaws
+pub mod SumLaws

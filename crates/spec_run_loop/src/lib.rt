@@ -1,11 +1,12 @@
 //! A loop call by several workers: each in a thread of its own, over one board; what they ran is gathered, and
-//! committed, or the loop is run in order.
+//! committed, or the loop is run in order. A loop that adds up needs no board: each worker adds up a share of it.
 #![tactic(auto)]
 
 mod decision;
 mod error;
 mod looping;
 mod paying;
+mod summing;
 
 pub use decision::LoopAnswer;
 pub use error::RunError;

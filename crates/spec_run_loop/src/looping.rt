@@ -13,7 +13,8 @@ ghost use Rattle.spec_run_workers.specs.Workers.{AreFaultless};
 
 use crate::decision::{Decision, LoopAnswer};
 use crate::error::RunError;
-use crate::paying::{busy_workers, worthwhile_split};
+use crate::paying::{busy_workers, elements_of, worthwhile_split};
+use crate::summing::{run_sums, run_sums_on_copy, sum_loop};
 use array_maps::Maps;
 use bpf_step::LoopCall;
 use bpf_verify::Verified;
@@ -167,8 +168,15 @@ fn decided_by_plan<R: Threads + Sync, G: Gate>(
         return decided(rt, of, workers, gate);
     }
     let most = of.split.blocks();
-    let busy = busy_workers(of.program, of.call, most, workers, gate);
-    let split = worthwhile_split(of.call, of.start, most, busy, gate);
+    let busy = busy_workers(
+        of.program,
+        of.call,
+        elements_of(of.start),
+        most,
+        workers,
+        gate,
+    );
+    let split = worthwhile_split(of.program, of.call, of.start, most, busy, gate);
     let even = SpeculativeLoop {
         alloc: of.alloc,
         program: of.program,
@@ -203,8 +211,12 @@ pub fn run_loop_evenly<R: Threads + Sync, G: Gate>(
     ensures outcome { IfOk result (λ a. IsOutcome test program.now call.now maps.old a.verdict a.answer maps.new) }
     ensures kept { OnErr result (maps.new ≡ maps.old) }
 {
-    let busy = busy_workers(program, call, blocks, workers, gate);
-    let split = worthwhile_split(call, maps, blocks, busy, gate);
+    if let Some(sums) = sum_loop(program, call, gate) {
+        let busy = busy_workers(program, call, 0, blocks, workers, gate);
+        return run_sums(rt, alloc, &sums, maps, busy);
+    }
+    let busy = busy_workers(program, call, elements_of(maps), blocks, workers, gate);
+    let split = worthwhile_split(program, call, maps, blocks, busy, gate);
     let of = SpeculativeLoop {
         alloc,
         program,
@@ -223,7 +235,7 @@ pub fn run_loop_evenly<R: Threads + Sync, G: Gate>(
 /// one. It waits for its threads, and where one can't be started, the others do its share. Where the gate holds nobody,
 /// only what pays is done: a loop of little work, and any by one worker, is run by the calling thread alone, as one
 /// block, and any other by no more workers than have enough to do, over fewer, even blocks where each would have few
-/// iterations beside its elements.
+/// iterations beside its elements. A loop that adds up is run in order by one worker, and in even shares by several.
 ///
 /// It fails with `Sizes` (P1) where the maps' sizes differ from the program's; else with `Plan` (P2) where the
 /// workers aren't 1 to 16 or the split isn't of the call's iterations; and with `Memory`.
@@ -249,6 +261,10 @@ pub fn run_loop<R: Threads + Sync, G: Gate>(
     }
     if !is_loop_plan(workers, split, call.n()) {
         return Err(RunError::Plan);
+    }
+    if let Some(sums) = sum_loop(program, call, gate) {
+        let busy = busy_workers(program, call, 0, split.blocks(), workers, gate);
+        return Ok(run_sums_on_copy(rt, alloc, &sums, start, busy)?);
     }
     let of = SpeculativeLoop {
         alloc,

@@ -1,6 +1,6 @@
 //! What pays: by how many workers a loop is run, and over how many blocks.
 
-ghost use Rattle.std.specs.Prelude.{◌≡◌, ◌<◌, ◌≤◌, None};
+ghost use Rattle.std.specs.Prelude.{◌≡◌, ◌*◌, ◌<◌, ◌≤◌, None};
 ghost use Rattle.loop_core_model.specs.Split.{split_fault};
 
 use array_maps::Maps;
@@ -13,9 +13,12 @@ use loop_core_split::{Gate, Split};
 /// What a speculative iteration costs beside its instructions, as many of them: its accesses are marked and kept apart.
 const BOOKKEEPING: u64 = 30;
 
-/// How many instructions are worth a thread: to start it and wait for it, and to make and merge what its block keeps in
-/// memory that is new, takes as long.
+/// How many instructions are worth a thread: to start it and wait for it takes as long.
 const SHARE: u64 = 2_000_000;
+
+/// What an element costs each worker and each block, as many instructions: its marks and its copy are made in memory
+/// that is new, merged and committed. So a loop of few iterations over many elements is bound by memory.
+const ELEMENT: u64 = 1_000;
 
 /// A loop of fewer shares is run by the calling thread alone.
 const LEAST_SHARES: u64 = 4;
@@ -24,17 +27,31 @@ const LEAST_SHARES: u64 = 4;
 /// some 31 bytes for each element that a block touches.
 const MOST_KEPT: u32 = 1_048_576;
 
-/// How many shares a loop is, by its iterations and the most instructions of one.
-fn shares_of(program: &Verified, call: &LoopCall) -> u64 {
+/// How many instructions a loop call is to do at most, by its iterations and the most instructions of one.
+fn work_of(program: &Verified, call: &LoopCall) -> u64 {
     let each = BOOKKEEPING + u64::from(most_instructions(program, call.callback()));
-    u64::from(call.n()).saturating_mul(each) / SHARE
+    u64::from(call.n()).saturating_mul(each)
 }
 
-/// How many workers of n, 1 to 16, a loop keeps busy that is run over at most this many blocks. Where the gate holds
-/// nobody, no more than there are shares or blocks, and one where the shares are few.
+/// What its elements cost each worker and each block of a loop, in instructions.
+fn cost_of_elements(elements: u32) -> u64
+    ensures { result ≡ 1000 * elements }
+{
+    ELEMENT * u64::from(elements)
+}
+
+/// How many elements maps have, at most 65,536.
+pub(crate) fn elements_of(maps: &Maps) -> u32 {
+    maps.words().len() as u32
+}
+
+/// How many workers of n, 1 to 16, a loop keeps busy that is run over at most this many blocks, where each worker keeps
+/// marks and a copy of this many elements. Where the gate holds nobody, no more than there are shares or blocks, and
+/// one where the shares are few.
 pub(crate) fn busy_workers<G: Gate>(
     program: &Verified,
     call: &LoopCall,
+    elements: u32,
     most: u32,
     workers: u32,
     gate: &G,
@@ -48,7 +65,8 @@ pub(crate) fn busy_workers<G: Gate>(
     if gate.may_hold() {
         return workers;
     }
-    let shares = shares_of(program, call);
+    let share = SHARE + cost_of_elements(elements);
+    let shares = work_of(program, call) / share;
     if shares < LEAST_SHARES {
         return 1;
     }
@@ -56,10 +74,23 @@ pub(crate) fn busy_workers<G: Gate>(
     workers.min(shared).min(most)
 }
 
+/// How many of the workers that a loop of n iterations keeps busy, 1 to 16, are worth a share of it where it adds up:
+/// each of them makes a word for each element, which is combined with the maps. One for as many iterations as there are
+/// elements.
+pub(crate) fn worthwhile_shares(call: &LoopCall, start: &Maps, busy: u32) -> u32
+    requires some { 0 < busy }
+    requires few { busy ≤ 16 }
+    ensures some { 0 < result }
+    ensures few { result ≤ 16 }
+{
+    (call.n() / elements_of(start).max(1)).min(busy).max(1)
+}
+
 /// How many even blocks a loop is run over, of at most this many. Where the gate holds nobody, only those that are
-/// worth what each of them costs, which keeps marks of all elements: one by one worker; by several as many as they are,
-/// or one for as many iterations as there are elements, of as many as may be kept.
+/// worth what their elements cost, of as many elements as may be kept: one by one worker; by several one for each of
+/// them at least.
 fn worthwhile_blocks<G: Gate>(
+    program: &Verified,
     call: &LoopCall,
     start: &Maps,
     most: u32,
@@ -78,14 +109,17 @@ fn worthwhile_blocks<G: Gate>(
     if workers == 1 {
         return 1;
     }
-    let elements = (start.words().len() as u32).max(1);
-    let worth = (call.n() / elements).min(MOST_KEPT / elements);
+    let elements = elements_of(start).max(1);
+    let kept = MOST_KEPT / elements;
+    let worth = work_of(program, call) / cost_of_elements(elements);
+    let worth = worth.min(u64::from(kept)) as u32;
     worth.max(workers).min(most)
 }
 
 /// The even split of a loop into worthwhile blocks, at most this many.
 #[tactic(auto, using(crate::proofs::EvenLaws::even_is))]
 pub(crate) fn worthwhile_split<G: Gate>(
+    program: &Verified,
     call: &LoopCall,
     start: &Maps,
     most: u32,
@@ -97,7 +131,7 @@ pub(crate) fn worthwhile_split<G: Gate>(
     requires few { most ≤ 64 }
     ensures { split_fault result call.now.n ≡ None }
 {
-    let blocks = worthwhile_blocks(call, start, most, workers, gate);
+    let blocks = worthwhile_blocks(program, call, start, most, workers, gate);
     match Split::even(call.n(), blocks) {
         Ok(split) => split,
         Err(_) => unreachable!(),

@@ -42,7 +42,8 @@ returns-then-run-eq1-clause-ran c =
     c.run.result.ret c.run.result.steps c.run.new.store
     (of_callback c.loop-index.callback (record { program = c.args.program.now; call = c.args.call.now })
     c.loop-index.invariant.same c.loop-index.index
-    c.loop-index.maps c.run.result.ret c.run.result.steps c.run.new.store c.run.ensures.ran) c.if-run-eq1.true
+    c.loop-index.maps c.run.result.ret c.run.result.steps c.run.new.store c.run.ensures.ran) c.args.to
+    c.loop-index-test.true c.if-run-eq1.true
 
 pub loop-index-preserved : goal.loop-index-preserved
 loop-index-preserved c =

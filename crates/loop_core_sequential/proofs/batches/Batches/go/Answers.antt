@@ -9,10 +9,12 @@ returns-in-Went-clause-went c = c.in-Went.ensures
 pub returns-in-Met-clause-went : goal.returns-in-Met-clause-went
 returns-in-Met-clause-went c =
     subst (WentOn c.args.program.now c.args.call.now c.args.index c.args.index c.args.maps.now) (sym c.in-Met.ensures)
-    (stayed c.args.program.now c.args.call.now c.args.index c.args.maps.now (omega (arith, c.requires.below)))
+    (stayed c.args.program.now c.args.call.now c.args.index c.args.maps.now
+    (omega (arith, c.requires.below, c.requires.within)))
 
 pub returns-in-Parted-clause-went : goal.returns-in-Parted-clause-went
 returns-in-Parted-clause-went c =
     subst (WentOn c.args.program.now c.args.call.now c.args.index c.args.index c.args.maps.now)
     (sym c.in-Parted.ensures)
-    (stayed c.args.program.now c.args.call.now c.args.index c.args.maps.now (omega (arith, c.requires.below)))
+    (stayed c.args.program.now c.args.call.now c.args.index c.args.maps.now
+    (omega (arith, c.requires.below, c.requires.within)))

@@ -1,0 +1,4 @@
+pub mod SumSteps
+pub mod SumRuns
+pub mod Searching
+pub mod Refusing

@@ -1,0 +1,2 @@
+pub mod SumOps
+pub mod SumLaw

@@ -1,0 +1,6 @@
+pub mod Reduces
+pub mod Combining
+pub mod Ranges
+pub mod Passing
+pub mod Callbacks
+pub mod BlockByBlock

@@ -1,0 +1,13 @@
+use Rattle.std.proofs.Common.{subst}
+use Rattle.bpf_step.proofs.Limits.{iterations_end}
+use Rattle.loop_core_sums.specs.SumLoops.{AlwaysPasses}
+use Rattle.loop_core_sums.proofs.Passing.{passes}
+use Rattle.loop_core_sums.proofs.sum_loop.SumLoop.law_of_passing.Goals as goal
+
+pub returns : goal.returns
+returns c =
+    let of = c.self.inside in
+    subst AlwaysPasses c.self.view_is
+    (passes (record { program = of.program.now; call = of.call.now; op = of.op }) c.self.invariant
+    (iterations_end c.law_of_accepted_programs.ensures c.law_of_accepted_runs.ensures.counts of.program.now
+    (record { accepted = c.unit-unit.ensures.accepted; fits = c.unit-unit.ensures.fit })))

@@ -1,0 +1,2 @@
+pub mod SumLoops
+pub mod Sums

@@ -1,0 +1,67 @@
+-- Loops that add up.
+use Rattle.std.proofs.Common.{◌≡◌, ℕ, ◌<◌, List, length, None, Result, Ok, Err, IfOk, sym, ◌∙◌, ap, subst}
+use Rattle.std.specs.Prelude.{slice_index_or}
+use Rattle.std.specs.List.{sum}
+use Rattle.array_maps.specs.MapList.{MapList, AreWords}
+use Rattle.bpf_insn_types.specs.Program.{Program}
+use Rattle.bpf_step_model.specs.State.{LoopCall}
+use Rattle.bpf_step_model.specs.Run.{BoundedResult, Ended, followed}
+use Rattle.bpf_step_model.specs.LoopInOrder.{Looped}
+use Rattle.bpf_verify_sound.specs.Soundness.{AreMapWords}
+use Rattle.loop_core_model.specs.declared.loop_test.Test.{Test}
+use Rattle.loop_core_model.specs.declared.verdict.Verdict.{Verdict}
+use Rattle.loop_core_model.specs.declared.verdict.Verdict.TheVariants.{Parallel}
+use Rattle.loop_core_model.specs.Report.{verdict}
+use Rattle.loop_core_model.specs.Outcome.{judged_as}
+use Rattle.loop_core_model.specs.Split.{split_fault}
+use Rattle.loop_core_model.specs.Intervals.{blocks_of, start_of, end_of}
+use Rattle.loop_core_sequential.specs.Loops.{RanLoopInOrder}
+use Rattle.loop_core_sums.specs.declared.partial_sum.PartialSum.{PartialSum}
+use Rattle.loop_core_sums.specs.SumLoops.{SumLoopOf, AlwaysPasses}
+use Rattle.loop_core_sums.specs.Sums.{IsSumOf, AreSumsOf}
+use Rattle.loop_core_gather.specs.Gathered.{IsOutcome}
+use Rattle.spec_run_loop.specs.declared.decision.LoopAnswer.{LoopAnswer}
+
+-- a loop that adds up, and what was done in order, is its outcome
+pub passed_so : (l : SumLoopOf) (start left : MapList) (answer : ℕ) (told : LoopAnswer) → AlwaysPasses l
+    → length start.words ≡ sum start.sizes → start.sizes ≡ l.program.sizes → AreWords start.words
+    → told ≡ record { verdict = Parallel; answer = answer } → RanLoopInOrder l.program l.call start left answer
+    → (test : Test) → IsOutcome test l.program l.call start told.verdict told.answer left
+passed_so l start left answer told passes count sizes fit told_is ran test =
+    let looped : Looped = record { answer = answer; words = left.words } in
+    let known : AreMapWords l.program start.words = record { count = count ∙ ap sum sizes; fit = fit } in
+    let judged : verdict test l.program 4096 l.call start.words ≡ Ended Parallel = passes test start.words known in
+    subst (λ (a : LoopAnswer). IsOutcome test l.program l.call start a.verdict a.answer left) (sym told_is) (record {
+      outcome_is = ap (followed (judged_as (verdict test l.program 4096 l.call start.words))) ran.told
+          ∙ ap (λ (v : BoundedResult Verdict). judged_as v looped) judged;
+      sizes = ran.kept;
+    })
+
+-- sums of all blocks of a split are those of its loop
+pub sums_of_blocks : (l : SumLoopOf) (bounds : List ℕ) (n : ℕ) (sums : List PartialSum) → n ≡ l.call.n
+    → split_fault bounds n ≡ None → length sums ≡ blocks_of bounds
+    → ((block : ℕ) (s : PartialSum) → block < length sums → IsSumOf l (start_of bounds block) (end_of bounds block)
+    (slice_index_or sums block s)) → AreSumsOf l sums
+sums_of_blocks l bounds n sums n_is split count each = record {
+  bounds = bounds;
+  split = subst (λ (m : ℕ). split_fault bounds m ≡ None) n_is split;
+  count = count;
+  each = each;
+}
+
+-- its outcome by any test is the call's by one of them
+pub of_call : (l : SumLoopOf) (program : Program) (call : LoopCall) (start left : MapList) (told : Verdict)
+    (answer : ℕ) → l.program ≡ program → l.call ≡ call
+    → ((t : Test) → IsOutcome t l.program l.call start told answer left)
+    → (test : Test) → IsOutcome test program call start told answer left
+of_call l program call start left told answer same_program same_call outcomes test =
+    subst (λ (p : Program). IsOutcome test p call start told answer left) same_program
+    (subst (λ (c : LoopCall). IsOutcome test l.program c start told answer left) same_call (outcomes test))
+
+pub if_told : {E : Type 0} → (l : SumLoopOf) (program : Program) (call : LoopCall) (start left : MapList)
+    (told : Result LoopAnswer E) → l.program ≡ program → l.call ≡ call
+    → IfOk told (λ a. (t : Test) → IsOutcome t l.program l.call start a.verdict a.answer left)
+    → (test : Test) → IfOk told (λ a. IsOutcome test program call start a.verdict a.answer left)
+if_told l program call start left (Ok a) same_program same_call outcomes test =
+    of_call l program call start left a.verdict a.answer same_program same_call outcomes test
+if_told l program call start left (Err e) same_program same_call outcomes test = tt
