@@ -16,7 +16,7 @@ LONG = 20_000  # iterations
 WORK = ("mov64 r5, 0",) * 400  # instructions of an iteration, so that a long loop is worth threads
 LATE = 15_000  # the iteration that breaks in a long loop
 MANY = 65_536  # elements, the most that maps have
-FEW = 1_024  # elements
+FEW = 128  # elements, so few that a long loop over them is worth threads
 DIAMONDS = 2_042  # that fill a unit up to its 4,096 slots
 
 
