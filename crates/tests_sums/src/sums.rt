@@ -42,7 +42,8 @@ const CASES: [Case; 9] = [
         left: &[768],
     },
     Case {
-        row: "maps 1 | mov64 r1, 400000 | LOOP | ldmapval r3, 0, 0 | atomic64 or [r3+0], r1 | END | %% | map 0: 1048576",
+        row: "maps 1 | mov64 r1, 400000 | LOOP | ldmapval r3, 0, 0 | atomic64 or [r3+0], r1 | END | %% | \
+            map 0: 1048576",
         answer: 400_000,
         left: &[1_572_863],
     },
@@ -98,7 +99,7 @@ fn is_run_by<R: Threads + Sync + Abort>(
         answer: case.answer,
         verdict: Verdict::Parallel,
     };
-    assert_eq!(rt; report.loops.as_slice(), &[told]);
+    assert_eq!(rt; report.loops.as_slice(), [told].as_slice());
     assert_eq!(rt; maps.words(), case.left, "by {workers}");
     Ok(())
 }
