@@ -17,7 +17,7 @@
 //! ```
 #![tactic(auto)]
 
-pub use loop_core_block::{Block, SpeculativeLoop, run_block};
+pub use loop_core_block::{Block, BlockWorkspace, SpeculativeLoop, run_block};
 pub use loop_core_event::{Event, EventKind};
 pub use loop_core_gather::{
     GatherError, GatherFault, Gathered, LeftPage, LoopOutcome, gather, settle, store_pages,

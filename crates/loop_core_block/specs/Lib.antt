@@ -7,3 +7,5 @@ pub mod Folding
 pub mod Placing
 pub mod Runs
 pub mod LoopBlocks
+pub mod Unmarked
+pub mod Workspaces

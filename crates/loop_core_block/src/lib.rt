@@ -12,8 +12,10 @@ mod runner;
 mod running;
 mod site_folds;
 mod speculative_loop;
+mod workspace;
 
 pub use block::Block;
 pub use runner::most_instructions;
 pub use running::run_block;
 pub use speculative_loop::SpeculativeLoop;
+pub use workspace::BlockWorkspace;

@@ -8,6 +8,7 @@ ghost use Rattle.shadow_marks.specs.Standing.{test_of};
 ghost use Rattle.bpf_step_batch.specs.Logs.{IsLogged};
 ghost use Rattle.loop_core_block.specs.Batches.{IsLane, AreIterations};
 ghost use Rattle.loop_core_block.specs.Folding.{MayFold};
+ghost use Rattle.loop_core_block.specs.Workspaces.{IsWorkspaceFor};
 ghost use Rattle.loop_core_block.specs.Runs.{start_words, IsReady, IsOf, RunnerHasRun, RanOneMore, RanMore, RanTogether, RanUpTo};
 
 use crate::batching::run_together;
@@ -16,6 +17,7 @@ use crate::placing::place_all;
 use crate::repeating::repeat_all;
 use crate::site_folds::{end_all, note_all};
 use crate::speculative_loop::SpeculativeLoop;
+use crate::workspace::BlockWorkspace;
 use bpf_step::Callback;
 use bpf_step_batch::{Batch, Entry};
 use bpf_verify::Verified;
@@ -59,24 +61,28 @@ pub fn most_instructions(program: &Verified, slot: u32) -> u32
 }
 
 impl<'c, 'a> Runner<'c, 'a> {
-    /// A runner of a loop's iterations, which has run none.
-    pub(crate) fn try_new(of: &SpeculativeLoop<'c, 'a>) -> Result<Runner<'c, 'a>, AllocError>
-        ensures ready { IfOk result IsReady }
-        ensures program { IfOk result (λ r. r.callback.program ≡ of.now.program) }
-        ensures call { IfOk result (λ r. r.callback.call ≡ of.now.call) }
-        ensures start { IfOk result (λ r. start_words r ≡ of.now.start.words) }
-        ensures test { IfOk result (λ r. test_of r.planes.tested ≡ of.now.test) }
-        ensures none { IfOk result (λ r. (first : ℕ) → RunnerHasRun first first [] r) }
+    /// A runner of a loop's iterations, which has run none, in a workspace that is for the loop.
+    pub(crate) fn in_workspace(
+        of: &SpeculativeLoop<'c, 'a>,
+        workspace: BlockWorkspace,
+    ) -> Runner<'c, 'a>
+        requires { IsWorkspaceFor (length of.now.start.words) of.now.test workspace }
+        ensures ready { IsReady result }
+        ensures program { result.callback.program ≡ of.now.program }
+        ensures call { result.callback.call ≡ of.now.call }
+        ensures start { start_words result ≡ of.now.start.words }
+        ensures test { test_of result.planes.tested ≡ of.now.test }
+        ensures none { (first : ℕ) → RunnerHasRun first first [] result }
     {
         // This tells the proof how many words the maps have.
         let _sizes = of.start.sizes();
-        let elements = of.start.words().len() as u32;
-        Ok(Runner {
+        let BlockWorkspace { copy, planes } = workspace;
+        Runner {
             callback: Callback::new(of.program, of.call),
             most: most_instructions(of.program, of.call.callback()),
-            copy: Private::try_new(of.alloc, of.start)?,
-            planes: Planes::try_new(of.alloc, elements, of.test)?,
-        })
+            copy: Private::in_workspace(copy, of.start),
+            planes,
+        }
     }
 
     /// Runs the iterations from a first index up to, and not with, another, or up to the first that breaks. Tells

@@ -1,16 +1,18 @@
 //! Running a block.
 
-ghost use Rattle.std.specs.Prelude.{◌≡◌, ◌<◌, None, IfOk};
+ghost use Rattle.std.specs.Prelude.{◌≡◌, ◌<◌, length, None, IfOk};
 ghost use Rattle.bpf_verify_sound.specs.Soundness.{OverApproximatesCall};
 ghost use Rattle.loop_core_model.specs.Split.{split_fault};
 ghost use Rattle.loop_core_model.specs.Intervals.{blocks_of, start_of, end_of};
 ghost use Rattle.loop_core_block.specs.Shown.{shown};
 ghost use Rattle.loop_core_block.specs.Ran.{RecordsRun};
 ghost use Rattle.loop_core_block.specs.LoopBlocks.{IsBlockOf};
+ghost use Rattle.loop_core_block.specs.Workspaces.{IsWorkspaceFor};
 
 use crate::block::Block;
 use crate::runner::Runner;
 use crate::speculative_loop::SpeculativeLoop;
+use crate::workspace::BlockWorkspace;
 use array_maps::Maps;
 use bpf_step::LoopCall;
 use bpf_verify::Verified;
@@ -27,9 +29,24 @@ impl<'l, 'a> SpeculativeLoop<'l, 'a> {
         requires { number < blocks_of self.now.bounds }
         ensures { IfOk result (λ b. IsBlockOf self.now number (shown b)) }
     {
+        let workspace = BlockWorkspace::try_new(self.alloc, self.elements(), self.test)?;
+        self.run_block_in(workspace, number, gate)
+    }
+
+    /// The same in a workspace that is for the loop.
+    pub fn run_block_in<G: Gate>(
+        &self,
+        workspace: BlockWorkspace,
+        number: u32,
+        gate: &G,
+    ) -> Result<Block<'a>, AllocError>
+        requires within { number < blocks_of self.now.bounds }
+        requires fits { IsWorkspaceFor (length self.now.start.words) self.now.test workspace }
+        ensures { IfOk result (λ b. IsBlockOf self.now number (shown b)) }
+    {
         let first = self.split.start(number);
         let past = self.split.end(number);
-        let mut runner = Runner::try_new(self)?;
+        let mut runner = Runner::in_workspace(self, workspace);
         let broke = runner.run(self, first, past, gate)?;
         let Runner { copy, planes, .. } = runner;
         Ok(Block {

@@ -47,3 +47,15 @@ impl<'l, 'a> Model for SpeculativeLoop<'l, 'a> {
       test = l.test;
     }) };
 }
+
+impl<'l, 'a> SpeculativeLoop<'l, 'a> {
+    ghost use Rattle.std.specs.Prelude.{◌≡◌, ◌≤◌, length};
+
+    /// How many elements its maps have together: at most 65,536.
+    pub fn elements(&self) -> u32
+        ensures count { result ≡ length self.now.start.words }
+        ensures few { result ≤ 65536 }
+    {
+        self.start.words().len() as u32
+    }
+}

@@ -91,6 +91,7 @@ module _ (old new : List BlockOf) (same : HaveCopiesOf old new) where
         ∙ ap (λ (cs : List PrivateCopy). get_or cs k d.copy) same ∙ get_or-map copy_in old k d d.copy inside)
         ∙ held.starts k d inside;
     whole = held.whole;
+    stand = held.stand;
     count = held.count;
     pages = held.pages;
     untouched = λ e inside. tells_same (slice_index touched (e / 64)) e places (held.untouched e inside);

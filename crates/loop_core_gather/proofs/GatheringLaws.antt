@@ -17,7 +17,8 @@ use Rattle.loop_core_model.specs.declared.faults.GatherFault.{GatherFault}
 use Rattle.loop_core_model.specs.Split.{split_fault}
 use Rattle.loop_core_model.specs.Gather.{gather_fault}
 use Rattle.shadow_marks.specs.declared.planes.Planes.{Planes}
-use Rattle.shadow_marks.specs.Standing.{ArePlanes, StandFor, words_for, test_of}
+use Rattle.shadow_marks.specs.Standing.{StandFor, words_for, test_of}
+use Rattle.lane_planes.specs.Merged.{StandForSome}
 use Rattle.private_copy.specs.Touched.{has_page}
 use Rattle.loop_core_block.specs.declared.block.Block.{Block as Held}
 use Rattle.loop_core_block.specs.Blocks.{BlockOf}
@@ -102,15 +103,16 @@ module _ (test : Test) (program : Program) (call : LoopCall) (words : List ℕ) 
         by_page ran_b false has = untouched test program call words b e ran_b inside has
 
     pub are_held : (planes : Planes) (start touched : List ℕ) (now : List Held) (at : List ℕ) → start ≡ words
-        → length start ≤ 65536 → ArePlanes planes → planes.elements ≡ length start →
+        → length start ≤ 65536 → StandForSome planes → planes.elements ≡ length start →
         now ≡ held → at ≡ places → length touched ≡ words_for (length start) → AreMarked (map shown now) at (length at)
         touched → AreHeld (length start) blocks places planes touched
-    are_held planes start touched now at same few whole count same_blocks same_places pages marked = record {
+    are_held planes start touched now at same few some count same_blocks same_places pages marked = record {
       few = few;
       within = within test program call words bounds blocks least places split all_ran counted;
       starts = subst (λ (n : ℕ). All (λ b. length b.copy.start ≡ n) blocks) (ap length (sym same))
           (have_starts test program call words blocks all_ran);
-      whole = whole;
+      whole = some.stand.whole;
+      stand = some;
       count = count;
       pages = pages;
       untouched = λ e inside.

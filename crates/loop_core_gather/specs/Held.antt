@@ -74,6 +74,7 @@ pub record AreHeld (elements : ℕ) (blocks : List BlockOf) (places : List ℕ) 
   pub within : All (λ place. place < length blocks) places
   pub starts : All (λ b. length b.copy.start ≡ elements) blocks
   pub whole : ArePlanes planes
+  pub stand : StandForSome planes
   pub count : planes.elements ≡ elements
   pub pages : length touched ≡ words_for elements
   pub untouched : (e : ℕ) → e < elements → TellsUntouched (slice_index touched (e / 64)) e blocks places

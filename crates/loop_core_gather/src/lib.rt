@@ -12,6 +12,7 @@ mod sharing;
 mod storing;
 mod summary;
 mod touched;
+mod workspace;
 
 pub use gathered::Gathered;
 pub use gathering::{GatherError, gather};

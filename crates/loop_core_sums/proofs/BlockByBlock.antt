@@ -52,8 +52,8 @@ module _ (l : SumLoopOf) (sums : List PartialSum) (are : AreSumsOf l sums) (old 
       (subst (λ (maps : MapList). RanTo l.program l.call (start_of are.bounds block) (end_of are.bounds block) now maps
       s.broke) (sym is) (its.adds now fit))
 
-  pub one_added : (block : ℕ) (s : PartialSum) (now new : MapList) → block < length sums → s ≡ slice_index_or sums block s
-      → Added block now → AreMapWords l.program now.words
+  pub one_added : (block : ℕ) (s : PartialSum) (now new : MapList) → block < length sums
+      → s ≡ slice_index_or sums block s → Added block now → AreMapWords l.program now.words
       → new ≡ record { sizes = now.sizes; words = combined_words l.op now.words s.maps.words } → s.broke ≡ None
       → Added (block + 1) new
   one_added block s now new below here added fit is none =

@@ -98,8 +98,8 @@ module _ (op : Op) (operands words : List ℕ) where
       subst (λ (k : ℕ). slice_index (slice_set (after_run count) k (combined op (slice_index (after_run count) k)
       (slice_index operands count))) e
       ≡ combined op (slice_index words e) (slice_index operands e)) at
-      (get_or-set_same (after_run count) e (combined op (slice_index (after_run count) e) (slice_index operands count)) 0
-      (omega (arith, inside, long))
+      (get_or-set_same (after_run count) e (combined op (slice_index (after_run count) e) (slice_index operands count))
+      0 (omega (arith, inside, long))
       ∙ ap (λ (word : ℕ). combined op word (slice_index operands count)) (not_yet count e (omega (arith, same)))
       ∙ ap (λ (k : ℕ). combined op (slice_index words e) (slice_index operands k)) (sym same))
 

@@ -130,7 +130,8 @@ module _ (l : SumLoopOf) (is : IsSumLoop l) (each : EachIterationEnds l.program)
           accesses = it.accesses;
           words = words_after_all it.accesses words;
         })
-    pub fits : (words : List ℕ) → AreMapWords l.program words → AreMapWords l.program (words_after_all it.accesses words)
+    pub fits : (words : List ℕ) → AreMapWords l.program words
+        → AreMapWords l.program (words_after_all it.accesses words)
 
   ended : (index : ℕ) → index < l.call.n → (words : List ℕ) → AreMapWords l.program words
       → (it : Iterated) × (iteration l.program 4096 l.call index words ≡ Ended it) × AreMapWords l.program it.words
@@ -179,7 +180,8 @@ module _ (l : SumLoopOf) (is : IsSumLoop l) (each : EachIterationEnds l.program)
       else rest_to l.program l.call past (from + 1) (words_after_all one.it.accesses words))
   one_done from past over one words fit b test =
       ap (λ (left : ℕ). loop_from l.program 4096 l.call left from words) (one_more past from over)
-      ∙ ap (followed (behind (loop_from l.program 4096 l.call (past - (from + 1)) (from + 1)) from)) (one.again words fit)
+      ∙ ap (followed (behind (loop_from l.program 4096 l.call (past - (from + 1)) (from + 1)) from))
+      (one.again words fit)
       ∙ ap (λ (t : Bool). if t then Ended (record { answer = from + 1; words = words_after_all one.it.accesses words })
       else rest_to l.program l.call past (from + 1) (words_after_all one.it.accesses words)) test
 

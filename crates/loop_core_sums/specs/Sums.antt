@@ -46,5 +46,5 @@ pub record AreSumsOf (l : SumLoopOf) (sums : List PartialSum) : Type 0 where
   pub bounds : List ℕ
   pub split : split_fault bounds l.call.n ≡ None
   pub count : length sums ≡ blocks_of bounds
-  pub each : (block : ℕ) (s : PartialSum) → block < length sums → IsSumOf l (start_of bounds block) (end_of bounds block)
-      (slice_index_or sums block s)
+  pub each : (block : ℕ) (s : PartialSum) → block < length sums
+      → IsSumOf l (start_of bounds block) (end_of bounds block) (slice_index_or sums block s)

@@ -12,3 +12,4 @@ pub mod ColumnLaws
 pub mod NotedCells
 pub mod CellLaws
 pub mod OverwriteLaws
+pub mod ClearLaws

@@ -3,6 +3,8 @@ pub mod Touched
 pub mod Copies
 pub mod Visits
 pub mod Cells
+pub mod Clearing
+pub mod Workspaces
 pub mod Columns
 pub mod Inside
 pub mod Shown

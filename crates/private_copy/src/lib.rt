@@ -15,6 +15,7 @@
 #![tactic(auto)]
 
 mod by_operator;
+mod clearing;
 mod columns;
 mod noting;
 mod noting_runs;
@@ -24,12 +25,14 @@ mod placed;
 pub mod private;
 pub mod reduction;
 pub mod store;
+pub mod workspace;
 
 ghost use Rattle.private_copy.specs.CopyLaw.{AccessesFollow};
 ghost use Rattle.private_copy.specs.Reductions.{PartialIsCombination};
 
 pub use private::{MAX_ACCESSES, Private};
 pub use reduction::Reduction;
+pub use workspace::CopyWorkspace;
 
 /// The law of partials: the partial of iterations at an element is what was combined there, where there
 /// was one operator alone.

@@ -17,10 +17,10 @@ const PAGE: u32 = 64;
 /// Pages of 64 elements. The numbers of those that were placed come first, in order of first access.
 #[derive(Drop)]
 pub(crate) struct Pages {
-    order: IndexSet<u32>,
-    placed: u32,
-    table: Vec<Option<Box<Page>>>,
-    spare: Vec<Option<Box<Page>>>,
+    pub(crate) order: IndexSet<u32>,
+    pub(crate) placed: u32,
+    pub(crate) table: Vec<Option<Box<Page>>>,
+    pub(crate) spare: Vec<Option<Box<Page>>>,
 }
 
 impl Model for Pages {

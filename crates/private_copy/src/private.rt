@@ -8,6 +8,7 @@ ghost use Rattle.private_copy.specs.Cells.{total_of, cell_at};
 
 use crate::page::Cell;
 use crate::pages::Pages;
+use crate::workspace::CopyWorkspace;
 use array_maps::{Maps, Op};
 use shadow_marks::{IterFlags, Planes};
 use std::alloc::{AllocError, Global};
@@ -41,7 +42,7 @@ pub struct Private<'a> {
 }
 
 /// The words of maps, each of which is below 2^64.
-fn words_of(maps: &Maps) -> &[u64]
+pub(crate) fn words_of(maps: &Maps) -> &[u64]
     ensures words { result.now ≡ maps.now.words }
     ensures fit { All (λ word. word < 2 ^ 64) result.now }
     ensures limits { length result.now ≤ 65536 }
@@ -68,16 +69,9 @@ impl<'a> Private<'a> {
         ensures begun { IfOk result (λ copy. (copy_of copy).begun ≡ 0) }
         ensures stands { IfOk result (λ copy. CopyRecords (copy_of copy) []) }
     {
-        let start = words_of(start);
-        let elements = start.len() as u32;
-        Ok(Private {
-            start,
-            pages: Pages::try_new(alloc, elements)?,
-            flags: IterFlags::try_new(alloc, elements)?,
-            begun: 0,
-            serves: 0,
-            under_way: false,
-        })
+        let elements = words_of(start).len() as u32;
+        let workspace = CopyWorkspace::try_new(alloc, elements)?;
+        Ok(Private::in_workspace(workspace, start))
     }
 
     /// Begins an iteration of at most n accesses, which is at most 4,096. None is under way, and

@@ -9,3 +9,4 @@ pub mod RunBits
 pub mod FoldRuns
 pub mod LanesInTurn
 pub mod LaneFoldLaws
+pub mod ClearLaws

@@ -7,3 +7,4 @@ pub mod Lanes
 pub mod Runs
 pub mod RunFolds
 pub mod LaneFolds
+pub mod Clearing

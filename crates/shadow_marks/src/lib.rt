@@ -10,6 +10,7 @@
 #![tactic(auto)]
 
 mod bits;
+mod clearing;
 mod element_flags;
 mod ending;
 pub mod iter_flags;

@@ -79,6 +79,16 @@ impl Planes {
             tested: tested_planes(alloc, elements, test)?,
         })
     }
+
+    /// The test that they are for.
+    pub fn test(&self) -> Test
+        ensures { result ≡ test_of self.now.tested }
+    {
+        match &self.tested {
+            Tested::Lrpd(_) => Test::Lrpd,
+            Tested::Flow(_) => Test::Flow,
+        }
+    }
 }
 
 /// A plane of bits, none of them set.

@@ -18,6 +18,7 @@ use Rattle.loop_core_sequential.specs.FilledCalls.{FilledCallsAreOneLoop}
 use Rattle.loop_core_sequential.specs.Loops.{RanLoopInOrder}
 use Rattle.loop_core_gather.specs.Gathered.{IsOutcome}
 use Rattle.spec_run_loop.specs.declared.decision.LoopAnswer.{LoopAnswer}
+use Rattle.spec_run_workers.specs.declared.workspace.Workspace.{Workspace}
 use Rattle.spec_run.specs.Calls.{RanCall, MayAnswer}
 
 -- a loop that ran in order
@@ -79,7 +80,8 @@ each_by_test test program call start left one_loop sound (Err e) is = tt
 
 -- what a call says of what it was lent, it says of the loop call and the maps
 pub told_of : {F E : Type 0}
-    {calls : Shared F (Bor LoopCall × (MutBor MapList × Unit {0})) (Result LoopAnswer E × (MutBor MapList × Unit {0}))}
+    {calls : Shared F (Bor LoopCall × (MutBor MapList × (MutBor Workspace × Unit {0})))
+    (Result LoopAnswer E × (MutBor MapList × (MutBor Workspace × Unit {0})))}
     {f : F} {call : LoopCall} {start left : MapList} {answered : Result LoopAnswer E}
     (P : LoopCall → MapList → MapList → Type 0) → (it : MayAnswer calls f call start answered left)
     → P it.lent.now it.maps.now it.after_call.now → P call start left

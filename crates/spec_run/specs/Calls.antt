@@ -14,6 +14,7 @@ use Rattle.loop_core_model.specs.declared.verdict.Verdict.{Verdict}
 use Rattle.loop_core_model.specs.declared.verdict.Verdict.TheVariants.{Refused}
 use Rattle.loop_core_sequential.specs.Loops.{RanLoopInOrder}
 use Rattle.spec_run_loop.specs.declared.decision.LoopAnswer.{LoopAnswer}
+use Rattle.spec_run_workers.specs.declared.workspace.Workspace.{Workspace}
 
 -- a loop call left what it leaves in order, and this is its verdict's line, whatever call main made of it
 pub record RanCall (line_of : LoopMade → BoundedResult LoopReport) (program : Program) (call : LoopCall)
@@ -31,12 +32,13 @@ TellsRefused line_of = (slot : ℕ) (answer : ℤ) (words : List ℕ) →
     ≡ Ended (record { slot = slot; answer = answer; verdict = Refused })
 
 module _ {F E : Type 0}
-    (calls : Shared F (Bor LoopCall × (MutBor MapList × Unit {0})) (Result LoopAnswer E × (MutBor MapList × Unit {0})))
+    (calls : Shared F (Bor LoopCall × (MutBor MapList × (MutBor Workspace × Unit {0})))
+    (Result LoopAnswer E × (MutBor MapList × (MutBor Workspace × Unit {0}))))
     (f : F) where
-  -- f may run a loop call on a `&mut` to these maps
+  -- f may run a loop call on a `&mut` to these maps, in any workspace
   abbrev pub MayRun : LoopCall → MapList → Type 0
-  MayRun call start = (lent : Bor LoopCall) (maps : MutBor MapList) → lent.now ≡ call → maps.now ≡ start
-      → calls.pre f (lent, (maps, tt))
+  MayRun call start = (lent : Bor LoopCall) (maps : MutBor MapList) (workspace : MutBor Workspace) → lent.now ≡ call
+      → maps.now ≡ start → calls.pre f (lent, (maps, (workspace, tt)))
 
   -- it may answer this, and leave these maps there
   pub record MayAnswer (call : LoopCall) (start : MapList) (answered : Result LoopAnswer E) (left : MapList) : Type 0
@@ -45,8 +47,10 @@ module _ {F E : Type 0}
       pub call_is : lent.now ≡ call
       pub maps : MutBor MapList
       pub start_is : maps.now ≡ start
+      pub workspace : MutBor Workspace
       pub after_call : MutBor MapList
-      pub ran : calls.post f (lent, (maps, tt)) (answered, (after_call, tt))
+      pub workspace_after : MutBor Workspace
+      pub ran : calls.post f (lent, (maps, (workspace, tt))) (answered, (after_call, (workspace_after, tt)))
       pub left_is : after_call.now ≡ left
 
   -- f runs the loop calls that main of a program makes, on maps of its sizes, as their lines tell

@@ -15,7 +15,7 @@ use bpf_step::{LoopCall, Main, Turned};
 use bpf_verify::Verified;
 use bpf_verify_sound::{law_of_accepted_programs, law_of_accepted_runs};
 use loop_core_model::{LoopReport, Verdict};
-use spec_run_loop::LoopAnswer;
+use spec_run_loop::{LoopAnswer, Workspace};
 use std::alloc::{AllocError, Global};
 
 /// How the loop calls of a program are judged: by a test, or not at all.
@@ -24,22 +24,26 @@ pub(crate) trait Judge {
     ghost line_of: { Self → Program → LoopMade → BoundedResult Line };
 }
 
-/// Runs a loop call on these maps.
-fn run_one<F: Fn(&LoopCall, &mut Maps) -> Result<LoopAnswer, AllocError>>(
+/// Runs a loop call on these maps, in a workspace.
+fn run_one<F: Fn(&LoopCall, &mut Maps, &mut Workspace) -> Result<LoopAnswer, AllocError>>(
     run_call: &F,
     call: &LoopCall,
     maps: &mut Maps,
+    workspace: &mut Workspace,
 ) -> Result<LoopAnswer, AllocError>
     requires { MayRun F.Fn run_call.now call.now maps.old }
     ensures { MayAnswer F.Fn run_call.now call.now maps.old result maps.new }
 {
-    run_call(call, maps)
+    run_call(call, maps, workspace)
 }
 
 /// Runs main of the program, its argument in R1, on these maps, which are of its sizes, and changes them as it goes.
-/// Each loop call is run by `run_call`, and told as the judge says. Where memory runs out the maps stay as they are
-/// then.
-pub(crate) fn run_main<J: Judge, F: Fn(&LoopCall, &mut Maps) -> Result<LoopAnswer, AllocError>>(
+/// Each loop call is run by `run_call`, all in one workspace, and told as the judge says. Where memory runs out the
+/// maps stay as they are then.
+pub(crate) fn run_main<
+    J: Judge,
+    F: Fn(&LoopCall, &mut Maps, &mut Workspace) -> Result<LoopAnswer, AllocError>,
+>(
     alloc: Global,
     program: &Verified,
     maps: &mut Maps,
@@ -61,10 +65,11 @@ pub(crate) fn run_main<J: Judge, F: Fn(&LoopCall, &mut Maps) -> Result<LoopAnswe
     Store::words_fit(maps);
     let mut loops = Vec::new(alloc);
     let mut main = Main::new(program, argument);
+    let mut workspace = Workspace::new();
     loop {
         match main.next(maps) {
             Turned::Loop(call) => {
-                let answered = run_one(run_call, &call, maps)?;
+                let answered = run_one(run_call, &call, maps, &mut workspace)?;
                 main.resume(answered.answer);
                 loops.push(LoopReport {
                     slot: call.slot(),

@@ -14,7 +14,7 @@ use bpf_step::LoopCall;
 use bpf_verify::Verified;
 use loop_core_model::Verdict;
 use loop_core_sequential::in_order;
-use spec_run_loop::{LoopAnswer, RunError};
+use spec_run_loop::{LoopAnswer, RunError, Workspace};
 use std::alloc::{AllocError, Global};
 
 /// Runs the program on the maps, its argument in R1, with each loop in order. It runs on a copy, which
@@ -39,7 +39,10 @@ pub fn run_in_order(
         return Err(RunError::Sizes);
     }
     let mut left = maps.try_copy(alloc)?;
-    let run_call = |call: &LoopCall, maps: &mut Maps| -> Result<LoopAnswer, AllocError>
+    let run_call = |call: &LoopCall, maps: &mut Maps, _workspace: &mut Workspace| -> Result<
+        LoopAnswer,
+        AllocError,
+    >
         requires { OverApproximatesCall program.now call.now × (maps.old.sizes ≡ program.now.sizes) }
         ensures { IfOk result (λ a. RanCall loop_report_in_order program.entry.now call.now maps.old maps.new
             a.answer a.verdict) }

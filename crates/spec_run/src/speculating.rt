@@ -14,7 +14,7 @@ use bpf_step::LoopCall;
 use bpf_verify::Verified;
 use loop_core_sequential::law_of_filled_calls;
 use loop_core_split::Gate;
-use spec_run_loop::{LoopAnswer, RunError, run_loop_evenly};
+use spec_run_loop::{LoopAnswer, RunError, Workspace, run_loop_evenly};
 use spec_run_plan::Plan;
 use std::alloc::{AllocError, Global};
 use std::thread::Threads;
@@ -51,7 +51,10 @@ pub fn run<R: Threads + Sync, G: Gate>(
     law_of_filled_calls();
     // This tells the proof that the program is accepted.
     let _unit = program.unit();
-    let run_call = |call: &LoopCall, maps: &mut Maps| -> Result<LoopAnswer, AllocError>
+    let run_call = |call: &LoopCall, maps: &mut Maps, workspace: &mut Workspace| -> Result<
+        LoopAnswer,
+        AllocError,
+    >
         requires { IsPlan plan.now × OverApproximatesCall program.now call.now × (maps.old.sizes ≡ program.now.sizes) }
         ensures { IfOk result (λ a. IsOutcome plan.entry.now.test program.entry.now call.now maps.old a.verdict a.answer
             maps.new) }
@@ -64,6 +67,7 @@ pub fn run<R: Threads + Sync, G: Gate>(
             maps,
             plan.blocks,
             plan.workers,
+            workspace,
             gate,
             plan.test,
         )

@@ -12,4 +12,4 @@ pub use decision::LoopAnswer;
 pub use error::RunError;
 pub use loop_core_gather::LoopOutcome;
 pub use looping::{run_loop, run_loop_evenly};
-pub use spec_run_workers::work;
+pub use spec_run_workers::{Workspace, work};

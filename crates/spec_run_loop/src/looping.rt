@@ -13,7 +13,7 @@ ghost use Rattle.spec_run_workers.specs.Workers.{AreFaultless};
 
 use crate::decision::{Decision, LoopAnswer};
 use crate::error::RunError;
-use crate::paying::{busy_workers, elements_of, worthwhile_split};
+use crate::paying::{busy_workers, elements_of, work_by_blocks, work_in_order, worthwhile_split};
 use crate::summing::{run_sums, run_sums_on_copy, sum_loop};
 use array_maps::Maps;
 use bpf_step::LoopCall;
@@ -24,7 +24,7 @@ use loop_core_event::MAX_WORKERS;
 use loop_core_gather::{GatherError, Gathered, LeftPage, LoopOutcome, gather};
 use loop_core_model::{Test, Verdict};
 use loop_core_split::{Gate, Split};
-use spec_run_workers::{law_of_workers, run_alone, run_workers};
+use spec_run_workers::{Workspace, law_of_workers, run_alone, run_workers};
 use std::alloc::{AllocError, Global};
 use std::thread::Threads;
 
@@ -53,15 +53,16 @@ fn gather_all<'a>(
     }
 }
 
-/// Runs the one block of a loop in the calling thread, and gathers it.
+/// Runs the one block of a loop in the calling thread, in a workspace, and gathers it.
 fn speculate_alone<'a, G: Gate>(
     of: &SpeculativeLoop<'_, 'a>,
+    workspace: &mut Workspace,
     gate: &G,
 ) -> Result<Gathered<'a>, AllocError>
     requires { blocks_of of.now.bounds ≡ 1 }
     ensures { IfOk result (HasOutcomeOf of.now) }
 {
-    let blocks = run_alone(of, gate)?;
+    let blocks = run_alone(of, workspace, gate)?;
     gather_all(of, blocks)
 }
 
@@ -101,6 +102,7 @@ fn speculate<'a, R: Threads + Sync, G: Gate>(
     rt: &R,
     of: &SpeculativeLoop<'_, 'a>,
     workers: u32,
+    workspace: &mut Workspace,
     gate: &G,
 ) -> Result<Gathered<'a>, AllocError>
     requires some { 0 < workers }
@@ -108,7 +110,7 @@ fn speculate<'a, R: Threads + Sync, G: Gate>(
     ensures { IfOk result (HasOutcomeOf of.now) }
 {
     if needs_no_workers(of, gate) {
-        speculate_alone(of, gate)
+        speculate_alone(of, workspace, gate)
     } else {
         speculate_by_workers(rt, of, workers, gate)
     }
@@ -130,26 +132,44 @@ fn left_pages<R: Threads + Sync>(
     }
 }
 
-/// What becomes of a loop that is run by 1 to 16 workers.
+/// What becomes of a loop by its gathered blocks.
 #[tactic(auto, using(crate::proofs::PassLaws::passes_so))]
+fn decision_by<R: Threads + Sync>(
+    rt: &R,
+    of: &SpeculativeLoop,
+    workers: u32,
+    gathered: &Gathered,
+) -> Result<Decision, AllocError>
+    requires { HasOutcomeOf of.now gathered.now }
+    ensures { IfOk result (IsDecision of.now.test of.now.program of.now.call of.now.start.words) }
+{
+    match gathered.verdict() {
+        Verdict::Parallel => Ok(Decision::Commit {
+            answer: gathered.answer(),
+            pages: left_pages(rt, of.alloc, workers, gathered)?,
+        }),
+        verdict => Ok(Decision::Discard { verdict }),
+    }
+}
+
+/// What becomes of a loop that is run by 1 to 16 workers, or by the calling thread in a workspace.
 fn decided<R: Threads + Sync, G: Gate>(
     rt: &R,
     of: &SpeculativeLoop,
     workers: u32,
+    workspace: &mut Workspace,
     gate: &G,
 ) -> Result<Decision, AllocError>
     requires some { 0 < workers }
     requires few { workers ≤ 16 }
     ensures { IfOk result (IsDecision of.now.test of.now.program of.now.call of.now.start.words) }
 {
-    let gathered = speculate(rt, of, workers, gate)?;
-    match gathered.verdict() {
-        Verdict::Parallel => Ok(Decision::Commit {
-            answer: gathered.answer(),
-            pages: left_pages(rt, of.alloc, workers, &gathered)?,
-        }),
-        verdict => Ok(Decision::Discard { verdict }),
+    let gathered = speculate(rt, of, workers, workspace, gate)?;
+    let decision = decision_by(rt, of, workers, &gathered)?;
+    if let Some(free) = gathered.into_workspace() {
+        workspace.keep(free);
     }
+    Ok(decision)
 }
 
 /// What becomes of a loop that is run by 1 to 16 workers: over its split where the gate may hold somebody, and else
@@ -164,18 +184,13 @@ fn decided_by_plan<R: Threads + Sync, G: Gate>(
     requires few { workers ≤ 16 }
     ensures { IfOk result (IsDecision of.now.test of.now.program of.now.call of.now.start.words) }
 {
+    let mut workspace = Workspace::new();
     if gate.may_hold() {
-        return decided(rt, of, workers, gate);
+        return decided(rt, of, workers, &mut workspace, gate);
     }
     let most = of.split.blocks();
-    let busy = busy_workers(
-        of.program,
-        of.call,
-        elements_of(of.start),
-        most,
-        workers,
-        gate,
-    );
+    let work = work_by_blocks(of.program, of.call);
+    let busy = busy_workers(work, elements_of(of.start), most, workers, gate);
     let split = worthwhile_split(of.program, of.call, of.start, most, busy, gate);
     let even = SpeculativeLoop {
         alloc: of.alloc,
@@ -185,12 +200,12 @@ fn decided_by_plan<R: Threads + Sync, G: Gate>(
         split: &split,
         test: of.test,
     };
-    decided(rt, &even, busy, gate)
+    decided(rt, &even, busy, &mut workspace, gate)
 }
 
 /// Runs a loop call that main of this program made, as `run_loop` does, by 1 to 16 workers over at most n even
 /// blocks, 1 to 64: on these maps themselves, which are of the program's sizes, and change only where it gives an
-/// answer.
+/// answer. What the calling thread runs alone is run in the workspace, which may be that of other loop calls.
 pub fn run_loop_evenly<R: Threads + Sync, G: Gate>(
     rt: &R,
     alloc: Global,
@@ -199,6 +214,7 @@ pub fn run_loop_evenly<R: Threads + Sync, G: Gate>(
     maps: &mut Maps,
     blocks: u32,
     workers: u32,
+    workspace: &mut Workspace,
     gate: &G,
     test: Test,
 ) -> Result<LoopAnswer, AllocError>
@@ -212,10 +228,11 @@ pub fn run_loop_evenly<R: Threads + Sync, G: Gate>(
     ensures kept { OnErr result (maps.new ≡ maps.old) }
 {
     if let Some(sums) = sum_loop(program, call, gate) {
-        let busy = busy_workers(program, call, 0, blocks, workers, gate);
+        let busy = busy_workers(work_in_order(program, call), 0, blocks, workers, gate);
         return run_sums(rt, alloc, &sums, maps, busy);
     }
-    let busy = busy_workers(program, call, elements_of(maps), blocks, workers, gate);
+    let work = work_by_blocks(program, call);
+    let busy = busy_workers(work, elements_of(maps), blocks, workers, gate);
     let split = worthwhile_split(program, call, maps, blocks, busy, gate);
     let of = SpeculativeLoop {
         alloc,
@@ -225,7 +242,7 @@ pub fn run_loop_evenly<R: Threads + Sync, G: Gate>(
         split: &split,
         test,
     };
-    let decision = decided(rt, &of, busy, gate)?;
+    let decision = decided(rt, &of, busy, workspace, gate)?;
     Ok(decision.carry_out(program, call, maps, test))
 }
 
@@ -263,7 +280,7 @@ pub fn run_loop<R: Threads + Sync, G: Gate>(
         return Err(RunError::Plan);
     }
     if let Some(sums) = sum_loop(program, call, gate) {
-        let busy = busy_workers(program, call, 0, split.blocks(), workers, gate);
+        let busy = busy_workers(work_in_order(program, call), 0, split.blocks(), workers, gate);
         return Ok(run_sums_on_copy(rt, alloc, &sums, start, busy)?);
     }
     let of = SpeculativeLoop {

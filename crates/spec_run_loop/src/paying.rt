@@ -20,6 +20,9 @@ const SHARE: u64 = 2_000_000;
 /// that is new, merged and committed. So a loop of few iterations over many elements is bound by memory.
 const ELEMENT: u64 = 1_000;
 
+/// How many iterations an element a share of a loop that adds up has at least, where there are several.
+const VISITS: u32 = 32;
+
 /// A loop of fewer shares is run by the calling thread alone.
 const LEAST_SHARES: u64 = 4;
 
@@ -27,10 +30,15 @@ const LEAST_SHARES: u64 = 4;
 /// some 31 bytes for each element that a block touches.
 const MOST_KEPT: u32 = 1_048_576;
 
-/// How many instructions a loop call is to do at most, by its iterations and the most instructions of one.
-fn work_of(program: &Verified, call: &LoopCall) -> u64 {
-    let each = BOOKKEEPING + u64::from(most_instructions(program, call.callback()));
-    u64::from(call.n()).saturating_mul(each)
+/// How many instructions a loop call that runs in order is to do at most, by its iterations and the most instructions of
+/// one.
+pub(crate) fn work_in_order(program: &Verified, call: &LoopCall) -> u64 {
+    u64::from(call.n()) * u64::from(most_instructions(program, call.callback()))
+}
+
+/// The same of one that runs by blocks, with its bookkeeping.
+pub(crate) fn work_by_blocks(program: &Verified, call: &LoopCall) -> u64 {
+    work_in_order(program, call).saturating_add(u64::from(call.n()) * BOOKKEEPING)
 }
 
 /// What its elements cost each worker and each block of a loop, in instructions.
@@ -45,12 +53,11 @@ pub(crate) fn elements_of(maps: &Maps) -> u32 {
     maps.words().len() as u32
 }
 
-/// How many workers of n, 1 to 16, a loop keeps busy that is run over at most this many blocks, where each worker keeps
-/// marks and a copy of this many elements. Where the gate holds nobody, no more than there are shares or blocks, and
-/// one where the shares are few.
+/// How many workers of n, 1 to 16, a loop of so much work keeps busy that is run over at most this many blocks, where
+/// each worker keeps marks and a copy of this many elements. Where the gate holds nobody, no more than there are shares
+/// or blocks, and one where the shares are few.
 pub(crate) fn busy_workers<G: Gate>(
-    program: &Verified,
-    call: &LoopCall,
+    work: u64,
     elements: u32,
     most: u32,
     workers: u32,
@@ -66,7 +73,7 @@ pub(crate) fn busy_workers<G: Gate>(
         return workers;
     }
     let share = SHARE + cost_of_elements(elements);
-    let shares = work_of(program, call) / share;
+    let shares = work / share;
     if shares < LEAST_SHARES {
         return 1;
     }
@@ -75,15 +82,14 @@ pub(crate) fn busy_workers<G: Gate>(
 }
 
 /// How many of the workers that a loop of n iterations keeps busy, 1 to 16, are worth a share of it where it adds up:
-/// each of them makes a word for each element, which is combined with the maps. One for as many iterations as there are
-/// elements.
+/// each of them makes a word for each element, which is combined with the maps.
 pub(crate) fn worthwhile_shares(call: &LoopCall, start: &Maps, busy: u32) -> u32
     requires some { 0 < busy }
     requires few { busy ≤ 16 }
     ensures some { 0 < result }
     ensures few { result ≤ 16 }
 {
-    (call.n() / elements_of(start).max(1)).min(busy).max(1)
+    (call.n() / VISITS / elements_of(start).max(1)).min(busy).max(1)
 }
 
 /// How many even blocks a loop is run over, of at most this many. Where the gate holds nobody, only those that are
@@ -111,7 +117,7 @@ fn worthwhile_blocks<G: Gate>(
     }
     let elements = elements_of(start).max(1);
     let kept = MOST_KEPT / elements;
-    let worth = work_of(program, call) / cost_of_elements(elements);
+    let worth = work_by_blocks(program, call) / cost_of_elements(elements);
     let worth = worth.min(u64::from(kept)) as u32;
     worth.max(workers).min(most)
 }

@@ -3,11 +3,13 @@
 
 mod worker;
 mod working;
+mod workspace;
 
 ghost use Rattle.spec_run_workers.specs.CompleteLaw.{WorkersComplete};
 
 pub use worker::{run_alone, run_workers};
 pub use working::work;
+pub use workspace::Workspace;
 
 /// The law of workers: where the histories of all seats are legal, as those that `Board::gather` tells of,
 /// the blocks of the workers are complete: none is missing that starts at or before their least break, none

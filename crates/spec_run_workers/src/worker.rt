@@ -9,6 +9,7 @@ ghost use Rattle.loop_core_block.specs.Shown.{shown};
 ghost use Rattle.spec_run_workers.specs.Workers.{board_worker, IsWorkerAt, AreOfWorkers, AreFaultless};
 
 use crate::working::work;
+use crate::workspace::Workspace;
 use loop_board::{Board, BoardSeat};
 use loop_core_block::{Block, SpeculativeLoop};
 use loop_core_split::Gate;
@@ -84,16 +85,18 @@ fn seats_and_blocks<'a>(
     Ok((seats, blocks))
 }
 
-/// Runs the one block of a loop in the calling thread.
+/// Runs the one block of a loop in the calling thread, in a workspace.
 pub fn run_alone<'a, G: Gate>(
     of: &SpeculativeLoop<'_, 'a>,
+    workspace: &mut Workspace,
     gate: &G,
 ) -> Result<Vec<Block<'a>>, AllocError>
     requires { blocks_of of.now.bounds ≡ 1 }
     ensures ran { IfOk result (λ blocks. All (λ b. RecordsRunOf of.now (shown b)) blocks.items) }
     ensures faultless { IfOk result (λ blocks. AreFaultless of.now (map shown blocks.items)) }
 {
-    let block = of.run_block(0, gate)?;
+    let workspace = workspace.take(of.alloc, of.elements(), of.test)?;
+    let block = of.run_block_in(workspace, 0, gate)?;
     let mut blocks = Vec::new(of.alloc);
     blocks.push(block)?;
     Ok(blocks)

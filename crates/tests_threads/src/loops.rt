@@ -166,11 +166,15 @@ fn programs_are_run_in_each_way(rt: HostRuntime) -> Result<(), Fail> {
     programs_are_told(&rt, rt.alloc(), Test::Lrpd, BY_BOTH)
 }
 
-/// Two loops in turn; a call of too many iterations; and calls with flags, whatever their iterations.
+/// Two loops in turn, also where the first conflicts; a call of too many iterations; and calls with flags, whatever
+/// their iterations.
 const OTHER_CALLS: &str = "
     maps 2 | mov64 r6, 3 | mov64 r1, r6 | ldcode r2, cb | mov64 r3, 0 | mov64 r4, 0 | call 181 | mov64 r1, r6 | LOOP | \
         ldmapval r3, 0, 8 | atomic64 add [r3+0], r1 | END \
         => return 3 | loop 0 at 6: answer 3, parallel | loop 1 at 12: answer 3, parallel | map 0: 0 6
+    maps 5 | mov64 r1, 4 | ldcode r2, on | mov64 r3, 0 | mov64 r4, 0 | call 181 | mov64 r1, 5 | LOOP | \
+        AT | stx64 [r3+0], r1 | END | on: | AT | ldx64 r4, [r3+0] | stx64 [r3+8], r4 | END | %% | map 0: 9 0 0 0 0 \
+        => return 5 | loop 0 at 5: answer 4, conflict 3 least 1 | loop 1 at 11: answer 5, parallel | map 0: 0 1 2 3 4
     maps 1 | mov64 r1, 8388609 | LOOP | END \
         => return 18446744073709551609 | loop 0 at 5: answer -7, refused | map 0: 0
     maps 1 | mov64 r1, 8388608 | ldcode r2, cb | mov64 r3, 0 | mov64 r4, 1 | call 181 | exit | cb: | END \

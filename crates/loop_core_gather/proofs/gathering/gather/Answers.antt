@@ -68,7 +68,7 @@ invariant_of-result c =
     c.args.blocks.items c.deref-2.result.now c.requires.ran (made at.In-Ok) c.in-Ok.counting.least
     c.in-Ok.counting.places.items c.requires.split c.in-Ok.ensures.counts c.in_ok-planes.planes
     c.words-words.result.now c.in_ok-touched.touched.items c.deref-3.result.now c.deref-4.result.now
-    c.words-words.ensures.words c.words-words.ensures.limits c.in_ok-planes.ensures.whole
+    c.words-words.ensures.words c.words-words.ensures.limits c.in_ok-planes.ensures.stand
     c.in_ok-planes.ensures.elements c.deref-3.ensures.value c.deref-4.ensures.0 c.in_ok-touched.ensures.pages
     c.in_ok-touched.ensures.marked)
 

@@ -70,8 +70,8 @@ pub returns : goal.returns
 returns c =
     let past = c.loop-index-test.false in
     let within = c.loop-index.invariant.within in
-    went_to c.args.program.now c.args.call.now c.args.from c.loop-index.index c.args.to c.args.maps.now c.loop-index.maps
-    (omega (arith, past, within)) c.loop-index.invariant.went
+    went_to c.args.program.now c.args.call.now c.args.from c.loop-index.index c.args.to c.args.maps.now
+    c.loop-index.maps (omega (arith, past, within)) c.loop-index.invariant.went
 
 pub loop-index-smaller-then-index-next : goal.loop-index-smaller-then-index-next
 loop-index-smaller-then-index-next c =

@@ -14,7 +14,7 @@ run_main-requires-clause-runs g c =
     } in
     let test = c.args.plan.now.test in
     record {
-      may = λ call start known sizes lent maps call_is start_is. (
+      may = λ call start known sizes lent maps workspace call_is start_is. (
         (
           search rules,
           subst (λ (call : LoopCall). OverApproximatesCall c.args.program.now call) (sym call_is) known,

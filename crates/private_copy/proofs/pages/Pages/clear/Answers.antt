@@ -1,0 +1,57 @@
+use Rattle.std.proofs.Common.{◌≡◌, ◌-◌, Some, refl, sym, ◌∙◌, arith, length-set}
+use Rattle.std.specs.Prelude.{slice_get}
+use Rattle.private_copy.proofs.ClearLaws.{placed_among, back_from, none_from, blank_cells_all}
+use Rattle.private_copy.proofs.pages.Pages.clear.Goals as goal
+
+pub loop-self-init : goal.loop-self-init
+loop-self-init c = record {
+  order = refl;
+  long = refl;
+  within = c.self.invariant.within;
+  among = placed_among c.self.inside.order.keys c.self.inside.placed c.self.inside.table.items c.self.invariant.placed;
+  spare = c.self.invariant.blank;
+}
+
+pub loop-self-preserved-then-number-len : goal.loop-self-preserved-then-number-len
+loop-self-preserved-then-number-len c =
+    let now = c.loop-self.self-inside in
+    let left = c.loop-self-test.true in
+    let all = c.loop-self.invariant.within in
+    let small = c.if-number-len.true in
+    let len = c.len.ensures in
+    let long = now.table.ok.0 in
+    let read : slice_get now.order.keys (now.placed - 1) ≡ Some c.in-Some.number =
+    sym c.get_index.ensures.key ∙ sym c.copied.ensures ∙ c.in-Some.is in
+    record {
+      order = c.loop-self.invariant.order;
+      long = length-set _ _ _ ∙ c.loop-self.invariant.long;
+      within = omega (arith, all);
+      among = back_from now.order.keys now.placed c.in-Some.number now.table.items c.take_back.new.place left read
+          (omega (arith, small, len, long)) c.take_back.ensures.taken c.loop-self.invariant.among;
+      spare = c.take_back.ensures.spare;
+    }
+
+pub loop-self-preserved-else-number-len : goal.loop-self-preserved-else-number-len
+loop-self-preserved-else-number-len c =
+    let now = c.loop-self.self-inside in
+    let left = c.loop-self-test.true in
+    let all = c.loop-self.invariant.within in
+    let large = c.if-number-len.false in
+    let len = c.len.ensures in
+    let long = now.table.ok.0 in
+    let read : slice_get now.order.keys (now.placed - 1) ≡ Some c.in-Some.number =
+    sym c.get_index.ensures.key ∙ sym c.copied.ensures ∙ c.in-Some.is in
+    record {
+      order = c.loop-self.invariant.order;
+      long = c.loop-self.invariant.long;
+      within = omega (arith, all);
+      among = none_from now.order.keys now.placed c.in-Some.number now.table.items left read
+          (omega (arith, large, len, long)) c.loop-self.invariant.among;
+      spare = c.loop-self.invariant.spare;
+    }
+
+pub returns-clause-cells : goal.returns-clause-cells
+returns-clause-cells c e =
+    let now = c.loop-self.self-inside in
+    let end = c.loop-self-test.false in
+    blank_cells_all now.order.keys now.placed now.table.items (omega (arith, end)) c.loop-self.invariant.among e

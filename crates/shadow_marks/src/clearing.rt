@@ -1,0 +1,152 @@
+//! Marks and flags that are taken away again, so that others can be made in their place.
+
+ghost use Rattle.std.specs.Prelude.{◌≡◌, ◌*◌, ◌<◌, ◌≤◌, ℕ, List, false, length};
+ghost use Rattle.array_maps.specs.declared.access.Op.{Op as Operator};
+ghost use Rattle.loop_core_model.specs.Marks.{Visit};
+ghost use Rattle.shadow_marks.specs.Iteration.{element_count, IsEmptied};
+ghost use Rattle.shadow_marks.specs.Standing.{words_for, plane_by, ArePlanes, AreTested, AreLrpdPlanes, AreFlowPlanes, StandFor, no_visits};
+ghost use Rattle.shadow_marks.specs.Ending.{KeepsShape};
+ghost use Rattle.shadow_marks.specs.Runs.{ChangesRun};
+ghost use Rattle.shadow_marks.specs.Clearing.{ClearsBits, SetsNumbers, OperatorsClear, LrpdClears, FlowClears, TestedClears, ClearsPage, IsUnmarkedPage};
+
+use crate::iter_flags::IterFlags;
+use crate::planes::{FlowPlanes, LrpdPlanes, NO_WRITER, OperatorPlanes, Planes, Tested};
+
+/// Elements in a page.
+const PAGE: usize = 64;
+
+impl Planes {
+    /// Takes away the marks of all iterations: the planes are as if none had ended on them. Only pages of 64 elements
+    /// that were marked are written.
+    pub fn clear(&mut self)
+        requires { ArePlanes self.old }
+        ensures shape { KeepsShape self.old self.new }
+        ensures none { (visits : ℕ → List Visit) → StandFor self.old visits → StandFor self.new no_visits }
+    {
+        for page in 0..self.plain.len() {
+            if self.is_marked(page) {
+                self.clear_page(page);
+            }
+        }
+    }
+
+    /// Whether an iteration accessed an element of a page.
+    #[inline]
+    fn is_marked(&self, page: usize) -> bool
+        requires whole { ArePlanes self.now }
+        requires within { page < words_for self.now.elements }
+        ensures { result ≡ false → IsUnmarkedPage self.now page }
+    {
+        let by = &self.operators;
+        (self.plain[page]
+            | by.add[page]
+            | by.or[page]
+            | by.and[page]
+            | by.xor[page]
+            | by.addh[page])
+            != 0
+    }
+
+    /// Takes away the marks of a page's elements.
+    fn clear_page(&mut self, page: usize)
+        requires whole { ArePlanes self.old }
+        requires within { page < words_for self.old.elements }
+        ensures { ClearsPage self.old self.new page }
+    {
+        clear_bits(&mut self.plain, page);
+        self.operators.clear_page(page);
+        self.tested.clear_page(self.elements as usize, page);
+    }
+}
+
+impl OperatorPlanes {
+    fn clear_page(&mut self, page: usize)
+        requires { (op : Operator) → page < length (plane_by self.old op) }
+        ensures { OperatorsClear self.old self.new page }
+    {
+        clear_bits(&mut self.add, page);
+        clear_bits(&mut self.or, page);
+        clear_bits(&mut self.and, page);
+        clear_bits(&mut self.xor, page);
+        clear_bits(&mut self.addh, page);
+    }
+}
+
+impl Tested {
+    /// The same of what a test needs of so many elements.
+    fn clear_page(&mut self, elements: usize, page: usize)
+        requires whole { AreTested elements self.old }
+        requires within { page < words_for elements }
+        ensures { TestedClears self.old self.new page }
+    {
+        match self {
+            Tested::Lrpd(planes) => planes.clear_page(elements, page),
+            Tested::Flow(planes) => planes.clear_page(elements, page),
+        }
+    }
+}
+
+impl LrpdPlanes {
+    fn clear_page(&mut self, elements: usize, page: usize)
+        requires whole { AreLrpdPlanes elements self.old }
+        requires within { page < words_for elements }
+        ensures { LrpdClears self.old self.new page }
+    {
+        clear_bits(&mut self.written, page);
+        clear_bits(&mut self.written_by_two, page);
+        clear_bits(&mut self.read_only, page);
+        clear_bits(&mut self.read_and_written, page);
+    }
+}
+
+impl FlowPlanes {
+    fn clear_page(&mut self, elements: usize, page: usize)
+        requires whole { AreFlowPlanes elements self.old }
+        requires within { page < words_for elements }
+        ensures { FlowClears self.old self.new page }
+    {
+        set_numbers(&mut self.first, page, NO_WRITER);
+        set_numbers(&mut self.last, page, 0);
+    }
+}
+
+impl IterFlags {
+    /// Empties the flags of all elements.
+    pub fn clear(&mut self)
+        ensures emptied { IsEmptied self.new }
+        ensures same_elements { element_count self.new ≡ element_count self.old }
+    {
+        while let Some(_taken) = self.take() {}
+    }
+}
+
+/// Takes away the bits of a page's elements.
+#[inline]
+fn clear_bits(words: &mut [u64], page: usize)
+    requires { page < length words.old }
+    ensures { ClearsBits words.old words.new page }
+{
+    words[page] = 0;
+}
+
+/// Sets the numbers of a page's elements to one number.
+#[inline]
+fn set_numbers(numbers: &mut [u32], page: usize, number: u32)
+    requires { PAGE * page ≤ length numbers.old }
+    ensures { SetsNumbers numbers.old numbers.new page number }
+{
+    let first = PAGE * page;
+    let past = numbers.len().min(first + PAGE);
+    set_all(numbers, first, past, number);
+}
+
+/// Sets the numbers of elements from a first one up to another to one number.
+fn set_all(numbers: &mut [u32], first: usize, past: usize, number: u32)
+    requires rising { first ≤ past }
+    requires within { past ≤ length numbers.old }
+    ensures { ChangesRun numbers.old numbers.new first past (λ kept lane. number) }
+{
+    for e in first..past {
+        numbers[e] = number;
+    }
+}
