@@ -280,7 +280,13 @@ pub fn run_loop<R: Threads + Sync, G: Gate>(
         return Err(RunError::Plan);
     }
     if let Some(sums) = sum_loop(program, call, gate) {
-        let busy = busy_workers(work_in_order(program, call), 0, split.blocks(), workers, gate);
+        let busy = busy_workers(
+            work_in_order(program, call),
+            0,
+            split.blocks(),
+            workers,
+            gate,
+        );
         return Ok(run_sums_on_copy(rt, alloc, &sums, start, busy)?);
     }
     let of = SpeculativeLoop {

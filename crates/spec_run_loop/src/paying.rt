@@ -89,7 +89,9 @@ pub(crate) fn worthwhile_shares(call: &LoopCall, start: &Maps, busy: u32) -> u32
     ensures some { 0 < result }
     ensures few { result ≤ 16 }
 {
-    (call.n() / VISITS / elements_of(start).max(1)).min(busy).max(1)
+    (call.n() / VISITS / elements_of(start).max(1))
+        .min(busy)
+        .max(1)
 }
 
 /// How many even blocks a loop is run over, of at most this many. Where the gate holds nobody, only those that are
