@@ -4,3 +4,4 @@ pub mod Ranges
 pub mod Passing
 pub mod Callbacks
 pub mod BlockByBlock
+pub mod FunctionEnds

@@ -1,11 +1,16 @@
 -- Loops that add up: their iterations do nothing to the maps but reduce elements by one operator.
-use Rattle.std.specs.Prelude.{◌≡◌, ℕ, ◌<◌, List}
+use Rattle.std.specs.Prelude.{◌≡◌, ℕ, ◌<◌, List, slice_index_or}
 use Rattle.array_maps.specs.declared.access.Op.{Op}
-use Rattle.bpf_insn_types.specs.Program.{Program}
+use Rattle.bpf_insn_types.specs.declared.insn.SimpleOp.{SimpleOp}
+use Rattle.bpf_insn_types.specs.Program.{Program, slot_count, callback_starts, function_of}
 use Rattle.bpf_step_model.specs.State.{LoopCall}
+use Rattle.bpf_step_model.specs.Step.{map_operator}
 use Rattle.bpf_step_model.specs.Run.{Ended}
 use Rattle.bpf_step_model.specs.Iteration.{Iterated, iteration}
 use Rattle.bpf_verify_sound.specs.Soundness.{AreMapWords, OverApproximatesCall}
+use Rattle.bpf_step_ir.specs.declared.plain_op.PlainOp.{PlainOp}
+use Rattle.bpf_step_ir.specs.Translation.{AreOps}
+use Rattle.bpf_step_sums.specs.SumOps.{AddUp}
 use Rattle.bpf_step_sums.specs.SumLaw.{AllReduce}
 use Rattle.loop_core_model.specs.declared.loop_test.Test.{Test}
 use Rattle.loop_core_model.specs.declared.verdict.Verdict.TheVariants.{Parallel}
@@ -31,3 +36,15 @@ pub record IsSumLoop (l : SumLoopOf) : Type 0 where
 abbrev pub AlwaysPasses : SumLoopOf → Type 0
 AlwaysPasses l = (test : Test) (words : List ℕ) → AreMapWords l.program words → verdict test l.program 4096 l.call words
     ≡ Ended Parallel
+
+-- where the function in which a slot lies ends: with the next callback's start, or with the program's slots; the start
+-- of callback 1 is at index 0
+abbrev pub function_end : Program → ℕ → ℕ
+function_end program slot =
+    slice_index_or (callback_starts program.insns) (function_of program.insns slot) (slot_count program.insns)
+
+-- the operations of a call's callback, from its first slot up to its function's end, add up by no operator
+pub record AddsUpByNone (program : Program) (call : LoopCall) : Type 0 where
+  pub ops : List PlainOp
+  pub are : AreOps program ops
+  pub refused : (op : SimpleOp) → ¬ (AddUp (map_operator op) ops call.callback (function_end program call.callback))

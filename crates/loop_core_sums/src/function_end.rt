@@ -1,18 +1,21 @@
 //! Where functions end.
 
-ghost use Rattle.std.specs.Prelude.{◌≤◌};
+ghost use Rattle.std.specs.Prelude.{◌≡◌};
+ghost use Rattle.bpf_insn_types.specs.Program.{slot_count};
+ghost use Rattle.loop_core_sums.specs.SumLoops.{function_end};
 
 use bpf_verify::Verified;
 
-/// The slot after a function's last one, by the slot at which it starts: where the next function starts, or so many
-/// slots end.
-pub(crate) fn function_end(program: &Verified, start: u32, slots: u32) -> u32
-    ensures { result ≤ slots }
+/// The slot after the last one of the function in which a slot lies: where the next function starts, or so many slots
+/// as the program has.
+pub(crate) fn function_end(program: &Verified, slot: u32, slots: u32) -> u32
+    requires { slots ≡ slot_count program.now.insns }
+    ensures { result ≡ function_end program.now slot }
 {
     for function in 1..=program.callbacks() {
         let next = program.start(function);
-        if start < next {
-            return next.min(slots);
+        if slot < next {
+            return next;
         }
     }
     slots

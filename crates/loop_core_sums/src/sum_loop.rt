@@ -1,8 +1,8 @@
 //! A loop that adds up.
 
-ghost use Rattle.std.specs.Prelude.{◌≡◌, IfSome};
+ghost use Rattle.std.specs.Prelude.{◌≡◌, IfSome, IfNone};
 ghost use Rattle.bpf_verify_sound.specs.Soundness.{OverApproximatesCall};
-ghost use Rattle.loop_core_sums.specs.SumLoops.{AlwaysPasses};
+ghost use Rattle.loop_core_sums.specs.SumLoops.{AlwaysPasses, AddsUpByNone};
 
 use crate::function_end::function_end;
 use array_maps::Op;
@@ -41,6 +41,7 @@ impl<'l> SumLoop<'l> {
         requires known { OverApproximatesCall program.now call.now }
         ensures program { IfSome result (λ l. l.program ≡ program.now) }
         ensures call { IfSome result (λ l. l.call ≡ call.now) }
+        ensures none { IfNone result (AddsUpByNone program.now call.now) }
     {
         law_of_sum_operations();
         law_of_plain_iterations();
@@ -49,9 +50,6 @@ impl<'l> SumLoop<'l> {
         let _frame = call.frame();
         let start = call.callback();
         let past = function_end(program, start, ops.len() as u32);
-        if past <= start {
-            return None;
-        }
         let op = sum_operator(ops, start, past)?;
         Some(SumLoop { program, call, op })
     }

@@ -1,6 +1,8 @@
-use Rattle.std.proofs.Common.{arith}
+use Rattle.std.proofs.Common.{ℕ, ◌<◌, sym, subst, arith}
 use Rattle.bpf_step.proofs.Limits.{few_slots}
+use Rattle.loop_core_sums.specs.SumLoops.{function_end}
 use Rattle.loop_core_sums.proofs.Callbacks.{is_sum_loop}
+use Rattle.loop_core_sums.proofs.FunctionEnds.{end_within, end_after}
 use Rattle.loop_core_sums.proofs.sum_loop.SumLoop.of.Goals as goal
 
 pub overflow_cast-ops : goal.overflow_cast-ops
@@ -15,10 +17,23 @@ sum_operator-requires-clause-slots c =
     let same = c.operations.ensures.ops.count in
     omega (arith, few, same)
 
+pub sum_operator-requires-clause-within : goal.sum_operator-requires-clause-within
+sum_operator-requires-clause-within c =
+    let within = end_within c.args.program.now c.callback-start.result in
+    let past = c.function_end-past.ensures in
+    let same = c.operations.ensures.ops.count in
+    omega (arith, within, past, same)
+
 pub invariant_of-result : goal.invariant_of-result
 invariant_of-result c =
-    is_sum_loop c.law_of_sum_operations.ensures c.law_of_plain_iterations.ensures c.args.program.now
+    let program = c.args.program.now in
+    let call = c.args.call.now in
+    let after : c.callback-start.result < c.function_end-past.result =
+    subst (λ (past : ℕ). c.callback-start.result < past) (sym c.function_end-past.ensures)
+    (subst (λ (slot : ℕ). slot < function_end program slot) (sym c.callback-start.ensures)
+    (end_after program call.callback c.requires.known.sound.callback)) in
+    is_sum_loop c.law_of_sum_operations.ensures c.law_of_plain_iterations.ensures program
     (record { accepted = c.operations.ensures.accepted; fits = c.operations.ensures.fit })
-    c.operations.result.0.now c.operations.ensures.ops c.args.call.now c.requires.known c.frame-frame.result.now
+    c.operations.result.0.now c.operations.ensures.ops call c.requires.known c.frame-frame.result.now
     c.frame-frame.ensures c.in_ok-op.op c.function_end-past.result c.callback-start.result c.callback-start.ensures
-    c.if-past-start.false c.in_ok-op.ensures.sums
+    after c.in_ok-op.ensures.sums
