@@ -5,3 +5,11 @@ pub mod SameReplays
 pub mod SameOutcomes
 pub mod Together
 pub mod ApplyLaws
+pub mod WatchedFlow
+pub mod WatchedLaws
+pub mod WatchedEntries
+pub mod WatchedBatches
+pub mod NotingLaws
+pub mod TryLaws
+pub mod WatchedSteps
+pub mod WatchedEnds

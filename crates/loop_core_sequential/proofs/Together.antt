@@ -32,7 +32,7 @@ module _ (its : EachIterationSimulates) (program : Program) (sound : IsSoundProg
     (long : length bytes ≡ 512) (same : map Some bytes ≡ call.frame) (words : List ℕ) (fit : AreMapWords program words)
   where
     -- a lane that returns 0 is an iteration that goes on
-    goes_on : (index : ℕ) → index < call.n → (accesses : List Access)
+    pub goes_on : (index : ℕ) → index < call.n → (accesses : List Access)
         → ReturnsZero ops call.callback index bytes words accesses → GoesOn program 4096 call index words accesses
     goes_on index below accesses returns = record {
       iterated = record { ret = 0; steps = returns.steps; accesses = accesses; words = words_after_all accesses words };

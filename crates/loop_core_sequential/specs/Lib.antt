@@ -2,3 +2,5 @@ pub mod Loops
 pub mod Rests
 pub mod Tries
 pub mod FilledCalls
+pub mod Watched
+pub mod Noting

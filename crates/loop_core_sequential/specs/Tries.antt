@@ -15,6 +15,12 @@ TriedIn program call index lanes old new Went = WentOn program call index (index
 TriedIn program call index lanes old new Met = new ≡ old
 TriedIn program call index lanes old new Parted = new ≡ old
 
+-- the index after a batch that was tried: after its lanes where they went
+abbrev pub index_after : Tried → (index lanes : ℕ) → ℕ
+index_after Went index lanes = index + lanes
+index_after Met index lanes = index
+index_after Parted index lanes = index
+
 -- the elements of an entry's lanes are among the words
 abbrev pub AreWithin : (lanes : ℕ) → Entry → List ℕ → Type 0
 AreWithin lanes entry words = (lane : ℕ) → lane < lanes

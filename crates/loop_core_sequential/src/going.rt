@@ -3,7 +3,7 @@
 ghost use Rattle.std.specs.Prelude.{◌≡◌, ◌+◌, ◌<◌, ◌≤◌};
 ghost use Rattle.bpf_verify_sound.specs.Soundness.{OverApproximatesCall};
 ghost use Rattle.loop_core_sequential.specs.Rests.{WentOn};
-ghost use Rattle.loop_core_sequential.specs.Tries.{TriedIn};
+ghost use Rattle.loop_core_sequential.specs.Tries.{TriedIn, index_after};
 
 use crate::applying::{apply, are_in_order};
 use crate::batches::{Batches, MOST};
@@ -40,7 +40,17 @@ impl Batches {
         ensures went { WentOn program.now call.now index result maps.old maps.new }
     {
         let lanes = self.lanes.min(to - index);
-        match self.tried(program, call, index, lanes, maps) {
+        let tried = self.tried(program, call, index, lanes, maps);
+        self.paced(tried, index, lanes)
+    }
+
+    /// The index after a batch of lanes that was tried from an index on: after them, where they went. Notes how many are
+    /// tried the next time.
+    pub(crate) fn paced(&mut self, tried: Tried, index: u32, lanes: u32) -> u32
+        requires { index + lanes ≤ 4294967295 }
+        ensures { result ≡ index_after tried index lanes }
+    {
+        match tried {
             Tried::Went => {
                 self.pause = 1;
                 index + lanes

@@ -1,17 +1,22 @@
 //! Loops in order: all iterations of a loop call on one thread, each on the maps that the one before left.
-//! Iterations that may go together do, up to 128 at a time.
+//! Iterations that may go together do, up to 128 at a time. A loop may be watched while it runs so: where no iteration
+//! reads what an earlier one wrote, it is known to pass by the flow test.
 #![tactic(auto)]
 
 mod applying;
 mod batches;
 mod going;
+mod in_place;
+mod noting;
 mod one_by_one;
 mod ordering;
 mod trying;
+mod watching;
 
 ghost use Rattle.loop_core_sequential.specs.FilledCalls.{FilledCallsAreOneLoop};
 
 use bpf_verify_sound::{law_of_accepted_programs, law_of_accepted_runs};
+pub use in_place::in_order_watched;
 pub use ordering::{in_order, range_in_order};
 
 /// The law of filled calls: a call that main made, and the same call with its frame filled, as `Main::next` gives it,

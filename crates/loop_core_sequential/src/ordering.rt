@@ -12,7 +12,7 @@ use bpf_step::{Callback, LoopCall};
 use bpf_verify::Verified;
 
 /// Fewer iterations than these aren't worth a batch.
-const FEWEST: u32 = 2048;
+pub(crate) const FEWEST: u32 = 2048;
 
 /// Runs the iterations of a loop call that main of this program made, one after another on the maps, up
 /// to the first that returns 1, or all. Gives the loop's answer: how many ran. The maps are of the

@@ -28,6 +28,20 @@ pub struct LoopAnswer {
     pub answer: u32,
 }
 
+impl LoopAnswer {
+    ghost use Rattle.loop_core_model.specs.declared.verdict.Verdict.TheVariants as verdicts;
+
+    /// What is told of a loop that passes.
+    pub(crate) fn passed(answer: u32) -> LoopAnswer
+        ensures { result ≡ record { verdict = verdicts.Parallel; answer = answer } }
+    {
+        LoopAnswer {
+            verdict: Verdict::Parallel,
+            answer,
+        }
+    }
+}
+
 impl Decision {
     /// Does to the maps what was decided of a loop call that main of this program made, from these maps, which are of
     /// the program's sizes: they are as the loop leaves them. It was decided by this test.
@@ -46,10 +60,7 @@ impl Decision {
         match self {
             Decision::Commit { answer, pages } => {
                 store_pages(maps, &pages);
-                LoopAnswer {
-                    verdict: Verdict::Parallel,
-                    answer,
-                }
+                LoopAnswer::passed(answer)
             }
             Decision::Discard { verdict } => LoopAnswer {
                 verdict,

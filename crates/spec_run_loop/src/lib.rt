@@ -1,5 +1,6 @@
 //! A loop call by several workers: each in a thread of its own, over one board; what they ran is gathered, and
-//! committed, or the loop is run in order. A loop that adds up needs no board: each worker adds up a share of it.
+//! committed, or the loop is run in order. A loop that adds up needs no board: each worker adds up a share of it. A loop
+//! that is little work is run in order first, watched.
 #![tactic(auto)]
 
 mod decision;
@@ -7,6 +8,7 @@ mod error;
 mod looping;
 mod paying;
 mod summing;
+mod watching;
 
 pub use decision::LoopAnswer;
 pub use error::RunError;

@@ -1,7 +1,8 @@
 //! Running a loop.
 
-ghost use Rattle.std.specs.Prelude.{◌≡◌, ◌≢◌, ◌<◌, ◌≤◌, ◌↔◌, Err, IsTrue, All, map, IfOk, OnErr};
+ghost use Rattle.std.specs.Prelude.{◌≡◌, ◌≢◌, ◌<◌, ◌≤◌, ◌↔◌, Err, None, IsTrue, All, map, IfOk, OnErr};
 ghost use Rattle.bpf_verify_sound.specs.Soundness.{OverApproximatesCall};
+ghost use Rattle.loop_core_model.specs.Split.{split_fault};
 ghost use Rattle.loop_core_model.specs.Intervals.{blocks_of};
 ghost use Rattle.loop_core_block.specs.LoopBlocks.{RecordsRunOf};
 ghost use Rattle.loop_core_block.specs.Shown.{shown};
@@ -13,8 +14,11 @@ ghost use Rattle.spec_run_workers.specs.Workers.{AreFaultless};
 
 use crate::decision::{Decision, LoopAnswer};
 use crate::error::RunError;
-use crate::paying::{busy_workers, elements_of, work_by_blocks, work_in_order, worthwhile_split};
-use crate::summing::{run_sums, run_sums_on_copy, sum_loop};
+use crate::paying::{
+    busy_workers, elements_of, pays_in_order, work_by_blocks, work_in_order, worthwhile_split,
+};
+use crate::summing::{run_sums, sum_loop};
+use crate::watching::run_watched;
 use array_maps::Maps;
 use bpf_step::LoopCall;
 use bpf_verify::Verified;
@@ -172,40 +176,43 @@ fn decided<R: Threads + Sync, G: Gate>(
     Ok(decision)
 }
 
-/// What becomes of a loop that is run by 1 to 16 workers: over its split where the gate may hold somebody, and else
-/// by those that it keeps busy, over worthwhile blocks, no more than the split has.
-fn decided_by_plan<R: Threads + Sync, G: Gate>(
+/// Runs a loop call that main of this program made by 1 to 16 workers over the blocks of a split, on these maps
+/// themselves, which are of the program's sizes.
+fn run_by_blocks<R: Threads + Sync, G: Gate>(
     rt: &R,
-    of: &SpeculativeLoop,
+    alloc: Global,
+    program: &Verified,
+    call: &LoopCall,
+    maps: &mut Maps,
+    split: &Split,
     workers: u32,
+    workspace: &mut Workspace,
     gate: &G,
-) -> Result<Decision, AllocError>
+    test: Test,
+) -> Result<LoopAnswer, AllocError>
+    requires known { OverApproximatesCall program.now call.now }
+    requires sizes { maps.old.sizes ≡ program.now.sizes }
+    requires split { split_fault split.now call.now.n ≡ None }
     requires some { 0 < workers }
     requires few { workers ≤ 16 }
-    ensures { IfOk result (IsDecision of.now.test of.now.program of.now.call of.now.start.words) }
+    ensures outcome { IfOk result (λ a. IsOutcome test program.now call.now maps.old a.verdict a.answer maps.new) }
+    ensures kept { OnErr result (maps.new ≡ maps.old) }
 {
-    let mut workspace = Workspace::new();
-    if gate.may_hold() {
-        return decided(rt, of, workers, &mut workspace, gate);
-    }
-    let most = of.split.blocks();
-    let work = work_by_blocks(of.program, of.call);
-    let busy = busy_workers(work, elements_of(of.start), most, workers, gate);
-    let split = worthwhile_split(of.program, of.call, of.start, most, busy, gate);
-    let even = SpeculativeLoop {
-        alloc: of.alloc,
-        program: of.program,
-        call: of.call,
-        start: of.start,
-        split: &split,
-        test: of.test,
+    let of = SpeculativeLoop {
+        alloc,
+        program,
+        call,
+        start: maps,
+        split,
+        test,
     };
-    decided(rt, &even, busy, &mut workspace, gate)
+    let decision = decided(rt, &of, workers, workspace, gate)?;
+    Ok(decision.carry_out(program, call, maps, test))
 }
 
 /// Runs a loop call that main of this program made, as `run_loop` does, by 1 to 16 workers over at most n even
-/// blocks, 1 to 64: on these maps themselves, which are of the program's sizes, and change only where it gives an
-/// answer. What the calling thread runs alone is run in the workspace, which may be that of other loop calls.
+/// blocks, 1 to 64: on these maps themselves, which are of the program's sizes, and are as before where it fails. What
+/// the calling thread runs alone is run in the workspace, which may be that of other loop calls.
 pub fn run_loop_evenly<R: Threads + Sync, G: Gate>(
     rt: &R,
     alloc: Global,
@@ -233,17 +240,65 @@ pub fn run_loop_evenly<R: Threads + Sync, G: Gate>(
     }
     let work = work_by_blocks(program, call);
     let busy = busy_workers(work, elements_of(maps), blocks, workers, gate);
+    if pays_in_order(program, call, busy, gate, test) {
+        if let Some(done) = run_watched(alloc, program, call, maps, workspace)? {
+            return Ok(done);
+        }
+    }
     let split = worthwhile_split(program, call, maps, blocks, busy, gate);
-    let of = SpeculativeLoop {
+    run_by_blocks(
+        rt, alloc, program, call, maps, &split, busy, workspace, gate, test,
+    )
+}
+
+/// Runs a loop call that main of this program made on these maps themselves, which are of the program's sizes: over the
+/// split by all workers where the gate may hold one, and else as it pays.
+fn run_on<R: Threads + Sync, G: Gate>(
+    rt: &R,
+    alloc: Global,
+    program: &Verified,
+    call: &LoopCall,
+    maps: &mut Maps,
+    split: &Split,
+    workers: u32,
+    gate: &G,
+    test: Test,
+) -> Result<LoopAnswer, AllocError>
+    requires known { OverApproximatesCall program.now call.now }
+    requires sizes { maps.old.sizes ≡ program.now.sizes }
+    requires split { split_fault split.now call.now.n ≡ None }
+    requires some { 0 < workers }
+    requires few { workers ≤ 16 }
+    ensures { IfOk result (λ a. IsOutcome test program.now call.now maps.old a.verdict a.answer maps.new) }
+{
+    let mut workspace = Workspace::new();
+    if gate.may_hold() {
+        return run_by_blocks(
+            rt,
+            alloc,
+            program,
+            call,
+            maps,
+            split,
+            workers,
+            &mut workspace,
+            gate,
+            test,
+        );
+    }
+    let blocks = split.blocks();
+    run_loop_evenly(
+        rt,
         alloc,
         program,
         call,
-        start: maps,
-        split: &split,
+        maps,
+        blocks,
+        workers,
+        &mut workspace,
+        gate,
         test,
-    };
-    let decision = decided(rt, &of, busy, workspace, gate)?;
-    Ok(decision.carry_out(program, call, maps, test))
+    )
 }
 
 /// Runs a loop call that main of this program made, from these maps, by n workers, each in a thread of its
@@ -252,7 +307,9 @@ pub fn run_loop_evenly<R: Threads + Sync, G: Gate>(
 /// one. It waits for its threads, and where one can't be started, the others do its share. Where the gate holds nobody,
 /// only what pays is done: a loop of little work, and any by one worker, is run by the calling thread alone, as one
 /// block, and any other by no more workers than have enough to do, over fewer, even blocks where each would have few
-/// iterations beside its elements. A loop that adds up is run in order by one worker, and in even shares by several.
+/// iterations beside its elements. A loop that adds up is run in order by one worker, and in even shares by several. By
+/// the flow test a loop is run in order first, and watched, where several workers would save less than their copies of
+/// the maps cost: it is done so where no iteration reads what an earlier one wrote.
 ///
 /// It fails with `Sizes` (P1) where the maps' sizes differ from the program's; else with `Plan` (P2) where the
 /// workers aren't 1 to 16 or the split isn't of the call's iterations; and with `Memory`.
@@ -279,27 +336,10 @@ pub fn run_loop<R: Threads + Sync, G: Gate>(
     if !is_loop_plan(workers, split, call.n()) {
         return Err(RunError::Plan);
     }
-    if let Some(sums) = sum_loop(program, call, gate) {
-        let busy = busy_workers(
-            work_in_order(program, call),
-            0,
-            split.blocks(),
-            workers,
-            gate,
-        );
-        return Ok(run_sums_on_copy(rt, alloc, &sums, start, busy)?);
-    }
-    let of = SpeculativeLoop {
-        alloc,
-        program,
-        call,
-        start,
-        split,
-        test,
-    };
-    let decision = decided_by_plan(rt, &of, workers, gate)?;
     let mut maps = start.try_copy(alloc)?;
-    let LoopAnswer { verdict, answer } = decision.carry_out(program, call, &mut maps, test);
+    let LoopAnswer { verdict, answer } = run_on(
+        rt, alloc, program, call, &mut maps, split, workers, gate, test,
+    )?;
     Ok(LoopOutcome {
         verdict,
         answer,

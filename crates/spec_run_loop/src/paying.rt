@@ -1,6 +1,7 @@
 //! What pays: by how many workers a loop is run, and over how many blocks.
 
-ghost use Rattle.std.specs.Prelude.{◌≡◌, ◌*◌, ◌<◌, ◌≤◌, None};
+ghost use Rattle.std.specs.Prelude.{◌≡◌, ◌*◌, ◌<◌, ◌≤◌, None, true, length};
+ghost use Rattle.loop_core_model.specs.declared.loop_test.Test.TheVariants as tests;
 ghost use Rattle.loop_core_model.specs.Split.{split_fault};
 
 use array_maps::Maps;
@@ -8,6 +9,7 @@ use bpf_step::LoopCall;
 use bpf_verify::Verified;
 use loop_core_block::most_instructions;
 use loop_core_event::MAX_WORKERS;
+use loop_core_model::Test;
 use loop_core_split::{Gate, Split};
 
 /// What a speculative iteration costs beside its instructions, as many of them: its accesses are marked and kept apart.
@@ -25,6 +27,13 @@ const VISITS: u32 = 32;
 
 /// A loop of fewer shares is run by the calling thread alone.
 const LEAST_SHARES: u64 = 4;
+
+/// What an iteration on a private copy of the maps costs beside its instructions, as many of them, where it is compared
+/// with one on the maps themselves.
+const COPYING: u64 = 60;
+
+/// How many workers are taken to be at work at once: a system has as many processors, or more.
+const PROCESSORS: u32 = 4;
 
 /// For how many elements all blocks of a loop together keep marks and copies at most, though each worker has a block:
 /// some 31 bytes for each element that a block touches.
@@ -49,7 +58,10 @@ fn cost_of_elements(elements: u32) -> u64
 }
 
 /// How many elements maps have, at most 65,536.
-pub(crate) fn elements_of(maps: &Maps) -> u32 {
+pub(crate) fn elements_of(maps: &Maps) -> u32
+    ensures count { result ≡ length maps.now.words }
+    ensures few { result ≤ 65536 }
+{
     maps.words().len() as u32
 }
 
@@ -79,6 +91,32 @@ pub(crate) fn busy_workers<G: Gate>(
     }
     let shared = shares.min(u64::from(MAX_WORKERS)) as u32;
     workers.min(shared).min(most)
+}
+
+/// Whether a loop that keeps so many workers busy, 1 to 16, is run in order first, and watched: by the flow test alone,
+/// where the gate holds nobody, and several workers would save less than their private copies cost.
+pub(crate) fn pays_in_order<G: Gate>(
+    program: &Verified,
+    call: &LoopCall,
+    busy: u32,
+    gate: &G,
+    test: Test,
+) -> bool
+    requires few { busy ≤ 16 }
+    ensures { result ≡ true → test ≡ tests.Flow }
+{
+    match test {
+        Test::Lrpd => false,
+        Test::Flow => !gate.may_hold() && are_copies_dear(program, call, busy),
+    }
+}
+
+/// Whether an iteration in order is cheaper than its share on the private copies of so many workers.
+fn are_copies_dear(program: &Verified, call: &LoopCall, busy: u32) -> bool
+    requires few { busy ≤ 16 }
+{
+    let instructions = u64::from(most_instructions(program, call.callback()));
+    instructions * u64::from(busy.min(PROCESSORS)) < instructions + COPYING
 }
 
 /// How many of the workers that a loop of n iterations keeps busy, 1 to 16, are worth a share of it where it adds up:

@@ -7,7 +7,6 @@ ghost use Rattle.loop_core_model.specs.Split.{split_fault};
 ghost use Rattle.loop_core_model.specs.Intervals.{blocks_of, start_of, end_of};
 ghost use Rattle.loop_core_sums.specs.declared.partial_sum.PartialSum.{PartialSum as SumOf};
 ghost use Rattle.loop_core_sums.specs.Sums.{IsNewSum, IsSumOf, AreSumsOf};
-ghost use Rattle.loop_core_model.specs.declared.verdict.Verdict.TheVariants as verdicts;
 ghost use Rattle.loop_core_gather.specs.Gathered.{IsOutcome};
 
 use crate::decision::LoopAnswer;
@@ -15,8 +14,6 @@ use crate::paying::worthwhile_shares;
 use array_maps::Maps;
 use bpf_step::LoopCall;
 use bpf_verify::Verified;
-use loop_core_gather::LoopOutcome;
-use loop_core_model::Verdict;
 use loop_core_sequential::in_order;
 use loop_core_split::{Gate, Split};
 use loop_core_sums::{PartialSum, SumLoop};
@@ -63,43 +60,10 @@ pub(crate) fn run_sums<R: Threads + Sync>(
     let _words = maps.words();
     let shares = worthwhile_shares(of.call, maps, busy);
     if shares == 1 {
-        return Ok(passed(in_order(of.program, of.call, maps)));
+        return Ok(LoopAnswer::passed(in_order(of.program, of.call, maps)));
     }
     let sums = sums_of_shares(rt, alloc, of, shares)?;
-    Ok(passed(of.add_up(&sums, maps)))
-}
-
-/// The same on a copy of the maps.
-pub(crate) fn run_sums_on_copy<R: Threads + Sync>(
-    rt: &R,
-    alloc: Global,
-    of: &SumLoop,
-    start: &Maps,
-    busy: u32,
-) -> Result<LoopOutcome, AllocError>
-    requires sizes { start.now.sizes ≡ of.now.program.sizes }
-    requires some { 0 < busy }
-    requires few { busy ≤ 16 }
-    ensures { IfOk result (λ o. (test : Test) → IsOutcome test of.now.program of.now.call start.now o.verdict o.answer
-        o.maps) }
-{
-    let mut maps = start.try_copy(alloc)?;
-    let LoopAnswer { verdict, answer } = run_sums(rt, alloc, of, &mut maps, busy)?;
-    Ok(LoopOutcome {
-        verdict,
-        answer,
-        maps,
-    })
-}
-
-/// What is told of a loop that passes.
-fn passed(answer: u32) -> LoopAnswer
-    ensures { result ≡ record { verdict = verdicts.Parallel; answer = answer } }
-{
-    LoopAnswer {
-        verdict: Verdict::Parallel,
-        answer,
-    }
+    Ok(LoopAnswer::passed(of.add_up(&sums, maps)))
 }
 
 /// What each of some even shares of a loop's iterations adds up to.

@@ -1,0 +1,140 @@
+-- What is noted of batches.
+use Rattle.std.proofs.Common.{◌≡◌, ℕ, ◌+◌, ◌<◌, ◌≤◌, Bool, true, false, ◌||◌, ◌&&◌, ◌==◌, All, List, length, take, slice_index, slice_index_or, inl, inr, refl, sym, ◌∙◌, ap, subst, arith}
+use Rattle.std.specs.Prelude.{nat_le, nat_lt}
+use Rattle.std.proofs.lemmas.Bool.{cases_eq, both_ways, or_parts, or_left, or_right, and_from, eq-eqb, le-leb, lt-ltb}
+use Rattle.std.proofs.lemmas.List.Elements.{All-more, recursion_from_All}
+use Rattle.std.proofs.lemmas.List.{take_all}
+use Rattle.loop_core_model.specs.declared.access.Access.{Access as Kind}
+use Rattle.loop_core_model.specs.declared.access.Access.TheVariants.{Write}
+use Rattle.loop_core_batch.specs.Sites.{kind_sees}
+use Rattle.bpf_step_batch.specs.declared.entry.Entry.{Entry}
+use Rattle.bpf_step_batch.specs.Logs.{element_by}
+use Rattle.loop_core_undo.specs.declared.undo_log.UndoLog.{UndoLog}
+use Rattle.loop_core_undo.specs.Undo.{log_elements, is_written, Marks}
+use Rattle.loop_core_sequential.specs.Watched.{is_reduce, IsUnread, IsNoted, AreNoted}
+use Rattle.loop_core_sequential.specs.Noting.{AreBelow, Grows, AreMarked}
+
+-- whether any element of a row is told written, one lane more
+pub row_more : (written : ℕ → Bool) (row : List ℕ) (lane : ℕ) (any here : Bool) → here ≡ written (slice_index row lane)
+    → (any ≡ false → (k : ℕ) → k < lane → written (slice_index row k) ≡ false)
+    → (any || here) ≡ false → (k : ℕ) → k < lane + 1 → written (slice_index row k) ≡ false
+row_more written row lane any here is so_far none k under = elim (cases_eq k lane) [
+  | inl same ↦ ap (λ (i : ℕ). written (slice_index row i)) same ∙ sym is ∙ (or_parts any here none).1
+  | inr other ↦ so_far (or_parts any here none).0 k (omega (arith, under, other))
+]
+
+-- an entry of plain writes reads nothing
+pub unread_write : (written : ℕ → Bool) (lanes : ℕ) (entry : Entry) → entry.site.kind ≡ Write
+    → IsUnread written lanes entry
+unread_write written lanes entry is = record {
+  whole = ap is_reduce is;
+  unread = λ sees lane below. absurd (both_ways (kind_sees entry.site.kind) (ap kind_sees is) sees);
+}
+
+-- one that doesn't reduce reads nothing that is told written where no element of it is
+pub unread_kind : (written : ℕ → Bool) (lanes : ℕ) (entry : Entry) (kind : Kind) → entry.site.kind ≡ kind
+    → is_reduce kind ≡ false
+    → ((lane : ℕ) → lane < lanes → written (element_by entry.site.elements entry.elements lane) ≡ false)
+    → IsUnread written lanes entry
+unread_kind written lanes entry kind is whole none = record {
+  whole = ap is_reduce is ∙ whole;
+  unread = λ sees. none;
+}
+
+-- a log grows by what is marked
+pub grows_same : (words : List ℕ) (log : UndoLog) → Grows words log log
+grows_same words log = record { count = refl; written = λ e inside told. told; before = λ e inside. refl }
+
+pub grows_more : (words : List ℕ) (old between new : UndoLog) → Grows words old between → Grows words between new
+    → Grows words old new
+grows_more words old between new first then =
+    let count = first.count in
+    record {
+      count = then.count ∙ first.count;
+      written = λ e inside told. then.written e (omega (arith, inside, count)) (first.written e inside told);
+      before = λ e inside. then.before e (omega (arith, inside, count)) ∙ first.before e inside;
+    }
+
+pub grows_by : (which : ℕ → Bool) (words : List ℕ) (old new : UndoLog) → Marks which words old new
+    → Grows words old new
+grows_by which words old new marks = record {
+  count = marks.count;
+  written = λ e inside told. marks.written e inside ∙ or_left (is_written old e) (which e) told;
+  before = marks.before;
+}
+
+pub told_by : (which : ℕ → Bool) (words : List ℕ) (old new : UndoLog) → Marks which words old new → (e : ℕ)
+    → e < log_elements old → which e ≡ true → is_written new e ≡ true
+told_by which words old new marks e inside told =
+    marks.written e inside ∙ or_right (is_written old e) (which e) told
+
+-- an element of a run is marked with it
+pub in_run : (first count e : ℕ) → first ≤ e → e < first + count
+    → (nat_le first e && nat_lt e (first + count)) ≡ true
+in_run first count e low high = and_from (nat_le first e) (nat_lt e (first + count)) (le-leb first e low)
+    (lt-ltb e (first + count) high)
+
+-- a row's elements are told written, one lane more
+pub row_told : (words : List ℕ) (row : List ℕ) (lane : ℕ) (old new : UndoLog)
+    → Marks (λ other. slice_index row lane == other) words old new
+    → ((k : ℕ) → k < lane + 1 → slice_index row k < log_elements old)
+    → ((k : ℕ) → k < lane → is_written old (slice_index row k) ≡ true)
+    → (k : ℕ) → k < lane + 1 → is_written new (slice_index row k) ≡ true
+row_told words row lane old new marks within so_far k under = elim (cases_eq k lane) [
+  | inl same ↦
+      told_by (λ other. slice_index row lane == other) words old new marks (slice_index row k) (within k under)
+      (eq-eqb (slice_index row lane) (slice_index row k) (ap (λ (i : ℕ). slice_index row i) (sym same)))
+  | inr other ↦
+      (grows_by (λ e. slice_index row lane == e) words old new marks).written (slice_index row k) (within k under)
+      (so_far k (omega (arith, under, other)))
+]
+
+-- an entry whose elements are in range, and told written where it leaves words
+abbrev pub IsNotedWithin : (elements lanes : ℕ) → UndoLog → Entry → Type 0
+IsNotedWithin elements lanes log entry = AreBelow elements lanes entry × IsNoted (is_written log) lanes entry
+
+pub noted_grown : (words : List ℕ) (elements lanes : ℕ) (old new : UndoLog) (entries : List Entry)
+    → elements ≡ log_elements old → Grows words old new → All (IsNotedWithin elements lanes old) entries
+    → All (IsNotedWithin elements lanes new) entries
+noted_grown words elements lanes old new entries same grows all k d inside =
+    let one = all k d inside in (
+      one.0,
+      λ leaves lane below. grows.written _ (let under = one.0 lane below in omega (arith, under, same))
+          (one.1 leaves lane below),
+    )
+
+-- what holds of all entries up to the last holds of all
+pub all_taken : (P : Entry → Type 0) (entries : List Entry) (k : ℕ) → length entries ≤ k → All P (take k entries)
+    → All P entries
+all_taken P entries k past all = subst (All P) (take_all k entries past) all
+
+pub all_noted : (elements lanes : ℕ) (log : UndoLog) (entries : List Entry)
+    → All (IsNotedWithin elements lanes log) entries → AreNoted (is_written log) lanes entries
+all_noted elements lanes log entries all =
+    recursion_from_All (IsNoted (is_written log) lanes) entries (λ k d inside. (all k d inside).1)
+
+-- the entries before one are in range and noted, in a log that grew
+pub record NotedUpTo (words : List ℕ) (first : UndoLog) (lanes : ℕ) (entries : List Entry) (k : ℕ) (log : UndoLog)
+    : Type 0 where
+  pub grows : Grows words first log
+  pub noted : All (IsNotedWithin (log_elements first) lanes log) (take k entries)
+
+pub noted_more : (words : List ℕ) (first log new : UndoLog) (lanes : ℕ) (entries : List Entry) (k : ℕ) (d : Entry)
+    → k < length entries → NotedUpTo words first lanes entries k log
+    → All (AreBelow (log_elements first) lanes) entries → Grows words log new
+    → IsNoted (is_written new) lanes (slice_index_or entries k d) → NotedUpTo words first lanes entries (k + 1) new
+noted_more words first log new lanes entries k d inside so_far within grows noted = record {
+  grows = grows_more words first log new so_far.grows grows;
+  noted = All-more (IsNotedWithin (log_elements first) lanes new) entries k d inside
+      (noted_grown words (log_elements first) lanes log new (take k entries) (sym so_far.grows.count) grows
+      so_far.noted)
+      (within k d inside, noted);
+}
+
+pub all_marked : (words : List ℕ) (first log : UndoLog) (lanes : ℕ) (entries : List Entry) (k : ℕ)
+    → length entries ≤ k → NotedUpTo words first lanes entries k log → AreMarked lanes entries words first log
+all_marked words first log lanes entries k past so_far = record {
+  grows = so_far.grows;
+  noted = all_noted (log_elements first) lanes log entries
+      (all_taken (IsNotedWithin (log_elements first) lanes log) entries k past so_far.noted);
+}

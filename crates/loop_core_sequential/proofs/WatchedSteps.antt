@@ -1,0 +1,95 @@
+-- An iteration of a watched loop that goes alone.
+use Rattle.std.proofs.Common.{◌≡◌, ℕ, ◌+◌, ◌<◌, false, true, length, sym, ◌∙◌, ap, subst, arith}
+use Rattle.std.proofs.lemmas.Bool.{or_left, or_right}
+use Rattle.array_maps.specs.Accesses.{actions_at}
+use Rattle.array_maps.specs.MapList.{MapList}
+use Rattle.array_maps.proofs.ElementLaws.{length-words_after_all}
+use Rattle.bpf_insn_types.specs.Program.{Program}
+use Rattle.bpf_step_model.specs.State.{LoopCall}
+use Rattle.bpf_step_model.specs.Run.{Ended}
+use Rattle.bpf_step_model.specs.Iteration.{Iterated, iteration}
+use Rattle.bpf_step.specs.Iterations.{CallbackOf, RanCallback}
+use Rattle.loop_core_model.specs.Actions.{writes, exposed}
+use Rattle.loop_core_undo.specs.declared.undo_log.UndoLog.{UndoLog}
+use Rattle.loop_core_undo.specs.declared.watched.Watched.{Watched}
+use Rattle.loop_core_undo.specs.Undo.{log_elements, is_written, word_before}
+use Rattle.loop_core_undo.specs.Watching.{IsWatched, WatchedAll, AccessesAreWatched}
+use Rattle.loop_core_sequential.specs.Watched.{RanAndPasses}
+use Rattle.loop_core_sequential.specs.Noting.{CanRestore, GoesWatched}
+use Rattle.loop_core_sequential.proofs.WatchedLaws.{one_watched, break_watched}
+
+module _ (law : AccessesAreWatched) (program : Program) (call : LoopCall) (callback : CallbackOf)
+    (same : callback ≡ record { program = program; call = call }) (index : ℕ) (below : index < call.n)
+    (now : MapList) (log : UndoLog) (old new : Watched) (is_now : old.maps.now ≡ now) (is_log : old.log.now ≡ log)
+    (ret steps : ℕ) (given : RanCallback (λ (watched : Watched). watched.maps.now.words) IsWatched callback.program
+    callback.call index old ret steps new) (start : MapList) (goes : GoesWatched program call index start now log) where
+  ran : RanCallback (λ (watched : Watched). watched.maps.now.words) IsWatched program call index old ret steps new
+  ran = subst (λ (o : CallbackOf). RanCallback (λ (watched : Watched). watched.maps.now.words) IsWatched o.program
+      o.call index old ret steps new) same given
+
+  abbrev it : Iterated
+  it = ran.iterated
+
+  all : WatchedAll old it.accesses new
+  all = law old new it.accesses ran.effects
+
+  told : iteration program 4096 call index now.words ≡ Ended it
+  told = ap (λ (maps : MapList). iteration program 4096 call index maps.words) (sym is_now) ∙ ran.told
+
+  sizes : new.maps.now.sizes ≡ now.sizes
+  sizes = all.sizes ∙ ap (λ (maps : MapList). maps.sizes) is_now
+
+  -- for as many elements as there were words
+  many : log_elements old.log.now ≡ length start.words
+  many = ap log_elements is_log ∙ goes.restores.elements
+
+  unread : new.met ≡ false → (e : ℕ) → e < length start.words → is_written log e ≡ true
+      → exposed (actions_at e it.accesses) ≡ false
+  unread unmet e inside wrote = all.unmet unmet e (ap (λ (l : UndoLog). is_written l e) is_log ∙ wrote)
+
+  -- the start maps can still be restored
+  pub still_restores : CanRestore start new.maps.now new.log.now
+  still_restores = record {
+    sizes = sizes ∙ goes.restores.sizes;
+    count = ap length all.words ∙ length-words_after_all it.accesses old.maps.now.words
+        ∙ ap (λ (maps : MapList). length maps.words) is_now ∙ goes.restores.count;
+    elements = all.count ∙ many;
+    before = λ e inside. all.before e (omega (arith, inside, many))
+        ∙ ap (λ (maps : MapList). word_before old.log.now maps.words e) is_now
+        ∙ ap (λ (l : UndoLog). word_before l now.words e) is_log ∙ goes.restores.before e inside;
+  }
+
+  -- the loop broke off, and passes
+  pub broke_alone : new.met ≡ false → ret ≡ 1 → RanAndPasses program call start new.maps.now (index + 1)
+  broke_alone unmet one =
+      break_watched program call index start now (is_written log) goes.watched below it told
+      (sym ran.ret_is ∙ one) new.maps.now ran.words_are sizes (unread unmet)
+
+  -- or it goes on
+  pub went_alone : new.met ≡ false → ¬ (ret ≡ 1) → GoesWatched program call (index + 1) start new.maps.now new.log.now
+  went_alone unmet other =
+      let small = ran.small in
+      let nought : ret ≡ 0 = omega (arith, small, other) in
+      record {
+        watched = one_watched program call index start now (is_written log) goes.watched below it told
+            (sym ran.ret_is ∙ nought) new.maps.now ran.words_are sizes (is_written new.log.now) (unread unmet)
+            (λ e inside wrote. all.written e (omega (arith, inside, many))
+            ∙ or_left (is_written old.log.now e) (writes (actions_at e it.accesses))
+            (ap (λ (l : UndoLog). is_written l e) is_log ∙ wrote))
+            (λ e inside wrote. all.written e (omega (arith, inside, many))
+            ∙ or_right (is_written old.log.now e) (writes (actions_at e it.accesses)) wrote);
+        restores = still_restores;
+      }
+
+-- the same of maps and a log that are these
+pub broke_as : (program : Program) (call : LoopCall) (start new last : MapList) (answer : ℕ) → last ≡ new
+    → RanAndPasses program call start new answer → RanAndPasses program call start last answer
+broke_as program call start new last answer same passes =
+    subst (λ (maps : MapList). RanAndPasses program call start maps answer) (sym same) passes
+
+pub goes_as : (program : Program) (call : LoopCall) (index : ℕ) (start new last : MapList) (log ended : UndoLog)
+    → last ≡ new → ended ≡ log → GoesWatched program call index start new log
+    → GoesWatched program call index start last ended
+goes_as program call index start new last log ended same same_log goes =
+    subst (λ (maps : MapList). GoesWatched program call index start maps ended) (sym same)
+    (subst (GoesWatched program call index start new) (sym same_log) goes)

@@ -1,0 +1,16 @@
+use Rattle.std.proofs.Common.{◌≡◌, ◌-◌, ◌≤◌, length}
+use Rattle.loop_core_undo.specs.Undo.{log_elements}
+use Rattle.loop_core_sequential.specs.Noting.{GoesWatched}
+use Rattle.loop_core_sequential.proofs.in_place.watch_in_batches.Given as goal
+
+abbrev pub invariant-loop-index : goal.invariant-loop-index
+invariant-loop-index l = record {
+  same : l.callback ≡ l.fn.callback;
+  within : l.index ≤ l.n;
+  sizes : l.maps.sizes ≡ l.program.sizes;
+  count : length l.maps.words ≡ log_elements l.log;
+  goes : GoesWatched l.program l.call l.index l.fn.maps l.maps l.log;
+}
+
+abbrev pub decreases-loop-index : goal.decreases-loop-index
+decreases-loop-index l = l.n - l.index

@@ -1,0 +1,10 @@
+use Rattle.std.proofs.Common.{◌<◌, subst}
+use Rattle.loop_core_batch.specs.declared.elements.Elements.{Elements}
+use Rattle.bpf_step_batch.specs.Logs.{element_by}
+use Rattle.loop_core_undo.specs.Undo.{log_elements}
+use Rattle.loop_core_sequential.proofs.noting.note_elements.Goals as goal
+
+pub note_row-requires-clause-within : goal.note_row-requires-clause-within
+note_row-requires-clause-within c = λ lane below.
+    subst (λ (elements : Elements). element_by elements c.args.entry.now.elements lane < log_elements c.args.log.now)
+    c.in-Between.is (c.requires.within lane below)

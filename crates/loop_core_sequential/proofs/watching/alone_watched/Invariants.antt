@@ -1,0 +1,14 @@
+use Rattle.std.proofs.Common.{◌≡◌, length}
+use Rattle.array_maps.specs.MapList.{MapList}
+use Rattle.loop_core_undo.specs.Undo.{log_elements}
+use Rattle.loop_core_sequential.specs.Noting.{GoesWatched}
+use Rattle.loop_core_sequential.proofs.watching.alone_watched.Given as goal
+
+abbrev pub invariant-loop-index : goal.invariant-loop-index
+invariant-loop-index l = record {
+  same : l.callback ≡ l.fn.callback;
+  sizes : l.maps.sizes ≡ l.fn.maps.sizes;
+  count : length l.maps.words ≡ log_elements l.log;
+  goes : (start : MapList) → GoesWatched l.program l.call l.from start l.fn.maps l.fn.log
+      → GoesWatched l.program l.call l.index start l.maps l.log;
+}

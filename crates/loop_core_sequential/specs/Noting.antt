@@ -1,0 +1,59 @@
+-- What an undo log has of a loop that is watched.
+use Rattle.std.specs.Prelude.{◌≡◌, ℕ, ◌<◌, true, List, length, slice_index, Option, Some, None}
+use Rattle.array_maps.specs.MapList.{MapList}
+use Rattle.bpf_insn_types.specs.Program.{Program}
+use Rattle.bpf_step_model.specs.State.{LoopCall}
+use Rattle.bpf_step_batch.specs.declared.entry.Entry.{Entry}
+use Rattle.bpf_step_batch.specs.Logs.{element_by}
+use Rattle.loop_core_undo.specs.declared.undo_log.UndoLog.{UndoLog}
+use Rattle.loop_core_undo.specs.Undo.{log_elements, is_written, word_before}
+use Rattle.loop_core_sequential.specs.declared.watching.Watch.{Watch}
+use Rattle.loop_core_sequential.specs.declared.watching.Watch.TheVariants.{Went, Broke, Met}
+use Rattle.loop_core_sequential.specs.Watched.{AreNoted, RanAndPasses, WentWatched}
+
+-- the elements of an entry's lanes are below a number
+abbrev pub AreBelow : (elements lanes : ℕ) → Entry → Type 0
+AreBelow elements lanes entry = (lane : ℕ) → lane < lanes
+    → element_by entry.site.elements entry.elements lane < elements
+
+-- what was told written still is, and the words from when the log was empty are the same
+pub record Grows (words : List ℕ) (old new : UndoLog) : Type 0 where
+  pub count : log_elements new ≡ log_elements old
+  pub written : (e : ℕ) → e < log_elements old → is_written old e ≡ true → is_written new e ≡ true
+  pub before : (e : ℕ) → e < log_elements old → word_before new words e ≡ word_before old words e
+
+-- it grew by what the lanes of a batch write
+pub record AreMarked (lanes : ℕ) (entries : List Entry) (words : List ℕ) (old new : UndoLog) : Type 0 where
+  pub grows : Grows words old new
+  pub noted : AreNoted (is_written new) lanes entries
+
+-- the start maps can be restored
+pub record CanRestore (start now : MapList) (log : UndoLog) : Type 0 where
+  pub sizes : now.sizes ≡ start.sizes
+  pub count : length now.words ≡ length start.words
+  pub elements : log_elements log ≡ length start.words
+  pub before : (e : ℕ) → e < length start.words → word_before log now.words e ≡ slice_index start.words e
+
+-- up to an index a loop went on in order from its start maps, watched, and the start maps can be restored
+pub record GoesWatched (program : Program) (call : LoopCall) (index : ℕ) (start now : MapList) (log : UndoLog) : Type 0
+  where
+    pub watched : WentWatched program call index start now (is_written log)
+    pub restores : CanRestore start now log
+
+-- how iterations up to an index came out, from these start maps: they went on; or one broke off, and the loop passes;
+-- or one read what an earlier one wrote, and the start maps can be restored
+abbrev pub WatchedTo : Program → LoopCall → (index : ℕ) → (start now : MapList) → UndoLog → Watch → Type 0
+WatchedTo program call index start now log Went = GoesWatched program call index start now log
+WatchedTo program call index start now log (Broke answer) = RanAndPasses program call start now answer
+WatchedTo program call index start now log Met = CanRestore start now log
+
+-- the loop has ended, and passes; or the start maps can be restored
+abbrev pub WatchedToEnd : Program → LoopCall → (start now : MapList) → UndoLog → Option ℕ → Type 0
+WatchedToEnd program call start now log (Some answer) = RanAndPasses program call start now answer
+WatchedToEnd program call start now log None = CanRestore start now log
+
+-- the loop's answer by how all of its n iterations came out: none where one met something
+abbrev pub answer_watched : Watch → (n : ℕ) → Option ℕ
+answer_watched Went n = Some n
+answer_watched (Broke answer) n = Some answer
+answer_watched Met n = None

@@ -1,0 +1,102 @@
+//! A loop in order that is watched.
+
+ghost use Rattle.std.specs.Prelude.{◌≡◌, length, IfSome, IfNone};
+ghost use Rattle.bpf_verify_sound.specs.Soundness.{OverApproximatesCall};
+ghost use Rattle.loop_core_undo.specs.Undo.{log_elements, IsEmpty};
+ghost use Rattle.loop_core_sequential.specs.Watched.{RanAndPasses};
+ghost use Rattle.loop_core_sequential.specs.Noting.{WatchedToEnd, answer_watched};
+
+use crate::batches::Batches;
+use crate::ordering::FEWEST;
+use crate::watching::{Watch, alone_watched};
+use array_maps::Maps;
+use bpf_step::{Callback, LoopCall};
+use bpf_verify::Verified;
+use loop_core_undo::UndoLog;
+
+/// Runs the iterations of a loop call that main of this program made as `in_order` does, and watches them: where none
+/// has an exposed read of an element that an earlier one wrote, the loop passes by the flow test, and its answer is
+/// given. Else the maps are as before, from the log, and it is `None`; so it may be too where an iteration is run alone
+/// that reads an element after it wrote it itself. The maps are of the program's sizes, and the log is for as many
+/// elements.
+pub fn in_order_watched(
+    program: &Verified,
+    call: &LoopCall,
+    log: &mut UndoLog,
+    maps: &mut Maps,
+) -> Option<u32>
+    requires known { OverApproximatesCall program.now call.now }
+    requires sizes { maps.old.sizes ≡ program.now.sizes }
+    requires count { log_elements log.old ≡ length maps.old.words }
+    ensures passes { IfSome result (RanAndPasses program.now call.now maps.old maps.new) }
+    ensures kept { IfNone result (maps.new ≡ maps.old) }
+{
+    log.clear();
+    let answer = watch(program, call, log, maps);
+    if answer.is_none() {
+        log.restore(maps);
+    }
+    answer
+}
+
+/// Runs the iterations, watched, up to the first that returns 1, or all. Gives the loop's answer, where none met
+/// anything.
+fn watch(program: &Verified, call: &LoopCall, log: &mut UndoLog, maps: &mut Maps) -> Option<u32>
+    requires known { OverApproximatesCall program.now call.now }
+    requires sizes { maps.old.sizes ≡ program.now.sizes }
+    requires empty { IsEmpty (length maps.old.words) log.old }
+    ensures { WatchedToEnd program.now call.now maps.old maps.new log.new result }
+{
+    let mut callback = Callback::new(program, call);
+    let n = call.n();
+    if n < FEWEST {
+        let watch = alone_watched(program, call, &mut callback, 0, n, log, maps);
+        return answer(watch, n);
+    }
+    watch_in_batches(program, call, &mut callback, log, maps)
+}
+
+/// The loop's answer, by how all of its n iterations came out.
+fn answer(watch: Watch, n: u32) -> Option<u32>
+    ensures { result ≡ answer_watched watch n }
+{
+    match watch {
+        Watch::Went => Some(n),
+        Watch::Broke(answer) => Some(answer),
+        Watch::Met => None,
+    }
+}
+
+/// Runs the iterations, watched, in batches where they may go together, and else one by one.
+#[inline(never)]
+fn watch_in_batches<'a>(
+    program: &Verified,
+    call: &LoopCall,
+    callback: &mut Callback<'a>,
+    log: &mut UndoLog,
+    maps: &mut Maps,
+) -> Option<u32>
+    requires known { OverApproximatesCall program.now call.now }
+    requires callback { callback.old ≡ record { program = program.now; call = call.now } }
+    requires sizes { maps.old.sizes ≡ program.now.sizes }
+    requires empty { IsEmpty (length maps.old.words) log.old }
+    ensures { WatchedToEnd program.now call.now maps.old maps.new log.new result }
+{
+    let n = call.n();
+    let mut batches = Batches::new();
+    let mut index = 0;
+    while index < n {
+        let next = batches.go_watched(program, call, index, n, log, maps);
+        if index < next {
+            index = next;
+            continue;
+        }
+        let resume = batches.resume(index, n);
+        match alone_watched(program, call, callback, index, resume, log, maps) {
+            Watch::Went => index = resume,
+            Watch::Broke(answer) => return Some(answer),
+            Watch::Met => return None,
+        }
+    }
+    Some(n)
+}

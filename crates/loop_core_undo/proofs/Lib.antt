@@ -1,0 +1,4 @@
+pub mod RunLaws
+pub mod UndoLaws
+pub mod RestoreLaws
+pub mod WatchedLaws

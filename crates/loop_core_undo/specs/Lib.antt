@@ -1,0 +1,4 @@
+pub mod Runs
+pub mod Undo
+pub mod Pages
+pub mod Watching

@@ -1,0 +1,41 @@
+//! Entries that follow each other, in one loop each.
+
+ghost use Rattle.std.specs.Prelude.{◌≡◌, ℕ, ◌+◌, ◌<◌, ◌≤◌, ◌↔◌, false, length, slice_index, slice_index_or};
+ghost use Rattle.loop_core_undo.specs.Runs.{RunIsSet};
+
+/// Whether any of n flags from a first one on is set. The loop has no early exit, so that it tests many at once.
+#[inline(always)]
+pub(crate) fn is_any_set(flags: &[bool], first: usize, count: usize) -> bool
+    requires { first + count ≤ length flags.now }
+    ensures { (result ≡ false) ↔ ((k : ℕ) → k < count → slice_index_or flags.now (first + k) false ≡ false) }
+{
+    let mut any = false;
+    for k in 0..count {
+        any |= flags[first + k];
+    }
+    any
+}
+
+/// Sets flags from a first one up to another to a value.
+#[inline(always)]
+pub(crate) fn set_flags(flags: &mut [bool], first: usize, end: usize, value: bool)
+    requires order { first ≤ end }
+    requires within { end ≤ length flags.old }
+    ensures { RunIsSet flags.old flags.new false first end (λ e. value) }
+{
+    for e in first..end {
+        flags[e] = value;
+    }
+}
+
+/// Copies words from a first one up to another, each to its own place.
+pub(crate) fn copy_words(words: &mut [u64], first: usize, end: usize, source: &[u64])
+    requires order { first ≤ end }
+    requires within { end ≤ length words.old }
+    requires source { end ≤ length source.now }
+    ensures { RunIsSet words.old words.new 0 first end (λ e. slice_index source.now e) }
+{
+    for e in first..end {
+        words[e] = source[e];
+    }
+}
