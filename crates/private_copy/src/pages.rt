@@ -138,6 +138,26 @@ impl Pages {
         }
     }
 
+    /// Sees that the page of an element is placed, and gives the element's cell. Where it isn't placed, there is a spare
+    /// one.
+    #[inline]
+    pub(crate) fn visit(&mut self, e: u32) -> Cell
+        requires within { e / 64 < total_of self.old }
+        requires spare { min 1 (total_of self.old - length self.old.order) ≤ self.old.spare }
+        ensures pages { self.new.pages ≡ self.old.pages }
+        ensures order { self.new.order ≡ with_page self.old.order (e / 64) }
+        ensures placed { has_page self.new.order (e / 64) ≡ true }
+        ensures spare { self.new.spare + length self.new.order ≡ self.old.spare + length self.old.order }
+        ensures cell { result ≡ cell_at self.old e }
+    {
+        let number = e / PAGE;
+        if let Some(page) = &self.table[number as usize] {
+            return page.get(e % PAGE);
+        }
+        self.place(number);
+        BLANK
+    }
+
     /// Places a page that isn't placed.
     #[cold]
     #[inline(never)]

@@ -79,10 +79,8 @@ impl<'a> Private<'a> {
         ensures word { result.1 ≡ slice_index (copy_of self.old).words e }
     {
         self.serves -= 1;
-        // The mark comes first: nothing is written then between two looks at the table of pages.
         self.flags.mark(e, kind);
-        self.pages.touch(e);
-        let cell = self.pages.get(e);
+        let cell = self.pages.visit(e);
         let word = if cell.writer == self.begun {
             cell.value
         } else {
