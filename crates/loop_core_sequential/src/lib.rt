@@ -6,18 +6,18 @@
 mod applying;
 mod batches;
 mod going;
-mod in_place;
 mod noting;
 mod one_by_one;
 mod ordering;
 mod trying;
+mod watched_loop;
 mod watching;
 
 ghost use Rattle.loop_core_sequential.specs.FilledCalls.{FilledCallsAreOneLoop};
 
 use bpf_verify_sound::{law_of_accepted_programs, law_of_accepted_runs};
-pub use in_place::in_order_watched;
 pub use ordering::{in_order, range_in_order};
+pub use watched_loop::in_order_watched;
 
 /// The law of filled calls: a call that main made, and the same call with its frame filled, as `Main::next` gives it,
 /// are one loop. They come to the same in order, by the verdict, by the outcome and by any list of events.

@@ -5,7 +5,8 @@ use Rattle.std.proofs.lemmas.Bool.{eqb-true, cases_eq, cases_lt}
 use Rattle.std.proofs.lemmas.List.{take_all, take-set-le, take_more, get_or-take, length-take, get_or_default}
 use Rattle.std.proofs.lemmas.List.Folds.{list_any-append, list_any_at}
 use Rattle.std.proofs.lemmas.List.Quantifiers.{position-Some}
-use Rattle.std.specs.Prelude.{Box, if◌then◌else◌}
+use Rattle.std.specs.Prelude.{Box, if◌then◌else◌, slice_get, IfSome}
+use Rattle.std.proofs.lemmas.Option.{slice_get_within, slice_get-get_or, get_or_from_slice_get}
 use Rattle.std.specs.declared.alloc.Global.{Global}
 use Rattle.std.proofs.Math.ListN.{get_or-map, get_or-eq_default}
 use Rattle.std.proofs.Math.Nat.{mod-lt}
@@ -40,16 +41,27 @@ behind_of keys n p at within is absent before =
 get_or_any : (xs : List ℕ) (i d e : ℕ) → i < length xs → get_or xs i d ≡ get_or xs i e
 get_or_any xs i d e within = get_or_default xs i d e within
 
-pub where_stands : (keys : List ℕ) (n p at : ℕ) → position (λ other. eqb p other) keys ≡ Some at
-    → has_page (take n keys) p ≡ false → Stands keys n p at
+pub where_stands : (keys : List ℕ) (n p at : ℕ) → slice_get keys at ≡ Some p → has_page (take n keys) p ≡ false
+    → Stands keys n p at
 where_stands keys n p at found absent =
-    let is = position-Some (λ other. eqb p other) keys at 0 found in
-    let here : get_or keys at 0 ≡ p = sym (eqb-true p _ is.1) in
+    let inside : at < length keys = slice_get_within keys at p found in
+    let here : get_or keys at 0 ≡ p = get_or_from_slice_get keys at p 0 found in
     record {
-      behind = omega (arith, behind_of keys n p at is.0 here absent);
-      within = is.0;
+      behind = omega (arith, behind_of keys n p at inside here absent);
+      within = inside;
       is = here;
     }
+
+-- a number that is found stands there
+found_at : (keys : List ℕ) (p at : ℕ) → position (λ other. eqb p other) keys ≡ Some at → slice_get keys at ≡ Some p
+found_at keys p at found =
+    let is = position-Some (λ other. eqb p other) keys at 0 found in
+    slice_get-get_or keys at 0 is.0 ∙ ap Some (sym (eqb-true p _ is.1))
+
+pub found_if : (keys : List ℕ) (p : ℕ) (found : Option ℕ) → found ≡ position (λ other. eqb p other) keys
+    → IfSome found (λ at. slice_get keys at ≡ Some p)
+found_if keys p (Some at) is = found_at keys p at (sym is)
+found_if keys p None is = tt
 
 -- the pages of a swap: the page at a place after the first comes after them
 pub take_swap : (keys : List ℕ) (n p at : ℕ) → Stands keys n p at → take (n + 1) (swap keys at n) ≡ take n keys ++ p

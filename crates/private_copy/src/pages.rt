@@ -1,6 +1,7 @@
 //! Pages that are placed at the first access of one of their elements.
 
-ghost use Rattle.std.specs.Prelude.{◌≡◌, ◌≢◌, ℕ, ◌+◌, ◌-◌, ◌/◌, ◌%◌, ◌<◌, ◌≤◌, [], ◌∷◌, ◌++◌, false, true, min, length, slice_get, IfOk, OnOk};
+ghost use Rattle.std.specs.Prelude.{◌≡◌, ◌≢◌, ℕ, ◌+◌, ◌-◌, ◌/◌, ◌%◌, ◌<◌, ◌≤◌, [], ◌∷◌, ◌++◌, false, true, min, length, slice_get, nat_eq, Some, IfSome, IfNone, IfOk, OnOk};
+ghost use Rattle.indexmap.specs.IndexSet.{contains};
 ghost use Rattle.private_copy.specs.Cells.{total_of, cell_at, blank, mixed_cell};
 ghost use Rattle.private_copy.specs.Touched.{has_page, with_page};
 
@@ -13,6 +14,19 @@ use std::marker::Model;
 
 /// Elements in a page.
 const PAGE: u32 = 64;
+
+/// The place of a page's number among all of them. The next one is looked at first: pages that are placed by rising
+/// numbers are found without their hash.
+#[inline]
+fn place_of(order: &IndexSet<u32>, next: usize, number: u32) -> Option<usize>
+    ensures found { IfSome result (λ at. slice_get order.now.keys at ≡ Some number) }
+    ensures none { IfNone result (contains nat_eq order.now number ≡ false) }
+{
+    if order.get_index(next).copied() == Some(number) {
+        return Some(next);
+    }
+    order.get_index_of(&number)
+}
 
 /// Pages of 64 elements. The numbers of those that were placed come first, in order of first access.
 #[derive(Drop)]
@@ -169,7 +183,7 @@ impl Pages {
         ensures order { self.new.order ≡ self.old.order ++ number ∷ [] }
         ensures spare { self.new.spare + 1 ≡ self.old.spare }
     {
-        if let Some(at) = self.order.get_index_of(&number) {
+        if let Some(at) = place_of(&self.order, self.placed as usize, number) {
             self.order.swap_indices(at, self.placed as usize);
             self.placed += 1;
             if let Some(page) = self.spare.pop() {

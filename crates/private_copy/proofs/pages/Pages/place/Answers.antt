@@ -22,7 +22,7 @@ absent c = ap (λ (v : PlacedPages). has_page v.order c.args.number) c.self.view
 -- so it stands among those that aren't
 stands : (c : In-Some) → Stands c.self.inside.order.keys c.self.inside.placed c.args.number c.in-Some.at
 stands c = where_stands c.self.inside.order.keys c.self.inside.placed c.args.number c.in-Some.at
-    (sym c.get_index_of.ensures.index ∙ c.in-Some.is) (absent c)
+    c.in-Some.ensures.found (absent c)
 
 -- the last of the spare pages is taken, and is blank
 long_spare : (c : In-Some-pop) → vec_len c.self.inside.spare ≡ length c.self.inside.spare.items

@@ -1,7 +1,7 @@
 use Rattle.std.proofs.Common.{sym, subst}
 use Rattle.loop_core_sequential.specs.Noting.{WatchedToEnd}
 use Rattle.loop_core_sequential.proofs.WatchedEnds.{begins, to_end}
-use Rattle.loop_core_sequential.proofs.in_place.watch.Goals as goal
+use Rattle.loop_core_sequential.proofs.watched_loop.watch.Goals as goal
 
 pub returns-then-n-lt-FEWEST : goal.returns-then-n-lt-FEWEST
 returns-then-n-lt-FEWEST c =

@@ -1,7 +1,7 @@
 use Rattle.std.proofs.Common.{◌≡◌, ℕ, subst, ◌∙◌, arith}
 use Rattle.loop_core_sequential.specs.Noting.{GoesWatched}
 use Rattle.loop_core_sequential.proofs.WatchedEnds.{went_all}
-use Rattle.loop_core_sequential.proofs.in_place.watch_in_batches.Goals as goal
+use Rattle.loop_core_sequential.proofs.watched_loop.watch_in_batches.Goals as goal
 
 pub loop-index-preserved : goal.loop-index-preserved
 loop-index-preserved c =

@@ -1,7 +1,7 @@
 use Rattle.std.proofs.Common.{◌≡◌, ◌-◌, ◌≤◌, length}
 use Rattle.loop_core_undo.specs.Undo.{log_elements}
 use Rattle.loop_core_sequential.specs.Noting.{GoesWatched}
-use Rattle.loop_core_sequential.proofs.in_place.watch_in_batches.Given as goal
+use Rattle.loop_core_sequential.proofs.watched_loop.watch_in_batches.Given as goal
 
 abbrev pub invariant-loop-index : goal.invariant-loop-index
 invariant-loop-index l = record {

@@ -1,5 +1,5 @@
 use Rattle.loop_core_sequential.proofs.WatchedEnds.{put_back_if_none}
-use Rattle.loop_core_sequential.proofs.in_place.in_order_watched.Goals as goal
+use Rattle.loop_core_sequential.proofs.watched_loop.in_order_watched.Goals as goal
 
 pub returns-then-is_none-clause-kept : goal.returns-then-is_none-clause-kept
 returns-then-is_none-clause-kept c =
