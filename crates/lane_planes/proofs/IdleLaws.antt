@@ -1,58 +1,25 @@
 -- Where no access is marked, nothing is marked.
-use Rattle.std.proofs.Common.{◌≡◌, ℕ, zero, suc, ◌+◌, ◌-◌, ◌*◌, ◌/◌, ◌%◌, ◌^◌, ◌<◌, ◌≤◌, min, max, Bool, true, false, List, [], ◌∷◌, length, Some, None, refl, sym, ◌∙◌, ap, subst, ⊎_elim, arith}
-use Rattle.std.specs.Prelude.{◌==◌, ◌||◌, ◌&&◌, not, nat_lt, slice_index, slice_set, bit_or, if◌then◌else◌}
+use Rattle.std.proofs.Common.{◌≡◌, ℕ, zero, suc, ◌+◌, ◌-◌, ◌*◌, ◌/◌, ◌%◌, ◌^◌, ◌<◌, ◌≤◌, min, Bool, true, false, List, length, None, refl, sym, ◌∙◌, ap, subst, ⊎_elim, arith}
+use Rattle.std.specs.Prelude.{◌==◌, nat_lt, slice_index, slice_set}
 use Rattle.std.specs.Int.{bit_at}
-use Rattle.std.specs.List.{list_any}
 use Rattle.std.proofs.lemmas.Bool.{cases_lt}
-use Rattle.std.proofs.lemmas.Bool.Decides.{nat_tests}
 use Rattle.std.proofs.lemmas.List.{get_or-set_same, get_or-set_other}
-use Rattle.std.proofs.lemmas.Nat.{le_or_l, le_or_r, pow_pos}
+use Rattle.std.proofs.lemmas.Nat.{pow_pos}
 use Rattle.std.proofs.lemmas.Nat.Bits.{bit_at-zero, bit_at-lt, same_from_bits_below}
 use Rattle.array_maps.specs.declared.access.Op.{Op}
 use Rattle.array_maps.specs.declared.access.Op.TheVariants.{Add, Or, And, Xor, AddH}
-use Rattle.array_maps.specs.Accesses.{Action, Read, Write, ReadWrite, Reduce}
-use Rattle.loop_core_model.specs.Actions.{writes, exposed, is_same, reduces_by}
-use Rattle.loop_core_model.specs.LeastBreak.{lesser}
-use Rattle.loop_core_model.specs.Flags.{is_plain}
-use Rattle.loop_core_model.specs.Marks.{Visit, actions_of, Marks, two_write, first_writer, last_reader, marks_of, first_number}
+use Rattle.loop_core_model.specs.Marks.{Visit, Marks, marks_of, first_number}
 use Rattle.loop_core_model.specs.Planes.{bit_of}
 use Rattle.shadow_marks.specs.declared.planes.FlowPlanes.{FlowPlanes}
 use Rattle.shadow_marks.specs.declared.planes.Tested.{Tested}
 use Rattle.shadow_marks.specs.declared.planes.Tested.TheVariants.{Lrpd, Flow}
 use Rattle.shadow_marks.specs.declared.planes.Planes.{Planes}
-use Rattle.shadow_marks.specs.Standing.{IsBitPlane, AreTested, TestedStandAt, plane_by}
+use Rattle.shadow_marks.specs.Standing.{IsBitPlane, AreTested, TestedStandAt, IsUnmarkedPage, plane_by}
+use Rattle.shadow_marks.proofs.ClearLaws.{zero_bits, never, no_visit}
 use Rattle.lane_planes.specs.Words.{HasBits, stands_at}
-use Rattle.lane_planes.specs.Merged.{StandForSome, IsUntouchedPage, WordsFit}
+use Rattle.lane_planes.specs.Merged.{StandForSome, WordsFit}
 use Rattle.lane_planes.proofs.BitMeaning.{bit}
 use Rattle.lane_planes.proofs.PageLaws.{FlowIdle, TestedIdle, IsIdle}
-
-never : (b : Bool) → b ≡ true → b ≡ false → ⊥
-never b t f = let both : true ≡ false = sym t ∙ f in cc
-
-left_false : (a b : Bool) → (a || b) ≡ false → a ≡ false
-left_false true b h = h
-left_false false b h = refl
-
-right_false : (a b : Bool) → (a || b) ≡ false → b ≡ false
-right_false true b h = absurd (never true refl h)
-right_false false b h = h
-
-same_op : (op : Op) → is_same op op ≡ true
-same_op Add = refl
-same_op Or = refl
-same_op And = refl
-same_op Xor = refl
-same_op AddH = refl
-
--- each action is plain or a reduce
-no_action : (actions : List Action) → list_any is_plain actions ≡ false
-    → ((op : Op) → list_any (reduces_by op) actions ≡ false) → actions ≡ []
-no_action [] plain by = refl
-no_action (Read saw ∷ rest) plain by = absurd (never true refl plain)
-no_action (Write left ∷ rest) plain by = absurd (never true refl plain)
-no_action (ReadWrite saw left ∷ rest) plain by = absurd (never true refl plain)
-no_action (Reduce op operand ∷ rest) plain by =
-    absurd (never (is_same op op) (same_op op) (left_false (is_same op op) (list_any (reduces_by op) rest) (by op)))
 
 -- nothing is marked
 pub record AreIdle (marks : Marks) : Type 0 where
@@ -65,40 +32,16 @@ pub record AreIdle (marks : Marks) : Type 0 where
 
 pub idle_marks : (visits : List Visit) → (marks_of visits).plain ≡ false → ((op : Op) → (marks_of visits).by op ≡ false)
     → AreIdle (marks_of visits)
-idle_marks [] plain by = record {
-  written = refl;
-  written_by_two = refl;
-  read_only = refl;
-  read_and_written = refl;
-  first = refl;
-  last = refl;
-}
-idle_marks (v ∷ visits) plain by =
-    let none : v.actions ≡ [] = no_action v.actions (left_false (list_any is_plain v.actions) (marks_of visits).plain
-    plain)
-    (λ op. left_false (list_any (reduces_by op) v.actions) ((marks_of visits).by op) (by op)) in
-    let rest = idle_marks visits (right_false (list_any is_plain v.actions) (marks_of visits).plain plain)
-    (λ op. right_false (list_any (reduces_by op) v.actions) ((marks_of visits).by op) (by op)) in
-    let later : max 0 (last_reader visits) ≡ last_reader visits = omega arith in
+idle_marks visits plain by =
+    let none = no_visit visits plain by in
     record {
-      written = ap (λ actions. writes actions || list_any writes (actions_of visits)) none ∙ rest.written;
-      written_by_two = ap (λ actions. (writes actions && list_any writes (actions_of visits))
-          || two_write (actions_of visits)) none ∙ rest.written_by_two;
-      read_only = ap (λ actions. (exposed actions && not (writes actions)) || (marks_of visits).read_only) none
-          ∙ rest.read_only;
-      read_and_written = ap (λ actions. (exposed actions && writes actions) || (marks_of visits).read_and_written) none
-          ∙ rest.read_and_written;
-      first = ap (λ actions. lesser (if writes actions then Some v.index else None) (first_writer visits)) none
-          ∙ rest.first;
-      last = ap (λ actions. max (if exposed actions then v.index + 1 else 0) (last_reader visits)) none ∙ later
-          ∙ rest.last;
+      written = ap (λ marks. marks.written) none;
+      written_by_two = ap (λ marks. marks.written_by_two) none;
+      read_only = ap (λ marks. marks.read_only) none;
+      read_and_written = ap (λ marks. marks.read_and_written) none;
+      first = ap (λ marks. marks.first) none;
+      last = ap (λ marks. marks.last) none;
     }
-
--- the bits of a word that is zero
-clear : (words : List ℕ) (page e : ℕ) → e / 64 ≡ page → slice_index words page ≡ 0 → bit_of words e ≡ false
-clear words page e here none =
-    ap (λ i. bit (slice_index words i) (e % 64)) here ∙ ap (λ word. bit word (e % 64)) none
-    ∙ ap (λ x. x == 1) (bit_at-zero (e % 64))
 
 unset : (x : ℕ) → x < 2 → (x == 1) ≡ false → x ≡ 0
 unset zero small h = refl
@@ -154,14 +97,14 @@ module _ (elements page : ℕ) (marks : ℕ → Marks) (idle : (e : ℕ) → e /
     }
 
 -- in a page that no iteration touched nothing is marked
-pub untouched_idle : (planes : Planes) (page : ℕ) → StandForSome planes → IsUntouchedPage planes page
+pub untouched_idle : (planes : Planes) (page : ℕ) → StandForSome planes → IsUnmarkedPage planes page
     → WordsFit planes.tested → IsIdle planes page
 untouched_idle planes page some untouched fit =
     let visits = some.visits in
     let idle : (e : ℕ) → e / 64 ≡ page → e < planes.elements → AreIdle (marks_of (some.visits e)) =
-    λ e here below. idle_marks (visits e) (sym (some.stand.marks e below).plain ∙ clear planes.plain.items page e here
+    λ e here below. idle_marks (visits e) (sym (some.stand.marks e below).plain ∙ zero_bits planes.plain.items page e here
     untouched.plain)
-    (λ op. sym ((some.stand.marks e below).by op) ∙ clear (plane_by planes.operators op) page e here (untouched.by op))
+    (λ op. sym ((some.stand.marks e below).by op) ∙ zero_bits (plane_by planes.operators op) page e here (untouched.by op))
     in
     record {
       plain = untouched.plain;
@@ -189,7 +132,7 @@ no_bits many test none = record {
 }
 
 pub untouched_word : (planes : Planes) (flow : FlowPlanes) (page : ℕ) → planes.tested ≡ Flow flow → StandForSome planes
-    → IsUntouchedPage planes page →
+    → IsUnmarkedPage planes page →
     HasBits (min (length flow.first.items - 64 * page) 64) (λ k. stands_at flow.first.items flow.last.items
     (64 * page + k)) 0
 untouched_word planes flow page is some untouched =
@@ -223,42 +166,3 @@ page_more first last words page word room before here i small =
     subst (λ j. page_word first last j (slice_index (slice_set words page word) j)) (sym same)
     (subst (page_word first last page) (sym (get_or-set_same words page word 0 room)) here))
     (cases_lt i page)
-
--- words of which none has a bit
-none_of : (x : ℕ) → not (x == 0) ≡ false → x ≡ 0
-none_of x h = grind (arith, nat_tests)
-
-pub record BothZero (a b : ℕ) : Type 0 where
-  pub left : a ≡ 0
-  pub right : b ≡ 0
-
-both_zero : (a b : ℕ) → bit_or a b ≡ 0 → BothZero a b
-both_zero a b none =
-    let left = le_or_l a b in
-    let right = le_or_r a b in
-    record { left = omega (arith, left, none); right = omega (arith, right, none) }
-
-pub untouched_by_words : (planes : Planes) (page plain add or and xor addh : ℕ) →
-    not (bit_or (bit_or (bit_or (bit_or (bit_or plain add) or) and) xor) addh == 0) ≡ false →
-    plain ≡ slice_index planes.plain.items page → add ≡ slice_index planes.operators.add.items page
-    → or ≡ slice_index planes.operators.or.items page →
-    and ≡ slice_index planes.operators.and.items page → xor ≡ slice_index planes.operators.xor.items page
-    → addh ≡ slice_index planes.operators.addh.items page →
-    IsUntouchedPage planes page
-untouched_by_words planes page plain add or and xor addh unset is_plain is_add is_or is_and is_xor is_addh =
-    let five = both_zero (bit_or (bit_or (bit_or (bit_or plain add) or) and) xor) addh
-    (none_of (bit_or (bit_or (bit_or (bit_or (bit_or plain add) or) and) xor) addh) unset) in
-    let four = both_zero (bit_or (bit_or (bit_or plain add) or) and) xor five.left in
-    let three = both_zero (bit_or (bit_or plain add) or) and four.left in
-    let two = both_zero (bit_or plain add) or three.left in
-    let one = both_zero plain add two.left in
-    let by : (op : Op) → slice_index (plane_by planes.operators op) page ≡ 0 =
-    elim [
-      | Add ↦ sym is_add ∙ one.right
-      | Or ↦ sym is_or ∙ two.right
-      | And ↦ sym is_and ∙ three.right
-      | Xor ↦ sym is_xor
-          ∙ four.right
-      | AddH ↦ sym is_addh ∙ five.right
-    ] in
-    record { plain = sym is_plain ∙ one.left; by = by }

@@ -1,7 +1,6 @@
 -- What planes are after others were merged into them, word by word. A page is 64 elements: it has one word of each
 -- plane of bits, and up to 64 of the numbers.
 use Rattle.std.specs.Prelude.{◌≡◌, ℕ, ◌*◌, ◌^◌, ◌<◌, ◌≤◌, min, max, List, ◌++◌, length, slice_index, bit_and, bit_or}
-use Rattle.array_maps.specs.declared.access.Op.{Op}
 use Rattle.loop_core_model.specs.Marks.{Visit, Marks, merged}
 use Rattle.shadow_marks.specs.declared.planes.LrpdPlanes.{LrpdPlanes}
 use Rattle.shadow_marks.specs.declared.planes.FlowPlanes.{FlowPlanes}
@@ -9,7 +8,7 @@ use Rattle.shadow_marks.specs.declared.planes.Tested.{Tested}
 use Rattle.shadow_marks.specs.declared.planes.Tested.TheVariants.{Lrpd, Flow}
 use Rattle.shadow_marks.specs.declared.planes.OperatorPlanes.{OperatorPlanes}
 use Rattle.shadow_marks.specs.declared.planes.Planes.{Planes}
-use Rattle.shadow_marks.specs.Standing.{StandAt, StandFor, plane_by, words_for}
+use Rattle.shadow_marks.specs.Standing.{StandAt, StandFor, words_for}
 use Rattle.shadow_marks.specs.Ending.{KeepsShape}
 use Rattle.lane_planes.specs.Writes.{Writes}
 
@@ -150,8 +149,3 @@ pub record IsMerge (mine theirs joined : Planes) : Type 0 where
 pub record StandForSome (planes : Planes) : Type 0 where
   pub visits : ℕ → List Visit
   pub stand : StandFor planes visits
-
--- no bit says that an iteration accessed an element of a page: each access is plain or by an operator
-pub record IsUntouchedPage (planes : Planes) (page : ℕ) : Type 0 where
-  pub plain : slice_index planes.plain.items page ≡ 0
-  pub by : (op : Op) → slice_index (plane_by planes.operators op) page ≡ 0

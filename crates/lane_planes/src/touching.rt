@@ -1,10 +1,10 @@
 //! Planes merged and judged where they were touched.
 
-ghost use Rattle.std.specs.Prelude.{◌≡◌, ◌+◌, ◌-◌, ◌*◌, ◌<◌, ◌≤◌, ℕ, false, min, length, slice_index};
+ghost use Rattle.std.specs.Prelude.{◌≡◌, ◌+◌, ◌-◌, ◌*◌, ◌<◌, ◌≤◌, ℕ, min, length, slice_index};
 ghost use Rattle.shadow_marks.specs.declared.planes.Tested.TheVariants.{Flow};
 ghost use Rattle.shadow_marks.specs.Standing.{ArePlanes, test_of, words_for};
 ghost use Rattle.lane_planes.specs.Words.{FlowWords, HasBits, stands_at};
-ghost use Rattle.lane_planes.specs.Merged.{IsMerge, StandForSome, IsUntouchedPage, WordsFit};
+ghost use Rattle.lane_planes.specs.Merged.{IsMerge, StandForSome, WordsFit};
 ghost use Rattle.lane_planes.specs.Conflicts.{IsConflictPlane};
 
 use crate::flow::flow_word;
@@ -29,7 +29,7 @@ pub fn merge_touched<const N: usize>(into: &mut Planes, from: &Planes)
     have_words(&from.tested);
     let mut page = 0;
     while page < from.plain.len() {
-        if is_touched(from, page) {
+        if from.is_marked(page) {
             let past = touched_up_to(from, page + 1);
             merge_pages::<N>(into, from, page, past);
             page = past;
@@ -79,7 +79,7 @@ fn touched_word<const N: usize>(planes: &Planes, flow: &FlowPlanes, page: usize)
     ensures { HasBits (min (length flow.now.first.items - 64 * page) 64) (λ k. stands_at flow.now.first.items
         flow.now.last.items (64 * page + k)) result }
 {
-    if is_touched(planes, page) {
+    if planes.is_marked(page) {
         let from = 64 * page;
         let many = (flow.first.len() - from).min(64);
         flow_word::<N>(flow.first.as_slice(), flow.last.as_slice(), from, many)
@@ -96,22 +96,10 @@ fn touched_up_to(planes: &Planes, page: usize) -> usize
     ensures within { result ≤ words_for planes.now.elements }
 {
     let mut past = page;
-    while past < planes.plain.len() && is_touched(planes, past) {
+    while past < planes.plain.len() && planes.is_marked(past) {
         past += 1;
     }
     past
-}
-
-/// Whether an iteration accessed an element of a page. Each access is plain or by an operator.
-#[inline(always)]
-fn is_touched(planes: &Planes, page: usize) -> bool
-    requires whole { ArePlanes planes.now }
-    requires within { page < words_for planes.now.elements }
-    ensures { result ≡ false → IsUntouchedPage planes.now page }
-{
-    let by = &planes.operators;
-    (planes.plain[page] | by.add[page] | by.or[page] | by.and[page] | by.xor[page] | by.addh[page])
-        != 0
 }
 
 /// Tells that words are below 2^64. Nothing is computed.

@@ -20,15 +20,15 @@ use Rattle.shadow_marks.specs.declared.planes.Tested.{Tested}
 use Rattle.shadow_marks.specs.declared.planes.Tested.TheVariants.{Lrpd as ByLrpd, Flow as ByFlow}
 use Rattle.shadow_marks.specs.declared.planes.OperatorPlanes.{OperatorPlanes}
 use Rattle.shadow_marks.specs.declared.planes.Planes.{Planes}
-use Rattle.shadow_marks.specs.Standing.{words_for, IsBitPlane, plane_by, AreTested, ArePlanes, test_of, TestedStandAt, StandAt, StandFor, no_visits}
+use Rattle.shadow_marks.specs.Standing.{words_for, IsBitPlane, plane_by, AreTested, ArePlanes, test_of, TestedStandAt, StandAt, StandFor, IsUnmarkedPage, no_visits}
 use Rattle.shadow_marks.specs.Ending.{KeepsShape}
 use Rattle.shadow_marks.specs.Runs.{ChangesRun}
-use Rattle.shadow_marks.specs.Clearing.{ClearsBits, SetsNumbers, OperatorsClear, TestedClears, ClearsPage, IsUnmarkedPage}
+use Rattle.shadow_marks.specs.Clearing.{ClearsBits, SetsNumbers, OperatorsClear, TestedClears, ClearsPage}
 use Rattle.shadow_marks.proofs.BetweenLaws.{between_in, between_below, between_above}
 use Rattle.shadow_marks.proofs.FoldRuns.{refilled}
 
 -- a word that is zero has no bit set
-zero_bits : (words : List ℕ) (page e : ℕ) → e / 64 ≡ page → slice_index words page ≡ 0 → bit_of words e ≡ false
+pub zero_bits : (words : List ℕ) (page e : ℕ) → e / 64 ≡ page → slice_index words page ≡ 0 → bit_of words e ≡ false
 zero_bits words page e here none =
     ap (λ (k : ℕ). eqb (bit_at (get_or words k 0) (e % 64)) 1) here
     ∙ ap (λ (word : ℕ). eqb (bit_at word (e % 64)) 1) none ∙ ap (λ (b : ℕ). eqb b 1) (bit_at-zero (e % 64))
@@ -215,8 +215,22 @@ unmarked_by_words planes page plain add or and xor addh unset is_plain is_add is
       ];
     }
 
+-- and where none of a page's words has a bit, their union has none
+no_bit : (a b : ℕ) → a ≡ 0 → b ≡ 0 → bit_or a b ≡ 0
+no_bit a b left right = ap (λ n. bit_or n b) left ∙ ap (λ n. bit_or 0 n) right
+
+pub no_words : (planes : Planes) (page plain add or and xor addh : ℕ) → plain ≡ slice_index planes.plain.items page
+    → add ≡ slice_index planes.operators.add.items page → or ≡ slice_index planes.operators.or.items page
+    → and ≡ slice_index planes.operators.and.items page → xor ≡ slice_index planes.operators.xor.items page
+    → addh ≡ slice_index planes.operators.addh.items page → IsUnmarkedPage planes page
+    → not (eqb (bit_or (bit_or (bit_or (bit_or (bit_or plain add) or) and) xor) addh) 0) ≡ false
+no_words planes page plain add or and xor addh is_plain is_add is_or is_and is_xor is_addh none =
+    ap (λ n. not (eqb n 0)) (no_bit _ _ (no_bit _ _ (no_bit _ _ (no_bit _ _ (no_bit _ _ (is_plain ∙ none.plain)
+    (is_add ∙ none.by Add)) (is_or ∙ none.by Or)) (is_and ∙ none.by And)) (is_xor ∙ none.by Xor))
+    (is_addh ∙ none.by AddH))
+
 -- each action is plain or a reduce, so iterations of which neither is marked did nothing
-never : (b : Bool) → b ≡ true → b ≡ false → ⊥
+pub never : (b : Bool) → b ≡ true → b ≡ false → ⊥
 never b t f = let both : true ≡ false = sym t ∙ f in cc
 
 left_false : (a b : Bool) → (a || b) ≡ false → a ≡ false
@@ -261,7 +275,7 @@ idle_visit index actions visits none =
     max_zero : (n : ℕ) → max 0 n ≡ n
     max_zero n = omega arith
 
-no_visit : (visits : List Visit) → (marks_of visits).plain ≡ false → ((op : Op) → (marks_of visits).by op ≡ false)
+pub no_visit : (visits : List Visit) → (marks_of visits).plain ≡ false → ((op : Op) → (marks_of visits).by op ≡ false)
     → marks_of visits ≡ no_marks
 no_visit [] plain by = refl
 no_visit (v ∷ visits) plain by =

@@ -49,8 +49,3 @@ pub record ClearsPage (old new : Planes) (page : ℕ) : Type 0 where
   pub shape : KeepsShape old new
   pub here : (e : ℕ) → e < old.elements → e / 64 ≡ page → StandAt new e no_marks
   pub others : (e : ℕ) → e / 64 ≢ page → (marks : Marks) → StandAt old e marks → StandAt new e marks
-
--- no bit says that an iteration accessed an element of a page: each access is plain or by an operator
-pub record IsUnmarkedPage (planes : Planes) (page : ℕ) : Type 0 where
-  pub plain : slice_index planes.plain.items page ≡ 0
-  pub by : (op : Op) → slice_index (plane_by planes.operators op) page ≡ 0

@@ -78,6 +78,11 @@ pub record StandAt (planes : Planes) (e : ℕ) (marks : Marks) : Type 0 where
   pub by : (op : Op) → bit_of (plane_by planes.operators op) e ≡ marks.by op
   pub tested : TestedStandAt planes.tested e marks
 
+-- no bit says that an iteration accessed an element of a page: each access is plain or by an operator
+pub record IsUnmarkedPage (planes : Planes) (page : ℕ) : Type 0 where
+  pub plain : slice_index planes.plain.items page ≡ 0
+  pub by : (op : Op) → slice_index (plane_by planes.operators op) page ≡ 0
+
 -- planes stand for iterations, of which each element has a list: what was done there by each
 pub record StandFor (planes : Planes) (visits : ℕ → List Visit) : Type 0 where
   pub whole : ArePlanes planes

@@ -1,13 +1,13 @@
 //! Marks and flags that are taken away again, so that others can be made in their place.
 
-ghost use Rattle.std.specs.Prelude.{◌≡◌, ◌*◌, ◌<◌, ◌≤◌, ℕ, List, false, length};
+ghost use Rattle.std.specs.Prelude.{◌≡◌, ◌*◌, ◌<◌, ◌≤◌, ℕ, List, length};
 ghost use Rattle.array_maps.specs.declared.access.Op.{Op as Operator};
 ghost use Rattle.loop_core_model.specs.Marks.{Visit};
 ghost use Rattle.shadow_marks.specs.Iteration.{element_count, IsEmptied};
 ghost use Rattle.shadow_marks.specs.Standing.{words_for, plane_by, ArePlanes, AreTested, AreLrpdPlanes, AreFlowPlanes, StandFor, no_visits};
 ghost use Rattle.shadow_marks.specs.Ending.{KeepsShape};
 ghost use Rattle.shadow_marks.specs.Runs.{ChangesRun};
-ghost use Rattle.shadow_marks.specs.Clearing.{ClearsBits, SetsNumbers, OperatorsClear, LrpdClears, FlowClears, TestedClears, ClearsPage, IsUnmarkedPage};
+ghost use Rattle.shadow_marks.specs.Clearing.{ClearsBits, SetsNumbers, OperatorsClear, LrpdClears, FlowClears, TestedClears, ClearsPage};
 
 use crate::iter_flags::IterFlags;
 use crate::planes::{FlowPlanes, LrpdPlanes, NO_WRITER, OperatorPlanes, Planes, Tested};
@@ -28,23 +28,6 @@ impl Planes {
                 self.clear_page(page);
             }
         }
-    }
-
-    /// Whether an iteration accessed an element of a page.
-    #[inline]
-    fn is_marked(&self, page: usize) -> bool
-        requires whole { ArePlanes self.now }
-        requires within { page < words_for self.now.elements }
-        ensures { result ≡ false → IsUnmarkedPage self.now page }
-    {
-        let by = &self.operators;
-        (self.plain[page]
-            | by.add[page]
-            | by.or[page]
-            | by.and[page]
-            | by.xor[page]
-            | by.addh[page])
-            != 0
     }
 
     /// Takes away the marks of a page's elements.

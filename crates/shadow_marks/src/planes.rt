@@ -1,9 +1,9 @@
 //! Planes: what is remembered, element by element, of the iterations that ended.
 
-ghost use Rattle.std.specs.Prelude.{◌≡◌, ◌<◌, IfOk, replicate, ℕ};
+ghost use Rattle.std.specs.Prelude.{◌≡◌, ◌<◌, ◌↔◌, IfOk, replicate, false, ℕ};
 ghost use Rattle.array_maps.specs.declared.access.Op.{Op as Operator};
 ghost use Rattle.loop_core_model.specs.Marks.{no_marks};
-ghost use Rattle.shadow_marks.specs.Standing.{words_for, plane_by, AreTested, test_of, TestedStandAt, no_visits, StandFor};
+ghost use Rattle.shadow_marks.specs.Standing.{words_for, plane_by, AreTested, ArePlanes, test_of, TestedStandAt, no_visits, StandFor, IsUnmarkedPage};
 
 use loop_core_model::Test;
 use std::alloc::{AllocError, Global};
@@ -88,6 +88,24 @@ impl Planes {
             Tested::Lrpd(_) => Test::Lrpd,
             Tested::Flow(_) => Test::Flow,
         }
+    }
+
+    /// Whether an iteration accessed an element of a page of 64 elements, plainly or by an operator. The page is one
+    /// that the planes have: page 0 is elements 0 to 63.
+    #[inline(always)]
+    pub fn is_marked(&self, page: usize) -> bool
+        requires whole { ArePlanes self.now }
+        requires within { page < words_for self.now.elements }
+        ensures { (result ≡ false) ↔ IsUnmarkedPage self.now page }
+    {
+        let by = &self.operators;
+        (self.plain[page]
+            | by.add[page]
+            | by.or[page]
+            | by.and[page]
+            | by.xor[page]
+            | by.addh[page])
+            != 0
     }
 }
 

@@ -11,8 +11,8 @@ merge_pages-requires-clause-mine g c =
     (merge_keeps 0 c.loop-page.page _ _ _ c.requires.mine c.requires.theirs.stand.whole c.requires.elements
     c.loop-page.invariant.words).whole
 
-pub loop-page-preserved-then-is_touched : goal.loop-page-preserved-then-is_touched
-loop-page-preserved-then-is_touched g c =
+pub loop-page-preserved-then-is_marked : goal.loop-page-preserved-then-is_marked
+loop-page-preserved-then-is_marked g c =
     let page = c.loop-page.page in
     let past = c.touched_up_to-past.result in
     let order = c.touched_up_to-past.ensures.order in
@@ -32,7 +32,7 @@ loop-page-preserved g c =
     let below : c.loop-page.page < words_for c.args.from.now.elements =
     first_of (search rules, omega (arith, count, long, c.loop-page-test.true)) in
     let start : 64 * c.loop-page.page ≤ c.args.into.now.elements = omega (arith, below, c.requires.elements) in
-    let idle = untouched_idle c.args.from.now page c.requires.theirs (c.is_touched.ensures c.if-is_touched.false)
+    let idle = untouched_idle c.args.from.now page c.requires.theirs (c.is_marked.ensures.0 c.if-is_marked.false)
     c.have_words.ensures in
     record {
       within = omega (arith, below);

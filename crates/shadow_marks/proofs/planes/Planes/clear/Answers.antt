@@ -17,7 +17,7 @@ loop-page-preserved c =
           c.loop-page.invariant)
       | else-is_marked w ↦
           subst (λ (now : Planes). ClearedSoFar old now (c.loop-page.page + 1)) (sym w.self-is)
-          (one_unmarked old c.loop-page.self c.loop-page.page (c.is_marked.ensures w.if-is_marked.false)
+          (one_unmarked old c.loop-page.self c.loop-page.page (c.is_marked.ensures.0 w.if-is_marked.false)
           c.loop-page.invariant)
     ]
 
