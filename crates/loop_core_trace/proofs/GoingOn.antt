@@ -45,10 +45,10 @@ words_of maps = maps.words
 abbrev pub map_effect : MapList → Access → MapList → Type 0
 map_effect old access new = new ≡ record { sizes = old.sizes; words = words_after access old.words }
 
-module _ (steps_law : ProgressAndPreservation) (ops_law : EachOpSimulates) (program : Program)
-    (sound : IsSoundProgram program) (ops : List PlainOp) (are : AreOps program ops)
-    (call : LoopCall) (index element : ℕ) (first : MapList) (steps : ℕ) (p : Plain) (maps : MapList)
-    (journal : List Note) (slots : Slots)
+module _ (steps_law : ProgressAndPreservation) (ops_law : EachOpSimulates) {program : Program}
+    (sound : IsSoundProgram program) {ops : List PlainOp} (are : AreOps program ops)
+    {call : LoopCall} {index element : ℕ} {first : MapList} {steps : ℕ} {p : Plain} {maps : MapList}
+    {journal : List Note} {slots : Slots}
     (under : Underway program call index element first steps p maps journal slots) where
   abbrev Then : ℕ → Plain → MapList → List Note → Slots → Type 0
   Then count = Underway program call index element first count
@@ -91,8 +91,7 @@ module _ (steps_law : ProgressAndPreservation) (ops_law : EachOpSimulates) (prog
         machine = m;
         accesses = under.accesses ++ [];
         came = one_more [] m maps.words goes;
-        known = subst (StepsOverApproximated program) moves (over steps_law ops_law program sound ops are call index
-            element first steps p maps journal slots under);
+        known = subst (StepsOverApproximated program) moves (over steps_law ops_law sound are under);
         stands = stands;
         fit = under.fit;
         left = less.0;
@@ -117,8 +116,7 @@ module _ (steps_law : ProgressAndPreservation) (ops_law : EachOpSimulates) (prog
       let access : Access = access_of e request word in
       let next : Machine = after_request request word m in
       let known : StepsOverApproximated program (Asks e request m) =
-      subst (StepsOverApproximated program) moves (over steps_law ops_law program sound ops are call index element
-      first steps p maps journal slots under) in
+      subst (StepsOverApproximated program) moves (over steps_law ops_law sound are under) in
       let inside : e < length maps.words = (let count = under.fit.count in let below = known.0 in
       omega (arith, count, below)) in
       let there : slice_get maps.words e ≡ Some word = slice_get-get_or maps.words e 0 inside in
@@ -225,9 +223,7 @@ module _ (steps_law : ProgressAndPreservation) (ops_law : EachOpSimulates) (prog
       (subst (λ (s : Slots). Then (steps + 1) (plain slot registers frame caller) after
       (noted (touched_by op p.registers) maps.words journal) s) (sym noted_so.seen_are)
       (by_move (step program under.machine) (plain_step op p) (touched_by op p.registers) refl
-      (simulated steps_law ops_law program sound ops are call index element first steps p maps journal slots under op
-      is)
-      (over steps_law ops_law program sound ops are call index element first steps p maps journal slots under)
+      (simulated steps_law ops_law sound are under op is) (over steps_law ops_law sound are under)
       (as_touched op p) slot registers frame caller after did))
 
   -- it calls no loop
@@ -236,8 +232,7 @@ module _ (steps_law : ProgressAndPreservation) (ops_law : EachOpSimulates) (prog
       DidStep words_of map_effect p.slot (plain_step op p) maps outcome registers frame caller after →
       ((callback n : ℕ) (ctx : Option ℕ) → outcome ≡ Call callback n ctx → ⊥)
   calls_none op is outcome registers frame caller after did callback n ctx same =
-      go (step program under.machine) (plain_step op p) refl (simulated steps_law ops_law program sound ops are call
-      index element first steps p maps journal slots under op is)
+      go (step program under.machine) (plain_step op p) refl (simulated steps_law ops_law sound are under op is)
       (subst (λ (o : Outcome). DidStep words_of map_effect p.slot (plain_step op p) maps o registers frame caller after)
       same did)
     where
@@ -249,8 +244,7 @@ module _ (steps_law : ProgressAndPreservation) (ops_law : EachOpSimulates) (prog
           never : (o : StepOutcome) → SimulatesStep program.sizes o (CallsLoop c k x q) → step program under.machine ≡ o
               → ⊥
           never NoStep s at =
-              subst (StepsOverApproximated program) at (over steps_law ops_law program sound ops are call index element
-              first steps p maps journal slots under)
+              subst (StepsOverApproximated program) at (over steps_law ops_law sound are under)
           never (Loops made m) s at = (fewer (Loops made m) at).2
           never o s at = s
       go move plain_move moves sim called = called
@@ -260,8 +254,7 @@ module _ (steps_law : ProgressAndPreservation) (ops_law : EachOpSimulates) (prog
       DidStep words_of map_effect p.slot (plain_step op p) maps outcome registers frame caller after
       → ((answer : ℤ) → outcome ≡ Refusal answer → ⊥)
   refuses_none op is outcome registers frame caller after did answer same =
-      go (step program under.machine) (plain_step op p) refl (simulated steps_law ops_law program sound ops are call
-      index element first steps p maps journal slots under op is)
+      go (step program under.machine) (plain_step op p) refl (simulated steps_law ops_law sound are under op is)
       (subst (λ (o : Outcome). DidStep words_of map_effect p.slot (plain_step op p) maps o registers frame caller after)
       same did)
     where
@@ -273,8 +266,7 @@ module _ (steps_law : ProgressAndPreservation) (ops_law : EachOpSimulates) (prog
           never : (o : StepOutcome) → SimulatesStep program.sizes o (RefusesLoop told q) → step program under.machine
               ≡ o → ⊥
           never NoStep s at =
-              subst (StepsOverApproximated program) at (over steps_law ops_law program sound ops are call index element
-              first steps p maps journal slots under)
+              subst (StepsOverApproximated program) at (over steps_law ops_law sound are under)
           never (Refuses says m) s at = (fewer (Refuses says m) at).2
           never o s at = s
       go move plain_move moves sim refused = refused
@@ -349,9 +341,7 @@ module _ (steps_law : ProgressAndPreservation) (ops_law : EachOpSimulates) (prog
       → Returned (touched_by op p.registers) n after
   ends_so op is few n registers frame caller after did =
       end_by (step program under.machine) (plain_step op p) (touched_by op p.registers) refl
-      (simulated steps_law ops_law program sound ops are call index element first steps p maps journal slots under op
-      is)
-      (over steps_law ops_law program sound ops are call index element first steps p maps journal slots under)
+      (simulated steps_law ops_law sound are under op is) (over steps_law ops_law sound are under)
       (as_touched op p) n registers frame caller after few did
 
   pub ended : (op : PlainOp) → op_of ops p.slot ≡ op → (notes : List Note) (seen : Slots) → IsNoted op notes seen

@@ -136,10 +136,10 @@ touch_within count (CallsLoop callback n ctx next) None touch agrees can same = 
 touch_within count (RefusesLoop answer next) None touch agrees can same = absurd cc
 touch_within count (Ends ret) None touch agrees can same = absurd cc
 
-module _ (steps_law : ProgressAndPreservation) (ops_law : EachOpSimulates) (program : Program)
-    (sound : IsSoundProgram program) (ops : List PlainOp) (are : AreOps program ops)
-    (call : LoopCall) (index element : ℕ) (first : MapList) where
-  module _ (steps : ℕ) (p : Plain) (maps : MapList) (journal : List Note) (slots : Slots) (under : Underway program call
+module _ (steps_law : ProgressAndPreservation) (ops_law : EachOpSimulates) {program : Program}
+    (sound : IsSoundProgram program) {ops : List PlainOp} (are : AreOps program ops)
+    {call : LoopCall} {index element : ℕ} {first : MapList} where
+  module _ {steps : ℕ} {p : Plain} {maps : MapList} {journal : List Note} {slots : Slots} (under : Underway program call
       index element first steps p maps journal slots) where
     pub over : StepsOverApproximated program (step program under.machine)
     over = steps_law program sound under.machine under.known
