@@ -1,5 +1,5 @@
 -- What is told of an element.
-use Rattle.std.proofs.Common.{◌≡◌, ◌≢◌, ℕ, ◌+◌, ◌<◌, List, map, Option, Some, None, refl, sym, ap, subst, ◌∙◌, arith}
+use Rattle.std.proofs.Common.{◌≡◌, ◌≢◌, ℕ, ◌+◌, ◌<◌, ◌≤◌, List, map, Option, Some, None, refl, sym, ap, subst, ◌∙◌, arith}
 use Rattle.std.specs.Prelude.{Bool, true, false}
 use Rattle.std.specs.List.{range_with_len}
 use Rattle.array_maps.specs.Accesses.{Action}
@@ -19,6 +19,7 @@ use Rattle.loop_core_witness.specs.declared.witness.Witness.{Witness}
 use Rattle.loop_core_witness.specs.Breaks.{AreCounted}
 use Rattle.loop_core_witness.specs.Firsts.{NoneDoes, FirstAt, FirstIs}
 use Rattle.loop_core_witness.specs.Witnesses.{IsTold, Explains}
+use Rattle.loop_core_witness.proofs.BreakLaws.{counted_within}
 use Rattle.loop_core_witness.proofs.Runs.{AllRan, all_ran}
 use Rattle.loop_core_witness.proofs.PairLaws.{iterations, none_writes, none_reads, flow_none, flow_found, two_found, writer_found, lrpd_none, reader_found}
 
@@ -30,7 +31,12 @@ no_pair test its none = go (fails test its) refl
     go true is = absurd (none ((fails_by_pair test its).0 is))
     go false is = is
 
-module _ (program : Program) (call : LoopCall) (words : List ℕ) (count : ℕ) (counts : AreCounted program call words
+-- the counted iterations are some of the call's
+pub within : {program : Program} {call : LoopCall} {words : List ℕ} {count : ℕ} → AreCounted program call words count
+    → count ≤ call.n
+within counts = counted_within _ _ _ _ counts.all
+
+module _ {program : Program} {call : LoopCall} {words : List ℕ} {count : ℕ} (counts : AreCounted program call words
     count) (element : ℕ) where
   abbrev Iterate : ℕ → BoundedResult Iterated
   Iterate index = iteration program 4096 call index words

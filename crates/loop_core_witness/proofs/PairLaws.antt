@@ -8,7 +8,7 @@ use Rattle.bpf_step_model.specs.State.{LoopCall}
 use Rattle.bpf_step_model.specs.Iteration.{iteration}
 use Rattle.loop_core_model.specs.declared.loop_test.Test.{Test}
 use Rattle.loop_core_model.specs.declared.loop_test.Test.TheVariants.{Lrpd, Flow}
-use Rattle.loop_core_model.specs.Conflict.{at_element, FailingPair}
+use Rattle.loop_core_model.specs.Conflict.{at_element, FailingPair, Opposed}
 use Rattle.loop_core_model.specs.LeastBreak.{accesses_of_each}
 use Rattle.loop_core_model.proofs.FirstBreak.{NoneIn}
 use Rattle.loop_core_witness.specs.declared.kind.Kind.{Kind}
@@ -85,6 +85,29 @@ module _ (program : Program) (call : LoopCall) (words : List ℕ) (element count
       (not_below (Passes ExposedRead) 0 count pair.reader (none_is ExposedRead 0 count (omega arith) none) (omega arith)
       pair.reading)
 
+  -- a writer and a reader that fail a test, where no failing pair has a lesser reader, nor with it a lesser writer
+  witnessed : (test : Test) (from behind : ℕ) (v r : Place) → FirstAt FirstWrite program call words element from count v
+      → FirstAt ExposedRead program call words element behind count r → Opposed test v.index r.index
+      → ((other : FailingPair test iterations) → r.index ≤ other.reader)
+      → ((other : FailingPair test iterations) → other.reader ≡ r.index → v.index ≤ other.writer)
+      → IsWitness test program call words element iterations (record { writer = v; reader = r })
+  witnessed test from behind v r writer reader opposed least_reader least_writer = record {
+    pair = record {
+      writer = v.index;
+      reader = r.index;
+      writer_within = inside v.index writer.within;
+      reader_within = inside r.index reader.within;
+      opposed = opposed;
+      writing = passes FirstWrite from v writer;
+      reading = passes ExposedRead behind r reader;
+    };
+    least = record { reader = least_reader; writer = least_writer };
+    writer = refl;
+    reader = refl;
+    written = writer.here.seen.1;
+    read = reader.here.seen.1;
+  }
+
   module _ (w : Place) (first_writer : FirstAt FirstWrite program call words element 0 count w) where
     -- the first writer is the least of all pairs'
     writer_low : (test : Test) (pair : FailingPair test iterations) → w.index ≤ pair.writer
@@ -104,30 +127,16 @@ module _ (program : Program) (call : LoopCall) (words : List ℕ) (element count
 
     pub flow_found : (r : Place) → FirstAt ExposedRead program call words element (w.index + 1) count r →
         IsWitness Flow program call words element iterations (record { writer = w; reader = r })
-    flow_found r first_reader = record {
-      pair = record {
-        writer = w.index;
-        reader = r.index;
-        writer_within = inside w.index first_writer.within;
-        reader_within = inside r.index first_reader.within;
-        opposed = (let behind = first_reader.behind in omega (arith, behind));
-        writing = passes FirstWrite 0 w first_writer;
-        reading = passes ExposedRead (w.index + 1) r first_reader;
-      };
-      least = record {
-        reader = λ other.
-            let low = writer_low Flow other in
-            let order : other.writer < other.reader = other.opposed in
-            not_below (Passes ExposedRead) (w.index + 1) r.index other.reader (before ExposedRead (w.index + 1) r
-            first_reader)
-            (omega (arith, low, order)) other.reading;
-        writer = λ other same. writer_low Flow other;
-      };
-      writer = refl;
-      reader = refl;
-      written = first_writer.here.seen.1;
-      read = first_reader.here.seen.1;
-    }
+    flow_found r first_reader =
+        witnessed Flow 0 (w.index + 1) w r first_writer first_reader
+        (let behind = first_reader.behind in omega (arith, behind))
+        (λ other.
+        let low = writer_low Flow other in
+        let order : other.writer < other.reader = other.opposed in
+        not_below (Passes ExposedRead) (w.index + 1) r.index other.reader (before ExposedRead (w.index + 1) r
+        first_reader)
+        (omega (arith, low, order)) other.reading)
+        (λ other same. writer_low Flow other)
 
     module _ (r : Place) (first_reader : FirstAt ExposedRead program call words element 0 count r) where
       reader_low : (test : Test) (pair : FailingPair test iterations) → r.index ≤ pair.reader
@@ -137,51 +146,23 @@ module _ (program : Program) (call : LoopCall) (words : List ℕ) (element count
       -- the LRPD test: the first writer isn't the first reader
       pub two_found : w.index ≢ r.index → IsWitness Lrpd program call words element iterations
           (record { writer = w; reader = r })
-      two_found apart = record {
-        pair = record {
-          writer = w.index;
-          reader = r.index;
-          writer_within = inside w.index first_writer.within;
-          reader_within = inside r.index first_reader.within;
-          opposed = apart;
-          writing = passes FirstWrite 0 w first_writer;
-          reading = passes ExposedRead 0 r first_reader;
-        };
-        least = record { reader = λ other. reader_low Lrpd other; writer = λ other same. writer_low Lrpd other };
-        writer = refl;
-        reader = refl;
-        written = first_writer.here.seen.1;
-        read = first_reader.here.seen.1;
-      }
+      two_found apart =
+          witnessed Lrpd 0 0 w r first_writer first_reader apart (λ other. reader_low Lrpd other)
+          (λ other same. writer_low Lrpd other)
 
       module _ (one : w.index ≡ r.index) where
         -- it is, and there is another writer
         pub writer_found : (v : Place) → FirstAt FirstWrite program call words element (w.index + 1) count v →
             IsWitness Lrpd program call words element iterations (record { writer = v; reader = r })
-        writer_found v next_writer = record {
-          pair = record {
-            writer = v.index;
-            reader = r.index;
-            writer_within = inside v.index next_writer.within;
-            reader_within = inside r.index first_reader.within;
-            opposed = (let behind = next_writer.behind in omega (arith, behind, one));
-            writing = passes FirstWrite (w.index + 1) v next_writer;
-            reading = passes ExposedRead 0 r first_reader;
-          };
-          least = record {
-            reader = λ other. reader_low Lrpd other;
-            writer = λ other same.
-                let low = writer_low Lrpd other in
-                let apart : other.writer ≢ other.reader = other.opposed in
-                not_below (Passes FirstWrite) (w.index + 1) v.index other.writer (before FirstWrite (w.index + 1) v
-                next_writer)
-                (omega (arith, low, apart, same, one)) other.writing;
-          };
-          writer = refl;
-          reader = refl;
-          written = next_writer.here.seen.1;
-          read = first_reader.here.seen.1;
-        }
+        writer_found v next_writer =
+            witnessed Lrpd (w.index + 1) 0 v r next_writer first_reader
+            (let behind = next_writer.behind in omega (arith, behind, one)) (λ other. reader_low Lrpd other)
+            (λ other same.
+            let low = writer_low Lrpd other in
+            let apart : other.writer ≢ other.reader = other.opposed in
+            not_below (Passes FirstWrite) (w.index + 1) v.index other.writer (before FirstWrite (w.index + 1) v
+            next_writer)
+            (omega (arith, low, apart, same, one)) other.writing)
 
         module _ (alone : NoneDoes FirstWrite program call words element (w.index + 1) count) where
           -- there is none: the pair is of it and of a later reader
@@ -214,25 +195,11 @@ module _ (program : Program) (call : LoopCall) (words : List ℕ) (element count
 
           pub reader_found : (v : Place) → FirstAt ExposedRead program call words element (w.index + 1) count v →
               IsWitness Lrpd program call words element iterations (record { writer = w; reader = v })
-          reader_found v next_reader = record {
-            pair = record {
-              writer = w.index;
-              reader = v.index;
-              writer_within = inside w.index first_writer.within;
-              reader_within = inside v.index next_reader.within;
-              opposed = (let behind = next_reader.behind in omega (arith, behind));
-              writing = passes FirstWrite 0 w first_writer;
-              reading = passes ExposedRead (w.index + 1) v next_reader;
-            };
-            least = record {
-              reader = λ other.
-                  not_below (Passes ExposedRead) (w.index + 1) v.index other.reader (before ExposedRead (w.index + 1) v
-                  next_reader)
-                  (reader_behind other) other.reading;
-              writer = λ other same. writer_low Lrpd other;
-            };
-            writer = refl;
-            reader = refl;
-            written = first_writer.here.seen.1;
-            read = next_reader.here.seen.1;
-          }
+          reader_found v next_reader =
+              witnessed Lrpd 0 (w.index + 1) w v first_writer next_reader
+              (let behind = next_reader.behind in omega (arith, behind))
+              (λ other.
+              not_below (Passes ExposedRead) (w.index + 1) v.index other.reader (before ExposedRead (w.index + 1) v
+              next_reader)
+              (reader_behind other) other.reading)
+              (λ other same. writer_low Lrpd other)
