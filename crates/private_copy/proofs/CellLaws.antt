@@ -1,8 +1,24 @@
 -- A cell of a page in the table, after its page has changed.
-use Rattle.std.proofs.Common.{◌≡◌, ◌≢◌, ℕ, ◌/◌, ◌%◌, ◌<◌, List, length, get_or, set, None, inl, inr, refl, sym, ◌∙◌, arith, get_or-set_same, get_or-set_other}
+use Rattle.std.proofs.Common.{◌≡◌, ◌≢◌, ℕ, ◌/◌, ◌%◌, ◌<◌, List, map, length, get_or, set, None, inl, inr, refl, sym, ◌∙◌, arith, get_or-set_same, get_or-set_other}
 use Rattle.std.proofs.lemmas.Bool.{cases_eq}
 use Rattle.std.proofs.Math.Nat.{div-add-mod}
+use Rattle.std.proofs.lemmas.List.{get_or_default, length-map}
+use Rattle.private_copy.specs.Cells.{PlacedPages, total_of, cells_of}
 use Rattle.private_copy.proofs.PageLaws.{Slot, cell_of, slot_cell, cell_there}
+
+-- a page stands in the table
+pub record StandsAt (table : List Slot) (page : ℕ) (slot : Slot) : Type 0 where
+  pub within : page < length table
+  pub was : get_or table page None ≡ slot
+
+-- so does one that was read there, where the table shows these pages
+pub read_at : (table : List Slot) (shown : PlacedPages) (page : ℕ) (item slot : Slot)
+    → length (map cells_of table) ≡ total_of shown → page < total_of shown → item ≡ get_or table page item
+    → item ≡ slot → StandsAt table page slot
+read_at table shown page item slot count low here is =
+    let all = length-map table cells_of in
+    let within : page < length table = omega (arith, low, count, all) in
+    record { within = within; was = get_or_default table page None item within ∙ sym here ∙ is }
 
 module _ (table : List Slot) (e : ℕ) (old slot : Slot) (within : e / 64 < length table)
     (was : get_or table (e / 64) None ≡ old) where

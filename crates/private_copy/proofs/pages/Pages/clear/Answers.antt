@@ -1,6 +1,7 @@
 use Rattle.std.proofs.Common.{◌≡◌, ◌-◌, Some, refl, sym, ◌∙◌, arith, length-set}
 use Rattle.std.specs.Prelude.{slice_get}
 use Rattle.private_copy.proofs.ClearLaws.{placed_among, back_from, none_from, blank_cells_all}
+use Rattle.private_copy.proofs.pages.Pages.clear.Goals.{In-Some}
 use Rattle.private_copy.proofs.pages.Pages.clear.Goals as goal
 
 pub loop-self-init : goal.loop-self-init
@@ -12,6 +13,11 @@ loop-self-init c = record {
   spare = c.self.invariant.blank;
 }
 
+-- the number that was read is that of the page placed last
+last_placed : (c : In-Some) → slice_get c.loop-self.self-inside.order.keys (c.loop-self.self-inside.placed - 1)
+    ≡ Some c.in-Some.number
+last_placed c = sym c.get_index.ensures.key ∙ sym c.copied.ensures ∙ c.in-Some.is
+
 pub loop-self-preserved-then-number-len : goal.loop-self-preserved-then-number-len
 loop-self-preserved-then-number-len c =
     let now = c.loop-self.self-inside in
@@ -20,8 +26,7 @@ loop-self-preserved-then-number-len c =
     let small = c.if-number-len.true in
     let len = c.len.ensures in
     let long = now.table.ok.0 in
-    let read : slice_get now.order.keys (now.placed - 1) ≡ Some c.in-Some.number =
-    sym c.get_index.ensures.key ∙ sym c.copied.ensures ∙ c.in-Some.is in
+    let read = last_placed (goal.at.loop-self-preserved-then-number-len c).In-Some in
     record {
       order = c.loop-self.invariant.order;
       long = length-set _ _ _ ∙ c.loop-self.invariant.long;
@@ -39,8 +44,7 @@ loop-self-preserved-else-number-len c =
     let large = c.if-number-len.false in
     let len = c.len.ensures in
     let long = now.table.ok.0 in
-    let read : slice_get now.order.keys (now.placed - 1) ≡ Some c.in-Some.number =
-    sym c.get_index.ensures.key ∙ sym c.copied.ensures ∙ c.in-Some.is in
+    let read = last_placed (goal.at.loop-self-preserved-else-number-len c).In-Some in
     record {
       order = c.loop-self.invariant.order;
       long = c.loop-self.invariant.long;
