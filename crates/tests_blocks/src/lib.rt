@@ -2,12 +2,6 @@
 //! share them. They stand in a crate of their own, since a crate with tests is proved twice.
 #![tactic(auto)]
 
-#[cfg(test)]
-mod examples;
-#[cfg(test)]
-mod growths;
-#[cfg(test)]
-mod marks;
 pub mod stage;
 #[cfg(test)]
-mod workers;
+mod tests;

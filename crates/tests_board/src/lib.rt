@@ -3,8 +3,4 @@
 #![tactic(auto)]
 
 #[cfg(test)]
-mod asserts;
-#[cfg(test)]
-mod board;
-#[cfg(test)]
-mod examples;
+mod tests;

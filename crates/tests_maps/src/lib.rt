@@ -3,8 +3,4 @@
 #![tactic(auto)]
 
 #[cfg(test)]
-mod asserts;
-#[cfg(test)]
-mod examples;
-#[cfg(test)]
-mod maps;
+mod tests;

@@ -3,22 +3,4 @@
 #![tactic(auto)]
 
 #[cfg(test)]
-mod accesses;
-#[cfg(test)]
-mod callback_writer;
-#[cfg(test)]
-mod growths;
-#[cfg(test)]
-mod inputs;
-#[cfg(test)]
-mod lanes;
-#[cfg(test)]
-mod loops;
-#[cfg(test)]
-mod operators;
-#[cfg(test)]
-mod programs;
-#[cfg(test)]
-mod random_callbacks;
-#[cfg(test)]
-mod rows;
+mod tests;

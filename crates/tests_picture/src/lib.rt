@@ -3,8 +3,4 @@
 #![tactic(auto)]
 
 #[cfg(test)]
-mod asked;
-#[cfg(test)]
-mod drawing;
-#[cfg(test)]
-mod pictures;
+mod tests;

@@ -3,20 +3,8 @@
 //! proved twice. Tests of blocks tell planes in the same words.
 #![tactic(auto)]
 
-#[cfg(test)]
-mod accesses;
-#[cfg(test)]
-mod examples;
-#[cfg(test)]
-mod iterations;
-#[cfg(test)]
-mod kernels;
-#[cfg(test)]
-mod loops;
-#[cfg(test)]
-mod marked_planes;
 mod planes_told;
 #[cfg(test)]
-mod tellings;
+mod tests;
 
 pub use planes_told::{tell_conflicts, tell_planes};

@@ -3,22 +3,4 @@
 #![tactic(auto)]
 
 #[cfg(test)]
-mod accesses_from_c;
-#[cfg(test)]
-mod addresses_from_c;
-#[cfg(test)]
-mod conflicts;
-#[cfg(test)]
-mod conflicts_from_c;
-#[cfg(test)]
-mod hexes;
-#[cfg(test)]
-mod inputs;
-#[cfg(test)]
-mod rules;
-#[cfg(test)]
-mod states_from_c;
-#[cfg(test)]
-mod telling;
-#[cfg(test)]
-mod texts;
+mod tests;

@@ -3,14 +3,4 @@
 #![tactic(auto)]
 
 #[cfg(test)]
-mod growths;
-#[cfg(test)]
-mod lists;
-#[cfg(test)]
-mod loops;
-#[cfg(test)]
-mod schedules;
-#[cfg(test)]
-mod stage;
-#[cfg(test)]
-mod table;
+mod tests;

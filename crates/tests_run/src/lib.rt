@@ -3,20 +3,4 @@
 #![tactic(auto)]
 
 #[cfg(test)]
-mod asserts;
-#[cfg(test)]
-mod command_lines;
-#[cfg(test)]
-mod commands;
-#[cfg(test)]
-mod examples;
-#[cfg(test)]
-mod long_loops;
-#[cfg(test)]
-mod loops;
-#[cfg(test)]
-mod program;
-#[cfg(test)]
-mod replays;
-#[cfg(test)]
-mod streams;
+mod tests;

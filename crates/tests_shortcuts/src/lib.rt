@@ -3,8 +3,4 @@
 #![tactic(auto)]
 
 #[cfg(test)]
-mod cases;
-#[cfg(test)]
-mod sums;
-#[cfg(test)]
-mod watched;
+mod tests;

@@ -3,22 +3,4 @@
 #![tactic(auto)]
 
 #[cfg(test)]
-mod asserts;
-#[cfg(test)]
-mod bytes;
-#[cfg(test)]
-mod events;
-#[cfg(test)]
-mod examples;
-#[cfg(test)]
-mod growths;
-#[cfg(test)]
-mod hex_form;
-#[cfg(test)]
-mod instructions;
-#[cfg(test)]
-mod maps;
-#[cfg(test)]
-mod rows;
-#[cfg(test)]
-mod units;
+mod tests;

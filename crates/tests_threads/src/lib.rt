@@ -3,12 +3,4 @@
 #![tactic(auto)]
 
 #[cfg(test)]
-mod examples;
-#[cfg(test)]
-mod gates;
-#[cfg(test)]
-mod growths;
-#[cfg(test)]
-mod loops;
-#[cfg(test)]
-mod reports;
+mod tests;

@@ -3,30 +3,4 @@
 #![tactic(auto)]
 
 #[cfg(test)]
-mod accesses;
-#[cfg(test)]
-mod arithmetic;
-#[cfg(test)]
-mod asserts;
-#[cfg(test)]
-mod built;
-#[cfg(test)]
-mod comparisons;
-#[cfg(test)]
-mod examples;
-#[cfg(test)]
-mod joins;
-#[cfg(test)]
-mod loops;
-#[cfg(test)]
-mod operands;
-#[cfg(test)]
-mod ranges;
-#[cfg(test)]
-mod rows;
-#[cfg(test)]
-mod slots;
-#[cfg(test)]
-mod units;
-#[cfg(test)]
-mod words;
+mod tests;

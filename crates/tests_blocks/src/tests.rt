@@ -1,0 +1,6 @@
+//! The tests themselves.
+
+mod examples;
+mod growths;
+mod marks;
+mod workers;

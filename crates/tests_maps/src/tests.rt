@@ -1,0 +1,5 @@
+//! The tests themselves.
+
+mod asserts;
+mod examples;
+mod maps;

@@ -1,0 +1,82 @@
+//! Programs as users write them: the examples of the repository, of which two were compiled from C.
+
+use crate::tests::rows::{ORDER, is_answered};
+use bpfspec_serve::{Mode, UnitForm};
+use std::test::Fail;
+
+/// Units in hex form.
+const HEX: Mode = Mode::Order {
+    form: UnitForm::Hex,
+    arg: 0,
+};
+
+/// `examples/histogram.hex`: 1,000 numbers are counted in 16 buckets.
+const HISTOGRAM: &str =
+    "maps 16 | b4010000e8030000 | 18420000050000000000000000000000 | b703000000000000 | \
+    b704000000000000 | 85000000b5000000 | 9500000000000000 | bc11000000000000 | \
+    18020000cd8c55ed00000000d7af51ff | 2f21000000000000 | bf12000000000000 | 7702000021000000 | \
+    af12000000000000 | 1801000053ec851a00000000feb9cec4 | 2f12000000000000 | bf21000000000000 | \
+    7701000021000000 | ac21000000000000 | 540100000f000000 | 631afcff00000000 | \
+    bfa2000000000000 | 07020000fcffffff | 18510000000000000000000000000000 | 8500000001000000 | \
+    1500020000000000 | b701000001000000 | db10000000000000 | b700000000000000 | 9500000000000000";
+
+#[test]
+fn a_histogram(rt: HostRuntime) -> Result<(), Fail> {
+    let wanted = "return 1000 | loop 0 at 5: answer 1000, in order | \
+        map 0: 65 59 58 61 51 62 74 64 51 61 63 86 64 64 64 53";
+    is_answered(&rt, rt.alloc(), HEX, "..", HISTOGRAM, wanted)
+}
+
+/// `examples/parse_header.hex`: the destination port of an IPv4 packet with UDP or TCP, and 0 for any other.
+const PARSE_HEADER: &str =
+    "maps 6 | b401000000000000 | 631afcff00000000 | bfa2000000000000 | 07020000fcffffff | \
+    18510000000000000000000000000000 | 8500000001000000 | 15003e0000000000 | b401000001000000 | \
+    631afcff00000000 | bfa2000000000000 | 07020000fcffffff | 18510000000000000000000000000000 | \
+    8500000001000000 | 1500360000000000 | 7906000000000000 | b401000002000000 | \
+    631afcff00000000 | bfa2000000000000 | 07020000fcffffff | 18510000000000000000000000000000 | \
+    8500000001000000 | 15002d0000000000 | 7907000000000000 | b401000003000000 | \
+    631afcff00000000 | bfa2000000000000 | 07020000fcffffff | 18510000000000000000000000000000 | \
+    8500000001000000 | 1500240000000000 | b401000004000000 | 631afcff00000000 | \
+    bfa2000000000000 | 07020000fcffffff | 18510000000000000000000000000000 | 8500000001000000 | \
+    15001c0000000000 | 7908000000000000 | b401000005000000 | 631afcff00000000 | \
+    bfa2000000000000 | 07020000fcffffff | 18510000000000000000000000000000 | 8500000001000000 | \
+    1500130000000000 | 180100000000000000000000ffffff00 | 5f16000000000000 | b700000000000000 | \
+    18010000000000000000000008004500 | 1d16010000000000 | 05000c0000000000 | 7707000038000000 | \
+    1607010011000000 | 5607090006000000 | bf81000000000000 | 7701000028000000 | \
+    57010000ff000000 | 7708000018000000 | 5708000000ff0000 | 4f18000000000000 | \
+    bf80000000000000 | 0500010000000000 | b700000000000000 | 9500000000000000";
+
+/// A packet with UDP, one with TCP, one with ICMP, one of IPv6, and one whose header has options.
+const PACKETS: &str = "
+    564049465049090 19421807786328064 1242993772905774080 54044303642643883 2882362036469380354 72057602355110417 => 53
+    564049465049090 19421807786328064 450360238488566784 54044303642643883 2882462225171494146 72057602355110417  => 8080
+    564049465049090 19421807786328064 90072268298927104 54044303642643883 2882362036469380354 72057602355110417   => 0
+    564049465049090 19665341021945856 1242993772905774080 54044303642643883 2882362036469380354 72057602355110417 => 0
+    564049465049090 19703282763038720 1242993772905774080 54044303642643883 2882362036469380354 72057602355110417 => 0
+";
+
+#[test]
+fn a_parser_of_headers(rt: HostRuntime) -> Result<(), Fail> {
+    let alloc = rt.alloc();
+    for row in PACKETS.trim().lines() {
+        let (packet, port) = row.split_once("=>").ok_or("a row has a port")?;
+        let maps = format!(in alloc; "map 0: {}", packet.trim())?;
+        let input = format!(in alloc; "{PARSE_HEADER} | %% | {maps}")?;
+        let wanted = format!(in alloc; "return {} | {maps}", port.trim())?;
+        is_answered(&rt, alloc, HEX, "..", &input, &wanted)?;
+    }
+    Ok(())
+}
+
+/// `examples/prefix_sum.bpf`: each element becomes the sum of all up to it.
+const PREFIX_SUM: &str =
+    "maps 8 | mov64 r1, 7 | ldcode r2, callback | mov64 r3, 0 | mov64 r4, 0 | call 181 | exit | \
+    callback: | lsh64 r1, 3 | ldmapval r2, 0, 0 | add64 r2, r1 | ldx64 r3, [r2+0] | \
+    ldx64 r4, [r2+8] | add64 r4, r3 | stx64 [r2+8], r4 | mov64 r0, 0 | exit | %% | \
+    map 0: 3 1 4 1 5 9 2 6";
+
+#[test]
+fn prefix_sums(rt: HostRuntime) -> Result<(), Fail> {
+    let wanted = "return 7 | loop 0 at 5: answer 7, in order | map 0: 3 4 8 9 14 23 25 31";
+    is_answered(&rt, rt.alloc(), ORDER, "..", PREFIX_SUM, wanted)
+}

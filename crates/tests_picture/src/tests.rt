@@ -1,0 +1,5 @@
+//! The tests themselves.
+
+mod asked;
+mod drawing;
+mod pictures;

@@ -1,0 +1,11 @@
+//! The tests themselves.
+
+mod asserts;
+mod command_lines;
+mod commands;
+mod examples;
+mod long_loops;
+mod loops;
+mod program;
+mod replays;
+mod streams;

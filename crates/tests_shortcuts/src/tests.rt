@@ -1,0 +1,5 @@
+//! The tests themselves.
+
+mod cases;
+mod sums;
+mod watched;

@@ -1,0 +1,4 @@
+//! The tests themselves.
+
+mod asserts;
+mod counted;

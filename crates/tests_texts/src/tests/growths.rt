@@ -1,0 +1,106 @@
+//! Under `rt try --test --fail-alloc N` each growth is refused in turn: out of memory is then the
+//! answer, or the refusal that the input has, and no other one.
+
+use crate::tests::asserts::assert_same;
+use bpf_insn::{CodecError, CodecFault, Insn, Unit, decode, encode};
+use bpf_text::{
+    TextError, TextFault, parse_events, parse_maps, parse_unit, print_unit, read_hex, write_hex,
+};
+use std::alloc::Global;
+use std::process::Abort;
+
+/// A loop, and its callback.
+const TEXT: &str = "maps 1 2\nldcode r2, +2\ncall 181\nexit\nmov64 r0, 0\nexit\n";
+
+fn is_printed(rt: &impl Abort, alloc: Global, unit: &Unit) {
+    match print_unit(alloc, unit) {
+        Ok(text) => assert_same(rt, text.as_str(), TEXT),
+        Err(error) => assert_same(rt, error, CodecError::Memory),
+    }
+}
+
+fn is_read(rt: &impl Abort, alloc: Global, hex: &str) {
+    match read_hex(alloc, hex) {
+        Ok(coded) => assert_same(rt, coded.bytes.len(), 48),
+        Err(error) => assert_same(rt, error, TextError::Memory),
+    }
+}
+
+#[test]
+fn of_a_unit(rt: HostRuntime) {
+    match parse_unit(rt.alloc(), TEXT) {
+        Ok(unit) => is_printed(&rt, rt.alloc(), &unit),
+        Err(error) => assert_same(&rt, error, TextError::Memory),
+    }
+}
+
+fn is_written(rt: &impl Abort, alloc: Global, unit: &Unit) {
+    match write_hex(alloc, unit) {
+        Ok(hex) => is_read(rt, alloc, &hex),
+        Err(error) => assert_same(rt, error, CodecError::Memory),
+    }
+}
+
+#[test]
+fn of_a_unit_in_hex(rt: HostRuntime) {
+    match parse_unit(rt.alloc(), TEXT) {
+        Ok(unit) => is_written(&rt, rt.alloc(), &unit),
+        Err(error) => assert_same(&rt, error, TextError::Memory),
+    }
+}
+
+/// A load of a 64-bit immediate, and an exit.
+const BYTES: &[u8] = b"\x18\x01\0\0\0\0\0\0\0\0\0\0\0\0\0\x80\x95\0\0\0\0\0\0\0";
+
+fn are_encoded(rt: &impl Abort, alloc: Global, insns: &[Insn]) {
+    match encode(alloc, insns) {
+        Ok(bytes) => assert_same(rt, bytes.as_slice(), BYTES),
+        Err(error) => assert_same(rt, error, CodecError::Memory),
+    }
+}
+
+#[test]
+fn of_bytes(rt: HostRuntime) {
+    match decode(rt.alloc(), BYTES) {
+        Ok(insns) => are_encoded(&rt, rt.alloc(), &insns),
+        Err(error) => assert_same(&rt, error, CodecError::Memory),
+    }
+}
+
+#[test]
+fn of_refused_bytes(rt: HostRuntime) {
+    match decode(rt.alloc(), b"\x95\0\0\0\0\0\0\0\x18\0\0\0\0\0\0\0") {
+        Ok(_) => assert!(rt; false),
+        Err(CodecError::Refused { fault, slot }) => {
+            assert!(rt; fault == CodecFault::SecondSlot && slot == 1);
+        }
+        Err(CodecError::Memory) => {}
+    }
+}
+
+#[test]
+fn of_a_refused_unit(rt: HostRuntime) {
+    match parse_unit(rt.alloc(), "maps 1\na:\nja c\n") {
+        Ok(_) => assert!(rt; false),
+        Err(TextError::Refused { fault, line }) => {
+            assert!(rt; fault == TextFault::UnknownLabel && line == 3);
+        }
+        Err(TextError::Memory) => {}
+    }
+}
+
+#[test]
+fn of_events(rt: HostRuntime) {
+    match parse_events(rt.alloc(), "bounds 0 4\nc0 s1\n") {
+        Ok((bounds, events)) => assert_same(&rt, bounds.len() + events.len(), 4),
+        Err(error) => assert_same(&rt, error, TextError::Memory),
+    }
+}
+
+#[test]
+fn of_maps(rt: HostRuntime) {
+    match parse_maps(rt.alloc(), "map 0: 5\n") {
+        Ok(maps) => assert_same(&rt, maps[0].as_slice(), [5].as_slice()),
+        Err(error) => assert_same(&rt, error, TextError::Memory),
+    }
+}
