@@ -20,8 +20,10 @@ mod kept;
 mod loading;
 mod merging;
 mod touching;
+mod verdict;
 
 pub use counting::{count_bits, first_bit};
 pub use judging::conflicts;
 pub use merging::merge;
 pub use touching::{conflicts_touched, merge_touched};
+pub use verdict::{conflict_plane, verdict_of};

@@ -7,10 +7,10 @@ ghost use Rattle.loop_core_conflicts.specs.Told.{AreConflicts};
 
 use crate::conflicts::Conflicts;
 use crate::listing::least_elements;
-use crate::plane::{conflict_plane, verdict_of};
 use array_maps::Maps;
 use bpf_step::LoopCall;
 use bpf_verify::Verified;
+use lane_planes::{conflict_plane, verdict_of};
 use loop_core_block::run_block;
 use loop_core_model::Test;
 use loop_core_split::{NoGate, Split};

@@ -9,7 +9,6 @@
 mod conflicts;
 mod finding;
 mod listing;
-mod plane;
 
 pub use conflicts::Conflicts;
 pub use finding::find_conflicts;

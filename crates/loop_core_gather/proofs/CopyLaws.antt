@@ -7,17 +7,19 @@ use Rattle.std.proofs.Math.ListN.{drop_of_length-le}
 use Rattle.std.proofs.Math.Seq.{take-append_seam}
 use Rattle.std.proofs.lemmas.List.{length-map, get_or-map, append-nil}
 use Rattle.std.proofs.lemmas.Option.{slice_get-map}
+use Rattle.loop_core_model.specs.declared.loop_test.Test.{Test}
 use Rattle.loop_core_model.specs.Marks.{Visit}
 use Rattle.loop_core_model.specs.Kept.{Kept, committed_of_kept}
 use Rattle.shadow_marks.specs.declared.planes.Planes.{Planes}
-use Rattle.shadow_marks.specs.Standing.{StandFor}
+use Rattle.shadow_marks.specs.Standing.{StandFor, test_of}
 use Rattle.private_copy.specs.Copies.{PrivateCopy}
 use Rattle.private_copy.specs.Reductions.{combination}
+use Rattle.lane_planes.specs.Merged.{StandForSome}
 use Rattle.loop_core_block.specs.declared.block.Block.{Block as Held}
 use Rattle.loop_core_block.specs.Blocks.{BlockOf}
 use Rattle.loop_core_block.specs.Shown.{shown}
-use Rattle.loop_core_gather.specs.Held.{chosen, visits_at, is_reduction, kept_of, left_at, left_words, IsUntouchedElement, TellsUntouched, AreHeld, HaveCopiesOf}
-use Rattle.loop_core_gather.proofs.ChoiceLaws.{chosen_next}
+use Rattle.loop_core_gather.specs.Held.{chosen, visits_at, is_reduction, kept_of, left_at, left_words, IsUntouchedElement, TellsUntouched, AreHeld, AreInOne, HavePlanes, HaveCopiesOf}
+use Rattle.loop_core_gather.proofs.ChoiceLaws.{chosen_next, all_at}
 
 abbrev copy_in : BlockOf → PrivateCopy
 copy_in b = b.copy
@@ -106,20 +108,31 @@ copies_set (c ∷ blocks) (suc place) b same = ap (λ (ks : List PrivateCopy). (
     (copies_set blocks place b same)
 
 -- the planes of one block alone stand for its visits
-pub one_stands : (each : BlockOf → ℕ → List Visit) (blocks : List Held) (places : List ℕ) (b : Held) (planes : Planes)
-    → length places ≡ 1 → get_or places 0 0 < length blocks → b ≡ get_or blocks (get_or places 0 0) b
-    → StandFor planes (each (shown b)) → StandFor planes (visits_at each (chosen places (map shown blocks)))
-one_stands each blocks places b planes one within is stand =
-    let inside : 0 < length places = omega (arith, one) in
-    let past : length places ≤ 1 = omega (arith, one) in
-    let first : chosen places (map shown blocks) ≡ shown b ∷ chosen (drop 1 places) (map shown blocks) =
-    chosen_next blocks places 0 b inside within is in
-    let rest : chosen (drop 1 places) (map shown blocks) ≡ [] =
-    ap (λ (ps : List ℕ). chosen ps (map shown blocks)) (drop_of_length-le places past) in
-    let at : (e : ℕ) → visits_at each (chosen places (map shown blocks)) e ≡ each (shown b) e =
-    λ e. ap (λ (bs : List BlockOf). visits_at each bs e) (first ∙ ap (λ (bs : List BlockOf). shown b ∷ bs) rest)
-    ∙ append-nil (each (shown b) e) in
-    subst (StandFor planes) (λ j e. sym (at e) j) stand
+module _ (elements : ℕ) (test : Test) (blocks : List Held) (places : List ℕ) (b : Held) (planes : Planes)
+    (one : length places ≡ 1) (within : get_or places 0 0 < length blocks)
+    (at : b ≡ get_or blocks (get_or places 0 0) b) where
+  visits_are : (each : BlockOf → ℕ → List Visit) (e : ℕ)
+      → visits_at each (chosen places (map shown blocks)) e ≡ each (shown b) e
+  visits_are each e =
+      let inside : 0 < length places = omega (arith, one) in
+      let past : length places ≤ 1 = omega (arith, one) in
+      let first : chosen places (map shown blocks) ≡ shown b ∷ chosen (drop 1 places) (map shown blocks) =
+      chosen_next blocks places 0 b inside within at in
+      let rest : chosen (drop 1 places) (map shown blocks) ≡ [] =
+      ap (λ (ps : List ℕ). chosen ps (map shown blocks)) (drop_of_length-le places past) in
+      ap (λ (bs : List BlockOf). visits_at each bs e) (first ∙ ap (λ (bs : List BlockOf). shown b ∷ bs) rest)
+      ∙ append-nil (each (shown b) e)
+
+  pub one_in_one : planes ≡ (shown b).planes → HavePlanes elements test (shown b)
+      → AreInOne elements test (map shown blocks) places planes
+  one_in_one is have = record {
+    stand = subst StandForSome (sym is) have.stand;
+    count = ap (λ (p : Planes). p.elements) is ∙ have.count;
+    test_is = ap (λ (p : Planes). test_of p.tested) is ∙ have.test_is;
+    visits = λ each all. subst (StandFor planes) (λ j e. sym (visits_are each e) j)
+        (subst (λ (p : Planes). StandFor p (each (shown b))) (sym is)
+        (all_at (λ other. StandFor other.planes (each other)) blocks (get_or places 0 0) b within at all));
+  }
 
 -- what was written into a list of as many items
 pub taken : {A : Type 0} (items rest : List A) (many : ℕ) → length items ≡ many → take many (items ++ rest) ≡ items

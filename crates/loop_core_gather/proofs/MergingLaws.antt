@@ -10,7 +10,7 @@ use Rattle.shadow_marks.specs.Standing.{ArePlanes, StandFor, test_of}
 use Rattle.shadow_marks.specs.Ending.{KeepsShape}
 use Rattle.lane_planes.specs.Merged.{joined_visits, StandForSome}
 use Rattle.loop_core_block.specs.Blocks.{BlockOf}
-use Rattle.loop_core_gather.specs.Held.{chosen, visits_at}
+use Rattle.loop_core_gather.specs.Held.{chosen, visits_at, AreInOne}
 use Rattle.loop_core_gather.proofs.ChoiceLaws.{visits_next}
 
 -- planes stand for visits, which come before those of the blocks at these places
@@ -54,12 +54,15 @@ merged_next elements test blocks places planes new i b so_far some is own shape 
 }
 
 pub merged_all : (elements : ℕ) (test : Test) (blocks : List BlockOf) (places : List ℕ) (planes : Planes) (i : ℕ)
-    → length places ≤ i → MergedSoFar elements test blocks places planes i →
-    (each : BlockOf → ℕ → List Visit) → All (λ b. StandFor b.planes (each b)) blocks
-    → StandFor planes (visits_at each (chosen places blocks))
-merged_all elements test blocks places planes i past so_far each all =
-    let held = so_far.visits each all in
-    let same : (e : ℕ) → held.before e ≡ visits_at each (chosen places blocks) e =
-    λ e. sym (append-nil (held.before e)) ∙ ap (λ ps. held.before e ++ visits_at each (chosen ps blocks) e)
-    (sym (drop_of_length-le places past)) ∙ held.rest e in
-    subst (StandFor planes) (λ j e. same e j) held.stand
+    → length places ≤ i → MergedSoFar elements test blocks places planes i → AreInOne elements test blocks places planes
+merged_all elements test blocks places planes i past so_far = record {
+  stand = so_far.stand;
+  count = so_far.count;
+  test_is = so_far.test_is;
+  visits = λ each all.
+      let held = so_far.visits each all in
+      let same : (e : ℕ) → held.before e ≡ visits_at each (chosen places blocks) e =
+      λ e. sym (append-nil (held.before e)) ∙ ap (λ ps. held.before e ++ visits_at each (chosen ps blocks) e)
+      (sym (drop_of_length-le places past)) ∙ held.rest e in
+      subst (StandFor planes) (λ j e. same e j) held.stand;
+}

@@ -10,7 +10,7 @@ use Rattle.loop_core_model.specs.Marks.{Visit}
 use Rattle.loop_core_model.specs.Planes.{bit_of}
 use Rattle.loop_core_model.specs.Kept.{Kept, committed_of_kept}
 use Rattle.shadow_marks.specs.declared.planes.Planes.{Planes}
-use Rattle.shadow_marks.specs.Standing.{ArePlanes, words_for, plane_by, test_of}
+use Rattle.shadow_marks.specs.Standing.{ArePlanes, StandFor, words_for, plane_by, test_of}
 use Rattle.private_copy.specs.Reductions.{combination}
 use Rattle.lane_planes.specs.Merged.{StandForSome}
 use Rattle.loop_core_block.specs.Blocks.{BlockOf}
@@ -37,6 +37,16 @@ HaveCopiesOf old new = map (λ b. b.copy) new ≡ map (λ b. b.copy) old
 -- at an element the visits of each block, one block after the other
 abbrev pub visits_at : (BlockOf → ℕ → List Visit) → List BlockOf → ℕ → List Visit
 visits_at each blocks e = joined (map (λ b. each b e) blocks)
+
+-- the planes of the blocks at these places in one, for n elements and this test: they stand for the visits of each of
+-- those blocks, one block after the other, whatever visits the blocks' own planes stand for
+pub record AreInOne (elements : ℕ) (test : Test) (blocks : List BlockOf) (places : List ℕ) (planes : Planes) : Type 0
+  where
+    pub stand : StandForSome planes
+    pub count : planes.elements ≡ elements
+    pub test_is : test_of planes.tested ≡ test
+    pub visits : (each : BlockOf → ℕ → List Visit) → All (λ b. StandFor b.planes (each b)) blocks
+        → StandFor planes (visits_at each (chosen places blocks))
 
 -- by planes an element is reduction-only: no plain access was made of it, and it was reduced by one operator
 abbrev pub is_reduction : Planes → ℕ → Bool

@@ -12,13 +12,14 @@ ghost use Rattle.loop_core_block.specs.Shown.{shown};
 ghost use Rattle.loop_core_gather.specs.Gathered.{all_gathered, HasOutcome};
 
 use crate::gathered::Gathered;
-use crate::merged::{conflicting_plane, planes_in_one, verdict_of};
+use crate::merged::planes_in_one;
 use crate::order::counting_blocks;
 use crate::summary::summaries_of;
 use crate::touched::touched_pages;
 use array_maps::Maps;
 use bpf_step::LoopCall;
 use bpf_verify::Verified;
+use lane_planes::{conflict_plane, verdict_of};
 use loop_core_block::Block;
 use loop_core_model::{GatherFault, Test};
 use loop_core_split::Split;
@@ -98,7 +99,7 @@ pub fn gather<'a>(
         blocks.as_mut_slice(),
         &counting.places,
     )?;
-    let conflicting = conflicting_plane(alloc, &planes)?;
+    let conflicting = conflict_plane(alloc, &planes)?;
     Ok(Gathered {
         verdict: verdict_of(&conflicting),
         answer: counted(call.n(), counting.least),

@@ -1,22 +1,17 @@
 //! The marks of several blocks together, and what they tell.
 
-ghost use Rattle.std.specs.Prelude.{◌≡◌, ◌+◌, ◌<◌, ◌≤◌, ◌/◌, ℕ, List, map, length, slice_index, IfOk};
-ghost use Rattle.std.specs.List.{All, filter, range_with_len, count_by};
-ghost use Rattle.array_maps.specs.MapList.{AreWords};
+ghost use Rattle.std.specs.Prelude.{◌≡◌, ◌<◌, ◌/◌, map, length, slice_index, IfOk};
+ghost use Rattle.std.specs.List.{All, count_by};
 ghost use Rattle.array_maps.specs.declared.access.Op.{Op as Operator};
 ghost use Rattle.array_maps.specs.Accesses.{operators};
-ghost use Rattle.loop_core_block.specs.Blocks.{BlockOf};
 ghost use Rattle.loop_core_block.specs.Shown.{shown};
-ghost use Rattle.loop_core_model.specs.Marks.{Visit, marks_of, marked_conflict};
-ghost use Rattle.loop_core_model.specs.Planes.{bit_of, elements_in_plane, plane_verdict};
-ghost use Rattle.shadow_marks.specs.Standing.{StandFor, ArePlanes, test_of, plane_by};
-ghost use Rattle.lane_planes.specs.Merged.{StandForSome};
-ghost use Rattle.loop_core_gather.specs.Held.{chosen, visits_at, is_reduction as is_reduced, HavePlanes, HaveCopiesOf};
+ghost use Rattle.loop_core_model.specs.Planes.{bit_of};
+ghost use Rattle.shadow_marks.specs.Standing.{ArePlanes, plane_by};
+ghost use Rattle.loop_core_gather.specs.Held.{is_reduction as is_reduced, AreInOne, HavePlanes, HaveCopiesOf};
 
-use array_maps::are_words;
-use lane_planes::{conflicts_touched, count_bits, first_bit, merge_touched};
+use lane_planes::merge_touched;
 use loop_core_block::Block;
-use loop_core_model::{Test, Verdict};
+use loop_core_model::Test;
 use shadow_marks::{OperatorPlanes, Planes};
 use std::alloc::{AllocError, Global};
 
@@ -34,12 +29,7 @@ pub(crate) fn planes_in_one(
 ) -> Result<Planes, AllocError>
     requires places { All (λ place. place < length blocks.old) places.now }
     requires planes { All (λ b. HavePlanes elements test (shown b)) blocks.old }
-    ensures elements { IfOk result (λ planes. planes.elements ≡ elements) }
-    ensures test { IfOk result (λ planes. test_of planes.tested ≡ test) }
-    ensures whole { IfOk result ArePlanes }
-    ensures stand { IfOk result StandForSome }
-    ensures visits { IfOk result (λ planes. (each : BlockOf → ℕ → List Visit) → All (λ b. StandFor b.planes (each b))
-        (map shown blocks.old) → StandFor planes (visits_at each (chosen places.now (map shown blocks.old)))) }
+    ensures in_one { IfOk result (AreInOne elements test (map shown blocks.old) places.now) }
     ensures copies { HaveCopiesOf (map shown blocks.old) (map shown blocks.new) }
 {
     if places.len() == 1 {
@@ -59,48 +49,13 @@ fn merged_planes(
 ) -> Result<Planes, AllocError>
     requires places { All (λ place. place < length blocks.now) places.now }
     requires planes { All (λ b. HavePlanes elements test (shown b)) blocks.now }
-    ensures elements { IfOk result (λ planes. planes.elements ≡ elements) }
-    ensures test { IfOk result (λ planes. test_of planes.tested ≡ test) }
-    ensures whole { IfOk result ArePlanes }
-    ensures stand { IfOk result StandForSome }
-    ensures visits { IfOk result (λ planes. (each : BlockOf → ℕ → List Visit) → All (λ b. StandFor b.planes (each b))
-        (map shown blocks.now) → StandFor planes (visits_at each (chosen places.now (map shown blocks.now)))) }
+    ensures { IfOk result (AreInOne elements test (map shown blocks.now) places.now) }
 {
     let mut planes = Planes::try_new(alloc, elements, test)?;
     for place in places {
         merge_touched::<LANES>(&mut planes, blocks[*place].planes());
     }
     Ok(planes)
-}
-
-/// The plane of elements that conflict, of planes for at most 65,536 elements.
-pub(crate) fn conflicting_plane(alloc: Global, planes: &Planes) -> Result<Vec<u64>, AllocError>
-    requires stand { StandForSome planes.now }
-    requires few { planes.now.elements ≤ 65536 }
-    ensures few { IfOk result (λ plane. length plane.items ≤ 1024) }
-    ensures words { IfOk result (λ plane. AreWords plane.items) }
-    ensures elements { IfOk result (λ plane. (visits : ℕ → List Visit) → StandFor planes.now visits
-        → elements_in_plane plane.items ≡ filter (λ e. marked_conflict (test_of planes.now.tested)
-        (marks_of (visits e))) (range_with_len 0 planes.now.elements)) }
-{
-    let mut plane = vec![in alloc; 0u64; (planes.elements as usize + 63) / 64]?;
-    conflicts_touched::<LANES>(planes, plane.as_mut_slice());
-    are_words(plane.as_slice());
-    Ok(plane)
-}
-
-/// The verdict on a loop of which these elements conflict, in a plane of at most 1,024 words.
-pub(crate) fn verdict_of(plane: &[u64]) -> Verdict
-    requires { length plane.now ≤ 1024 }
-    ensures { result ≡ plane_verdict plane.now }
-{
-    match first_bit::<LANES>(plane) {
-        Some(least) => Verdict::Conflict {
-            count: count_bits::<LANES>(plane),
-            least,
-        },
-        None => Verdict::Parallel,
-    }
 }
 
 /// Whether an element is reduction-only: no plain access was made of it, and it was reduced by one operator.

@@ -50,6 +50,15 @@ touched_pages-requires-clause-places c =
     c.in-Ok.counting.places.items c.requires.split c.in-Ok.ensures.counts c.deref-3.result.now c.deref-4.result.now
     c.deref-3.ensures.value c.deref-4.ensures.0
 
+pub conflict_plane-requires-clause-stand : goal.conflict_plane-requires-clause-stand
+conflict_plane-requires-clause-stand c = c.in_ok-planes.ensures.in_one.stand
+
+pub conflict_plane-requires-clause-few : goal.conflict_plane-requires-clause-few
+conflict_plane-requires-clause-few c =
+    let count = c.in_ok-planes.ensures.in_one.count in
+    let few = c.words-words.ensures.limits in
+    omega (arith, count, few)
+
 -- the blocks have the copies that they had
 same_copies : (c : In_ok-planes) → HaveCopiesOf (map shown c.args.blocks.items) (map shown (take c.args.blocks.len
     (c.planes_in_one.new.blocks ++ drop (length c.planes_in_one.new.blocks) c.args.blocks.items)))
@@ -68,8 +77,8 @@ invariant_of-result c =
     c.args.blocks.items c.deref-2.result.now c.requires.ran (made at.In-Ok) c.in-Ok.counting.least
     c.in-Ok.counting.places.items c.requires.split c.in-Ok.ensures.counts c.in_ok-planes.planes
     c.words-words.result.now c.in_ok-touched.touched.items c.deref-3.result.now c.deref-4.result.now
-    c.words-words.ensures.words c.words-words.ensures.limits c.in_ok-planes.ensures.stand
-    c.in_ok-planes.ensures.elements c.deref-3.ensures.value c.deref-4.ensures.0 c.in_ok-touched.ensures.pages
+    c.words-words.ensures.words c.words-words.ensures.limits c.in_ok-planes.ensures.in_one.stand
+    c.in_ok-planes.ensures.in_one.count c.deref-3.ensures.value c.deref-4.ensures.0 c.in_ok-touched.ensures.pages
     c.in_ok-touched.ensures.marked)
 
 pub returns-clause-faultless : goal.returns-clause-faultless
@@ -87,7 +96,7 @@ returns-clause-told c =
     same_stand c.args.test c.args.program.now c.args.call.now c.args.start.now.words c.args.split.now
     c.args.blocks.items c.deref-2.result.now c.requires.ran (made at.In-Ok) c.in-Ok.counting.least places
     c.requires.split c.in-Ok.ensures.counts c.in_ok-planes.planes c.as_mut_slice.result.now c.deref-5.result.now
-    c.as_mut_slice.ensures.value c.deref-5.ensures.0 c.in_ok-planes.ensures.visits in
+    c.as_mut_slice.ensures.value c.deref-5.ensures.0 c.in_ok-planes.ensures.in_one.visits in
     subst (λ (ws : List ℕ). HasOutcome c.args.test c.args.program.now c.args.call.now c.args.start.now.words
     (let o : GatheredOf = record {
       verdict = c.verdict_of.result;
@@ -100,7 +109,8 @@ returns-clause-told c =
     (all_tell c.args.test c.args.program.now c.args.call.now c.args.start.now.words c.args.split.now
     c.args.blocks.items c.deref-2.result.now c.requires.ran (made at.In-Ok) c.in-Ok.counting.least places
     c.requires.split c.in-Ok.ensures.counts c.in_ok-planes.planes c.in_ok-conflicting.conflicting.items
-    c.verdict_of.result c.counted.result start (c.in_ok-planes.ensures.elements ∙ ap length c.words-words.ensures.words)
-    c.in_ok-planes.ensures.test stand c.in_ok-conflicting.ensures.words c.in_ok-conflicting.ensures.elements
+    c.verdict_of.result c.counted.result start
+    (c.in_ok-planes.ensures.in_one.count ∙ ap length c.words-words.ensures.words)
+    c.in_ok-planes.ensures.in_one.test_is stand c.in_ok-conflicting.ensures.words c.in_ok-conflicting.ensures.elements
     (c.verdict_of.ensures ∙ ap plane_verdict c.deref-6.ensures.value)
     (c.counted.ensures ∙ ap (λ (n : ℕ). count_to n c.in-Ok.counting.least) c.n.ensures) c.words-words.ensures.words)

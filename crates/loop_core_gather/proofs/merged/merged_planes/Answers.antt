@@ -27,8 +27,8 @@ loop-place-preserved c =
     (λ mine theirs stand also. c.merge_touched.ensures.visits mine theirs stand
     (subst (λ (p : Planes). StandFor p theirs) (sym c.planes.ensures) also))
 
-pub returns-clause-visits : goal.returns-clause-visits
-returns-clause-visits c each all =
+pub returns : goal.returns
+returns c =
     let past : length c.args.places.now ≤ c.loop-place.place-index = omega arith in
     merged_all c.args.elements c.args.test (map shown c.args.blocks.now) c.args.places.now c.loop-place.planes
-    c.loop-place.place-index past c.loop-place.invariant each all
+    c.loop-place.place-index past c.loop-place.invariant

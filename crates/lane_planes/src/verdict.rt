@@ -1,4 +1,4 @@
-//! The plane of elements that conflict.
+//! The plane of elements that conflict, and the verdict on them.
 
 ghost use Rattle.std.specs.Prelude.{◌≡◌, ◌≤◌, ℕ, List, length, IfOk};
 ghost use Rattle.std.specs.List.{filter, range_with_len};
@@ -8,8 +8,9 @@ ghost use Rattle.loop_core_model.specs.Planes.{elements_in_plane, plane_verdict}
 ghost use Rattle.shadow_marks.specs.Standing.{StandFor, test_of};
 ghost use Rattle.lane_planes.specs.Merged.{StandForSome};
 
+use crate::counting::{count_bits, first_bit};
+use crate::touching::conflicts_touched;
 use array_maps::are_words;
-use lane_planes::{conflicts_touched, count_bits, first_bit};
 use loop_core_model::Verdict;
 use shadow_marks::Planes;
 use std::alloc::{AllocError, Global};
@@ -17,8 +18,8 @@ use std::alloc::{AllocError, Global};
 /// The lanes of a vector.
 const LANES: usize = 8;
 
-/// The plane of elements that conflict, of planes for at most 65,536 elements.
-pub(crate) fn conflict_plane(alloc: Global, planes: &Planes) -> Result<Vec<u64>, AllocError>
+/// The plane of elements that conflict, of planes for at most 65,536 elements. It fails only for want of memory.
+pub fn conflict_plane(alloc: Global, planes: &Planes) -> Result<Vec<u64>, AllocError>
     requires stand { StandForSome planes.now }
     requires few { planes.now.elements ≤ 65536 }
     ensures few { IfOk result (λ plane. length plane.items ≤ 1024) }
@@ -34,7 +35,7 @@ pub(crate) fn conflict_plane(alloc: Global, planes: &Planes) -> Result<Vec<u64>,
 }
 
 /// The verdict on a loop of which these elements conflict, in a plane of at most 1,024 words.
-pub(crate) fn verdict_of(plane: &[u64]) -> Verdict
+pub fn verdict_of(plane: &[u64]) -> Verdict
     requires { length plane.now ≤ 1024 }
     ensures { result ≡ plane_verdict plane.now }
 {

@@ -1,7 +1,7 @@
 use Rattle.std.proofs.Common.{◌≡◌, ℕ, ◌++◌, List, length, take, drop, sym, ◌∙◌, ap, arith}
 use Rattle.std.proofs.Math.Seq.{take-append_seam}
 use Rattle.loop_core_model.specs.Planes.{elements_in_plane}
-use Rattle.loop_core_conflicts.proofs.plane.conflict_plane.Goals as goal
+use Rattle.lane_planes.proofs.verdict.conflict_plane.Goals as goal
 
 taken : (xs rest : List ℕ) (many : ℕ) → length xs ≡ many → take many (xs ++ rest) ≡ xs
 taken xs rest many is = ap (λ (n : ℕ). take n (xs ++ rest)) (sym is) ∙ take-append_seam xs rest
