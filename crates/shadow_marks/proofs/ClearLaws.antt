@@ -18,7 +18,6 @@ use Rattle.loop_core_model.specs.Marks.{Visit, Marks, no_marks, last_reader, mar
 use Rattle.loop_core_model.specs.Planes.{bit_of}
 use Rattle.shadow_marks.specs.declared.planes.Tested.{Tested}
 use Rattle.shadow_marks.specs.declared.planes.Tested.TheVariants.{Lrpd as ByLrpd, Flow as ByFlow}
-use Rattle.shadow_marks.specs.declared.planes.OperatorPlanes.{OperatorPlanes}
 use Rattle.shadow_marks.specs.declared.planes.Planes.{Planes}
 use Rattle.shadow_marks.specs.Standing.{words_for, IsBitPlane, plane_by, AreTested, ArePlanes, test_of, TestedStandAt, StandAt, StandFor, IsUnmarkedPage, no_visits}
 use Rattle.shadow_marks.specs.Ending.{KeepsShape}
@@ -70,16 +69,6 @@ pub set_in : {Z : Type 0} → (v : Vec ℕ Z) (now new : List ℕ) (page number 
 set_in v now new page number same sets =
     subst (λ (numbers : List ℕ). SetsNumbers v.items numbers page number) (sym (refilled v now new same sets.count))
     (subst (λ (numbers : List ℕ). SetsNumbers numbers new page number) same sets)
-
-pub operators_clear : (old new : OperatorPlanes) (page : ℕ) → ClearsBits old.add.items new.add.items page
-    → ClearsBits old.or.items new.or.items page → ClearsBits old.and.items new.and.items page
-    → ClearsBits old.xor.items new.xor.items page → ClearsBits old.addh.items new.addh.items page
-    → OperatorsClear old new page
-operators_clear old new page add or and xor addh Add = add
-operators_clear old new page add or and xor addh Or = or
-operators_clear old new page add or and xor addh And = and
-operators_clear old new page add or and xor addh Xor = xor
-operators_clear old new page add or and xor addh AddH = addh
 
 -- a plane still has no bit past its end
 cleared_bit : (old new : List ℕ) (page e : ℕ) → ClearsBits old new page → bit_of old e ≡ false → bit_of new e ≡ false

@@ -19,8 +19,8 @@ use Rattle.shadow_marks.specs.declared.planes.Tested.TheVariants.{Lrpd as ByLrpd
 use Rattle.shadow_marks.specs.declared.planes.OperatorPlanes.{OperatorPlanes}
 use Rattle.shadow_marks.specs.declared.planes.Planes.{Planes}
 use Rattle.shadow_marks.specs.Bits.{OrsBit}
-use Rattle.shadow_marks.specs.Standing.{words_for, IsBitPlane, plane_by, AreLrpdPlanes, AreFlowPlanes, AreTested, ArePlanes, test_of, LrpdStandAt, FlowStandAt, TestedStandAt, no_visits, StandFor}
-use Rattle.shadow_marks.specs.Ending.{TestedHave, OperatorsHave, LrpdFolds, FlowFolds, TestedFolds, OperatorsFold, Folds}
+use Rattle.shadow_marks.specs.Standing.{words_for, IsBitPlane, plane_by, EachPlane, AreLrpdPlanes, AreFlowPlanes, AreTested, ArePlanes, test_of, LrpdStandAt, FlowStandAt, TestedStandAt, no_visits, StandFor}
+use Rattle.shadow_marks.specs.Ending.{TestedHave, LrpdFolds, FlowFolds, TestedFolds, OperatorsFold, Folds}
 
 -- one plane
 and_true : (b : Bool) → (b && true) ≡ b
@@ -204,15 +204,9 @@ operator_ored old new e flags folds And = folds.and
 operator_ored old new e flags folds Xor = folds.xor
 operator_ored old new e flags folds AddH = folds.addh
 
-pub operators_have : (elements : ℕ) (planes : OperatorPlanes) (e : ℕ) → e < elements
-    → ((op : Op) → IsBitPlane elements (plane_by planes op)) → OperatorsHave planes e
-operators_have elements planes e within are = record {
-  add = has_word elements _ e within (are Add);
-  or = has_word elements _ e within (are Or);
-  and = has_word elements _ e within (are And);
-  xor = has_word elements _ e within (are Xor);
-  addh = has_word elements _ e within (are AddH);
-}
+pub each_plane : (P : List ℕ → Type 0) (planes : OperatorPlanes) → ((op : Op) → P (plane_by planes op))
+    → EachPlane P planes
+each_plane P planes all = record { add = all Add; or = all Or; and = all And; xor = all Xor; addh = all AddH }
 
 -- all planes, where each took its part of the flags
 pub record TakesPart (old new : Planes) (e index : ℕ) (flags : Flags) : Type 0 where

@@ -6,16 +6,13 @@ use Rattle.std.specs.declared.vec.Vec.{Vec}
 use Rattle.std.proofs.lemmas.List.{with_items_is}
 use Rattle.std.proofs.Math.Bool.{or-false}
 use Rattle.std.proofs.lemmas.Bool.{cases_lt}
-use Rattle.array_maps.specs.declared.access.Op.{Op}
-use Rattle.array_maps.specs.declared.access.Op.TheVariants.{Add, Or, And, Xor, AddH}
 use Rattle.loop_core_model.specs.Flags.{Flags}
 use Rattle.loop_core_model.specs.Marks.{Marks, marks_of_one, merged}
 use Rattle.loop_core_model.specs.Planes.{bit_of}
 use Rattle.shadow_marks.specs.declared.planes.Tested.{Tested}
 use Rattle.shadow_marks.specs.declared.planes.Tested.TheVariants.{Lrpd as ByLrpd, Flow as ByFlow}
-use Rattle.shadow_marks.specs.declared.planes.OperatorPlanes.{OperatorPlanes}
 use Rattle.shadow_marks.specs.declared.planes.Planes.{Planes}
-use Rattle.shadow_marks.specs.Standing.{IsBitPlane, plane_by, AreTested, ArePlanes, test_of, TestedStandAt, StandAt}
+use Rattle.shadow_marks.specs.Standing.{IsBitPlane, AreTested, ArePlanes, test_of, TestedStandAt, StandAt}
 use Rattle.shadow_marks.specs.Lanes.{over_lanes, marks_by, FoldsLanes}
 use Rattle.shadow_marks.specs.Runs.{is_between, OrsRun, ChangesRun}
 use Rattle.shadow_marks.specs.RunFolds.{OperatorsFoldRun, TestedFoldRun}
@@ -60,19 +57,6 @@ pub changed_in : {Z : Type 0} → (v : Vec ℕ Z) (now new : List ℕ) (first pa
 changed_in v now new first past f a b same is changes =
     subst (λ (numbers : List ℕ). ChangesRun v.items numbers first past (λ kept lane. if b then f kept lane else kept))
     (sym (refilled v now new same changes.count)) (changed_by v.items now new first past f a b same is changes)
-
-pub operators_run : (old new : OperatorPlanes) (first past : ℕ) (flags : Flags)
-    → OrsRun old.add.items new.add.items first past (flags.by Add)
-    → OrsRun old.or.items new.or.items first past (flags.by Or)
-    → OrsRun old.and.items new.and.items first past (flags.by And)
-    → OrsRun old.xor.items new.xor.items first past (flags.by Xor)
-    → OrsRun old.addh.items new.addh.items first past (flags.by AddH)
-    → (op : Op) → OrsRun (plane_by old op) (plane_by new op) first past (flags.by op)
-operators_run old new first past flags add or and xor addh Add = add
-operators_run old new first past flags add or and xor addh Or = or
-operators_run old new first past flags add or and xor addh And = and
-operators_run old new first past flags add or and xor addh Xor = xor
-operators_run old new first past flags add or and xor addh AddH = addh
 
 -- a plane still has no bit past its end
 ored_plane : (elements : ℕ) (old new : List ℕ) (first past : ℕ) (bit : Bool) → OrsRun old new first past bit

@@ -3,33 +3,17 @@ use Rattle.std.proofs.Common.{◌≡◌, ℕ, zero, suc, ◌+◌, ◌<◌, ◌�
 use Rattle.std.specs.Prelude.{slice_index, if◌then◌else◌}
 use Rattle.std.specs.List.{All}
 use Rattle.std.proofs.Math.Bool.{or-false}
-use Rattle.array_maps.specs.declared.access.Op.TheVariants.{Add, Or, And, Xor, AddH}
 use Rattle.loop_core_model.specs.Flags.{Flags}
 use Rattle.loop_core_model.specs.Marks.{Marks, marks_of_one, merged, first_number}
 use Rattle.loop_core_model.specs.Planes.{bit_of}
 use Rattle.shadow_marks.specs.declared.planes.Tested.{Tested}
 use Rattle.shadow_marks.specs.declared.planes.Tested.TheVariants.{Lrpd as ByLrpd, Flow as ByFlow}
-use Rattle.shadow_marks.specs.declared.planes.OperatorPlanes.{OperatorPlanes}
 use Rattle.shadow_marks.specs.declared.planes.Planes.{Planes}
 use Rattle.shadow_marks.specs.Standing.{IsBitPlane, AreTested, ArePlanes, test_of, TestedStandAt}
 use Rattle.shadow_marks.specs.Lanes.{over_lanes, marks_by, FoldsLanes}
 use Rattle.shadow_marks.specs.LaneFolds.{at_lane, OrsLanes, Writers, writers_at, one_writer_more, WritesLanes, OperatorsFoldLanes, TestedFoldLanes}
 use Rattle.shadow_marks.proofs.FoldLaws.{first_here, last_here}
 use Rattle.shadow_marks.proofs.LanesInTurn.{untouched}
-
--- the planes of all operators
-pub operators_lanes : (old new : OperatorPlanes) (element : ℕ → ℕ) (lanes : ℕ) (flags : Flags)
-    → OrsLanes old.add.items new.add.items element lanes (flags.by Add)
-    → OrsLanes old.or.items new.or.items element lanes (flags.by Or)
-    → OrsLanes old.and.items new.and.items element lanes (flags.by And)
-    → OrsLanes old.xor.items new.xor.items element lanes (flags.by Xor)
-    → OrsLanes old.addh.items new.addh.items element lanes (flags.by AddH)
-    → OperatorsFoldLanes old new element lanes flags
-operators_lanes old new element lanes flags add or and xor addh Add = add
-operators_lanes old new element lanes flags add or and xor addh Or = or
-operators_lanes old new element lanes flags add or and xor addh And = and
-operators_lanes old new element lanes flags add or and xor addh Xor = xor
-operators_lanes old new element lanes flags add or and xor addh AddH = addh
 
 -- a part of what lanes make of a value is what they make of that part
 projected : {X Y : Type 0} → (part : X → Y) (f : ℕ → X → X) (g : ℕ → Y → Y) (bound : ℕ)

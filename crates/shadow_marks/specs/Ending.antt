@@ -48,14 +48,7 @@ TestedFolds (ByLrpd old) (ByFlow new) e flags index = ⊥
 TestedFolds (ByFlow old) (ByLrpd new) e flags index = ⊥
 TestedFolds (ByFlow old) (ByFlow new) e flags index = FlowFolds old new e flags index
 
--- the planes of operators, and those after the flags of an element came into them
-pub record OperatorsHave (planes : OperatorPlanes) (e : ℕ) : Type 0 where
-  pub add : e / 64 < length planes.add.items
-  pub or : e / 64 < length planes.or.items
-  pub and : e / 64 < length planes.and.items
-  pub xor : e / 64 < length planes.xor.items
-  pub addh : e / 64 < length planes.addh.items
-
+-- the planes of operators after the flags of an element came into them
 pub record OperatorsFold (old new : OperatorPlanes) (e : ℕ) (flags : Flags) : Type 0 where
   pub add : OrsBit old.add.items new.add.items e (flags.by Add)
   pub or : OrsBit old.or.items new.or.items e (flags.by Or)

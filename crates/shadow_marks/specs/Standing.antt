@@ -31,6 +31,14 @@ plane_by planes And = planes.and.items
 plane_by planes Xor = planes.xor.items
 plane_by planes AddH = planes.addh.items
 
+-- what is said of a plane holds of the plane of each operator
+pub record EachPlane (P : List ℕ → Type 0) (planes : OperatorPlanes) : Type 0 where
+  pub add : P planes.add.items
+  pub or : P planes.or.items
+  pub and : P planes.and.items
+  pub xor : P planes.xor.items
+  pub addh : P planes.addh.items
+
 -- the planes of one test are whole
 pub record AreLrpdPlanes (elements : ℕ) (planes : LrpdPlanes) : Type 0 where
   pub written : IsBitPlane elements planes.written.items

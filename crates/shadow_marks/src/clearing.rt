@@ -1,10 +1,9 @@
 //! Marks and flags that are taken away again, so that others can be made in their place.
 
 ghost use Rattle.std.specs.Prelude.{◌≡◌, ◌*◌, ◌<◌, ◌≤◌, ℕ, List, length};
-ghost use Rattle.array_maps.specs.declared.access.Op.{Op as Operator};
 ghost use Rattle.loop_core_model.specs.Marks.{Visit};
 ghost use Rattle.shadow_marks.specs.Iteration.{element_count, IsEmptied};
-ghost use Rattle.shadow_marks.specs.Standing.{words_for, plane_by, ArePlanes, AreTested, AreLrpdPlanes, AreFlowPlanes, StandFor, no_visits};
+ghost use Rattle.shadow_marks.specs.Standing.{words_for, EachPlane, ArePlanes, AreTested, AreLrpdPlanes, AreFlowPlanes, StandFor, no_visits};
 ghost use Rattle.shadow_marks.specs.Ending.{KeepsShape};
 ghost use Rattle.shadow_marks.specs.Runs.{ChangesRun};
 ghost use Rattle.shadow_marks.specs.Clearing.{ClearsBits, SetsNumbers, OperatorsClear, LrpdClears, FlowClears, TestedClears, ClearsPage};
@@ -44,7 +43,7 @@ impl Planes {
 
 impl OperatorPlanes {
     fn clear_page(&mut self, page: usize)
-        requires { (op : Operator) → page < length (plane_by self.old op) }
+        requires { EachPlane (λ words. page < length words) self.old }
         ensures { OperatorsClear self.old self.new page }
     {
         clear_bits(&mut self.add, page);

@@ -1,13 +1,13 @@
 //! The end of an iteration: its flags come into the planes.
 
-ghost use Rattle.std.specs.Prelude.{◌≡◌, ◌+◌, ◌<◌, ℕ, List, length, slice_index, min, max};
+ghost use Rattle.std.specs.Prelude.{◌≡◌, ◌+◌, ◌/◌, ◌<◌, ℕ, List, length, slice_index, min, max};
 ghost use Rattle.array_maps.specs.Accesses.{Action};
 ghost use Rattle.loop_core_model.specs.Marks.{Visit, Marks, marks_of_one, merged};
 ghost use Rattle.shadow_marks.specs.Iteration.{element_count, flags_at, AreFlagsOf, IsEmptied};
 ghost use Rattle.shadow_marks.specs.Kept.{flags_in};
-ghost use Rattle.shadow_marks.specs.Standing.{ArePlanes, StandAt, StandFor, one_more};
+ghost use Rattle.shadow_marks.specs.Standing.{EachPlane, ArePlanes, StandAt, StandFor, one_more};
 ghost use Rattle.shadow_marks.specs.Bits.{ChangesNumber};
-ghost use Rattle.shadow_marks.specs.Ending.{OperatorsHave, LrpdHave, FlowHave, TestedHave, LrpdFolds, FlowFolds, TestedFolds, OperatorsFold, KeepsShape, Folds};
+ghost use Rattle.shadow_marks.specs.Ending.{LrpdHave, FlowHave, TestedHave, LrpdFolds, FlowFolds, TestedFolds, OperatorsFold, KeepsShape, Folds};
 
 use crate::bits::{is_also_set, or_bit};
 use crate::element_flags::{ElementFlags, Flag};
@@ -54,7 +54,7 @@ impl OperatorPlanes {
     /// Sets an element's bits of the operators that it was reduced by.
     #[inline]
     fn fold(&mut self, e: u32, kept: ElementFlags)
-        requires { OperatorsHave self.old e }
+        requires { EachPlane (λ words. e / 64 < length words) self.old }
         ensures { OperatorsFold self.old self.new e (flags_in kept) }
     {
         if !kept.reduces() {

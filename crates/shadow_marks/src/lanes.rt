@@ -2,9 +2,8 @@
 
 ghost use Rattle.std.specs.Prelude.{◌≡◌, ◌+◌, ◌<◌, ◌≤◌, true, length, slice_index, min, max, if◌then◌else◌};
 ghost use Rattle.std.specs.List.{All};
-ghost use Rattle.array_maps.specs.declared.access.Op.{Op as Operator};
 ghost use Rattle.shadow_marks.specs.Kept.{flags_in};
-ghost use Rattle.shadow_marks.specs.Standing.{ArePlanes, plane_by};
+ghost use Rattle.shadow_marks.specs.Standing.{ArePlanes, EachPlane};
 ghost use Rattle.shadow_marks.specs.Lanes.{FoldsLanes};
 ghost use Rattle.shadow_marks.specs.LaneFolds.{HaveBits, OrsLanes, ChangesLanes, WritesLanes, OperatorsFoldLanes, LrpdHaveEach, LrpdFoldLanes, FlowHaveEach, FlowFoldLanes, TestedHaveEach, TestedFoldLanes};
 
@@ -33,7 +32,7 @@ impl Planes {
 impl OperatorPlanes {
     /// Sets the bits, of these elements, of the operators that they were reduced by.
     fn fold_each(&mut self, elements: &[u32], flags: ElementFlags)
-        requires { (op : Operator) → HaveBits (plane_by self.old op) elements.now }
+        requires { EachPlane (λ words. HaveBits words elements.now) self.old }
         ensures { OperatorsFoldLanes self.old self.new (λ lane. slice_index elements.now lane) (length elements.now)
             (flags_in flags) }
     {

@@ -2,11 +2,10 @@
 
 ghost use Rattle.std.specs.Prelude.{◌≡◌, ◌+◌, ◌-◌, ◌*◌, ◌^◌, ◌<◌, ◌≤◌, ◌&&◌, ◌||◌, ℕ, true, length, min, max, if◌then◌else◌};
 ghost use Rattle.loop_core_model.specs.Planes.{bit_of};
-ghost use Rattle.array_maps.specs.declared.access.Op.{Op as Operator};
 ghost use Rattle.shadow_marks.specs.Kept.{flags_in};
-ghost use Rattle.shadow_marks.specs.Standing.{ArePlanes, plane_by};
+ghost use Rattle.shadow_marks.specs.Standing.{ArePlanes, EachPlane};
 ghost use Rattle.shadow_marks.specs.Lanes.{FoldsLanes};
-ghost use Rattle.shadow_marks.specs.Runs.{is_between, OrsRun, OrsRunWhere, ChangesRun};
+ghost use Rattle.shadow_marks.specs.Runs.{is_between, IsFirstPart, OrsRun, OrsRunWhere, ChangesRun};
 ghost use Rattle.shadow_marks.specs.RunFolds.{OperatorsFoldRun, LrpdHaveRun, LrpdFoldRun, FlowHaveRun, FlowFoldRun, TestedHaveRun, TestedFoldRun};
 
 use crate::element_flags::{ElementFlags, Flag};
@@ -34,7 +33,7 @@ impl OperatorPlanes {
     /// Sets the bits, of elements from a first one up to another, of the operators that they were reduced by.
     fn fold_run(&mut self, first: u32, past: u32, flags: ElementFlags)
         requires rising { first ≤ past }
-        requires have { (op : Operator) → past ≤ 64 * length (plane_by self.old op) }
+        requires have { EachPlane (λ words. past ≤ 64 * length words) self.old }
         ensures { OperatorsFoldRun self.old self.new first past (flags_in flags) }
     {
         or_run(&mut self.add, first, past, flags.has(Flag::By(Op::Add)));
@@ -184,10 +183,9 @@ fn set_run(words: &mut [u64], first: u32, past: u32)
 {
     let mut e = first;
     while e < past {
-        let word = e / 64;
-        let high = (past - 64 * word).min(64);
-        words[word as usize] |= mask(e % 64, high);
-        e = 64 * word + high;
+        let part = first_part(e, past);
+        words[part.word] |= part.bits;
+        e = part.next;
     }
 }
 
@@ -200,10 +198,35 @@ fn set_run_where(words: &mut [u64], others: &[u64], first: u32, past: u32)
 {
     let mut e = first;
     while e < past {
-        let word = e / 64;
-        let high = (past - 64 * word).min(64);
-        words[word as usize] |= others[word as usize] & mask(e % 64, high);
-        e = 64 * word + high;
+        let part = first_part(e, past);
+        words[part.word] |= others[part.word] & part.bits;
+        e = part.next;
+    }
+}
+
+/// Elements that follow each other and have their bits in one word.
+#[derive(Clone, Copy)]
+struct Part {
+    /// The number of the word.
+    word: usize,
+    /// Their bits in it.
+    bits: u64,
+    /// The element after them.
+    next: u32,
+}
+
+/// Those of the elements from a first one up to another that are in the first one's word.
+#[inline]
+fn first_part(first: u32, past: u32) -> Part
+    requires { first < past }
+    ensures { IsFirstPart first past result.word result.bits result.next }
+{
+    let word = first / 64;
+    let high = (past - 64 * word).min(64);
+    Part {
+        word: word as usize,
+        bits: mask(first % 64, high),
+        next: 64 * word + high,
     }
 }
 

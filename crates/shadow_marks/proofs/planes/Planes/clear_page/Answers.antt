@@ -1,5 +1,6 @@
 use Rattle.std.proofs.Common.{ap, refl, length, arith}
 use Rattle.std.specs.Vec.{with_items}
+use Rattle.shadow_marks.proofs.FoldLaws.{each_plane}
 use Rattle.shadow_marks.proofs.ClearLaws.{cleared_in, page_cleared}
 use Rattle.shadow_marks.proofs.planes.Planes.clear_page.Goals as goal
 
@@ -11,10 +12,7 @@ clear_bits-requires c =
     omega (arith, long, same, within)
 
 pub clear_page-requires : goal.clear_page-requires
-clear_page-requires c op =
-    let long = (c.requires.whole.by op).count in
-    let within = c.requires.within in
-    omega (arith, long, within)
+clear_page-requires c = each_plane _ _ (λ op. omega (arith, (c.requires.whole.by op).count, c.requires.within))
 
 pub returns : goal.returns
 returns c =

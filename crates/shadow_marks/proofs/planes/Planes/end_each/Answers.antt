@@ -1,9 +1,15 @@
 use Rattle.std.proofs.Common.{length, slice_index, refl}
 use Rattle.std.specs.Vec.{with_items}
 use Rattle.shadow_marks.specs.Kept.{flags_in}
+use Rattle.shadow_marks.proofs.FoldLaws.{has_word, each_plane}
 use Rattle.shadow_marks.proofs.LanesInTurn.{lanes_ored_in}
 use Rattle.shadow_marks.proofs.LaneFoldLaws.{lanes_fold}
 use Rattle.shadow_marks.proofs.planes.Planes.end_each.Goals as goal
+
+pub fold_each-requires : goal.fold_each-requires
+fold_each-requires c =
+    each_plane _ _ (λ op lane d below. has_word c.args.self.now.elements _ _ (c.requires.in_range lane d below)
+    (c.requires.whole.by op))
 
 pub returns : goal.returns
 returns c =

@@ -1,8 +1,13 @@
-use Rattle.std.proofs.Common.{◌+◌, refl}
+use Rattle.std.proofs.Common.{◌+◌, refl, arith}
 use Rattle.std.specs.Vec.{with_items}
 use Rattle.shadow_marks.specs.Kept.{flags_in}
+use Rattle.shadow_marks.proofs.FoldLaws.{each_plane}
 use Rattle.shadow_marks.proofs.FoldRuns.{ored_in, run_folds}
 use Rattle.shadow_marks.proofs.planes.Planes.end_run.Goals as goal
+
+pub fold_run-requires-clause-have : goal.fold_run-requires-clause-have
+fold_run-requires-clause-have c =
+    each_plane _ _ (λ op. omega (arith, (c.requires.whole.by op).count, c.requires.in_range))
 
 pub returns : goal.returns
 returns c =

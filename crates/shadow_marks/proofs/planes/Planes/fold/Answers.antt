@@ -1,11 +1,12 @@
 use Rattle.std.proofs.Common.{refl, arith}
 use Rattle.std.proofs.lemmas.Grind.{common_steps}
 use Rattle.shadow_marks.specs.Kept.{flags_in}
-use Rattle.shadow_marks.proofs.FoldLaws.{operators_have, parts_fold}
+use Rattle.shadow_marks.proofs.FoldLaws.{has_word, each_plane, parts_fold}
 use Rattle.shadow_marks.proofs.planes.Planes.fold.Goals as goal
 
 pub fold-requires : goal.fold-requires
-fold-requires c = operators_have c.args.self.now.elements _ c.args.e c.requires.in_range c.requires.whole.by
+fold-requires c = each_plane _ _ (λ op. has_word c.args.self.now.elements _ c.args.e c.requires.in_range
+    (c.requires.whole.by op))
 
 pub returns : goal.returns
 returns c =
