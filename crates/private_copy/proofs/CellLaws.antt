@@ -1,9 +1,14 @@
--- A cell of a page in the table, after its page has changed.
-use Rattle.std.proofs.Common.{◌≡◌, ◌≢◌, ℕ, ◌/◌, ◌%◌, ◌<◌, List, map, length, get_or, set, None, inl, inr, refl, sym, ◌∙◌, arith, get_or-set_same, get_or-set_other}
+-- The cells of pages in the table, after a page has changed.
+use Rattle.std.proofs.Common.{◌≡◌, ◌≢◌, ℕ, ◌/◌, ◌%◌, ◌<◌, List, map, length, get_or, set, Some, None, inl, inr, refl, sym, ◌∙◌, ap, arith, get_or-set_same, get_or-set_other}
+use Rattle.std.specs.Prelude.{Box}
+use Rattle.std.specs.declared.alloc.Global.{Global}
 use Rattle.std.proofs.lemmas.Bool.{cases_eq}
 use Rattle.std.proofs.Math.Nat.{div-add-mod}
 use Rattle.std.proofs.lemmas.List.{get_or_default, length-map}
-use Rattle.private_copy.specs.Cells.{PlacedPages, total_of, cells_of}
+use Rattle.private_copy.specs.declared.page.Page.{Page}
+use Rattle.private_copy.specs.declared.pages.Pages.TheInside.{Inside}
+use Rattle.private_copy.specs.Cells.{PlacedPages, total_of, cell_in, cells_of, cell_at}
+use Rattle.private_copy.specs.Inside.{pages_in}
 use Rattle.private_copy.proofs.PageLaws.{Slot, cell_of, slot_cell, cell_there}
 
 -- a page stands in the table
@@ -25,13 +30,13 @@ module _ (table : List Slot) (e : ℕ) (old slot : Slot) (within : e / 64 < leng
   now : get_or (set table (e / 64) slot) (e / 64) None ≡ slot
   now = get_or-set_same table (e / 64) slot None within
 
-  pub cell_before : cell_of table e ≡ slot_cell old (e % 64)
+  cell_before : cell_of table e ≡ slot_cell old (e % 64)
   cell_before = cell_there table e (e / 64) (e % 64) old was refl refl
 
-  pub cell_after : cell_of (set table (e / 64) slot) e ≡ slot_cell slot (e % 64)
+  cell_after : cell_of (set table (e / 64) slot) e ≡ slot_cell slot (e % 64)
   cell_after = cell_there (set table (e / 64) slot) e (e / 64) (e % 64) slot now refl refl
 
-  pub other_cells : ((k : ℕ) → k ≢ e % 64 → slot_cell slot k ≡ slot_cell old k)
+  other_cells : ((k : ℕ) → k ≢ e % 64 → slot_cell slot k ≡ slot_cell old k)
       → (other : ℕ) → other ≢ e → cell_of (set table (e / 64) slot) other ≡ cell_of table other
   other_cells stay other differs = elim (cases_eq (other / 64) (e / 64)) [
     | inl page ↦
@@ -44,3 +49,27 @@ module _ (table : List Slot) (e : ℕ) (old slot : Slot) (within : e / 64 < leng
         (get_or-set_other table (e / 64) (other / 64) slot None another) refl refl
         ∙ sym (cell_there table other (other / 64) (other % 64) (get_or table (other / 64) None) refl refl refl)
   ]
+
+-- where an element's page was read from the table and changes: its cell, the one after it, and those of other elements
+pub record ShowsPage (table : List Slot) (shown : PlacedPages) (e : ℕ) (page : Page) : Type 0 where
+  pub was : cell_in page (e % 64) ≡ cell_at shown e
+  pub here : (new : Slot) → cell_of (set table (e / 64) new) e ≡ slot_cell new (e % 64)
+  pub others : (new : Slot) → ((k : ℕ) → k ≢ e % 64 → slot_cell new k ≡ cell_in page k) → (other : ℕ) → other ≢ e
+      → cell_of (set table (e / 64) new) other ≡ cell_at shown other
+
+pub shows_page : (inside : Inside) (shown : PlacedPages) (e : ℕ) (item : Slot) (owner : Box Page Global) (page : Page)
+    → pages_in inside ≡ shown → e / 64 < total_of shown → item ≡ get_or inside.table.items (e / 64) item
+    → item ≡ Some owner → page ≡ owner.value → ShowsPage inside.table.items shown e page
+shows_page inside shown e item owner page view low read is same =
+    let table : List Slot = inside.table.items in
+    let at = read_at table shown (e / 64) item (Some owner) (ap total_of view) low read is in
+    record {
+      was = ap (λ (p : Page). cell_in p (e % 64)) same
+          ∙ sym (cell_before table e (Some owner) (Some owner) at.within at.was)
+          ∙ ap (λ (v : PlacedPages). cell_at v e) view;
+      here = λ new. cell_after table e (Some owner) new at.within at.was;
+      others = λ new stay other differs.
+          other_cells table e (Some owner) new at.within at.was
+          (λ k apart. stay k apart ∙ ap (λ (p : Page). cell_in p k) same) other differs
+          ∙ ap (λ (v : PlacedPages). cell_at v other) view;
+    }

@@ -60,23 +60,27 @@ none_back keys n number table within is past among page there = elim (cases_lt p
   | inr out ↦ absurd (not_both (sym there ∙ ap is_some (get_or-eq_default table None out)))
 ]
 
--- the same of a number that was read at the last of the placed ones
-pub back_from : (keys : List ℕ) (placed number : ℕ) (table : List Slot) (none : Slot) → 0 < placed
-    → slice_get keys (placed - 1) ≡ Some number → number < length table → none ≡ None → AreAmong keys placed table
+-- a number that was read at the last of the placed ones
+pub record IsLast (keys : List ℕ) (placed number : ℕ) : Type 0 where
+  pub left : 0 < placed
+  pub read : slice_get keys (placed - 1) ≡ Some number
+
+pub back_from : (keys : List ℕ) (placed number : ℕ) (table : List Slot) (none : Slot) → IsLast keys placed number
+    → number < length table → none ≡ None → AreAmong keys placed table
     → AreAmong keys (placed - 1) (set table number none)
-back_from keys placed number table none left read inside nothing among =
-    let more : placed ≡ placed - 1 + 1 = omega (arith, left) in
-    one_back keys (placed - 1) number table none (slice_get_within keys (placed - 1) number read)
-    (get_or_from_slice_get keys (placed - 1) number 0 read) inside nothing
+back_from keys placed number table none last inside nothing among =
+    let more : placed ≡ placed - 1 + 1 = omega (arith, last.left) in
+    one_back keys (placed - 1) number table none (slice_get_within keys (placed - 1) number last.read)
+    (get_or_from_slice_get keys (placed - 1) number 0 last.read) inside nothing
     (subst (λ (n : ℕ). AreAmong keys n table) more among)
 
-pub none_from : (keys : List ℕ) (placed number : ℕ) (table : List Slot) → 0 < placed
-    → slice_get keys (placed - 1) ≡ Some number → length table ≤ number → AreAmong keys placed table
-    → AreAmong keys (placed - 1) table
-none_from keys placed number table left read past among =
-    let more : placed ≡ placed - 1 + 1 = omega (arith, left) in
-    none_back keys (placed - 1) number table (slice_get_within keys (placed - 1) number read)
-    (get_or_from_slice_get keys (placed - 1) number 0 read) past (subst (λ (n : ℕ). AreAmong keys n table) more among)
+pub none_from : (keys : List ℕ) (placed number : ℕ) (table : List Slot) → IsLast keys placed number
+    → length table ≤ number → AreAmong keys placed table → AreAmong keys (placed - 1) table
+none_from keys placed number table last past among =
+    let more : placed ≡ placed - 1 + 1 = omega (arith, last.left) in
+    none_back keys (placed - 1) number table (slice_get_within keys (placed - 1) number last.read)
+    (get_or_from_slice_get keys (placed - 1) number 0 last.read) past
+    (subst (λ (n : ℕ). AreAmong keys n table) more among)
 
 -- at the end none is there
 none_some : (slot : Slot) → (is_some slot ≡ true → ⊥) → slot ≡ None

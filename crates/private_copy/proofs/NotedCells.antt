@@ -2,7 +2,7 @@
 use Rattle.std.proofs.Common.{◌≡◌, ℕ, ◌+◌, ◌<◌, Bool, true, false, eqb, List, get_or, Some, None, refl, sym, ◌∙◌, ap, subst, arith}
 use Rattle.std.specs.Prelude.{slice_index, if◌then◌else◌}
 use Rattle.array_maps.specs.declared.access.Op.{Op}
-use Rattle.array_maps.specs.Accesses.{Action, Write as Writes, combined}
+use Rattle.array_maps.specs.Accesses.{Action, combined}
 use Rattle.loop_core_model.specs.Actions.{is_same}
 use Rattle.loop_core_model.specs.declared.access.Access.{Access as Kind}
 use Rattle.loop_core_model.specs.declared.access.Access.TheVariants.{Read, Reduce}
@@ -16,7 +16,7 @@ use Rattle.private_copy.specs.Columns.{SetsRun, combining_after, combined_after}
 use Rattle.private_copy.specs.Reductions.{reduced, reduction_after}
 use Rattle.private_copy.specs.Copies.{last_after}
 use Rattle.private_copy.specs.Shown.{last_in}
-use Rattle.private_copy.specs.Runs.{noted_by, CellNotes, CellsNote}
+use Rattle.private_copy.specs.Runs.{LeavesValue, CellNotes, CellsNote}
 use Rattle.private_copy.proofs.AccessLaws.{last_own}
 use Rattle.private_copy.proofs.PageCells.{same_parts}
 
@@ -37,7 +37,7 @@ read_noted old new word value number same_value same_writer mixed = record {
 
 -- one that leaves a value
 write_noted : (old new : Cell) (kind : Kind) (word value number : ℕ)
-    → ((left : ℕ) → noted_by kind left ≡ Writes left) → 0 < number → value < 18446744073709551616
+    → LeavesValue kind → 0 < number → value < 18446744073709551616
     → new.value ≡ value → new.writer ≡ number → new.combining ≡ Mixed → CellNotes old kind word value number new
 write_noted old new kind word value number plain begun fits is_value is_writer mixed = record {
   last = last_own new (λ never. omega (arith, begun, is_writer, never)) ∙ ap Some is_value
@@ -93,7 +93,7 @@ reads_noted old new low lanes words values number same_values same_combined same
 }
 
 pub writes_noted : (old new : Page) (low lanes : ℕ) (kind : Kind) (words values : List ℕ) (number : ℕ)
-    → ((left : ℕ) → noted_by kind left ≡ Writes left) → 0 < number
+    → LeavesValue kind → 0 < number
     → ((lane : ℕ) → slice_index values lane < 18446744073709551616)
     → SetsRun old.values new.values 0 low lanes (λ lane kept. slice_index values lane)
     → new.combined ≡ old.combined → SetsRun old.writers new.writers 0 low lanes (λ lane kept. number)

@@ -16,6 +16,10 @@ noted_by Write value = Writes value
 noted_by Both value = Writes value
 noted_by (Reduce op) value = Reduces op value
 
+-- what is noted of an access of this kind is a value that it left
+abbrev pub LeavesValue : Kind → Type 0
+LeavesValue kind = (value : ℕ) → noted_by kind value ≡ Writes value
+
 -- the accesses of lanes, each of this kind at the element that is its number after a first one
 abbrev pub run_site : (first : ℕ) (kind : Kind) (values : List ℕ) → (lane : ℕ) → Access
 run_site first kind values lane = record {

@@ -189,10 +189,11 @@ impl Cell {
 
 impl Page {
     ghost use Rattle.std.specs.Prelude.{◌≢◌, ℕ, ◌+◌, ◌<◌, ◌≤◌, List, length};
-    ghost use Rattle.loop_core_model.specs.declared.access.Access.TheVariants.{Read, Write, Both, Reduce};
+    ghost use Rattle.loop_core_model.specs.declared.access.Access.{Access as Kind};
+    ghost use Rattle.loop_core_model.specs.declared.access.Access.TheVariants.{Read, Reduce};
     ghost use Rattle.private_copy.specs.Cells.{cell_in, mixed_cell, blank_page};
     ghost use Rattle.private_copy.specs.Shown.{last_in};
-    ghost use Rattle.private_copy.specs.Runs.{CellNotes, CellsNote};
+    ghost use Rattle.private_copy.specs.Runs.{LeavesValue, CellNotes, CellsNote};
     ghost use Rattle.private_copy.specs.Overwriting.{AreOverwritten};
 
     /// The page of elements that weren't accessed.
@@ -303,10 +304,8 @@ impl Page {
         requires within { low + lanes ≤ 64 }
         requires values { lanes ≤ length values.now }
         requires some { 0 < number }
-        ensures writes { (words : List ℕ)
-            → CellsNote (cell_in self.old) (cell_in self.new) low lanes Write words values.now number }
-        ensures both { (words : List ℕ)
-            → CellsNote (cell_in self.old) (cell_in self.new) low lanes Both words values.now number }
+        ensures { (kind : Kind) (words : List ℕ) → LeavesValue kind
+            → CellsNote (cell_in self.old) (cell_in self.new) low lanes kind words values.now number }
     {
         set_run(&mut self.values, low, lanes, values);
         number_run(&mut self.writers, low, lanes, number);

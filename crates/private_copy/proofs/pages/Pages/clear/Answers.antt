@@ -1,6 +1,5 @@
-use Rattle.std.proofs.Common.{◌≡◌, ◌-◌, Some, refl, sym, ◌∙◌, arith, length-set}
-use Rattle.std.specs.Prelude.{slice_get}
-use Rattle.private_copy.proofs.ClearLaws.{placed_among, back_from, none_from, blank_cells_all}
+use Rattle.std.proofs.Common.{refl, sym, ◌∙◌, arith, length-set}
+use Rattle.private_copy.proofs.ClearLaws.{placed_among, IsLast, back_from, none_from, blank_cells_all}
 use Rattle.private_copy.proofs.pages.Pages.clear.Goals.{In-Some}
 use Rattle.private_copy.proofs.pages.Pages.clear.Goals as goal
 
@@ -14,43 +13,37 @@ loop-self-init c = record {
 }
 
 -- the number that was read is that of the page placed last
-last_placed : (c : In-Some) → slice_get c.loop-self.self-inside.order.keys (c.loop-self.self-inside.placed - 1)
-    ≡ Some c.in-Some.number
-last_placed c = sym c.get_index.ensures.key ∙ sym c.copied.ensures ∙ c.in-Some.is
+last_placed : (c : In-Some)
+    → IsLast c.loop-self.self-inside.order.keys c.loop-self.self-inside.placed c.in-Some.number
+last_placed c = record {
+  left = c.loop-self-test.true;
+  read = sym c.get_index.ensures.key ∙ sym c.copied.ensures ∙ c.in-Some.is;
+}
 
 pub loop-self-preserved-then-number-len : goal.loop-self-preserved-then-number-len
 loop-self-preserved-then-number-len c =
     let now = c.loop-self.self-inside in
-    let left = c.loop-self-test.true in
-    let all = c.loop-self.invariant.within in
-    let small = c.if-number-len.true in
-    let len = c.len.ensures in
-    let long = now.table.ok.0 in
-    let read = last_placed (goal.at.loop-self-preserved-then-number-len c).In-Some in
+    let last = last_placed (goal.at.loop-self-preserved-then-number-len c).In-Some in
     record {
       order = c.loop-self.invariant.order;
       long = length-set _ _ _ ∙ c.loop-self.invariant.long;
-      within = omega (arith, all);
-      among = back_from now.order.keys now.placed c.in-Some.number now.table.items c.take_back.new.place left read
-          (omega (arith, small, len, long)) c.take_back.ensures.taken c.loop-self.invariant.among;
+      within = omega (arith, c.loop-self.invariant.within);
+      among = back_from _ _ _ now.table.items c.take_back.new.place last
+          (omega (arith, c.if-number-len.true, c.len.ensures, now.table.ok.0)) c.take_back.ensures.taken
+          c.loop-self.invariant.among;
       spare = c.take_back.ensures.spare;
     }
 
 pub loop-self-preserved-else-number-len : goal.loop-self-preserved-else-number-len
 loop-self-preserved-else-number-len c =
     let now = c.loop-self.self-inside in
-    let left = c.loop-self-test.true in
-    let all = c.loop-self.invariant.within in
-    let large = c.if-number-len.false in
-    let len = c.len.ensures in
-    let long = now.table.ok.0 in
-    let read = last_placed (goal.at.loop-self-preserved-else-number-len c).In-Some in
+    let last = last_placed (goal.at.loop-self-preserved-else-number-len c).In-Some in
     record {
       order = c.loop-self.invariant.order;
       long = c.loop-self.invariant.long;
-      within = omega (arith, all);
-      among = none_from now.order.keys now.placed c.in-Some.number now.table.items left read
-          (omega (arith, large, len, long)) c.loop-self.invariant.among;
+      within = omega (arith, c.loop-self.invariant.within);
+      among = none_from _ _ _ now.table.items last
+          (omega (arith, c.if-number-len.false, c.len.ensures, now.table.ok.0)) c.loop-self.invariant.among;
       spare = c.loop-self.invariant.spare;
     }
 

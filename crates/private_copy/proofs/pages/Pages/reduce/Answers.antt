@@ -1,36 +1,27 @@
-use Rattle.std.proofs.Common.{◌≡◌, ◌≢◌, ℕ, ◌/◌, ◌%◌, sym, ◌∙◌, ap, subst, Some}
+use Rattle.std.proofs.Common.{◌%◌, sym, subst}
 use Rattle.loop_core_model.specs.declared.access.Access.TheVariants.{Reduce}
 use Rattle.private_copy.specs.declared.page.Cell.{Cell}
-use Rattle.private_copy.specs.declared.page.Page.{Page}
-use Rattle.private_copy.specs.Cells.{PlacedPages, total_of, cell_in, cell_at}
+use Rattle.private_copy.specs.Cells.{cell_in, cell_at}
 use Rattle.private_copy.specs.Runs.{CellNotes}
-use Rattle.private_copy.proofs.CellLaws.{StandsAt, read_at, cell_before, cell_after, other_cells}
-use Rattle.private_copy.proofs.pages.Pages.reduce.Goals.{In-Some}
+use Rattle.private_copy.proofs.CellLaws.{ShowsPage, shows_page}
+use Rattle.private_copy.proofs.pages.Pages.reduce.Goals.{After-deref_mut}
 use Rattle.private_copy.proofs.pages.Pages.reduce.Goals as goal
 
 -- the element's page is placed
-placed : (c : In-Some) → StandsAt c.self.inside.table.items (c.args.e / 64) (Some c.in-Some.page)
+placed : (c : After-deref_mut) → ShowsPage c.self.inside.table.items c.args.self.now c.args.e c.deref_mut.result.now
 placed c =
-    read_at c.self.inside.table.items c.args.self.now (c.args.e / 64) c.index_mut.result.now (Some c.in-Some.page)
-    (ap total_of c.self.view_is) c.requires.within c.index_mut.ensures.value c.in-Some.is
+    shows_page c.self.inside c.args.self.now c.args.e _ _ _ c.self.view_is c.requires.within c.index_mut.ensures.value
+    c.in-Some.is c.deref_mut.ensures.value
 
 pub returns-clause-here : goal.returns-clause-here
 returns-clause-here c =
-    let table = c.self.inside.table.items in
-    let at = placed (goal.at.returns-clause-here c).In-Some in
-    let before = ap (λ (page : Page). cell_in page (c.args.e % 64)) c.deref_mut.ensures.value
-    ∙ sym (cell_before table c.args.e (Some c.in-Some.page) (Some c.in-Some.page) at.within at.was)
-    ∙ ap (λ (v : PlacedPages). cell_at v c.args.e) c.self.view_is in
+    let at = placed (goal.at.returns-clause-here c).After-deref_mut in
     subst (λ (new : Cell). CellNotes (cell_at c.args.self.now c.args.e) (Reduce c.args.op) c.args.word c.args.operand
-    c.args.number new) (sym (cell_after table c.args.e (Some c.in-Some.page) _ at.within at.was))
+    c.args.number new) (sym (at.here _))
     (subst (λ (old : Cell). CellNotes old (Reduce c.args.op) c.args.word c.args.operand c.args.number
-    (cell_in c.reduce.new.self (c.args.e % 64))) before c.reduce.ensures.here)
+    (cell_in c.reduce.new.self (c.args.e % 64))) at.was c.reduce.ensures.here)
 
 pub returns-clause-others : goal.returns-clause-others
-returns-clause-others c other differ =
-    let table = c.self.inside.table.items in
-    let at = placed (goal.at.returns-clause-others c).In-Some in
-    other_cells table c.args.e (Some c.in-Some.page) _ at.within at.was
-    (subst (λ (page : Page). (k : ℕ) → k ≢ c.args.e % 64 → cell_in c.reduce.new.self k
-    ≡ cell_in page k) c.deref_mut.ensures.value c.reduce.ensures.others) other differ
-    ∙ ap (λ (v : PlacedPages). cell_at v other) c.self.view_is
+returns-clause-others c other differs =
+    let at = placed (goal.at.returns-clause-others c).After-deref_mut in
+    at.others _ c.reduce.ensures.others other differs

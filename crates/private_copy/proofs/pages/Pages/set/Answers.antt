@@ -1,27 +1,20 @@
-use Rattle.std.proofs.Common.{◌≡◌, ◌≢◌, ℕ, ◌/◌, ◌%◌, ◌∙◌, ap, subst, Some}
-use Rattle.private_copy.specs.declared.page.Page.{Page}
-use Rattle.private_copy.specs.Cells.{PlacedPages, total_of, cell_in, cell_at}
-use Rattle.private_copy.proofs.CellLaws.{StandsAt, read_at, cell_after, other_cells}
-use Rattle.private_copy.proofs.pages.Pages.set.Goals.{In-Some}
+use Rattle.std.proofs.Common.{◌∙◌}
+use Rattle.private_copy.proofs.CellLaws.{ShowsPage, shows_page}
+use Rattle.private_copy.proofs.pages.Pages.set.Goals.{After-deref_mut}
 use Rattle.private_copy.proofs.pages.Pages.set.Goals as goal
 
 -- the element's page is placed
-placed : (c : In-Some) → StandsAt c.self.inside.table.items (c.args.e / 64) (Some c.in-Some.page)
+placed : (c : After-deref_mut) → ShowsPage c.self.inside.table.items c.args.self.now c.args.e c.deref_mut.result.now
 placed c =
-    read_at c.self.inside.table.items c.args.self.now (c.args.e / 64) c.index_mut.result.now (Some c.in-Some.page)
-    (ap total_of c.self.view_is) c.requires.within c.index_mut.ensures.value c.in-Some.is
+    shows_page c.self.inside c.args.self.now c.args.e _ _ _ c.self.view_is c.requires.within c.index_mut.ensures.value
+    c.in-Some.is c.deref_mut.ensures.value
 
 pub returns-clause-here : goal.returns-clause-here
 returns-clause-here c =
-    let table = c.self.inside.table.items in
-    let at = placed (goal.at.returns-clause-here c).In-Some in
-    cell_after table c.args.e (Some c.in-Some.page) _ at.within at.was ∙ c.set.ensures.here
+    let at = placed (goal.at.returns-clause-here c).After-deref_mut in
+    at.here _ ∙ c.set.ensures.here
 
 pub returns-clause-others : goal.returns-clause-others
-returns-clause-others c other differ =
-    let table = c.self.inside.table.items in
-    let at = placed (goal.at.returns-clause-others c).In-Some in
-    other_cells table c.args.e (Some c.in-Some.page) _ at.within at.was
-    (subst (λ (page : Page). (k : ℕ) → k ≢ c.args.e % 64 → cell_in c.set.new.self k ≡ cell_in page k)
-    c.deref_mut.ensures.value c.set.ensures.others) other differ
-    ∙ ap (λ (v : PlacedPages). cell_at v other) c.self.view_is
+returns-clause-others c other differs =
+    let at = placed (goal.at.returns-clause-others c).After-deref_mut in
+    at.others _ c.set.ensures.others other differs
