@@ -1,5 +1,6 @@
 pub mod MapEffects
 pub mod InOrder
+pub mod RunLaws
 pub mod SameLoops
 pub mod SameReplays
 pub mod SameOutcomes

@@ -1,5 +1,5 @@
 -- A batch of a watched loop.
-use Rattle.std.proofs.Common.{◌≡◌, ℕ, ◌+◌, ◌<◌, ◌≤◌, Bool, true, List, length, map, Some, false, inl, inr, sym, slice_index, ap, subst, ◌∙◌, refl, arith}
+use Rattle.std.proofs.Common.{◌≡◌, ℕ, ◌+◌, ◌<◌, ◌≤◌, Bool, true, List, length, map, false, inl, inr, sym, slice_index, ap, ◌∙◌, arith}
 use Rattle.std.specs.List.{AllByRecursion}
 use Rattle.std.proofs.lemmas.Bool.{cases_lt}
 use Rattle.std.proofs.lemmas.List.{get_or_past}
@@ -7,10 +7,6 @@ use Rattle.array_maps.specs.Accesses.{actions_at}
 use Rattle.array_maps.specs.MapList.{MapList}
 use Rattle.bpf_insn_types.specs.Program.{Program}
 use Rattle.bpf_step_model.specs.State.{LoopCall}
-use Rattle.bpf_verify_sound.specs.Soundness.{IsSoundProgram, AreMapWords, OverApproximatesCall}
-use Rattle.bpf_step_ir.specs.declared.plain_op.PlainOp.{PlainOp}
-use Rattle.bpf_step_ir.specs.Translation.{AreOps}
-use Rattle.bpf_step_ir_sound.specs.Laws.{EachIterationSimulates}
 use Rattle.loop_core_model.specs.Actions.{writes}
 use Rattle.loop_core_batch.specs.Lanes.{words_after_lanes}
 use Rattle.loop_core_batch.specs.LoopByBatch.{LoopBySites}
@@ -18,46 +14,37 @@ use Rattle.loop_core_batch.specs.Sites.{Log, of_lane, IsLogOf, AllUnseen, SitesT
 use Rattle.loop_core_batch.specs.BySite.{AllCommute, SitesApply, words_after_sites}
 use Rattle.bpf_step_batch.specs.declared.entry.Entry.{Entry}
 use Rattle.bpf_step_batch.specs.Logs.{site_of, log_by, IsLogged}
-use Rattle.bpf_step_batch.specs.Batches.{ReturnsZero, AreLanes}
 use Rattle.loop_core_batch.proofs.BatchLaws.{length-before}
 use Rattle.bpf_step_batch.proofs.LogLaws.{log_of_sites}
+use Rattle.loop_core_sequential.specs.Tries.{LanesAreIterations}
 use Rattle.loop_core_sequential.specs.Watched.{IsUnread, AreNoted, WentWatched}
-use Rattle.loop_core_sequential.proofs.Together.{goes_on, lanes_went}
+use Rattle.loop_core_sequential.proofs.Together.{lanes_went}
 use Rattle.loop_core_sequential.proofs.WatchedLaws.{lanes_watched, not_so, after_lanes}
 use Rattle.loop_core_sequential.proofs.WatchedEntries.{entries_unreduced, entries_unread, entries_noted}
 
-module _ (its : EachIterationSimulates) (by_sites : LoopBySites) (tell : SitesTell) (apply : SitesApply)
-    (program : Program) (sound : IsSoundProgram program) (ops : List PlainOp) (are : AreOps program ops)
-    (call : LoopCall) (known : OverApproximatesCall program call) (bytes : List ℕ) (long : length bytes ≡ 512)
-    (same : map Some bytes ≡ call.frame) (start now : MapList) (fit : AreMapWords program now.words) where
-  -- a batch more, where its entries read nothing that is told written, and what they write is told written then
-  pub batch_watched : (slot first lanes : ℕ) → slot ≡ call.callback → first + lanes ≤ call.n → (entries : List Entry)
-      → AreLanes ops slot first lanes bytes now.words entries → AllUnseen lanes (map site_of entries)
-      → AllCommute lanes (map site_of entries) → (written : ℕ → Bool) → WentWatched program call first start now written
-      → AllByRecursion (IsUnread written lanes) entries → (new : MapList)
-      → new ≡ record { sizes = now.sizes; words = words_after_sites (log_by now.words entries) lanes now.words }
-      → (written' : ℕ → Bool) → ((e : ℕ) → e < length start.words → written e ≡ true → written' e ≡ true)
-      → AreNoted written' lanes entries → WentWatched program call (first + lanes) start new written'
-  batch_watched slot first lanes at within entries lanes_are unseen commute written w unread new applied written' grows
-      noted =
-      let log : Log = log_by now.words entries in
-      let logged : IsLogOf lanes (map site_of entries) log = log_of_sites lanes now.words entries lanes_are.logged in
-      lanes_watched program call first start now written w lanes within (of_lane log)
-      (λ lane below.
-      goes_on its program sound ops are call known bytes long same now.words fit (first + lane)
-      (omega (arith, within, below)) (of_lane log lane)
-      (subst (λ (s : ℕ). ReturnsZero ops s (first + lane) bytes now.words (of_lane log lane)) at
-      (lanes_are.returns lane below)))
-      (tell lanes (map site_of entries) log logged unseen)
-      (entries_unreduced written lanes entries unread now.words)
-      (entries_unread written lanes entries unread now.words start)
-      new
-      (lanes_went its program sound ops are call known bytes long same now.words fit by_sites slot first lanes at within
-      entries lanes_are unseen commute now new refl applied)
-      (ap (λ (maps : MapList). maps.words) applied
-      ∙ apply lanes (map site_of entries) log logged commute now.words)
-      written' grows
-      (entries_noted written' lanes entries noted now.words start)
+-- a batch more, where its entries read nothing that is told written, and what they write is told written then
+pub batch_watched : LoopBySites → SitesTell → SitesApply → (program : Program) (call : LoopCall) (start now : MapList)
+    (first lanes : ℕ) → first + lanes ≤ call.n → (entries : List Entry)
+    → LanesAreIterations program call first lanes now.words entries → AllUnseen lanes (map site_of entries)
+    → AllCommute lanes (map site_of entries) → (written : ℕ → Bool) → WentWatched program call first start now written
+    → AllByRecursion (IsUnread written lanes) entries → (new : MapList)
+    → new ≡ record { sizes = now.sizes; words = words_after_sites (log_by now.words entries) lanes now.words }
+    → (written' : ℕ → Bool) → ((e : ℕ) → e < length start.words → written e ≡ true → written' e ≡ true)
+    → AreNoted written' lanes entries → WentWatched program call (first + lanes) start new written'
+batch_watched by_sites tell apply program call start now first lanes within entries are unseen commute written w unread
+    new applied written' grows noted =
+    let log : Log = log_by now.words entries in
+    let logged : IsLogOf lanes (map site_of entries) log = log_of_sites lanes now.words entries are.logged in
+    lanes_watched program call first start now written w lanes within (of_lane log) are.each
+    (tell lanes (map site_of entries) log logged unseen)
+    (entries_unreduced written lanes entries unread now.words)
+    (entries_unread written lanes entries unread now.words start)
+    new
+    (lanes_went by_sites program call first lanes within entries now new are unseen commute applied)
+    (ap (λ (maps : MapList). maps.words) applied
+    ∙ apply lanes (map site_of entries) log logged commute now.words)
+    written' grows
+    (entries_noted written' lanes entries noted now.words start)
 
 -- what a batch leaves whose accesses were applied site by site
 module _ (apply : SitesApply) (lanes : ℕ) (entries : List Entry) (now new : MapList)

@@ -1,17 +1,17 @@
 //! Iterations of a loop in order that are done together.
 
-ghost use Rattle.std.specs.Prelude.{◌≡◌, ◌+◌, ◌<◌, ◌≤◌};
-ghost use Rattle.bpf_verify_sound.specs.Soundness.{OverApproximatesCall};
+ghost use Rattle.std.specs.Prelude.{◌≡◌, ◌+◌, ◌<◌, ◌≤◌, true};
+ghost use Rattle.bpf_step_batch.specs.Logs.{entries_of};
+ghost use Rattle.loop_core_sequential.specs.LoopRuns.{IsLoopRun};
 ghost use Rattle.loop_core_sequential.specs.Rests.{WentOn};
-ghost use Rattle.loop_core_sequential.specs.Tries.{TriedIn, index_after};
+ghost use Rattle.loop_core_sequential.specs.Tries.{LanesAreIterations, TriedIn, index_after};
 
 use crate::applying::{apply, are_in_order};
 use crate::batches::{Batches, MOST};
+use crate::running::LoopRun;
 use crate::trying::Tried;
 use array_maps::Maps;
-use bpf_step::LoopCall;
 use bpf_step_ir_sound::law_of_plain_iterations;
-use bpf_verify::Verified;
 use loop_core_batch::law_of_batches;
 
 /// The least number to which they are halved.
@@ -23,29 +23,22 @@ const LONGEST_PAUSE: u32 = 1024;
 impl Batches {
     /// Does iterations from an index on together, no more than up to another, where they are the loop in order so.
     /// Gives the index after them.
-    pub(crate) fn go(
-        &mut self,
-        program: &Verified,
-        call: &LoopCall,
-        index: u32,
-        to: u32,
-        maps: &mut Maps,
-    ) -> u32
-        requires known { OverApproximatesCall program.now call.now }
+    pub(crate) fn go(&mut self, run: &LoopRun<'_>, index: u32, to: u32, maps: &mut Maps) -> u32
+        requires ready { IsLoopRun run.now }
         requires below { index < to }
-        requires within { to ≤ call.now.n }
-        requires sizes { maps.old.sizes ≡ program.now.sizes }
+        requires within { to ≤ run.now.call.now.n }
+        requires sizes { maps.old.sizes ≡ run.now.program.now.sizes }
         ensures on { index ≤ result }
         ensures within { result ≤ to }
-        ensures went { WentOn program.now call.now index result maps.old maps.new }
+        ensures went { WentOn run.now.program.now run.now.call.now index result maps.old maps.new }
     {
         let lanes = self.lanes.min(to - index);
-        let tried = self.tried(program, call, index, lanes, maps);
+        let tried = self.tried(run, index, lanes, maps);
         self.paced(tried, index, lanes)
     }
 
-    /// The index after a batch of lanes that was tried from an index on: after them, where they went. Notes how many are
-    /// tried the next time.
+    /// The index after a batch of lanes that was tried from an index on: after them, where they went. Notes how many
+    /// are tried the next time.
     pub(crate) fn paced(&mut self, tried: Tried, index: u32, lanes: u32) -> u32
         requires { index + lanes ≤ 4294967295 }
         ensures { result ≡ index_after tried index lanes }
@@ -75,31 +68,44 @@ impl Batches {
         index.saturating_add(alone).min(to)
     }
 
-    /// Does so many iterations from an index on together, where they are the loop in order so; else nothing.
-    fn tried(
+    /// Runs so many iterations from an index on together, each on the words of the maps, which stay as they are. Tells
+    /// whether all of them returned 0, by operations that are done for many at a time: then the entries are what they
+    /// did.
+    pub(crate) fn ran_together(
         &mut self,
-        program: &Verified,
-        call: &LoopCall,
+        run: &LoopRun<'_>,
         index: u32,
         lanes: u32,
-        maps: &mut Maps,
-    ) -> Tried
-        requires known { OverApproximatesCall program.now call.now }
+        maps: &Maps,
+    ) -> bool
+        requires ready { IsLoopRun run.now }
         requires some { 0 < lanes }
         requires room { lanes ≤ 128 }
-        requires within { index + lanes ≤ call.now.n }
-        requires sizes { maps.old.sizes ≡ program.now.sizes }
-        ensures { TriedIn program.now call.now index lanes maps.old maps.new result }
+        requires within { index + lanes ≤ run.now.call.now.n }
+        requires sizes { maps.now.sizes ≡ run.now.program.now.sizes }
+        ensures { result ≡ true → LanesAreIterations run.now.program.now run.now.call.now index lanes
+            maps.now.words (entries_of self.new.batch) }
     {
         law_of_plain_iterations();
-        law_of_batches();
-        let (ops, _fast) = program.operations();
-        let frame = call.frame();
+        let (ops, _fast) = run.program.operations();
+        let frame = run.call.frame();
         let _sizes = maps.sizes();
-        if !self
-            .batch
-            .run(ops, call.callback(), index, lanes, frame, maps.words())
-        {
+        let start = run.call.callback();
+        self.batch
+            .run(ops, start, index, lanes, frame, maps.words())
+    }
+
+    /// Does so many iterations from an index on together, where they are the loop in order so; else nothing.
+    fn tried(&mut self, run: &LoopRun<'_>, index: u32, lanes: u32, maps: &mut Maps) -> Tried
+        requires ready { IsLoopRun run.now }
+        requires some { 0 < lanes }
+        requires room { lanes ≤ 128 }
+        requires within { index + lanes ≤ run.now.call.now.n }
+        requires sizes { maps.old.sizes ≡ run.now.program.now.sizes }
+        ensures { TriedIn run.now.program.now run.now.call.now index lanes maps.old maps.new result }
+    {
+        law_of_batches();
+        if !self.ran_together(run, index, lanes, maps) {
             return Tried::Parted;
         }
         let tried = &*self;

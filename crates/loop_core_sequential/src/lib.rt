@@ -9,6 +9,7 @@ mod going;
 mod noting;
 mod one_by_one;
 mod ordering;
+mod running;
 mod trying;
 mod watched_loop;
 mod watching;

@@ -3,12 +3,14 @@
 ghost use Rattle.std.specs.Prelude.{◌≡◌, ◌≤◌};
 ghost use Rattle.bpf_verify_sound.specs.Soundness.{OverApproximatesCall};
 ghost use Rattle.loop_core_sequential.specs.Loops.{RanLoopInOrder};
+ghost use Rattle.loop_core_sequential.specs.LoopRuns.{IsLoopRun};
 ghost use Rattle.loop_core_sequential.specs.Rests.{RanTo, answer_of};
 
 use crate::batches::Batches;
 use crate::one_by_one::alone;
+use crate::running::LoopRun;
 use array_maps::Maps;
-use bpf_step::{Callback, LoopCall};
+use bpf_step::LoopCall;
 use bpf_verify::Verified;
 
 /// Fewer iterations than these aren't worth a batch.
@@ -42,11 +44,11 @@ pub fn range_in_order(
     requires sizes { maps.old.sizes ≡ program.now.sizes }
     ensures { RanTo program.now call.now from to maps.old maps.new result }
 {
-    let mut callback = Callback::new(program, call);
+    let mut run = LoopRun::new(program, call);
     if to - from < FEWEST {
-        return alone(program, call, &mut callback, from, to, maps);
+        return alone(&mut run, from, to, maps);
     }
-    in_batches(program, call, &mut callback, from, to, maps)
+    in_batches(&mut run, from, to, maps)
 }
 
 /// The loop's answer: that with which it broke off, or n.
@@ -62,31 +64,23 @@ fn answer(broke_off: Option<u32>, n: u32) -> u32
 /// Runs the iterations from an index up to another, in batches where they may go together, and else one by one.
 /// Gives the loop's answer where one returned 1.
 #[inline(never)]
-fn in_batches<'a>(
-    program: &Verified,
-    call: &LoopCall,
-    callback: &mut Callback<'a>,
-    from: u32,
-    to: u32,
-    maps: &mut Maps,
-) -> Option<u32>
-    requires known { OverApproximatesCall program.now call.now }
-    requires callback { callback.old ≡ record { program = program.now; call = call.now } }
+fn in_batches(run: &mut LoopRun<'_>, from: u32, to: u32, maps: &mut Maps) -> Option<u32>
+    requires ready { IsLoopRun run.old }
     requires in_order { from ≤ to }
-    requires within { to ≤ call.now.n }
-    requires sizes { maps.old.sizes ≡ program.now.sizes }
-    ensures { RanTo program.now call.now from to maps.old maps.new result }
+    requires within { to ≤ run.old.call.now.n }
+    requires sizes { maps.old.sizes ≡ run.old.program.now.sizes }
+    ensures { RanTo run.old.program.now run.old.call.now from to maps.old maps.new result }
 {
     let mut batches = Batches::new();
     let mut index = from;
     while index < to {
-        let next = batches.go(program, call, index, to, maps);
+        let next = batches.go(run, index, to, maps);
         if index < next {
             index = next;
             continue;
         }
         let resume = batches.resume(index, to);
-        if let Some(answer) = alone(program, call, callback, index, resume, maps) {
+        if let Some(answer) = alone(run, index, resume, maps) {
             return Some(answer);
         }
         index = resume;

@@ -3,14 +3,16 @@
 ghost use Rattle.std.specs.Prelude.{◌≡◌, length, IfSome, IfNone};
 ghost use Rattle.bpf_verify_sound.specs.Soundness.{OverApproximatesCall};
 ghost use Rattle.loop_core_undo.specs.Undo.{log_elements, IsEmpty};
+ghost use Rattle.loop_core_sequential.specs.LoopRuns.{IsLoopRun};
 ghost use Rattle.loop_core_sequential.specs.Watched.{RanAndPasses};
 ghost use Rattle.loop_core_sequential.specs.Noting.{WatchedToEnd, answer_watched};
 
 use crate::batches::Batches;
 use crate::ordering::FEWEST;
+use crate::running::LoopRun;
 use crate::watching::{Watch, alone_watched};
 use array_maps::Maps;
-use bpf_step::{Callback, LoopCall};
+use bpf_step::LoopCall;
 use bpf_verify::Verified;
 use loop_core_undo::UndoLog;
 
@@ -47,13 +49,13 @@ fn watch(program: &Verified, call: &LoopCall, log: &mut UndoLog, maps: &mut Maps
     requires empty { IsEmpty (length maps.old.words) log.old }
     ensures { WatchedToEnd program.now call.now maps.old maps.new log.new result }
 {
-    let mut callback = Callback::new(program, call);
+    let mut run = LoopRun::new(program, call);
     let n = call.n();
     if n < FEWEST {
-        let watch = alone_watched(program, call, &mut callback, 0, n, log, maps);
+        let watch = alone_watched(&mut run, 0, n, log, maps);
         return answer(watch, n);
     }
-    watch_in_batches(program, call, &mut callback, log, maps)
+    watch_in_batches(&mut run, log, maps)
 }
 
 /// The loop's answer, by how all of its n iterations came out.
@@ -69,30 +71,23 @@ fn answer(watch: Watch, n: u32) -> Option<u32>
 
 /// Runs the iterations, watched, in batches where they may go together, and else one by one.
 #[inline(never)]
-fn watch_in_batches<'a>(
-    program: &Verified,
-    call: &LoopCall,
-    callback: &mut Callback<'a>,
-    log: &mut UndoLog,
-    maps: &mut Maps,
-) -> Option<u32>
-    requires known { OverApproximatesCall program.now call.now }
-    requires callback { callback.old ≡ record { program = program.now; call = call.now } }
-    requires sizes { maps.old.sizes ≡ program.now.sizes }
+fn watch_in_batches(run: &mut LoopRun<'_>, log: &mut UndoLog, maps: &mut Maps) -> Option<u32>
+    requires ready { IsLoopRun run.old }
+    requires sizes { maps.old.sizes ≡ run.old.program.now.sizes }
     requires empty { IsEmpty (length maps.old.words) log.old }
-    ensures { WatchedToEnd program.now call.now maps.old maps.new log.new result }
+    ensures { WatchedToEnd run.old.program.now run.old.call.now maps.old maps.new log.new result }
 {
-    let n = call.n();
+    let n = run.call.n();
     let mut batches = Batches::new();
     let mut index = 0;
     while index < n {
-        let next = batches.go_watched(program, call, index, n, log, maps);
+        let next = batches.go_watched(run, index, n, log, maps);
         if index < next {
             index = next;
             continue;
         }
         let resume = batches.resume(index, n);
-        match alone_watched(program, call, callback, index, resume, log, maps) {
+        match alone_watched(run, index, resume, log, maps) {
             Watch::Went => index = resume,
             Watch::Broke(answer) => return Some(answer),
             Watch::Met => return None,

@@ -2,19 +2,17 @@
 
 ghost use Rattle.std.specs.Prelude.{◌≡◌, ◌+◌, ◌<◌, ◌≤◌, length};
 ghost use Rattle.array_maps.specs.MapList.{MapList};
-ghost use Rattle.bpf_verify_sound.specs.Soundness.{OverApproximatesCall};
 ghost use Rattle.loop_core_undo.specs.Undo.{log_elements};
+ghost use Rattle.loop_core_sequential.specs.LoopRuns.{IsLoopRun};
 ghost use Rattle.loop_core_sequential.specs.Tries.{index_after};
 ghost use Rattle.loop_core_sequential.specs.Noting.{GoesWatched, WatchedTo};
 
 use crate::applying::{apply, are_in_order};
 use crate::batches::Batches;
 use crate::noting::{are_unread, note_writes};
+use crate::running::LoopRun;
 use crate::trying::Tried;
 use array_maps::Maps;
-use bpf_step::{Callback, LoopCall};
-use bpf_step_ir_sound::law_of_plain_iterations;
-use bpf_verify::Verified;
 use loop_core_batch::{law_of_application, law_of_batches, law_of_sites};
 use loop_core_undo::{UndoLog, Watched, law_of_watching, law_of_words_before};
 
@@ -34,27 +32,26 @@ impl Batches {
     /// none reads what an earlier one wrote. Gives the index after them.
     pub(crate) fn go_watched(
         &mut self,
-        program: &Verified,
-        call: &LoopCall,
+        run: &LoopRun<'_>,
         index: u32,
         to: u32,
         log: &mut UndoLog,
         maps: &mut Maps,
     ) -> u32
-        requires known { OverApproximatesCall program.now call.now }
+        requires ready { IsLoopRun run.now }
         requires below { index < to }
-        requires within { to ≤ call.now.n }
-        requires sizes { maps.old.sizes ≡ program.now.sizes }
+        requires within { to ≤ run.now.call.now.n }
+        requires sizes { maps.old.sizes ≡ run.now.program.now.sizes }
         requires count { length maps.old.words ≡ log_elements log.old }
         ensures on { index ≤ result }
         ensures within { result ≤ to }
         ensures sizes { maps.new.sizes ≡ maps.old.sizes }
         ensures count { length maps.new.words ≡ log_elements log.new }
-        ensures goes { (start : MapList) → GoesWatched program.now call.now index start maps.old log.old
-            → GoesWatched program.now call.now result start maps.new log.new }
+        ensures goes { (start : MapList) → GoesWatched run.now.program.now run.now.call.now index start maps.old log.old
+            → GoesWatched run.now.program.now run.now.call.now result start maps.new log.new }
     {
         let lanes = self.lanes.min(to - index);
-        let tried = self.tried_watched(program, call, index, lanes, log, maps);
+        let tried = self.tried_watched(run, index, lanes, log, maps);
         self.paced(tried, index, lanes)
     }
 
@@ -62,36 +59,28 @@ impl Batches {
     /// earlier one wrote; else nothing.
     fn tried_watched(
         &mut self,
-        program: &Verified,
-        call: &LoopCall,
+        run: &LoopRun<'_>,
         index: u32,
         lanes: u32,
         log: &mut UndoLog,
         maps: &mut Maps,
     ) -> Tried
-        requires known { OverApproximatesCall program.now call.now }
+        requires ready { IsLoopRun run.now }
         requires some { 0 < lanes }
         requires room { lanes ≤ 128 }
-        requires within { index + lanes ≤ call.now.n }
-        requires sizes { maps.old.sizes ≡ program.now.sizes }
+        requires within { index + lanes ≤ run.now.call.now.n }
+        requires sizes { maps.old.sizes ≡ run.now.program.now.sizes }
         requires count { length maps.old.words ≡ log_elements log.old }
         ensures sizes { maps.new.sizes ≡ maps.old.sizes }
         ensures count { length maps.new.words ≡ log_elements log.new }
-        ensures goes { (start : MapList) → GoesWatched program.now call.now index start maps.old log.old
-            → GoesWatched program.now call.now (index_after result index lanes) start maps.new log.new }
+        ensures goes { (start : MapList) → GoesWatched run.now.program.now run.now.call.now index start maps.old log.old
+            → GoesWatched run.now.program.now run.now.call.now (index_after result index lanes) start maps.new log.new }
     {
-        law_of_plain_iterations();
         law_of_batches();
         law_of_sites();
         law_of_application();
         law_of_words_before();
-        let (ops, _fast) = program.operations();
-        let frame = call.frame();
-        let _sizes = maps.sizes();
-        if !self
-            .batch
-            .run(ops, call.callback(), index, lanes, frame, maps.words())
-        {
+        if !self.ran_together(run, index, lanes, maps) {
             return Tried::Parted;
         }
         let tried = &*self;
@@ -106,29 +95,26 @@ impl Batches {
 }
 
 /// Runs the iterations of a loop call from an index up to another, one after another on the maps, watched.
-pub(crate) fn alone_watched<'a>(
-    program: &Verified,
-    call: &LoopCall,
-    callback: &mut Callback<'a>,
+pub(crate) fn alone_watched(
+    run: &mut LoopRun<'_>,
     from: u32,
     to: u32,
     log: &mut UndoLog,
     maps: &mut Maps,
 ) -> Watch
-    requires known { OverApproximatesCall program.now call.now }
-    requires callback { callback.old ≡ record { program = program.now; call = call.now } }
+    requires ready { IsLoopRun run.old }
     requires in_order { from ≤ to }
-    requires within { to ≤ call.now.n }
-    requires sizes { maps.old.sizes ≡ program.now.sizes }
+    requires within { to ≤ run.old.call.now.n }
+    requires sizes { maps.old.sizes ≡ run.old.program.now.sizes }
     requires count { length maps.old.words ≡ log_elements log.old }
-    ensures same { callback.new ≡ callback.old }
+    ensures same { run.new ≡ run.old }
     ensures sizes { maps.new.sizes ≡ maps.old.sizes }
     ensures count { length maps.new.words ≡ log_elements log.new }
-    ensures ran { (start : MapList) → GoesWatched program.now call.now from start maps.old log.old
-        → WatchedTo program.now call.now to start maps.new log.new result }
+    ensures ran { (start : MapList) → GoesWatched run.old.program.now run.old.call.now from start maps.old log.old
+        → WatchedTo run.old.program.now run.old.call.now to start maps.new log.new result }
 {
     for index in from..to {
-        match one_watched(program, call, callback, index, log, maps) {
+        match one_watched(run, index, log, maps) {
             Watch::Went => (),
             Watch::Broke(answer) => return Watch::Broke(answer),
             Watch::Met => return Watch::Met,
@@ -138,33 +124,25 @@ pub(crate) fn alone_watched<'a>(
 }
 
 /// Runs the iteration of an index on the maps, watched.
-fn one_watched<'a>(
-    program: &Verified,
-    call: &LoopCall,
-    callback: &mut Callback<'a>,
-    index: u32,
-    log: &mut UndoLog,
-    maps: &mut Maps,
-) -> Watch
-    requires known { OverApproximatesCall program.now call.now }
-    requires callback { callback.old ≡ record { program = program.now; call = call.now } }
-    requires below { index < call.now.n }
-    requires sizes { maps.old.sizes ≡ program.now.sizes }
+fn one_watched(run: &mut LoopRun<'_>, index: u32, log: &mut UndoLog, maps: &mut Maps) -> Watch
+    requires ready { IsLoopRun run.old }
+    requires below { index < run.old.call.now.n }
+    requires sizes { maps.old.sizes ≡ run.old.program.now.sizes }
     requires count { length maps.old.words ≡ log_elements log.old }
-    ensures same { callback.new ≡ callback.old }
+    ensures same { run.new ≡ run.old }
     ensures sizes { maps.new.sizes ≡ maps.old.sizes }
     ensures count { length maps.new.words ≡ log_elements log.new }
-    ensures ran { (start : MapList) → GoesWatched program.now call.now index start maps.old log.old
-        → WatchedTo program.now call.now (index + 1) start maps.new log.new result }
+    ensures ran { (start : MapList) → GoesWatched run.old.program.now run.old.call.now index start maps.old log.old
+        → WatchedTo run.old.program.now run.old.call.now (index + 1) start maps.new log.new result }
 {
     law_of_watching();
     // These tell the proof that the program is accepted, how many iterations the call has, and how many words the maps
     // have.
-    let _unit = program.unit();
-    let _n = call.n();
+    let _unit = run.program.unit();
+    let _n = run.call.n();
     let _sizes = maps.sizes();
     let mut watched = Watched::new(maps, log);
-    let done = callback.run(index, &mut watched);
+    let done = run.callback.run(index, &mut watched);
     if watched.has_met() {
         return Watch::Met;
     }

@@ -5,7 +5,7 @@ use Rattle.loop_core_sequential.proofs.one_by_one.alone.Given as goal
 
 abbrev pub invariant-loop-index : goal.invariant-loop-index
 invariant-loop-index l = record {
-  same : l.callback ≡ record { program = l.program; call = l.call };
-  count : length l.maps.words ≡ sum l.program.sizes;
-  went : WentOn l.program l.call l.from l.index l.fn.maps l.maps;
+  same : l.run ≡ l.fn.run;
+  count : length l.maps.words ≡ sum l.fn.run.program.now.sizes;
+  went : WentOn l.fn.run.program.now l.fn.run.call.now l.from l.index l.fn.maps l.maps;
 }

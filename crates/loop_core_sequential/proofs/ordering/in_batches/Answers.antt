@@ -1,77 +1,80 @@
-use Rattle.std.proofs.Common.{◌≡◌, Some, refl, ◌∙◌, arith}
-use Rattle.loop_core_sequential.proofs.InOrder.{stayed, went_both, went_to, ran_both, broke_before}
+use Rattle.std.proofs.Common.{◌≡◌, ◌≤◌, Some, None, refl, sym, subst, ◌∙◌, arith}
+use Rattle.loop_core_sequential.specs.declared.running.LoopRun.{LoopRun}
+use Rattle.loop_core_sequential.specs.LoopRuns.{IsLoopRun}
+use Rattle.loop_core_sequential.proofs.InOrder.{stayed, went_both, went_to, broke_before}
+use Rattle.loop_core_sequential.proofs.RunLaws.{went_by, rest_ran_by}
 use Rattle.loop_core_sequential.proofs.ordering.in_batches.Goals as goal
 
 pub loop-index-init : goal.loop-index-init
 loop-index-init c = record {
   same = refl;
   within = c.requires.in_order;
-  went = stayed c.args.program.now c.args.call.now c.args.from c.args.maps.now
+  went = stayed c.args.run.now.program.now c.args.run.now.call.now c.args.from c.args.maps.now
       (omega (arith, c.requires.in_order, c.requires.within));
 }
 
-pub go-next-requires-clause-sizes : goal.go-next-requires-clause-sizes
-go-next-requires-clause-sizes c = c.loop-index.invariant.went.sizes ∙ c.requires.sizes
+pub go-next-requires-clause-ready : goal.go-next-requires-clause-ready
+go-next-requires-clause-ready c = subst IsLoopRun (sym c.loop-index.invariant.same) c.requires.ready
 
-pub alone-requires-clause-callback : goal.alone-requires-clause-callback
-alone-requires-clause-callback c = c.loop-index.invariant.same ∙ c.requires.callback
+pub go-next-requires-clause-within : goal.go-next-requires-clause-within
+go-next-requires-clause-within c =
+    subst (λ (run : LoopRun). c.args.to ≤ run.call.now.n) (sym c.loop-index.invariant.same) c.requires.within
+
+pub go-next-requires-clause-sizes : goal.go-next-requires-clause-sizes
+go-next-requires-clause-sizes c =
+    subst (λ (run : LoopRun). c.loop-index.maps.sizes ≡ run.program.now.sizes) (sym c.loop-index.invariant.same)
+    (c.loop-index.invariant.went.sizes ∙ c.requires.sizes)
+
+pub alone-requires-clause-ready : goal.alone-requires-clause-ready
+alone-requires-clause-ready c = subst IsLoopRun (sym c.loop-index.invariant.same) c.requires.ready
 
 pub alone-requires-clause-within : goal.alone-requires-clause-within
 alone-requires-clause-within c =
     let near = c.resume-resume.ensures.within in
     let far = c.requires.within in
-    omega (arith, near, far)
+    subst (λ (run : LoopRun). c.resume-resume.result ≤ run.call.now.n) (sym c.loop-index.invariant.same)
+    (omega (arith, near, far))
 
 pub alone-requires-clause-sizes : goal.alone-requires-clause-sizes
-alone-requires-clause-sizes c = c.go-next.ensures.went.sizes ∙ c.loop-index.invariant.went.sizes ∙ c.requires.sizes
+alone-requires-clause-sizes c =
+    subst (λ (run : LoopRun). c.go-next.new.maps.sizes ≡ run.program.now.sizes) (sym c.loop-index.invariant.same)
+    (c.go-next.ensures.went.sizes ∙ c.loop-index.invariant.went.sizes ∙ c.requires.sizes)
 
 pub loop-index-preserved-then-index-next : goal.loop-index-preserved-then-index-next
 loop-index-preserved-then-index-next c = record {
   same = c.loop-index.invariant.same;
   within = c.go-next.ensures.within;
-  went = went_both c.args.program.now c.args.call.now c.args.from c.loop-index.index c.go-next.result c.args.maps.now
-      c.loop-index.maps c.go-next.new.maps c.loop-index.invariant.went c.go-next.ensures.went;
+  went = went_both c.args.run.now.program.now c.args.run.now.call.now c.args.from c.loop-index.index c.go-next.result
+      c.args.maps.now c.loop-index.maps c.go-next.new.maps c.loop-index.invariant.went
+      (went_by c.loop-index.run c.args.run.now c.loop-index.invariant.same c.loop-index.index c.go-next.result
+      c.loop-index.maps c.go-next.new.maps c.go-next.ensures.went);
 }
 
 pub returns-in-Some : goal.returns-in-Some
 returns-in-Some c =
-    let over = c.if-index-next.false in
-    let under = c.go-next.ensures.on in
-    let near = c.resume-resume.ensures.within in
-    let same : c.go-next.result ≡ c.loop-index.index = omega (arith, over, under) in
-    broke_before c.args.program.now c.args.call.now c.args.from c.resume-resume.result c.args.to c.args.maps.now
-    c.alone.new.maps c.in-Some.answer near
-    (ran_both c.args.program.now c.args.call.now c.args.from c.loop-index.index c.resume-resume.result c.args.maps.now
-    c.go-next.new.maps c.alone.new.maps (Some c.in-Some.answer)
-    (went_to c.args.program.now c.args.call.now c.args.from c.go-next.result c.loop-index.index c.args.maps.now
-    c.go-next.new.maps same
-    (went_both c.args.program.now c.args.call.now c.args.from c.loop-index.index c.go-next.result c.args.maps.now
-    c.loop-index.maps c.go-next.new.maps c.loop-index.invariant.went c.go-next.ensures.went))
-    c.in-Some.ensures.ran)
+    broke_before c.args.run.now.program.now c.args.run.now.call.now c.args.from c.resume-resume.result c.args.to
+    c.args.maps.now c.alone.new.maps c.in-Some.answer c.resume-resume.ensures.within
+    (rest_ran_by c.loop-index.run c.args.run.now c.loop-index.invariant.same c.args.from c.loop-index.index
+    c.go-next.result c.resume-resume.result (omega (arith, c.if-index-next.false, c.go-next.ensures.on))
+    c.args.maps.now c.loop-index.maps c.go-next.new.maps c.alone.new.maps (Some c.in-Some.answer)
+    c.loop-index.invariant.went c.go-next.ensures.went c.in-Some.ensures.ran)
 
 pub loop-index-preserved : goal.loop-index-preserved
-loop-index-preserved c =
-    let over = c.if-index-next.false in
-    let under = c.go-next.ensures.on in
-    let same : c.go-next.result ≡ c.loop-index.index = omega (arith, over, under) in
-    record {
-      same = c.alone.ensures.same ∙ c.loop-index.invariant.same;
-      within = c.resume-resume.ensures.within;
-      went = went_both c.args.program.now c.args.call.now c.args.from c.loop-index.index c.resume-resume.result
-          c.args.maps.now c.go-next.new.maps c.alone.new.maps
-          (went_to c.args.program.now c.args.call.now c.args.from c.go-next.result c.loop-index.index c.args.maps.now
-          c.go-next.new.maps same
-          (went_both c.args.program.now c.args.call.now c.args.from c.loop-index.index c.go-next.result c.args.maps.now
-          c.loop-index.maps c.go-next.new.maps c.loop-index.invariant.went c.go-next.ensures.went))
-          c.in_default.ensures.ran;
-    }
+loop-index-preserved c = record {
+  same = c.alone.ensures.same ∙ c.loop-index.invariant.same;
+  within = c.resume-resume.ensures.within;
+  went = rest_ran_by c.loop-index.run c.args.run.now c.loop-index.invariant.same c.args.from c.loop-index.index
+      c.go-next.result c.resume-resume.result (omega (arith, c.if-index-next.false, c.go-next.ensures.on))
+      c.args.maps.now c.loop-index.maps c.go-next.new.maps c.alone.new.maps None c.loop-index.invariant.went
+      c.go-next.ensures.went c.in_default.ensures.ran;
+}
 
 pub returns : goal.returns
 returns c =
     let past = c.loop-index-test.false in
     let within = c.loop-index.invariant.within in
-    went_to c.args.program.now c.args.call.now c.args.from c.loop-index.index c.args.to c.args.maps.now
-    c.loop-index.maps (omega (arith, past, within)) c.loop-index.invariant.went
+    went_to c.args.run.now.program.now c.args.run.now.call.now c.args.from c.loop-index.index c.args.to
+    c.args.maps.now c.loop-index.maps (omega (arith, past, within)) c.loop-index.invariant.went
 
 pub loop-index-smaller-then-index-next : goal.loop-index-smaller-then-index-next
 loop-index-smaller-then-index-next c =

@@ -4,9 +4,9 @@ use Rattle.loop_core_sequential.proofs.ordering.in_batches.Given as goal
 
 abbrev pub invariant-loop-index : goal.invariant-loop-index
 invariant-loop-index l = record {
-  same : l.callback ≡ l.fn.callback;
+  same : l.run ≡ l.fn.run;
   within : l.index ≤ l.to;
-  went : WentOn l.program l.call l.from l.index l.fn.maps l.maps;
+  went : WentOn l.fn.run.program.now l.fn.run.call.now l.from l.index l.fn.maps l.maps;
 }
 
 abbrev pub decreases-loop-index : goal.decreases-loop-index

@@ -1,5 +1,7 @@
-use Rattle.std.proofs.Common.{sym, subst}
-use Rattle.loop_core_sequential.specs.Noting.{WatchedToEnd}
+use Rattle.std.proofs.Common.{sym, ap, subst, ◌∙◌}
+use Rattle.bpf_step_model.specs.State.{LoopCall}
+use Rattle.loop_core_sequential.specs.Noting.{WatchedToEnd, answer_watched}
+use Rattle.loop_core_sequential.proofs.RunLaws.{ended_of}
 use Rattle.loop_core_sequential.proofs.WatchedEnds.{begins, to_end}
 use Rattle.loop_core_sequential.proofs.watched_loop.watch.Goals as goal
 
@@ -7,7 +9,17 @@ pub returns-then-n-lt-FEWEST : goal.returns-then-n-lt-FEWEST
 returns-then-n-lt-FEWEST c =
     subst (WatchedToEnd c.args.program.now c.args.call.now c.args.maps.now c.alone_watched-watch.new.maps
     c.alone_watched-watch.new.log) (sym c.answer.ensures)
-    (to_end c.args.program.now c.args.call.now c.n-n.result c.args.maps.now c.alone_watched-watch.new.maps
-    c.alone_watched-watch.new.log c.alone_watched-watch.result c.n-n.ensures
+    (ended_of c.new-run.result c.args.program.now c.args.call.now c.new-run.ensures.program c.new-run.ensures.call
+    c.args.maps.now c.alone_watched-watch.new.maps c.alone_watched-watch.new.log
+    (answer_watched c.alone_watched-watch.result c.n-n.result)
+    (to_end c.new-run.result.program.now c.new-run.result.call.now c.n-n.result c.args.maps.now
+    c.alone_watched-watch.new.maps c.alone_watched-watch.new.log c.alone_watched-watch.result
+    (c.n-n.ensures ∙ ap (λ (call : LoopCall). call.n) (sym c.new-run.ensures.call))
     (c.alone_watched-watch.ensures.ran c.args.maps.now
-    (begins c.args.program.now c.args.call.now c.args.maps.now c.args.log.now c.requires.empty)))
+    (begins c.new-run.result.program.now c.new-run.result.call.now c.args.maps.now c.args.log.now c.requires.empty))))
+
+pub returns : goal.returns
+returns c =
+    ended_of c.new-run.result c.args.program.now c.args.call.now c.new-run.ensures.program c.new-run.ensures.call
+    c.args.maps.now c.watch_in_batches.new.maps c.watch_in_batches.new.log c.watch_in_batches.result
+    c.watch_in_batches.ensures

@@ -1,27 +1,85 @@
-use Rattle.std.proofs.Common.{◌≡◌, ℕ, subst, ◌∙◌, arith}
-use Rattle.loop_core_sequential.specs.Noting.{GoesWatched}
+use Rattle.std.proofs.Common.{◌≡◌, ◌≤◌, sym, subst, ◌∙◌, arith}
+use Rattle.loop_core_sequential.specs.declared.running.LoopRun.{LoopRun}
+use Rattle.loop_core_sequential.specs.declared.watching.Watch.TheVariants.{Went, Broke, Met}
+use Rattle.loop_core_sequential.specs.LoopRuns.{IsLoopRun}
+use Rattle.loop_core_sequential.proofs.RunLaws.{goes_by, rest_watched_by}
 use Rattle.loop_core_sequential.proofs.WatchedEnds.{went_all}
 use Rattle.loop_core_sequential.proofs.watched_loop.watch_in_batches.Goals as goal
 
+pub go_watched-next-requires-clause-ready : goal.go_watched-next-requires-clause-ready
+go_watched-next-requires-clause-ready c = subst IsLoopRun (sym c.loop-index.invariant.same) c.requires.ready
+
+pub go_watched-next-requires-clause-within : goal.go_watched-next-requires-clause-within
+go_watched-next-requires-clause-within c =
+    let all = c.n-n.ensures in
+    subst (λ (run : LoopRun). c.n-n.result ≤ run.call.now.n) (sym c.loop-index.invariant.same) (omega (arith, all))
+
+pub go_watched-next-requires-clause-sizes : goal.go_watched-next-requires-clause-sizes
+go_watched-next-requires-clause-sizes c =
+    subst (λ (run : LoopRun). c.loop-index.maps.sizes ≡ run.program.now.sizes) (sym c.loop-index.invariant.same)
+    c.loop-index.invariant.sizes
+
+pub alone_watched-requires-clause-ready : goal.alone_watched-requires-clause-ready
+alone_watched-requires-clause-ready c = subst IsLoopRun (sym c.loop-index.invariant.same) c.requires.ready
+
+pub alone_watched-requires-clause-within : goal.alone_watched-requires-clause-within
+alone_watched-requires-clause-within c =
+    let near = c.resume-resume.ensures.within in
+    let all = c.n-n.ensures in
+    subst (λ (run : LoopRun). c.resume-resume.result ≤ run.call.now.n) (sym c.loop-index.invariant.same)
+    (omega (arith, near, all))
+
+pub alone_watched-requires-clause-sizes : goal.alone_watched-requires-clause-sizes
+alone_watched-requires-clause-sizes c =
+    subst (λ (run : LoopRun). c.go_watched-next.new.maps.sizes ≡ run.program.now.sizes)
+    (sym c.loop-index.invariant.same) (c.go_watched-next.ensures.sizes ∙ c.loop-index.invariant.sizes)
+
+pub loop-index-preserved-then-index-next : goal.loop-index-preserved-then-index-next
+loop-index-preserved-then-index-next c = record {
+  same = c.loop-index.invariant.same;
+  within = c.go_watched-next.ensures.within;
+  sizes = c.go_watched-next.ensures.sizes ∙ c.loop-index.invariant.sizes;
+  count = c.go_watched-next.ensures.count;
+  goes = goes_by c.loop-index.run c.args.run.now c.loop-index.invariant.same c.loop-index.index c.go_watched-next.result
+      c.loop-index.maps c.go_watched-next.new.maps c.loop-index.log c.go_watched-next.new.log
+      c.go_watched-next.ensures.goes c.args.maps.now c.loop-index.invariant.goes;
+}
+
 pub loop-index-preserved : goal.loop-index-preserved
-loop-index-preserved c =
-    let over = c.if-index-next.false in
-    let under = c.go_watched-next.ensures.on in
-    let same : c.go_watched-next.result ≡ c.loop-index.index = omega (arith, over, under) in
-    record {
-      same = c.alone_watched.ensures.same ∙ c.loop-index.invariant.same;
-      within = c.resume-resume.ensures.within;
-      sizes = c.alone_watched.ensures.sizes ∙ c.go_watched-next.ensures.sizes ∙ c.loop-index.invariant.sizes;
-      count = c.alone_watched.ensures.count;
-      goes = c.in-Went.ensures.ran c.args.maps.now
-          (subst (λ (index : ℕ). GoesWatched c.args.program.now c.args.call.now index c.args.maps.now
-          c.go_watched-next.new.maps c.go_watched-next.new.log) same
-          (c.go_watched-next.ensures.goes c.args.maps.now c.loop-index.invariant.goes));
-    }
+loop-index-preserved c = record {
+  same = c.alone_watched.ensures.same ∙ c.loop-index.invariant.same;
+  within = c.resume-resume.ensures.within;
+  sizes = c.alone_watched.ensures.sizes ∙ c.go_watched-next.ensures.sizes ∙ c.loop-index.invariant.sizes;
+  count = c.alone_watched.ensures.count;
+  goes = rest_watched_by c.loop-index.run c.args.run.now c.loop-index.invariant.same c.loop-index.index
+      c.go_watched-next.result c.resume-resume.result
+      (omega (arith, c.if-index-next.false, c.go_watched-next.ensures.on))
+      c.loop-index.maps c.go_watched-next.new.maps c.alone_watched.new.maps c.loop-index.log c.go_watched-next.new.log
+      c.alone_watched.new.log Went c.go_watched-next.ensures.goes c.in-Went.ensures.ran c.args.maps.now
+      c.loop-index.invariant.goes;
+}
+
+pub returns-in-Broke : goal.returns-in-Broke
+returns-in-Broke c =
+    rest_watched_by c.loop-index.run c.args.run.now c.loop-index.invariant.same c.loop-index.index
+    c.go_watched-next.result c.resume-resume.result
+    (omega (arith, c.if-index-next.false, c.go_watched-next.ensures.on))
+    c.loop-index.maps c.go_watched-next.new.maps c.alone_watched.new.maps c.loop-index.log c.go_watched-next.new.log
+    c.alone_watched.new.log (Broke c.in-Broke.answer) c.go_watched-next.ensures.goes c.in-Broke.ensures.ran
+    c.args.maps.now c.loop-index.invariant.goes
+
+pub returns-in-Met : goal.returns-in-Met
+returns-in-Met c =
+    rest_watched_by c.loop-index.run c.args.run.now c.loop-index.invariant.same c.loop-index.index
+    c.go_watched-next.result c.resume-resume.result
+    (omega (arith, c.if-index-next.false, c.go_watched-next.ensures.on))
+    c.loop-index.maps c.go_watched-next.new.maps c.alone_watched.new.maps c.loop-index.log c.go_watched-next.new.log
+    c.alone_watched.new.log Met c.go_watched-next.ensures.goes c.in-Met.ensures.ran c.args.maps.now
+    c.loop-index.invariant.goes
 
 pub returns : goal.returns
 returns c =
     let past = c.loop-index-test.false in
     let within = c.loop-index.invariant.within in
-    went_all c.args.program.now c.args.call.now c.loop-index.index c.n-n.result c.args.maps.now c.loop-index.maps
-    c.loop-index.log (omega (arith, past, within)) c.n-n.ensures c.loop-index.invariant.goes
+    went_all c.args.run.now.program.now c.args.run.now.call.now c.loop-index.index c.n-n.result c.args.maps.now
+    c.loop-index.maps c.loop-index.log (omega (arith, past, within)) c.n-n.ensures c.loop-index.invariant.goes

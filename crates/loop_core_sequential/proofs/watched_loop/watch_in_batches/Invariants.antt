@@ -5,11 +5,11 @@ use Rattle.loop_core_sequential.proofs.watched_loop.watch_in_batches.Given as go
 
 abbrev pub invariant-loop-index : goal.invariant-loop-index
 invariant-loop-index l = record {
-  same : l.callback ≡ l.fn.callback;
+  same : l.run ≡ l.fn.run;
   within : l.index ≤ l.n;
-  sizes : l.maps.sizes ≡ l.program.sizes;
+  sizes : l.maps.sizes ≡ l.fn.run.program.now.sizes;
   count : length l.maps.words ≡ log_elements l.log;
-  goes : GoesWatched l.program l.call l.index l.fn.maps l.maps l.log;
+  goes : GoesWatched l.fn.run.program.now l.fn.run.call.now l.index l.fn.maps l.maps l.log;
 }
 
 abbrev pub decreases-loop-index : goal.decreases-loop-index

@@ -6,9 +6,9 @@ use Rattle.loop_core_sequential.proofs.watching.alone_watched.Given as goal
 
 abbrev pub invariant-loop-index : goal.invariant-loop-index
 invariant-loop-index l = record {
-  same : l.callback ≡ l.fn.callback;
+  same : l.run ≡ l.fn.run;
   sizes : l.maps.sizes ≡ l.fn.maps.sizes;
   count : length l.maps.words ≡ log_elements l.log;
-  goes : (start : MapList) → GoesWatched l.program l.call l.from start l.fn.maps l.fn.log
-      → GoesWatched l.program l.call l.index start l.maps l.log;
+  goes : (start : MapList) → GoesWatched l.fn.run.program.now l.fn.run.call.now l.from start l.fn.maps l.fn.log
+      → GoesWatched l.fn.run.program.now l.fn.run.call.now l.index start l.maps l.log;
 }

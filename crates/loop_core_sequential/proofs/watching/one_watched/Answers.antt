@@ -1,28 +1,48 @@
-use Rattle.std.proofs.Common.{◌+◌, ◌≤◌, ◌∙◌, sym, subst, rules}
-use Rattle.bpf_verify_sound.specs.Soundness.{most_from}
+use Rattle.std.proofs.Common.{◌≡◌, ◌+◌, ◌≤◌, ◌<◌, length, ap, ◌∙◌, sym, subst, rules}
+use Rattle.std.specs.List.{sum}
+use Rattle.array_maps.specs.MapList.{MapList}
+use Rattle.bpf_verify_sound.specs.Soundness.{OverApproximatesCall, most_from}
 use Rattle.bpf_step.specs.Iterations.{CallbackOf}
 use Rattle.bpf_step.proofs.Limits.{few_steps}
 use Rattle.loop_core_sequential.proofs.WatchedSteps.{broke_alone, went_alone, broke_as, goes_as}
 use Rattle.loop_core_sequential.proofs.watching.one_watched.Goals as goal
 
+pub run-done-requires-clause-known : goal.run-done-requires-clause-known
+run-done-requires-clause-known c =
+    subst (λ (o : CallbackOf). OverApproximatesCall o.program o.call) (sym c.requires.ready.callback)
+    c.requires.ready.known
+
+pub run-done-requires-clause-below : goal.run-done-requires-clause-below
+run-done-requires-clause-below c =
+    subst (λ (o : CallbackOf). c.args.index < o.call.n) (sym c.requires.ready.callback) c.requires.below
+
+pub run-done-requires-clause-count : goal.run-done-requires-clause-count
+run-done-requires-clause-count c =
+    subst (λ (o : CallbackOf). length c.new-watched.result.maps.now.words ≡ sum o.program.sizes)
+    (sym c.requires.ready.callback)
+    (ap (λ (maps : MapList). length maps.words) c.new-watched.ensures.maps ∙ c.sizes-sizes.ensures.words
+    ∙ ap sum c.requires.sizes)
+
 pub run-done-requires-clause-served : goal.run-done-requires-clause-served
 run-done-requires-clause-served c =
-    subst (λ (o : CallbackOf). most_from o.program o.call.callback ≤ 4096) (sym c.requires.callback)
-    (few_steps c.args.program.now c.args.call.now.callback c.unit-unit.ensures.accepted)
+    subst (λ (o : CallbackOf). most_from o.program o.call.callback ≤ 4096) (sym c.requires.ready.callback)
+    (few_steps c.args.run.now.program.now c.args.run.now.call.now.callback c.unit-unit.ensures.accepted)
 
 pub returns-then-done-eq1-clause-ran : goal.returns-then-done-eq1-clause-ran
 returns-then-done-eq1-clause-ran c = λ start goes.
-    broke_as c.args.program.now c.args.call.now start c.run-done.new.store.maps.now _ _ (search rules)
-    (broke_alone c.law_of_watching.ensures c.args.program.now c.args.call.now c.args.callback.now c.requires.callback
+    broke_as c.args.run.now.program.now c.args.run.now.call.now start c.run-done.new.store.maps.now _ _ (search rules)
+    (broke_alone c.law_of_watching.ensures c.args.run.now.program.now c.args.run.now.call.now
+    c.args.run.now.callback c.requires.ready.callback
     c.args.index c.requires.below c.args.maps.now c.args.log.now c.new-watched.result c.run-done.new.store
     c.new-watched.ensures.maps c.new-watched.ensures.log c.run-done.result.ret c.run-done.result.steps
     c.run-done.ensures.ran start goes (sym c.has_met.ensures ∙ c.if-has_met.false) c.if-done-eq1.true)
 
 pub returns-clause-ran : goal.returns-clause-ran
 returns-clause-ran c = λ start goes.
-    goes_as c.args.program.now c.args.call.now (c.args.index + 1) start c.run-done.new.store.maps.now _
+    goes_as c.args.run.now.program.now c.args.run.now.call.now (c.args.index + 1) start c.run-done.new.store.maps.now _
     c.run-done.new.store.log.now _ (search rules) (search rules)
-    (went_alone c.law_of_watching.ensures c.args.program.now c.args.call.now c.args.callback.now c.requires.callback
+    (went_alone c.law_of_watching.ensures c.args.run.now.program.now c.args.run.now.call.now
+    c.args.run.now.callback c.requires.ready.callback
     c.args.index c.requires.below c.args.maps.now c.args.log.now c.new-watched.result c.run-done.new.store
     c.new-watched.ensures.maps c.new-watched.ensures.log c.run-done.result.ret c.run-done.result.steps
     c.run-done.ensures.ran start goes (sym c.has_met.ensures ∙ c.if-has_met.false) c.if-done-eq1.false)

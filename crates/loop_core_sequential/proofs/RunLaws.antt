@@ -1,0 +1,100 @@
+-- Runs of a loop call that are the same.
+use Rattle.std.proofs.Common.{◌≡◌, ℕ, Option, ap, subst, ◌∙◌}
+use Rattle.array_maps.specs.MapList.{MapList}
+use Rattle.bpf_insn_types.specs.Program.{Program}
+use Rattle.bpf_step_model.specs.State.{LoopCall}
+use Rattle.bpf_step.specs.Iterations.{CallbackOf}
+use Rattle.loop_core_undo.specs.declared.undo_log.UndoLog.{UndoLog}
+use Rattle.loop_core_sequential.specs.declared.running.LoopRun.{LoopRun}
+use Rattle.loop_core_sequential.specs.declared.watching.Watch.{Watch}
+use Rattle.loop_core_sequential.specs.LoopRuns.{IsLoopRun}
+use Rattle.loop_core_sequential.specs.Rests.{WentOn, RanTo}
+use Rattle.loop_core_sequential.specs.Noting.{GoesWatched, WatchedTo, WatchedToEnd}
+use Rattle.loop_core_sequential.proofs.InOrder.{went_both, went_to, ran_both}
+
+-- its callback is of the program and the call
+pub callback_is : (run first : LoopRun) → run ≡ first → IsLoopRun first
+    → run.callback ≡ record { program = first.program.now; call = first.call.now }
+callback_is run first same ready = ap (λ (r : LoopRun). r.callback) same ∙ ready.callback
+
+-- it is the same with a callback that is the same
+pub with_same : (run : LoopRun) (callback : CallbackOf) → callback ≡ run.callback
+    → record { program = run.program; call = run.call; callback = callback } ≡ run
+with_same run callback same =
+    ap (λ (k : CallbackOf). record { program = run.program; call = run.call; callback = k }) same
+
+-- iterations come out so by the other run
+pub went_by : (run first : LoopRun) → run ≡ first → (index next : ℕ) (old new : MapList)
+    → WentOn run.program.now run.call.now index next old new
+    → WentOn first.program.now first.call.now index next old new
+went_by run first same index next old new =
+    subst (λ (r : LoopRun). WentOn r.program.now r.call.now index next old new) same
+
+pub ran_by : (run first : LoopRun) → run ≡ first → (index next : ℕ) (old new : MapList) (answer : Option ℕ)
+    → RanTo run.program.now run.call.now index next old new answer
+    → RanTo first.program.now first.call.now index next old new answer
+ran_by run first same index next old new answer =
+    subst (λ (r : LoopRun). RanTo r.program.now r.call.now index next old new answer) same
+
+-- after a batch that left the index where it was
+pub rest_ran_by : (run first : LoopRun) → run ≡ first → (from index next to : ℕ) → next ≡ index
+    → (start old now new : MapList) (answer : Option ℕ)
+    → WentOn first.program.now first.call.now from index start old
+    → WentOn run.program.now run.call.now index next old now
+    → RanTo run.program.now run.call.now index to now new answer
+    → RanTo first.program.now first.call.now from to start new answer
+rest_ran_by run first same from index next to stays start old now new answer before went ran =
+    ran_both first.program.now first.call.now from index to start now new answer
+    (went_to first.program.now first.call.now from next index start now stays
+    (went_both first.program.now first.call.now from index next start old now before
+    (went_by run first same index next old now went)))
+    (ran_by run first same index to now new answer ran)
+
+-- watched iterations do
+pub goes_by : (run first : LoopRun) → run ≡ first → (index next : ℕ) (old new : MapList) (log last : UndoLog)
+    → ((start : MapList) → GoesWatched run.program.now run.call.now index start old log
+    → GoesWatched run.program.now run.call.now next start new last)
+    → (start : MapList) → GoesWatched first.program.now first.call.now index start old log
+    → GoesWatched first.program.now first.call.now next start new last
+goes_by run first same index next old new log last =
+    subst (λ (r : LoopRun). (start : MapList) → GoesWatched r.program.now r.call.now index start old log
+    → GoesWatched r.program.now r.call.now next start new last) same
+
+pub watched_by : (run first : LoopRun) → run ≡ first → (index next : ℕ) (old new : MapList) (log last : UndoLog)
+    (watch : Watch)
+    → ((start : MapList) → GoesWatched run.program.now run.call.now index start old log
+    → WatchedTo run.program.now run.call.now next start new last watch)
+    → (start : MapList) → GoesWatched first.program.now first.call.now index start old log
+    → WatchedTo first.program.now first.call.now next start new last watch
+watched_by run first same index next old new log last watch =
+    subst (λ (r : LoopRun). (start : MapList) → GoesWatched r.program.now r.call.now index start old log
+    → WatchedTo r.program.now r.call.now next start new last watch) same
+
+-- after a batch that left the index where it was
+pub rest_watched_by : (run first : LoopRun) → run ≡ first → (index next to : ℕ) → next ≡ index
+    → (old now new : MapList) (log noted last : UndoLog) (watch : Watch)
+    → ((start : MapList) → GoesWatched run.program.now run.call.now index start old log
+    → GoesWatched run.program.now run.call.now next start now noted)
+    → ((start : MapList) → GoesWatched run.program.now run.call.now index start now noted
+    → WatchedTo run.program.now run.call.now to start new last watch)
+    → (start : MapList) → GoesWatched first.program.now first.call.now index start old log
+    → WatchedTo first.program.now first.call.now to start new last watch
+rest_watched_by run first same index next to stays old now new log noted last watch goes ran =
+    watched_by run first same index to old new log last watch
+    (λ start before. ran start
+    (subst (λ (i : ℕ). GoesWatched run.program.now run.call.now i start now noted) stays (goes start before)))
+
+-- and by the program and the call that are its own
+module _ (run : LoopRun) (program : Program) (call : LoopCall) (program_is : run.program.now ≡ program)
+    (call_is : run.call.now ≡ call) where
+  pub ran_of : (index next : ℕ) (old new : MapList) (answer : Option ℕ)
+      → RanTo run.program.now run.call.now index next old new answer → RanTo program call index next old new answer
+  ran_of index next old new answer ran =
+      subst (λ (p : Program). RanTo p call index next old new answer) program_is
+      (subst (λ (c : LoopCall). RanTo run.program.now c index next old new answer) call_is ran)
+
+  pub ended_of : (start now : MapList) (log : UndoLog) (answer : Option ℕ)
+      → WatchedToEnd run.program.now run.call.now start now log answer → WatchedToEnd program call start now log answer
+  ended_of start now log answer ended =
+      subst (λ (p : Program). WatchedToEnd p call start now log answer) program_is
+      (subst (λ (c : LoopCall). WatchedToEnd run.program.now c start now log answer) call_is ended)
