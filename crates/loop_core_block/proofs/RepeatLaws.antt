@@ -1,78 +1,16 @@
--- An access that is made again.
+-- Accesses that are made again.
 use Rattle.std.proofs.Common.{◌≡◌, ℕ, ◌+◌, ◌<◌, List, [], length, drop, slice_index_or, refl, sym, ap, subst, ◌∙◌, arith, length-set}
-use Rattle.std.specs.Prelude.{slice_index}
 use Rattle.std.specs.List.{AllByRecursion}
 use Rattle.std.proofs.lemmas.List.{drop_more}
 use Rattle.std.proofs.lemmas.List.Elements.{All-from_recursion}
-use Rattle.array_maps.specs.Accesses.{Read, ReadWrite}
 use Rattle.array_maps.specs.Store.{Effects}
-use Rattle.loop_core_model.specs.declared.access.Access.{Access as Kind}
 use Rattle.private_copy.specs.declared.private.Private.{Private}
-use Rattle.private_copy.specs.Copies.{PrivateCopy, Accessed}
 use Rattle.private_copy.specs.CopyLaw.{AccessEffect}
 use Rattle.private_copy.specs.Shown.{copy_of}
 use Rattle.private_copy.proofs.AccessLaws.{in_range}
 use Rattle.bpf_step_batch.specs.declared.entry.Entry.{Entry}
-use Rattle.bpf_step_batch.specs.Logs.{element_by, action_by, access_by, accesses_by}
+use Rattle.bpf_step_batch.specs.Logs.{element_by, access_by, accesses_by}
 use Rattle.loop_core_block.specs.Batches.{HasElement}
-
--- an access that reads does the same whatever it saw
-pub any_read : (old new : PrivateCopy) (e a b : ℕ)
-    → Accessed old (record { element = e; action = Read a }) new
-    → Accessed old (record { element = e; action = Read b }) new
-any_read old new e a b done = record {
-  start = done.start;
-  words = done.words;
-  mark = done.mark;
-  other_marks = done.other_marks;
-  elements = done.elements;
-  last = done.last;
-  other_lasts = done.other_lasts;
-  reduction = done.reduction;
-  other_reductions = done.other_reductions;
-  pages = done.pages;
-  serves = done.serves;
-  under_way = done.under_way;
-  begun = done.begun;
-}
-
-pub any_change : (old new : PrivateCopy) (e a b left : ℕ)
-    → Accessed old (record { element = e; action = ReadWrite a left }) new
-    → Accessed old (record { element = e; action = ReadWrite b left }) new
-any_change old new e a b left done = record {
-  start = done.start;
-  words = done.words;
-  mark = done.mark;
-  other_marks = done.other_marks;
-  elements = done.elements;
-  last = done.last;
-  other_lasts = done.other_lasts;
-  reduction = done.reduction;
-  other_reductions = done.other_reductions;
-  pages = done.pages;
-  serves = done.serves;
-  under_way = done.under_way;
-  begun = done.begun;
-}
-
--- it is the lane's access at an entry of its kind
-pub is_access : (old new : Private) (words : List ℕ) (entry : Entry) (lane e : ℕ) (kind : Kind)
-    → entry.site.kind ≡ kind → e ≡ element_by entry.site.elements entry.elements lane
-    → Accessed (copy_of old) (record {
-      element = e;
-      action = action_by kind (slice_index words e) (slice_index entry.values lane);
-    }) (copy_of new)
-    → AccessEffect old (access_by words entry lane) new
-is_access old new words entry lane e kind is at done =
-    subst (λ (k : Kind). Accessed (copy_of old) (record {
-      element = element_by entry.site.elements entry.elements lane;
-      action = action_by k (slice_index words (element_by entry.site.elements entry.elements lane))
-          (slice_index entry.values lane);
-    }) (copy_of new)) (sym is)
-    (subst (λ (x : ℕ). Accessed (copy_of old) (record {
-      element = x;
-      action = action_by kind (slice_index words x) (slice_index entry.values lane);
-    }) (copy_of new)) at done)
 
 -- elements are few
 pub few_elements : (copy : Private) (entry : Entry) (lane : ℕ) → HasElement lane (length (copy_of copy).words) entry

@@ -31,6 +31,14 @@ pub record IsOf (l : LoopOf) (r : Runner) : Type 0 where
   pub call : r.callback.call ≡ l.call
   pub start : start_words r ≡ l.start.words
 
+-- it is ready for a loop's iterations from one index up to, and without, another: it is for the loop, whose call has
+-- them
+pub record IsReadyFor (l : LoopOf) (from to : ℕ) (r : Runner) : Type 0 where
+  pub ready : IsReady r
+  pub of : IsOf l r
+  pub rising : from ≤ to
+  pub within : to ≤ r.callback.call.n
+
 -- it is for the same loop call, start words and test
 pub record IsSame (old new : Runner) : Type 0 where
   pub callback : new.callback ≡ old.callback

@@ -9,7 +9,7 @@ ghost use Rattle.bpf_step_batch.specs.Logs.{IsLogged};
 ghost use Rattle.loop_core_block.specs.Batches.{IsLane, AreIterations};
 ghost use Rattle.loop_core_block.specs.Folding.{MayFold};
 ghost use Rattle.loop_core_block.specs.Workspaces.{IsWorkspaceFor};
-ghost use Rattle.loop_core_block.specs.Runs.{start_words, IsReady, IsOf, RunnerHasRun, RanOneMore, RanMore, RanTogether, RanUpTo};
+ghost use Rattle.loop_core_block.specs.Runs.{start_words, IsReady, IsOf, IsReadyFor, RunnerHasRun, RanOneMore, RanMore, RanTogether, RanUpTo};
 
 use crate::batching::run_together;
 use crate::folding::may_fold;
@@ -95,10 +95,7 @@ impl<'c, 'a> Runner<'c, 'a> {
         past: u32,
         gate: &G,
     ) -> Result<Option<u32>, AllocError>
-        requires ready { IsReady self.old }
-        requires of { IsOf of.now self.old }
-        requires rising { first ≤ past }
-        requires within { past ≤ self.old.callback.call.n }
+        requires ready { IsReadyFor of.now first past self.old }
         requires none { RunnerHasRun first first [] self.old }
         ensures ran { IfOk result (RanUpTo first past self.old self.new) }
     {
@@ -118,10 +115,7 @@ impl<'c, 'a> Runner<'c, 'a> {
         past: u32,
         gate: &G,
     ) -> Result<Option<u32>, AllocError>
-        requires ready { IsReady self.old }
-        requires of { IsOf of.now self.old }
-        requires rising { first ≤ past }
-        requires within { past ≤ self.old.callback.call.n }
+        requires ready { IsReadyFor of.now first past self.old }
         requires so_far { (start : ℕ) × (ran : List Iterated) × RunnerHasRun start first ran self.old }
         ensures ran { IfOk result (RanMore first past self.old self.new) }
     {

@@ -8,7 +8,7 @@ use Rattle.loop_core_block.proofs.runner.Runner.in_batches.Goals as goal
 pub loop-index-init : goal.loop-index-init
 loop-index-init g c = record {
   from = omega arith;
-  within = c.requires.rising;
+  within = c.requires.ready.rising;
   ran = ran_none c.args.self.now c.args.first;
 }
 
