@@ -1,3 +1,4 @@
 pub mod Firsts
 pub mod Breaks
 pub mod Witnesses
+pub mod Searches

@@ -4,11 +4,12 @@ ghost use Rattle.std.specs.Prelude.{◌≡◌, ◌<◌, Some, IfOk};
 ghost use Rattle.bpf_verify_sound.specs.Soundness.{OverApproximatesCall};
 ghost use Rattle.loop_core_model.specs.LeastBreak.{count_to};
 ghost use Rattle.loop_core_model.specs.declared.loop_test.Test.TheVariants.{Lrpd, Flow};
-ghost use Rattle.loop_core_witness.specs.Breaks.{index_of, AreCounted, IsBreak};
+ghost use Rattle.loop_core_witness.specs.Breaks.{index_of, IsBreak};
 ghost use Rattle.loop_core_witness.specs.declared.place.Place.{Place as At};
+ghost use Rattle.loop_core_witness.specs.Searches.{IsSearch, FindsPair};
 ghost use Rattle.loop_core_witness.specs.Witnesses.{Explains};
 
-use crate::finding::find_first;
+use crate::finding::Search;
 use crate::kind::Kind;
 use crate::place::Place;
 use crate::witness::Witness;
@@ -32,26 +33,14 @@ fn counted_by(call: &LoopCall, broke: Option<Place>) -> u32
 }
 
 /// The least pair by the flow test: the least writer, and the first reader behind it.
-fn flow_pair(
-    alloc: Global,
-    program: &Verified,
-    call: &LoopCall,
-    start: &Maps,
-    element: u32,
-    count: u32,
-) -> Result<Option<Witness>, AllocError>
-    requires known { OverApproximatesCall program.now call.now }
-    requires sizes { start.now.sizes ≡ program.now.sizes }
-    requires counts { AreCounted program.now call.now start.now.words count }
-    ensures pair { IfOk result (Explains Flow program.now call.now start.now.words element) }
+fn flow_pair(search: &Search<'_>) -> Result<Option<Witness>, AllocError>
+    requires { IsSearch search.now }
+    ensures { IfOk result (FindsPair search.now Flow) }
 {
-    let write = Kind::FirstWrite;
-    let Some(writer) = find_first(alloc, program, call, start, write, element, 0, count)? else {
+    let Some(writer) = search.first(Kind::FirstWrite, 0)? else {
         return Ok(None);
     };
-    let read = Kind::ExposedRead;
-    let behind = writer.index + 1;
-    let Some(reader) = find_first(alloc, program, call, start, read, element, behind, count)? else {
+    let Some(reader) = search.first(Kind::ExposedRead, writer.index + 1)? else {
         return Ok(None);
     };
     Ok(Some(Witness { writer, reader }))
@@ -59,44 +48,38 @@ fn flow_pair(
 
 /// The least pair by the LRPD test: the least reader and the least other writer; or where it is the only writer, that
 /// writer and the next reader.
-fn lrpd_pair(
-    alloc: Global,
-    program: &Verified,
-    call: &LoopCall,
-    start: &Maps,
-    element: u32,
-    count: u32,
-) -> Result<Option<Witness>, AllocError>
-    requires known { OverApproximatesCall program.now call.now }
-    requires sizes { start.now.sizes ≡ program.now.sizes }
-    requires counts { AreCounted program.now call.now start.now.words count }
-    ensures pair { IfOk result (Explains Lrpd program.now call.now start.now.words element) }
+fn lrpd_pair(search: &Search<'_>) -> Result<Option<Witness>, AllocError>
+    requires { IsSearch search.now }
+    ensures { IfOk result (FindsPair search.now Lrpd) }
 {
-    let read = Kind::ExposedRead;
-    let Some(reader) = find_first(alloc, program, call, start, read, element, 0, count)? else {
+    let Some(reader) = search.first(Kind::ExposedRead, 0)? else {
         return Ok(None);
     };
-    let write = Kind::FirstWrite;
-    let Some(writer) = find_first(alloc, program, call, start, write, element, 0, count)? else {
+    let Some(writer) = search.first(Kind::FirstWrite, 0)? else {
         return Ok(None);
     };
     if writer.index != reader.index {
         return Ok(Some(Witness { writer, reader }));
     }
     let behind = writer.index + 1;
-    if let Some(other) = find_first(alloc, program, call, start, write, element, behind, count)? {
-        return Ok(Some(Witness {
-            writer: other,
-            reader,
-        }));
+    if let Some(writer) = search.first(Kind::FirstWrite, behind)? {
+        return Ok(Some(Witness { writer, reader }));
     }
-    let Some(other) = find_first(alloc, program, call, start, read, element, behind, count)? else {
+    let Some(reader) = search.first(Kind::ExposedRead, behind)? else {
         return Ok(None);
     };
-    Ok(Some(Witness {
-        writer,
-        reader: other,
-    }))
+    Ok(Some(Witness { writer, reader }))
+}
+
+/// The least pair by a test.
+fn least_pair(search: &Search<'_>, test: Test) -> Result<Option<Witness>, AllocError>
+    requires { IsSearch search.now }
+    ensures { IfOk result (FindsPair search.now test) }
+{
+    match test {
+        Test::Flow => flow_pair(search),
+        Test::Lrpd => lrpd_pair(search),
+    }
 }
 
 /// Of the counted iterations of a loop call that main of this program made, each run on the start maps, the two that
@@ -122,9 +105,13 @@ pub fn find_pair(
     let _unit = program.unit();
     let _sizes = start.sizes();
     Store::words_fit(start);
-    let count = counted_by(call, broke);
-    match test {
-        Test::Flow => flow_pair(alloc, program, call, start, element, count),
-        Test::Lrpd => lrpd_pair(alloc, program, call, start, element, count),
-    }
+    let search = Search {
+        alloc,
+        program,
+        call,
+        start,
+        element,
+        count: counted_by(call, broke),
+    };
+    least_pair(&search, test)
 }
