@@ -39,8 +39,8 @@ const PROCESSORS: u32 = 4;
 /// some 31 bytes for each element that a block touches.
 const MOST_KEPT: u32 = 1_048_576;
 
-/// How many instructions a loop call that runs in order is to do at most, by its iterations and the most instructions of
-/// one.
+/// How many instructions a loop call that runs in order is to do at most, by its iterations and the most instructions
+/// of one.
 pub(crate) fn work_in_order(program: &Verified, call: &LoopCall) -> u64 {
     u64::from(call.n()) * u64::from(most_instructions(program, call.callback()))
 }
@@ -132,38 +132,40 @@ pub(crate) fn worthwhile_shares(call: &LoopCall, start: &Maps, busy: u32) -> u32
         .max(1)
 }
 
-/// How many even blocks a loop is run over, of at most this many. Where the gate holds nobody, only those that are
-/// worth what their elements cost, of as many elements as may be kept: one by one worker; by several one for each of
-/// them at least.
-fn worthwhile_blocks<G: Gate>(
-    program: &Verified,
-    call: &LoopCall,
-    start: &Maps,
-    most: u32,
-    workers: u32,
-    gate: &G,
-) -> u32
+/// How many even blocks, of at most this many, a loop of so much work over this many elements is worth, that keeps so
+/// many workers busy: those that pay what their elements cost, and of as many elements as may be kept. One by one
+/// worker; by several one for each of them at least.
+fn worthwhile_blocks(work: u64, elements: u32, most: u32, workers: u32) -> u32
     requires workers { 0 < workers }
     requires some { 0 < most }
-    requires few { most ≤ 64 }
     ensures some { 0 < result }
-    ensures few { result ≤ 64 }
+    ensures within { result ≤ most }
 {
-    if gate.may_hold() {
-        return most;
-    }
     if workers == 1 {
         return 1;
     }
-    let elements = elements_of(start).max(1);
+    let elements = elements.max(1);
     let kept = MOST_KEPT / elements;
-    let worth = work_by_blocks(program, call) / cost_of_elements(elements);
+    let worth = work / cost_of_elements(elements);
     let worth = worth.min(u64::from(kept)) as u32;
     worth.max(workers).min(most)
 }
 
-/// The even split of a loop into worthwhile blocks, at most this many.
+/// The even split of a loop call into this many blocks, 1 to 64.
 #[tactic(auto, using(crate::proofs::EvenLaws::even_is))]
+fn even_split(call: &LoopCall, blocks: u32) -> Split
+    requires some { 0 < blocks }
+    requires few { blocks ≤ 64 }
+    ensures { split_fault result call.now.n ≡ None }
+{
+    match Split::even(call.n(), blocks) {
+        Ok(split) => split,
+        Err(_) => unreachable!(),
+    }
+}
+
+/// The even split of a loop into at most this many blocks: into all of them where the gate may hold somebody, and else
+/// into worthwhile ones.
 pub(crate) fn worthwhile_split<G: Gate>(
     program: &Verified,
     call: &LoopCall,
@@ -177,9 +179,10 @@ pub(crate) fn worthwhile_split<G: Gate>(
     requires few { most ≤ 64 }
     ensures { split_fault result call.now.n ≡ None }
 {
-    let blocks = worthwhile_blocks(program, call, start, most, workers, gate);
-    match Split::even(call.n(), blocks) {
-        Ok(split) => split,
-        Err(_) => unreachable!(),
+    if gate.may_hold() {
+        return even_split(call, most);
     }
+    let work = work_by_blocks(program, call);
+    let blocks = worthwhile_blocks(work, elements_of(start), most, workers);
+    even_split(call, blocks)
 }
