@@ -1,6 +1,6 @@
 //! A loop call drawn.
 
-ghost use Rattle.std.specs.Prelude.{◌≡◌};
+ghost use Rattle.std.specs.Prelude.{◌≡◌, IfOk};
 ghost use Rattle.bpf_verify_sound.specs.Soundness.{OverApproximatesCall};
 ghost use Rattle.loop_core_witness.specs.Breaks.{IsBreak};
 
@@ -17,52 +17,45 @@ use std::alloc::{AllocError, Global};
 /// The most elements whose pairs are drawn.
 const MOST: u32 = 64;
 
-/// Adds the pair of iterations that fails a test at an element, where one does.
-fn add_pair(
-    pairs: &mut Vec<Focus>,
-    alloc: Global,
-    program: &Verified,
-    call: &LoopCall,
-    start: &Maps,
-    test: Test,
-    element: u32,
+/// What is told of a loop call beside its grid.
+#[derive(Drop)]
+struct Told {
+    verdict: Verdict,
+    /// Where it breaks.
     broke: Option<Place>,
-) -> Result<(), AllocError>
-    requires known { OverApproximatesCall program.now call.now }
-    requires sizes { start.now.sizes ≡ program.now.sizes }
-    requires broke { IsBreak program.now call.now start.now.words broke }
-{
-    if let Some(pair) = find_pair(alloc, program, call, start, test, element, broke)? {
-        pairs.push(Focus {
-            element,
-            first: pair.writer.index,
-            second: pair.reader.index,
-        })?;
-    }
-    Ok(())
+    /// The pairs of iterations that fail the test, at the least elements that conflict.
+    pairs: Vec<Focus>,
 }
 
-/// The pairs of iterations that fail a test at elements.
-fn pairs_at(
+/// Judges a loop call by a test.
+fn judge(
     alloc: Global,
     program: &Verified,
     call: &LoopCall,
     start: &Maps,
     test: Test,
-    elements: &[u32],
-    broke: Option<Place>,
-) -> Result<Vec<Focus>, AllocError>
+) -> Result<Told, AllocError>
     requires known { OverApproximatesCall program.now call.now }
     requires sizes { start.now.sizes ≡ program.now.sizes }
-    requires broke { IsBreak program.now call.now start.now.words broke }
+    ensures broke { IfOk result (λ told. IsBreak program.now call.now start.now.words told.broke) }
 {
+    let conflicts = find_conflicts(alloc, program, call, start, test, MOST)?;
+    let broke = find_break(alloc, program, call, start)?;
     let mut pairs = Vec::new(alloc);
-    for element in elements {
-        add_pair(
-            &mut pairs, alloc, program, call, start, test, *element, broke,
-        )?;
+    for element in conflicts.least.as_slice() {
+        if let Some(pair) = find_pair(alloc, program, call, start, test, *element, broke)? {
+            pairs.push(Focus {
+                element: *element,
+                first: pair.writer.index,
+                second: pair.reader.index,
+            })?;
+        }
     }
-    Ok(pairs)
+    Ok(Told {
+        verdict: conflicts.verdict,
+        broke,
+        pairs,
+    })
 }
 
 /// The title of a loop call.
@@ -100,21 +93,18 @@ pub fn draw_loop(
     requires known { OverApproximatesCall program.now call.now }
     requires sizes { start.now.sizes ≡ program.now.sizes }
 {
-    let conflicts = find_conflicts(alloc, program, call, start, test, MOST)?;
-    let broke = find_break(alloc, program, call, start)?;
-    let least = conflicts.least.as_slice();
-    let pairs = pairs_at(alloc, program, call, start, test, least, broke)?;
-    let focus = pairs.first().copied();
-    let count = counted(call.n(), broke);
+    let told = judge(alloc, program, call, start, test)?;
+    let focus = told.pairs.first().copied();
+    let count = counted(call.n(), told.broke);
     let grid = grid_of_loop(alloc, program, call, start, count, focus)?;
-    let title = title_of(alloc, call.slot(), call.n(), conflicts.verdict)?;
+    let title = title_of(alloc, call.slot(), call.n(), told.verdict)?;
     let picture = Picture {
         title: title.as_str(),
         grid: &grid,
         insns: program.unit().insns.as_slice(),
-        conflicts: pairs.as_slice(),
-        broke: broke.map(|place| place.index),
+        conflicts: told.pairs.as_slice(),
+        broke: told.broke.map(|place| place.index),
     };
     write_picture(out, &picture)?;
-    Ok(conflicts.verdict)
+    Ok(told.verdict)
 }
