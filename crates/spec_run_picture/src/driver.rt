@@ -3,7 +3,7 @@
 ghost use Rattle.std.specs.Prelude.{◌≡◌, IfOk};
 ghost use Rattle.spec_run_picture.specs.Pictures.{HasPicture};
 
-use crate::call::{draw_if_first, judge};
+use crate::call::MadeCall;
 use array_maps::{Maps, Store};
 use bpf_step::{Main, Turned};
 use bpf_verify::Verified;
@@ -41,17 +41,16 @@ pub fn draw_first_conflict(
                 let start = maps.try_copy(alloc)?;
                 let answer = in_order(program, &call, maps);
                 main.resume(answer);
-                let line = judge(alloc, program, &call, &start, test, answer)?;
-                lines.push(line)?;
-                picture = draw_if_first(
+                let made = MadeCall {
                     alloc,
                     program,
-                    &call,
-                    &start,
+                    call: &call,
+                    start: &start,
                     test,
-                    line.verdict,
-                    picture,
-                )?;
+                };
+                let line = made.judge(answer)?;
+                lines.push(line)?;
+                picture = made.draw_if_first(line.verdict, picture)?;
             }
             Turned::Refused { slot, answer } => {
                 lines.push(LoopReport {
