@@ -1,5 +1,5 @@
 -- What clap's builders make of a command, and its getters read of an argument.
-use Rattle.std.proofs.Common.{◌≡◌, ℕ, Bool, ◌||◌, true, false, Option, Some, None, Result, Ok, List, codes, refl, ap, ap₂, ◌∙◌}
+use Rattle.std.proofs.Common.{◌≡◌, ℕ, Bool, ◌||◌, true, false, Option, Some, None, Result, Ok, List, codes, ap, ap₂, ◌∙◌}
 use Rattle.std.specs.Prelude.{IfSome}
 use Rattle.std.specs.Str.Parse.{ParsesUnsigned}
 use Rattle.clap.specs.Words.{AddsArg, AddsSubcommand, App, ReadsOne, Rule, Text, one_text, rows_of, with_rule, with_subcommand}
@@ -7,26 +7,17 @@ use Rattle.clap.specs.declared.builder.arg.Arg.{Arg}
 use Rattle.clap.specs.declared.builder.command.Command.{Command}
 use Rattle.clap.specs.declared.parser.matches.Found.{Found}
 use Rattle.clap.proofs.WalkLemmas.{one_text-rows}
-use Rattle.bpfspec_command_line.specs.declared.job.UnitForm.TheVariants.{Assembler, Hex}
-use Rattle.bpfspec_command_line.specs.CommandLine.{IsArg, IsCommand, IsForm, IsNumber}
+use Rattle.bpfspec_command_line.specs.CommandLine.{IsArg, IsChosen, IsCommand, IsNumber}
 
--- a flag that is set
-pub hex_form : (found : Found) → (one_text found (codes "hex") ≡ None → true ≡ false)
-    → (one_text found (codes "hex") ≡ Some (codes "false") → true ≡ false)
-    → IsForm (rows_of found) Hex
-hex_form found none unset = record {
-  none = λ e. absurd cc (none (one_text-rows found (codes "hex") ∙ e));
-  unset = λ e. absurd cc (unset (one_text-rows found (codes "hex") ∙ e));
-  set = λ e. refl;
-}
-
--- and one that isn't
-pub assembler_form : (found : Found) → (one_text found (codes "hex") ≡ Some (codes "true") → false ≡ true)
-    → IsForm (rows_of found) Assembler
-assembler_form found set = record {
-  none = λ e. refl;
-  unset = λ e. refl;
-  set = λ e. absurd cc (set (one_text-rows found (codes "hex") ∙ e));
+-- what a flag chooses that is read as given or not
+pub chosen : {A : Type 0} (found : Found) (name : Text) (off on value : A) (given : Bool)
+    → (one_text found name ≡ None → given ≡ false) → (one_text found name ≡ Some (codes "true") → given ≡ true)
+    → (one_text found name ≡ Some (codes "false") → given ≡ false) → (given ≡ false → value ≡ off)
+    → (given ≡ true → value ≡ on) → IsChosen name off on (rows_of found) value
+chosen found name off on value given none set unset is_off is_on = record {
+  none = λ e. is_off (none (one_text-rows found name ∙ e));
+  unset = λ e. is_off (unset (one_text-rows found name ∙ e));
+  set = λ e. is_on (set (one_text-rows found name ∙ e));
 }
 
 -- the number that an option gives, if it is one

@@ -82,11 +82,15 @@ bpfspec_app =
     (with_subcommand (with_subcommand (with_subcommand (with_subcommand top_app verify_app.top) order_app.top)
     run_app.top) replay_app.top) (new_app (codes "asm")).top) (new_app (codes "disasm")).top
 
+-- a value that the flag of this name chooses: the one where it isn't set, the other where it is
+pub record IsChosen {A : Type 0} (name : Text) (off on : A) (rows : List Row) (value : A) : Type 0 where
+  pub none : one_of name rows ≡ None → value ≡ off
+  pub unset : one_of name rows ≡ Some (codes "false") → value ≡ off
+  pub set : one_of name rows ≡ Some (codes "true") → value ≡ on
+
 -- whether the arguments say hex: by the flag --hex
-pub record IsForm (rows : List Row) (form : UnitForm) : Type 0 where
-  pub none : one_of (codes "hex") rows ≡ None → form ≡ Assembler
-  pub unset : one_of (codes "hex") rows ≡ Some (codes "false") → form ≡ Assembler
-  pub set : one_of (codes "hex") rows ≡ Some (codes "true") → form ≡ Hex
+abbrev pub IsForm : List Row → UnitForm → Type 0
+IsForm rows form = IsChosen (codes "hex") Assembler Hex rows form
 
 -- the number of this many bits that an option of this name gives
 pub record IsNumber (bits : ℕ) (name : Text) (rows : List Row) (number : ℕ) : Type 0 where

@@ -7,8 +7,8 @@ ghost use Rattle.bpfspec_command_line.specs.CommandLine.{IsArg, IsCommand, arg_r
 use clap::{Arg, ArgAction, Command};
 use std::alloc::{AllocError, Global};
 
-/// --hex
-fn hex_flag<'a>(alloc: Global) -> Arg<'a>
+/// The flag --hex.
+pub fn hex_flag<'a>(alloc: Global) -> Arg<'a>
     ensures { IsArg hex_rule result }
 {
     Arg::new(alloc, "hex")
@@ -35,15 +35,15 @@ fn valued_option<'a>(
         .help(help)
 }
 
-/// --arg N
-fn arg_option<'a>(alloc: Global) -> Arg<'a>
+/// The option --arg N, which is 0 where it isn't given.
+pub fn arg_option<'a>(alloc: Global) -> Arg<'a>
     ensures { IsArg arg_rule result }
 {
     valued_option(alloc, "arg", "N", "0", "The program's argument")
 }
 
-/// --test TEST
-fn test_option<'a>(alloc: Global) -> Arg<'a>
+/// The option --test TEST, which is flow where it isn't given.
+pub fn test_option<'a>(alloc: Global) -> Arg<'a>
     ensures { IsArg test_rule result }
 {
     valued_option(

@@ -1,4 +1,5 @@
-//! The command line of the program: what its words ask for.
+//! The command line of the program: what its words ask for. Its options that another command has too, and what they ask
+//! for, are public.
 #![tactic(auto)]
 
 mod commands;
@@ -7,7 +8,9 @@ mod job;
 mod values;
 mod words;
 
+pub use commands::{arg_option, hex_flag, test_option};
 pub use job::{Job, LineFault, Mode, UnitForm};
 pub use loop_core_model::Test;
 pub use spec_run_plan::Plan;
+pub use values::{argument, chosen, loop_test, unit_form};
 pub use words::{read_command_line, read_words};

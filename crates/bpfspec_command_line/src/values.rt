@@ -2,33 +2,36 @@
 
 ghost use Rattle.std.specs.Prelude.{◌≡◌, ◌<◌, ◌≤◌, codes, IfSome};
 ghost use Rattle.clap.specs.Words.{found_of, rows_of};
-ghost use Rattle.bpfspec_command_line.specs.CommandLine.{IsArgument, IsForm, IsNumber, IsPlanOf, IsTest};
+ghost use Rattle.bpfspec_command_line.specs.CommandLine.{IsArgument, IsChosen, IsForm, IsNumber, IsPlanOf, IsTest};
 
 use crate::job::UnitForm;
 use clap::ArgMatches;
 use loop_core_model::Test;
 use spec_run_plan::Plan;
 
-/// The form that the arguments ask for.
-pub(crate) fn unit_form(matches: &ArgMatches<'_>) -> UnitForm
-    ensures { IsForm (rows_of (found_of matches.now)) result }
+/// The value that the flag of this name chooses: `off` where it isn't given, and else `on`.
+pub fn chosen<T: Copy>(matches: &ArgMatches<'_>, name: &str, off: T, on: T) -> T
+    ensures { IsChosen name.now off on (rows_of (found_of matches.now)) result }
 {
-    if matches.get_flag("hex") {
-        UnitForm::Hex
-    } else {
-        UnitForm::Assembler
-    }
+    if matches.get_flag(name) { on } else { off }
 }
 
-/// The program's argument that the arguments give, or None where it is no number below 2^64.
-pub(crate) fn argument(matches: &ArgMatches<'_>) -> Option<u64>
+/// The form of a unit that the arguments ask for, by --hex.
+pub fn unit_form(matches: &ArgMatches<'_>) -> UnitForm
+    ensures { IsForm (rows_of (found_of matches.now)) result }
+{
+    chosen(matches, "hex", UnitForm::Assembler, UnitForm::Hex)
+}
+
+/// The program's argument that the arguments give by --arg, or None where it is no number below 2^64.
+pub fn argument(matches: &ArgMatches<'_>) -> Option<u64>
     ensures { IfSome result (IsArgument (rows_of (found_of matches.now))) }
 {
     matches.get_one::<u64>("arg")
 }
 
-/// The test that the arguments name, or None where they name another.
-pub(crate) fn loop_test(matches: &ArgMatches<'_>) -> Option<Test>
+/// The test that the arguments name by --test, or None where they name another.
+pub fn loop_test(matches: &ArgMatches<'_>) -> Option<Test>
     ensures { IfSome result (IsTest (rows_of (found_of matches.now))) }
 {
     let word = matches.get_str("test")?;

@@ -1,6 +1,6 @@
 -- An answer that is written to memory. `old` and `new` count the reads that failed before and after, and `failed` the
 -- writes, of which none failed before.
-use Rattle.std.proofs.Common.{◌≡◌, ◌≢◌, ◌⊎◌, inl, inr, ℕ, ◌+◌, ◌<◌, true, List, [], ◌++◌, Option, Some, Ok, Err, refl, ap, sym, subst, ◌∙◌, arith}
+use Rattle.std.proofs.Common.{◌≡◌, ◌≢◌, ◌⊎◌, inl, inr, ℕ, ◌+◌, ◌<◌, true, List, [], ◌++◌, Option, Some, Ok, Err, ap, sym, subst, ◌∙◌, arith}
 use Rattle.bpfspec_command_line.specs.declared.job.Job.{Job}
 use Rattle.bpfspec_output.specs.declared.refusal.Refusal.{Refusal}
 use Rattle.bpfspec_output.specs.declared.refusal.Refusal.TheVariants as refusals

@@ -1,8 +1,8 @@
 -- The command line of the program that explains, in clap's words, and what the words of one ask for.
-use Rattle.std.specs.Prelude.{◌≡◌, Bool, List, [], Some, None, codes, true, false}
-use Rattle.clap.specs.Words.{App, Row, Rule, Text, matches_of, new_app, new_rule, one_of, with_rule}
+use Rattle.std.specs.Prelude.{Bool, List, [], Some, codes, true, false}
+use Rattle.clap.specs.Words.{App, Row, Rule, Text, matches_of, new_app, new_rule, with_rule}
 use Rattle.clap.specs.declared.builder.ArgAction.TheVariants.{SetTrue}
-use Rattle.bpfspec_command_line.specs.CommandLine.{IsArgument, IsForm, IsTest, arg_rule, hex_rule, test_rule}
+use Rattle.bpfspec_command_line.specs.CommandLine.{IsArgument, IsChosen, IsForm, IsTest, arg_rule, hex_rule, test_rule}
 use Rattle.bpfspec_reasons.specs.declared.units.Extent.{Extent}
 use Rattle.bpfspec_reasons.specs.declared.units.Extent.TheVariants.{Refusal, States}
 use Rattle.bpfspec_explain_serve.specs.declared.ask.Ask.{Ask}
@@ -33,16 +33,12 @@ explain_app = with_rule (with_rule (with_rule (with_rule (with_rule (with_rule t
     states_rule) all_rule) picture_rule
 
 -- how much the arguments ask to be explained: also the states by the flag --states
-pub record IsExtent (rows : List Row) (extent : Extent) : Type 0 where
-  pub none : one_of (codes "states") rows ≡ None → extent ≡ Refusal
-  pub unset : one_of (codes "states") rows ≡ Some (codes "false") → extent ≡ Refusal
-  pub set : one_of (codes "states") rows ≡ Some (codes "true") → extent ≡ States
+abbrev pub IsExtent : List Row → Extent → Type 0
+IsExtent rows extent = IsChosen (codes "states") Refusal States rows extent
 
 -- whether the arguments have a flag of this name
-pub record HasFlag (name : Text) (rows : List Row) (given : Bool) : Type 0 where
-  pub none : one_of name rows ≡ None → given ≡ false
-  pub unset : one_of name rows ≡ Some (codes "false") → given ≡ false
-  pub set : one_of name rows ≡ Some (codes "true") → given ≡ true
+abbrev pub HasFlag : Text → List Row → Bool → Type 0
+HasFlag name rows given = IsChosen name false true rows given
 
 -- what arguments ask for
 pub record AsksBy (rows : List Row) (ask : Ask) : Type 0 where

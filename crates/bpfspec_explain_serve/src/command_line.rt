@@ -2,12 +2,14 @@
 
 ghost use Rattle.std.specs.Prelude.{◌≡◌, ℕ, List, map, IfOk, IfSome};
 ghost use Rattle.clap.specs.Words.{found_of, rows_of};
-ghost use Rattle.bpfspec_command_line.specs.CommandLine.{IsArg, IsArgument, IsCommand, IsForm, IsTest, arg_rule, hex_rule, test_rule, valued_rule};
+ghost use Rattle.bpfspec_command_line.specs.CommandLine.{IsArg, IsCommand};
 ghost use Rattle.bpfspec_explain_serve.specs.Asked.{Asks, AsksBy, HasFlag, IsExtent, all_rule, explain_app, flag_rule, picture_rule, states_rule, top_app};
 
 use crate::ask::Ask;
 use crate::faults::{fault_of, value_fault, words_fault};
-use bpfspec_command_line::{LineFault, Test, UnitForm};
+use bpfspec_command_line::{
+    LineFault, arg_option, argument, chosen, hex_flag, loop_test, test_option, unit_form,
+};
 use bpfspec_reasons::Extent;
 use clap::{Arg, ArgAction, ArgMatches, Command};
 use std::alloc::{AllocError, Global};
@@ -23,13 +25,6 @@ fn flag<'a>(alloc: Global, name: &'a str, help: &'a str) -> Arg<'a>
         .long(name)
         .action(ArgAction::SetTrue)
         .help(help)
-}
-
-/// --hex
-fn hex_flag<'a>(alloc: Global) -> Arg<'a>
-    ensures { IsArg hex_rule result }
-{
-    flag(alloc, "hex", "The unit is in hex form")
 }
 
 /// --states
@@ -65,39 +60,6 @@ fn picture_flag<'a>(alloc: Global) -> Arg<'a>
     )
 }
 
-/// An option of this name with a value, which is this where it isn't given.
-fn valued_option<'a>(
-    alloc: Global,
-    name: &'a str,
-    value: &'a str,
-    default: &'a str,
-    help: &'a str,
-) -> Arg<'a>
-    ensures { IsArg (valued_rule name.entry.now default.entry.now) result }
-{
-    Arg::new(alloc, name)
-        .long(name)
-        .action(ArgAction::Set)
-        .value_name(value)
-        .default_value(default)
-        .help(help)
-}
-
-/// --arg N
-fn arg_option<'a>(alloc: Global) -> Arg<'a>
-    ensures { IsArg arg_rule result }
-{
-    valued_option(alloc, "arg", "N", "0", "The program's argument")
-}
-
-/// --test TEST
-fn test_option<'a>(alloc: Global) -> Arg<'a>
-    ensures { IsArg test_rule result }
-{
-    let help = "How a loop is judged: flow or lrpd";
-    valued_option(alloc, "test", "TEST", "flow", help)
-}
-
 /// The command without its flags.
 fn top_command<'a>(alloc: Global) -> Command<'a>
     ensures { IsCommand top_app result }
@@ -120,65 +82,29 @@ pub(crate) fn explain_command<'a>(alloc: Global) -> Result<Command<'a>, AllocErr
         .arg(picture_flag(alloc))
 }
 
-/// The form of the unit that the words ask for in which clap found these matches.
-fn form_of(matches: &ArgMatches<'_>) -> UnitForm
-    ensures { IsForm (rows_of (found_of matches.now)) result }
-{
-    if matches.get_flag("hex") {
-        UnitForm::Hex
-    } else {
-        UnitForm::Assembler
-    }
-}
-
-/// How much they ask to be explained.
-fn extent_of(matches: &ArgMatches<'_>) -> Extent
-    ensures { IsExtent (rows_of (found_of matches.now)) result }
-{
-    if matches.get_flag("states") {
-        Extent::States
-    } else {
-        Extent::Refusal
-    }
-}
-
-/// The program's argument that they give, or None where it is no number below 2^64.
-fn argument_of(matches: &ArgMatches<'_>) -> Option<u64>
-    ensures { IfSome result (IsArgument (rows_of (found_of matches.now))) }
-{
-    matches.get_one::<u64>("arg")
-}
-
-/// The test that they name, or None where they name another.
-fn test_of(matches: &ArgMatches<'_>) -> Option<Test>
-    ensures { IfSome result (IsTest (rows_of (found_of matches.now))) }
-{
-    let word = matches.get_str("test")?;
-    if word == "flow" {
-        Some(Test::Flow)
-    } else if word == "lrpd" {
-        Some(Test::Lrpd)
-    } else {
-        None
-    }
-}
-
-/// Whether they have a flag of this name.
+/// Whether the words in which clap found these matches have a flag of this name.
 fn has_flag(matches: &ArgMatches<'_>, name: &str) -> bool
     ensures { HasFlag name.now (rows_of (found_of matches.now)) result }
 {
     matches.get_flag(name)
 }
 
-/// What they ask for, or None as `argument_of` and `test_of` say.
+/// How much they ask to be explained.
+fn extent_of(matches: &ArgMatches<'_>) -> Extent
+    ensures { IsExtent (rows_of (found_of matches.now)) result }
+{
+    chosen(matches, "states", Extent::Refusal, Extent::States)
+}
+
+/// What they ask for, or None as `argument` and `loop_test` say.
 fn ask_of(matches: &ArgMatches<'_>) -> Option<Ask>
     ensures { IfSome result (AsksBy (rows_of (found_of matches.now))) }
 {
     Some(Ask {
-        form: form_of(matches),
+        form: unit_form(matches),
         extent: extent_of(matches),
-        argument: argument_of(matches)?,
-        test: test_of(matches)?,
+        argument: argument(matches)?,
+        test: loop_test(matches)?,
         all: has_flag(matches, "all"),
         picture: has_flag(matches, "picture"),
     })
