@@ -1,6 +1,4 @@
-use Rattle.std.proofs.Common.{◌≡◌, ◌≤◌, Some, None, refl, sym, subst, ◌∙◌, arith}
-use Rattle.loop_core_sequential.specs.declared.running.LoopRun.{LoopRun}
-use Rattle.loop_core_sequential.specs.LoopRuns.{IsLoopRun}
+use Rattle.std.proofs.Common.{Some, None, refl, ◌∙◌, arith}
 use Rattle.loop_core_sequential.proofs.InOrder.{stayed, went_both, went_to, broke_before}
 use Rattle.loop_core_sequential.proofs.RunLaws.{went_by, rest_ran_by}
 use Rattle.loop_core_sequential.proofs.ordering.in_batches.Goals as goal
@@ -12,33 +10,6 @@ loop-index-init c = record {
   went = stayed c.args.run.now.program.now c.args.run.now.call.now c.args.from c.args.maps.now
       (omega (arith, c.requires.in_order, c.requires.within));
 }
-
-pub go-next-requires-clause-ready : goal.go-next-requires-clause-ready
-go-next-requires-clause-ready c = subst IsLoopRun (sym c.loop-index.invariant.same) c.requires.ready
-
-pub go-next-requires-clause-within : goal.go-next-requires-clause-within
-go-next-requires-clause-within c =
-    subst (λ (run : LoopRun). c.args.to ≤ run.call.now.n) (sym c.loop-index.invariant.same) c.requires.within
-
-pub go-next-requires-clause-sizes : goal.go-next-requires-clause-sizes
-go-next-requires-clause-sizes c =
-    subst (λ (run : LoopRun). c.loop-index.maps.sizes ≡ run.program.now.sizes) (sym c.loop-index.invariant.same)
-    (c.loop-index.invariant.went.sizes ∙ c.requires.sizes)
-
-pub alone-requires-clause-ready : goal.alone-requires-clause-ready
-alone-requires-clause-ready c = subst IsLoopRun (sym c.loop-index.invariant.same) c.requires.ready
-
-pub alone-requires-clause-within : goal.alone-requires-clause-within
-alone-requires-clause-within c =
-    let near = c.resume-resume.ensures.within in
-    let far = c.requires.within in
-    subst (λ (run : LoopRun). c.resume-resume.result ≤ run.call.now.n) (sym c.loop-index.invariant.same)
-    (omega (arith, near, far))
-
-pub alone-requires-clause-sizes : goal.alone-requires-clause-sizes
-alone-requires-clause-sizes c =
-    subst (λ (run : LoopRun). c.go-next.new.maps.sizes ≡ run.program.now.sizes) (sym c.loop-index.invariant.same)
-    (c.go-next.ensures.went.sizes ∙ c.loop-index.invariant.went.sizes ∙ c.requires.sizes)
 
 pub loop-index-preserved-then-index-next : goal.loop-index-preserved-then-index-next
 loop-index-preserved-then-index-next c = record {

@@ -1,38 +1,8 @@
-use Rattle.std.proofs.Common.{◌≡◌, ◌≤◌, sym, subst, ◌∙◌, arith}
-use Rattle.loop_core_sequential.specs.declared.running.LoopRun.{LoopRun}
+use Rattle.std.proofs.Common.{◌∙◌, arith}
 use Rattle.loop_core_sequential.specs.declared.watching.Watch.TheVariants.{Went, Broke, Met}
-use Rattle.loop_core_sequential.specs.LoopRuns.{IsLoopRun}
 use Rattle.loop_core_sequential.proofs.RunLaws.{goes_by, rest_watched_by}
 use Rattle.loop_core_sequential.proofs.WatchedEnds.{went_all}
 use Rattle.loop_core_sequential.proofs.watched_loop.watch_in_batches.Goals as goal
-
-pub go_watched-next-requires-clause-ready : goal.go_watched-next-requires-clause-ready
-go_watched-next-requires-clause-ready c = subst IsLoopRun (sym c.loop-index.invariant.same) c.requires.ready
-
-pub go_watched-next-requires-clause-within : goal.go_watched-next-requires-clause-within
-go_watched-next-requires-clause-within c =
-    let all = c.n-n.ensures in
-    subst (λ (run : LoopRun). c.n-n.result ≤ run.call.now.n) (sym c.loop-index.invariant.same) (omega (arith, all))
-
-pub go_watched-next-requires-clause-sizes : goal.go_watched-next-requires-clause-sizes
-go_watched-next-requires-clause-sizes c =
-    subst (λ (run : LoopRun). c.loop-index.maps.sizes ≡ run.program.now.sizes) (sym c.loop-index.invariant.same)
-    c.loop-index.invariant.sizes
-
-pub alone_watched-requires-clause-ready : goal.alone_watched-requires-clause-ready
-alone_watched-requires-clause-ready c = subst IsLoopRun (sym c.loop-index.invariant.same) c.requires.ready
-
-pub alone_watched-requires-clause-within : goal.alone_watched-requires-clause-within
-alone_watched-requires-clause-within c =
-    let near = c.resume-resume.ensures.within in
-    let all = c.n-n.ensures in
-    subst (λ (run : LoopRun). c.resume-resume.result ≤ run.call.now.n) (sym c.loop-index.invariant.same)
-    (omega (arith, near, all))
-
-pub alone_watched-requires-clause-sizes : goal.alone_watched-requires-clause-sizes
-alone_watched-requires-clause-sizes c =
-    subst (λ (run : LoopRun). c.go_watched-next.new.maps.sizes ≡ run.program.now.sizes)
-    (sym c.loop-index.invariant.same) (c.go_watched-next.ensures.sizes ∙ c.loop-index.invariant.sizes)
 
 pub loop-index-preserved-then-index-next : goal.loop-index-preserved-then-index-next
 loop-index-preserved-then-index-next c = record {

@@ -1,22 +1,7 @@
-use Rattle.std.proofs.Common.{◌≡◌, ◌+◌, ◌<◌, sym, subst, ◌∙◌, arith}
-use Rattle.loop_core_sequential.specs.declared.running.LoopRun.{LoopRun}
+use Rattle.std.proofs.Common.{◌+◌, ◌∙◌}
 use Rattle.loop_core_sequential.specs.declared.watching.Watch.TheVariants.{Went, Broke, Met}
-use Rattle.loop_core_sequential.specs.LoopRuns.{IsLoopRun}
 use Rattle.loop_core_sequential.proofs.RunLaws.{watched_by}
 use Rattle.loop_core_sequential.proofs.watching.alone_watched.Goals as goal
-
-pub one_watched-requires-clause-ready : goal.one_watched-requires-clause-ready
-one_watched-requires-clause-ready c = subst IsLoopRun (sym c.loop-index.invariant.same) c.requires.ready
-
-pub one_watched-requires-clause-below : goal.one_watched-requires-clause-below
-one_watched-requires-clause-below c =
-    subst (λ (run : LoopRun). c.loop-index.index < run.call.now.n) (sym c.loop-index.invariant.same)
-    (omega (arith, c.loop-index-test.true, c.requires.within))
-
-pub one_watched-requires-clause-sizes : goal.one_watched-requires-clause-sizes
-one_watched-requires-clause-sizes c =
-    subst (λ (run : LoopRun). c.loop-index.maps.sizes ≡ run.program.now.sizes) (sym c.loop-index.invariant.same)
-    (c.loop-index.invariant.sizes ∙ c.requires.sizes)
 
 pub loop-index-preserved : goal.loop-index-preserved
 loop-index-preserved c = record {

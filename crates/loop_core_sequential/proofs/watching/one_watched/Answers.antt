@@ -1,27 +1,9 @@
-use Rattle.std.proofs.Common.{◌≡◌, ◌+◌, ◌≤◌, ◌<◌, length, ap, ◌∙◌, sym, subst, rules}
-use Rattle.std.specs.List.{sum}
-use Rattle.array_maps.specs.MapList.{MapList}
-use Rattle.bpf_verify_sound.specs.Soundness.{OverApproximatesCall, most_from}
+use Rattle.std.proofs.Common.{◌+◌, ◌≤◌, ◌∙◌, sym, subst, rules}
+use Rattle.bpf_verify_sound.specs.Soundness.{most_from}
 use Rattle.bpf_step.specs.Iterations.{CallbackOf}
 use Rattle.bpf_step.proofs.Limits.{few_steps}
 use Rattle.loop_core_sequential.proofs.WatchedSteps.{broke_alone, went_alone, broke_as, goes_as}
 use Rattle.loop_core_sequential.proofs.watching.one_watched.Goals as goal
-
-pub run-done-requires-clause-known : goal.run-done-requires-clause-known
-run-done-requires-clause-known c =
-    subst (λ (o : CallbackOf). OverApproximatesCall o.program o.call) (sym c.requires.ready.callback)
-    c.requires.ready.known
-
-pub run-done-requires-clause-below : goal.run-done-requires-clause-below
-run-done-requires-clause-below c =
-    subst (λ (o : CallbackOf). c.args.index < o.call.n) (sym c.requires.ready.callback) c.requires.below
-
-pub run-done-requires-clause-count : goal.run-done-requires-clause-count
-run-done-requires-clause-count c =
-    subst (λ (o : CallbackOf). length c.new-watched.result.maps.now.words ≡ sum o.program.sizes)
-    (sym c.requires.ready.callback)
-    (ap (λ (maps : MapList). length maps.words) c.new-watched.ensures.maps ∙ c.sizes-sizes.ensures.words
-    ∙ ap sum c.requires.sizes)
 
 pub run-done-requires-clause-served : goal.run-done-requires-clause-served
 run-done-requires-clause-served c =
