@@ -7,7 +7,7 @@ use Rattle.std.proofs.Math.ListN.{drop_of_length-le}
 use Rattle.std.specs.Str.{chars, trim_start, trim_end}
 use Rattle.bpf_text_lex.specs.Lines.{lines_of, trim, content_of}
 use Rattle.bpf_text_lex.proofs.LineLaws.{lines_of-newline, lines_of-last, take-comment}
-use Rattle.bpf_text_lines.specs.Comments.{line_at, comment_in, comment_below, comment_over, comment_or, comment_after}
+use Rattle.bpf_text_lines.specs.Comments.{text_line, comment_in, comment_below, comment_over, comment_or, comment_after}
 
 -- a text is cut at its first newline
 pub lines-cut : (text line rest : List ℕ) → line ≡ before_first (λ b. b == 10) text
@@ -50,12 +50,12 @@ comment-missing line missing =
 
 -- ---- lines by their numbers
 
-pub line_at-none : (number : ℕ) (text : List ℕ) → length text ≡ 0 → [] ≡ line_at number (lines_of text)
+pub line_at-none : (number : ℕ) (text : List ℕ) → length text ≡ 0 → [] ≡ text_line number (lines_of text)
 line_at-none number [] none_left = refl
 line_at-none number (b ∷ bs) none_left = absurd (omega (arith, none_left))
 
 pub line_at-here : (number : ℕ) (line : List ℕ) (lines all : List (List ℕ)) → all ≡ line ∷ lines → number ≡ 1
-    → line ≡ line_at number all
+    → line ≡ text_line number all
 line_at-here number line lines all is here = rw (is, here) refl
 
 other_number : (number : ℕ) (t : Bool) → (number == 1) ≡ t → (number ≡ 1 → ⊥) → t ≡ false
@@ -63,7 +63,7 @@ other_number number true e other = absurd (other (grind (arith, nat_tests)))
 other_number number false e other = refl
 
 pub line_at-next : (number : ℕ) (line : List ℕ) (lines all : List (List ℕ)) → all ≡ line ∷ lines → (number ≡ 1 → ⊥)
-    → line_at (number - 1) lines ≡ line_at number all
+    → text_line (number - 1) lines ≡ text_line number all
 line_at-next number line lines all is other = rw (is, other_number number (number == 1) refl other) refl
 
 -- ---- comments

@@ -1,16 +1,16 @@
 -- The lines of slots, one line more.
 use Rattle.std.proofs.Common.{◌≡◌, ℕ, zero, suc, ◌+◌, List, [], ◌∷◌, ◌++◌, refl, ap, sym, ◌∙◌, arith, append_assoc, append-nil}
 use Rattle.std.specs.Prelude.{replicate}
-use Rattle.bpf_text_lines.specs.SlotLines.{numbers_of, lines_taking}
+use Rattle.bpf_text_lines.specs.SlotLines.{slot_numbers, lines_taking}
 
 pub lines_taking-none : (numbers : List ℕ) → numbers ++ lines_taking [] ≡ numbers
 unfolding lines_taking
 lines_taking-none numbers = append-nil numbers
 
 pub lines_taking-more : (numbers : List ℕ) (line : ℕ × List ℕ) (lines : List (ℕ × List ℕ)) →
-    numbers ++ lines_taking (line ∷ lines) ≡ (numbers ++ numbers_of line) ++ lines_taking lines
+    numbers ++ lines_taking (line ∷ lines) ≡ (numbers ++ slot_numbers line) ++ lines_taking lines
 unfolding lines_taking
-lines_taking-more numbers line lines = sym (append_assoc numbers (numbers_of line) (lines_taking lines))
+lines_taking-more numbers line lines = sym (append_assoc numbers (slot_numbers line) (lines_taking lines))
 
 -- one number more
 replicate-push : (count n : ℕ) → replicate count n ++ (n ∷ []) ≡ replicate (count + 1) n

@@ -6,9 +6,9 @@ use Rattle.bpf_text_asm.specs.AssemblerText.{is_label, line_slots}
 use Rattle.bpf_text_lex.specs.Lines.{content_of}
 
 -- the line of a number, where the first of these has number 1; empty where there is none
-abbrev pub line_at : ℕ → List (List ℕ) → List ℕ
-line_at number [] = []
-line_at number (line ∷ lines) = if number == 1 then line else line_at (number - 1) lines
+abbrev pub text_line : ℕ → List (List ℕ) → List ℕ
+text_line number [] = []
+text_line number (line ∷ lines) = if number == 1 then line else text_line (number - 1) lines
 
 -- the comment of a line, without the white space round it
 abbrev pub comment_in : List ℕ → List ℕ

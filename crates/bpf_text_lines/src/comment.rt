@@ -3,7 +3,7 @@
 ghost use Rattle.std.specs.Prelude.{◌≡◌, ◌<◌, ◌∷◌, length, ◌||◌, nat_lt};
 ghost use Rattle.bpf_text_asm.specs.AssemblerText.{is_label, line_slots};
 ghost use Rattle.bpf_text_lex.specs.Lines.{lines_of, content_of};
-ghost use Rattle.bpf_text_lines.specs.Comments.{line_at, comment_in, stands_below, comment_below, comment_of};
+ghost use Rattle.bpf_text_lines.specs.Comments.{text_line, comment_in, stands_below, comment_below, comment_of};
 
 use crate::numbering::{is_label, slots_of_line};
 use bpf_text_lex::trim;
@@ -22,7 +22,7 @@ fn split_line(text: &str) -> (&str, &str)
 
 /// The line of a number as it stands; a text's first line is line 1. It is empty where there is none.
 pub fn line_at(text: &str, number: u32) -> &str
-    ensures { result.now ≡ line_at number (lines_of text.now) }
+    ensures { result.now ≡ text_line number (lines_of text.now) }
 {
     let mut rest = text;
     let mut left = number;

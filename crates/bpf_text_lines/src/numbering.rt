@@ -3,7 +3,7 @@
 ghost use Rattle.std.specs.Prelude.{◌≡◌, ◌∷◌, [], ◌++◌, ◌≤◌, ◌-◌, length, slice_index, replicate, ◌==◌, ◌&&◌, IfOk, OnOk};
 ghost use Rattle.bpf_text_lex.specs.Lines.{contents_of};
 ghost use Rattle.bpf_text_asm.specs.AssemblerText.{is_label, line_slots};
-ghost use Rattle.bpf_text_lines.specs.SlotLines.{lines_taking, slot_lines};
+ghost use Rattle.bpf_text_lines.specs.SlotLines.{lines_taking, lines_by_slot};
 
 use bpf_text_lex::{Lines, is_name};
 use bpf_text_operands::line_slots;
@@ -60,7 +60,7 @@ fn lines_taking(alloc: Global, lines: Lines<'_>) -> Result<Vec<u32>, AllocError>
 /// head.
 pub fn line_numbers(alloc: Global, text: &str) -> Result<Vec<u32>, AllocError>
     requires { length text.now ≤ 1048576 }
-    ensures { IfOk result (λ numbers. numbers.items ≡ slot_lines (contents_of text.now)) }
+    ensures { IfOk result (λ numbers. numbers.items ≡ lines_by_slot (contents_of text.now)) }
 {
     let mut lines = Lines::of(text.as_bytes());
     let Some(_head) = lines.next() else {

@@ -21,17 +21,17 @@ fetches Cmpxchg src reg = reg == 0
 fetches (Simple op) src reg = false
 
 -- whether an instruction writes a register; a call gives R0 and forgets R1 to R5
-abbrev pub writes : Insn → ℕ → Bool
-writes (Alu width op dst operand) reg = dst == reg
-writes (Neg width dst) reg = dst == reg
-writes (Movsx width bits dst src) reg = dst == reg
-writes (Endian order bits dst) reg = dst == reg
-writes (Load size dst src offset) reg = dst == reg
-writes (LoadSx size dst src offset) reg = dst == reg
-writes (LoadImm kind dst imm next_imm) reg = dst == reg
-writes (Atomic width op dst src offset) reg = fetches op src reg
-writes (Call callee imm) reg = nat_le reg 5
-writes _ reg = false
+abbrev pub writes_register : Insn → ℕ → Bool
+writes_register (Alu width op dst operand) reg = dst == reg
+writes_register (Neg width dst) reg = dst == reg
+writes_register (Movsx width bits dst src) reg = dst == reg
+writes_register (Endian order bits dst) reg = dst == reg
+writes_register (Load size dst src offset) reg = dst == reg
+writes_register (LoadSx size dst src offset) reg = dst == reg
+writes_register (LoadImm kind dst imm next_imm) reg = dst == reg
+writes_register (Atomic width op dst src offset) reg = fetches op src reg
+writes_register (Call callee imm) reg = nat_le reg 5
+writes_register _ reg = false
 
 abbrev pub is_call : Insn → Bool
 is_call (Call callee imm) = true
@@ -42,7 +42,7 @@ is_call _ = false
 abbrev pub source_through : Insn → (from slot reg : ℕ) → Option Source
 source_through insn from slot reg =
     if is_call insn && not (slot == from + 1) then Some (Entered from)
-    else if writes insn reg then Some (Written from)
+    else if writes_register insn reg then Some (Written from)
     else None
 
 -- a source, or that of the same register at an earlier slot

@@ -1,7 +1,7 @@
 //! Which registers an instruction writes.
 
 ghost use Rattle.std.specs.Prelude.{◌≡◌, ◌+◌, ◌==◌, ◌&&◌, not};
-ghost use Rattle.bpf_verify_origin.specs.Sources.{fetches, writes, is_call, source_through};
+ghost use Rattle.bpf_verify_origin.specs.Sources.{fetches, writes_register, is_call, source_through};
 
 use crate::source::Source;
 use bpf_insn_types::{AtomicOp, Insn, Reg};
@@ -19,7 +19,7 @@ fn fetches(op: AtomicOp, src: Reg, reg: Reg) -> bool
 
 /// Whether an instruction writes a register: a call writes R0 to R5.
 pub(crate) fn writes(insn: &Insn, reg: Reg) -> bool
-    ensures { result ≡ writes insn.now reg }
+    ensures { result ≡ writes_register insn.now reg }
 {
     match *insn {
         Insn::Alu { dst, .. }

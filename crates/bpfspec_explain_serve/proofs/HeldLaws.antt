@@ -8,7 +8,7 @@ use Rattle.bpfspec_serve.specs.declared.answer_error.AnswerError.TheVariants as 
 use Rattle.bpfspec_serve.specs.declared.serving.Served.{Served}
 use Rattle.bpfspec_serve.specs.declared.serving.Served.TheVariants as served
 use Rattle.bpfspec_serve.specs.HowServed.{AnswersReader, HowServed, Written, Broke_off, Answered, Out_of_memory, Read_failed}
-use Rattle.bpfspec_serve.specs.Output.{Answer, TextOutcome, answer_of, refused_as}
+use Rattle.bpfspec_serve.specs.Output.{Answer, TextOutcome, text_answer, refused_as}
 use Rattle.bpfspec_explain_serve.specs.Explained.{is_answered}
 
 -- where no write failed, what was written is the answer
@@ -69,7 +69,7 @@ no_fault : (refusal : Refusal) → refused_as refusal ≢ served.Device
 no_fault (refusals.Text fault section line) device = cc
 no_fault _ device = cc
 
-of_outcome : (outcome : TextOutcome) → (answer_of outcome).served ≢ served.Device
+of_outcome : (outcome : TextOutcome) → (text_answer outcome).served ≢ served.Device
 of_outcome (Ok text) device = cc
 of_outcome (Err (errors.Refused refusal)) device = no_fault refusal device
 of_outcome (Err errors.Memory) device = cc

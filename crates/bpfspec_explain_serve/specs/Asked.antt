@@ -24,12 +24,12 @@ abbrev pub picture_rule : Rule
 picture_rule = flag_rule (codes "picture")
 
 -- the program without its flags; it has a version
-abbrev pub top_app : App
-top_app = record { top = record (new_app (codes "bpfspec explain")).top { has_version = true }; subs = [] }
+abbrev pub bare_app : App
+bare_app = record { top = record (new_app (codes "bpfspec explain")).top { has_version = true }; subs = [] }
 
 -- [--hex] [--arg N] [--test flow|lrpd] [--states] [--all] [--picture]
 abbrev pub explain_app : App
-explain_app = with_rule (with_rule (with_rule (with_rule (with_rule (with_rule top_app hex_rule) arg_rule) test_rule)
+explain_app = with_rule (with_rule (with_rule (with_rule (with_rule (with_rule bare_app hex_rule) arg_rule) test_rule)
     states_rule) all_rule) picture_rule
 
 -- how much the arguments ask to be explained: also the states by the flag --states

@@ -47,26 +47,27 @@ pub record PicturesReader (form : UnitForm) (left_before left_after : Option (Li
   pub done : picture.served ≡ served.Done
 
 -- an input is explained in words; or where a picture is asked for, one is written, or that memory ran out
-pub data Explains (ask : Ask) (result : Served) (left_before left_after : Option (List ℕ)) (reads_failed : ℕ → Type 0)
+pub data ExplainsInput (ask : Ask) (result : Served) (left_before left_after : Option (List ℕ)) (reads_failed : ℕ
+    → Type 0)
     (failed_before failed_after : ℕ) (before after : Option (List ℕ)) : Type 0 where
   In_words : ExplainsInWords ask.form result left_before left_after reads_failed failed_before failed_after before after
-      → Explains ask result left_before left_after reads_failed failed_before failed_after before after
+      → ExplainsInput ask result left_before left_after reads_failed failed_before failed_after before after
   Drawn : ask.picture ≡ true → HowServed (PicturesReader ask.form left_before left_after) result reads_failed
       (λ n. failed_after ≡ failed_before + n) before after
-      → Explains ask result left_before left_after reads_failed failed_before failed_after before after
+      → ExplainsInput ask result left_before left_after reads_failed failed_before failed_after before after
 
 -- the words of a command line ask for an explanation of an input; or for help or the version, whose text is written; or
 -- there is no memory for them; or they ask for nothing, and nothing is written to the output
-pub data HowRan (end : ProgramEnd) (left_before left_after : Option (List ℕ)) (reads_failed : ℕ → Type 0)
+pub data HowExplainRan (end : ProgramEnd) (left_before left_after : Option (List ℕ)) (reads_failed : ℕ → Type 0)
     (failed_before failed_after : ℕ) (before after : Option (List ℕ)) : Type 0 where
   Explained : (words : List (List ℕ)) (ask : Ask) (result : Served) → Asks words ask → end ≡ ends.Served result
-      → Explains ask result left_before left_after reads_failed failed_before failed_after before after
-      → HowRan end left_before left_after reads_failed failed_before failed_after before after
+      → ExplainsInput ask result left_before left_after reads_failed failed_before failed_after before after
+      → HowExplainRan end left_before left_after reads_failed failed_before failed_after before after
   Helped : (text : List ℕ) (result : Served) → end ≡ ends.Served result
       → HowWritten text served.Done result (λ n. failed_after ≡ failed_before + n) before after
-      → HowRan end left_before left_after reads_failed failed_before failed_after before after
+      → HowExplainRan end left_before left_after reads_failed failed_before failed_after before after
   No_memory : (result : Served) → end ≡ ends.Served result
       → HowWritten memory_line served.Memory result (λ n. failed_after ≡ failed_before + n) before after
-      → HowRan end left_before left_after reads_failed failed_before failed_after before after
+      → HowExplainRan end left_before left_after reads_failed failed_before failed_after before after
   No_job : end ≡ ends.Usage → before ≡ after
-      → HowRan end left_before left_after reads_failed failed_before failed_after before after
+      → HowExplainRan end left_before left_after reads_failed failed_before failed_after before after

@@ -1,7 +1,7 @@
 //! The program, from the words of its command line to its exit status.
 
 ghost use Rattle.std.specs.Prelude.{◌≡◌, ◌+◌, ◌-◌, ◌^◌, ◌<◌};
-ghost use Rattle.bpfspec_explain_serve.specs.Explained.{HowRan};
+ghost use Rattle.bpfspec_explain_serve.specs.Explained.{HowExplainRan};
 ghost use Rattle.bpfspec_explain_serve.specs.Recording.{source_of};
 ghost use Rattle.bpfspec_serve.specs.ExitStatus.{exit_status};
 
@@ -23,7 +23,7 @@ fn carry_out<R: Env + AllocGlobal, S: Source, W: Sink, M: Sink>(
     requires reads { S.failed (source_of input.old) < 2 ^ 64 - 1 }
     requires writes { W.failed output.old < 2 ^ 64 - 1 }
     requires tells { M.failed messages.old < 2 ^ 64 - 1 }
-    ensures { HowRan result (S.left (source_of input.old)) (S.left (source_of input.new))
+    ensures { HowExplainRan result (S.left (source_of input.old)) (S.left (source_of input.new))
         (λ n. S.failed (source_of input.new) ≡ S.failed (source_of input.old) + n) (W.failed output.old)
         (W.failed output.new) (W.taken output.old) (W.taken output.new) }
 {
@@ -53,7 +53,7 @@ pub fn run<R: Env + AllocGlobal, S: Source, W: Sink, M: Sink>(
     requires writes { W.failed output.old < 2 ^ 64 - 1 }
     requires tells { M.failed messages.old < 2 ^ 64 - 1 }
     ensures { (end : ProgramEnd) × (result ≡ exit_status end)
-        × HowRan end (S.left (source_of input.old)) (S.left (source_of input.new))
+        × HowExplainRan end (S.left (source_of input.old)) (S.left (source_of input.new))
         (λ n. S.failed (source_of input.new) ≡ S.failed (source_of input.old) + n) (W.failed output.old)
         (W.failed output.new) (W.taken output.old) (W.taken output.new) }
 {

@@ -1,7 +1,7 @@
 //! An input is answered as `verify` answers it, and the reasons are written; or a picture is in their place.
 
 ghost use Rattle.std.specs.Prelude.{◌≡◌, ◌+◌, ◌-◌, ◌^◌, ◌<◌, true};
-ghost use Rattle.bpfspec_explain_serve.specs.Explained.{Explains, ExplainsInWords, HowExplained, is_answered};
+ghost use Rattle.bpfspec_explain_serve.specs.Explained.{ExplainsInput, ExplainsInWords, HowExplained, is_answered};
 ghost use Rattle.bpfspec_explain_serve.specs.Recording.{source_of};
 ghost use Rattle.bpfspec_serve.specs.HowServed.{HowWritten};
 
@@ -88,7 +88,7 @@ fn draw<S: Source, W: Sink>(
     requires reads { S.failed (source_of source.old) < 2 ^ 64 - 1 }
     requires writes { W.failed sink.old < 2 ^ 64 - 1 }
     requires asked { ask.now.picture ≡ true }
-    ensures { Explains ask.now result (S.left (source_of source.old)) (S.left (source_of source.new))
+    ensures { ExplainsInput ask.now result (S.left (source_of source.old)) (S.left (source_of source.new))
         (λ n. S.failed (source_of source.new) ≡ S.failed (source_of source.old) + n) (W.failed sink.old)
         (W.failed sink.new) (W.taken sink.old) (W.taken sink.new) }
 {
@@ -119,7 +119,7 @@ pub fn explain<S: Source, W: Sink>(
 ) -> Served
     requires reads { S.failed (source_of source.old) < 2 ^ 64 - 1 }
     requires writes { W.failed sink.old < 2 ^ 64 - 1 }
-    ensures { Explains ask.now result (S.left (source_of source.old)) (S.left (source_of source.new))
+    ensures { ExplainsInput ask.now result (S.left (source_of source.old)) (S.left (source_of source.new))
         (λ n. S.failed (source_of source.new) ≡ S.failed (source_of source.old) + n) (W.failed sink.old)
         (W.failed sink.new) (W.taken sink.old) (W.taken sink.new) }
 {

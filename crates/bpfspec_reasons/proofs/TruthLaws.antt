@@ -13,7 +13,7 @@ use Rattle.bpf_verify_origin.specs.declared.fault.Fault.{Fault}
 use Rattle.bpf_verify_origin.specs.Inspected.{broken_rule, IsStateBefore, IsStateBetween}
 use Rattle.bpfspec_reasons.specs.declared.piece.Piece.{Piece}
 use Rattle.bpfspec_reasons.specs.declared.piece.Piece.TheVariants as pieces
-use Rattle.bpfspec_reasons.specs.Truth.{AreTrue, IsValueBefore, IsValueBetween, IsUnwritten, ExplanationOf, first_of, line_of, first_line, slot_with, slot_in, line_of_fault}
+use Rattle.bpfspec_reasons.specs.Truth.{AreTrue, IsValueBefore, IsValueBetween, IsUnwritten, ExplanationOf, slot_or, line_of, first_line, slot_with, slot_told, line_of_fault}
 
 pub true-none : (program : Program) (told : List Piece) → told ≡ [] → AreTrue program told
 true-none program told none = subst (AreTrue program) (sym none) tt
@@ -58,26 +58,26 @@ byte-unwritten program slot position found state written there is tested fails =
 }
 
 -- the first line, of two of one explanation and what comes after them
-first_of-first_of : (a b c : Option ℕ) → first_of a (first_of b c) ≡ first_of (first_of a b) c
+first_of-first_of : (a b c : Option ℕ) → slot_or a (slot_or b c) ≡ slot_or (slot_or a b) c
 first_of-first_of (Some slot) b c = refl
 first_of-first_of None b c = refl
 
-pub first_of-none : (a : Option ℕ) → first_of a None ≡ a
+pub first_of-none : (a : Option ℕ) → slot_or a None ≡ a
 first_of-none (Some slot) = refl
 first_of-none None = refl
 
 -- the first line, with more pieces
-pub first_line-more : (told more : List Piece) → first_line (told ++ more) ≡ first_of (first_line told)
+pub first_line-more : (told more : List Piece) → first_line (told ++ more) ≡ slot_or (first_line told)
     (first_line more)
 first_line-more [] more = refl
 first_line-more (first ∷ told) more =
-    ap (first_of (line_of first)) (first_line-more told more)
+    ap (slot_or (line_of first)) (first_line-more told more)
     ∙ first_of-first_of (line_of first) (first_line told) (first_line more)
 
 pub first_line-pushed : (before after more : List Piece) (ok : Bool) → after ≡ (if ok then before ++ more else before)
     → first_line more ≡ None → first_line after ≡ first_line before
 first_line-pushed before after more true is within =
-    ap first_line is ∙ first_line-more before more ∙ ap (first_of (first_line before)) within
+    ap first_line is ∙ first_line-more before more ∙ ap (slot_or (first_line before)) within
     ∙ first_of-none (first_line before)
 first_line-pushed before after more false is within = ap first_line is
 
@@ -85,10 +85,10 @@ first_line-pushed before after more false is within = ap first_line is
 pub line-pushed : {X E : Type 0} (program : Program) (before after : List Piece) (slot : ℕ) (insn : Insn)
     (result : Result X E) → after ≡ (if is_ok result then before ++ pieces.Line slot insn ∷ [] else before)
     → insn_at program.insns slot ≡ Some insn
-    → OnOk result (first_line after ≡ first_of (first_line before) (slot_in program slot))
+    → OnOk result (first_line after ≡ slot_or (first_line before) (slot_told program slot))
 line-pushed program before after slot insn (Ok x) is here =
     ap first_line is ∙ first_line-more before (pieces.Line slot insn ∷ [])
-    ∙ ap (first_of (first_line before)) (sym (ap (λ (found : Option Insn). slot_with found slot) here))
+    ∙ ap (slot_or (first_line before)) (sym (ap (λ (found : Option Insn). slot_with found slot) here))
 line-pushed program before after slot insn (Err e) is here = tt
 
 -- ---- explanations
@@ -151,19 +151,19 @@ fault-none program fault told is missing begun =
 pub fault-line : (program : Program) (fault : Option Fault) (found : Fault) (told after : ExplanationOf) →
     option_map broken_rule fault ≡ first_fault program → fault ≡ Some found
     → told ≡ record { program = program; line = None }
-    → after.line ≡ first_of told.line (slot_in told.program found.slot)
+    → after.line ≡ slot_or told.line (slot_told told.program found.slot)
     → after.line ≡ line_of_fault program (first_fault program)
 fault-line program fault found told after is there begun added =
-    added ∙ ap (λ (t : ExplanationOf). first_of t.line (slot_in t.program found.slot)) begun
+    added ∙ ap (λ (t : ExplanationOf). slot_or t.line (slot_told t.program found.slot)) begun
     ∙ ap (λ (f : Option Fault). line_of_fault program (option_map broken_rule f)) (sym there)
     ∙ ap (line_of_fault program) is
 
 -- where no instruction starts, no line is told
 pub line-missing : (told after : ExplanationOf) (slot : ℕ) → insn_at told.program.insns slot ≡ None → after ≡ told
-    → after.line ≡ first_of told.line (slot_in told.program slot)
+    → after.line ≡ slot_or told.line (slot_told told.program slot)
 line-missing told after slot missing same =
     ap (λ (t : ExplanationOf). t.line) same ∙ sym (first_of-none told.line)
-    ∙ ap (λ (found : Option Insn). first_of told.line (slot_with found slot)) (sym missing)
+    ∙ ap (λ (found : Option Insn). slot_or told.line (slot_with found slot)) (sym missing)
 
 -- what holds in any case
 pub in-any-case : {X E P : Type 0} (result : Result X E) → P → OnOk result P

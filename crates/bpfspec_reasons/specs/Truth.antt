@@ -48,9 +48,9 @@ abbrev pub AreTrue : Program → List Piece → Type 0
 AreTrue program told = AllByRecursion (IsTrue program) told
 
 -- the slot of a line, if one is at hand, and else of another
-abbrev pub first_of : Option ℕ → Option ℕ → Option ℕ
-first_of (Some slot) next = Some slot
-first_of None next = next
+abbrev pub slot_or : Option ℕ → Option ℕ → Option ℕ
+slot_or (Some slot) next = Some slot
+slot_or None next = next
 
 -- the slot whose line a piece is
 abbrev pub line_of : Piece → Option ℕ
@@ -60,7 +60,7 @@ line_of _ = None
 -- the slot of the first line in an explanation
 abbrev pub first_line : List Piece → Option ℕ
 first_line [] = None
-first_line (piece ∷ told) = first_of (line_of piece) (first_line told)
+first_line (piece ∷ told) = slot_or (line_of piece) (first_line told)
 
 -- an explanation: its program, and the slot of its first line
 pub record ExplanationOf : Type 0 where
@@ -72,10 +72,10 @@ abbrev pub slot_with : Option Insn → ℕ → Option ℕ
 slot_with None slot = None
 slot_with (Some insn) slot = Some slot
 
-abbrev pub slot_in : Program → ℕ → Option ℕ
-slot_in program slot = slot_with (insn_at program.insns slot) slot
+abbrev pub slot_told : Program → ℕ → Option ℕ
+slot_told program slot = slot_with (insn_at program.insns slot) slot
 
 -- the slot of a fault, if there is one and an instruction starts there
 abbrev pub line_of_fault : Program → Option BrokenRule → Option ℕ
 line_of_fault program None = None
-line_of_fault program (Some fault) = slot_in program fault.slot
+line_of_fault program (Some fault) = slot_told program fault.slot

@@ -1,7 +1,7 @@
 //! Explanations, piece by piece.
 
 ghost use Rattle.std.specs.Prelude.{◌≡◌, ◌≤◌, slice_get, None, OnOk};
-ghost use Rattle.bpfspec_reasons.specs.Truth.{AreTrue, first_of, first_line, slot_in};
+ghost use Rattle.bpfspec_reasons.specs.Truth.{AreTrue, slot_or, first_line, slot_told};
 
 use crate::page::Page;
 use crate::piece::Piece;
@@ -102,7 +102,7 @@ impl<'a> Explanation<'a> {
     /// Adds the line of the instruction that starts at a slot.
     pub(crate) fn line(&mut self, slot: u32) -> Result<(), AllocError>
         ensures program { self.new.program ≡ self.old.program }
-        ensures line { OnOk result (self.new.line ≡ first_of self.old.line (slot_in self.old.program slot)) }
+        ensures line { OnOk result (self.new.line ≡ slot_or self.old.line (slot_told self.old.program slot)) }
     {
         match self.inspection.insn(slot) {
             None => Ok(()),

@@ -2,7 +2,7 @@
 
 ghost use Rattle.std.specs.Prelude.{◌≡◌, ◌≤◌, [], length, slice_get, IfOk};
 ghost use Rattle.bpf_text_lex.specs.Lines.{contents_of};
-ghost use Rattle.bpf_text_lines.specs.SlotLines.{slot_lines};
+ghost use Rattle.bpf_text_lines.specs.SlotLines.{lines_by_slot};
 
 use bpf_text_lex::MAX_TEXT;
 use bpf_text_lines::{comment_of, line_at, line_numbers};
@@ -28,7 +28,7 @@ impl<'a> Model for Page<'a> {
 impl<'a> Page<'a> {
     /// The page of a unit's text; of none where it is longer than a text may be.
     pub fn of(alloc: Global, text: &'a str) -> Result<Page<'a>, AllocError>
-        ensures { IfOk result (λ page. length text.now ≤ 1048576 → page ≡ slot_lines (contents_of text.now)) }
+        ensures { IfOk result (λ page. length text.now ≤ 1048576 → page ≡ lines_by_slot (contents_of text.now)) }
     {
         if text.len() > MAX_TEXT {
             return Ok(Page::none(alloc));

@@ -2,7 +2,7 @@
 
 ghost use Rattle.std.specs.Prelude.{◌≡◌, IfOk, OnOk};
 ghost use Rattle.bpf_verify_model.specs.Accepted.{first_fault};
-ghost use Rattle.bpfspec_reasons.specs.Truth.{first_of, slot_in, line_of_fault};
+ghost use Rattle.bpfspec_reasons.specs.Truth.{slot_or, slot_told, line_of_fault};
 
 use crate::access_rules::add_access_rule;
 use crate::accessing::access_of;
@@ -20,7 +20,7 @@ use std::alloc::{AllocError, Global};
 /// Adds the line of the instruction at a slot.
 fn add_line(out: &mut Explanation<'_>, slot: u32) -> Result<(), AllocError>
     ensures program { out.new.program ≡ out.old.program }
-    ensures line { OnOk result (out.new.line ≡ first_of out.old.line (slot_in out.old.program slot)) }
+    ensures line { OnOk result (out.new.line ≡ slot_or out.old.line (slot_told out.old.program slot)) }
 {
     out.words("  ")?;
     out.line(slot)?;
@@ -120,7 +120,7 @@ fn add_mend(out: &mut Explanation<'_>, rule: Rule) -> Result<(), AllocError>
 /// Adds why a program has a fault.
 fn add_reasons(out: &mut Explanation<'_>, fault: &Fault) -> Result<(), AllocError>
     ensures program { out.new.program ≡ out.old.program }
-    ensures line { OnOk result (out.new.line ≡ first_of out.old.line (slot_in out.old.program fault.now.slot)) }
+    ensures line { OnOk result (out.new.line ≡ slot_or out.old.line (slot_told out.old.program fault.now.slot)) }
 {
     let Some(insn) = out.inspection().insn(fault.slot) else {
         return add_mend(out, fault.rule);

@@ -25,7 +25,7 @@ use Rattle.loop_core_model.specs.Report.{Reported, report, report_in_order}
 use Rattle.loop_core_event.specs.declared.event.Event.{Event}
 use Rattle.spec_run_replay.specs.declared.replaying.ReplayRefusal.{ReplayRefusal}
 use Rattle.spec_run_replay.specs.declared.replaying.ReplayRefusal.TheVariants as replays
-use Rattle.spec_run_replay.specs.ProgramReplay.{LoopReplay, ComesTo}
+use Rattle.spec_run_replay.specs.ProgramReplay.{LoopReplay, ReplaysFrom}
 use Rattle.spec_run_plan.specs.declared.plan.Plan.{Plan}
 use Rattle.spec_run_plan.specs.Plans.{IsPlan}
 use Rattle.bpfspec_command_line.specs.declared.job.Job.{Job}
@@ -183,7 +183,7 @@ abbrev pub ReplaysTo : Program → ℕ → Test → TextOutcome → Result (List
 ReplaysTo program argument test (Err error) schedule outcome = outcome ≡ Err error
 ReplaysTo program argument test (Ok words) (Err error) outcome = outcome ≡ Err error
 ReplaysTo program argument test (Ok words) (Ok schedule) outcome =
-    (comes : Result LoopReplay ReplayRefusal) × ComesTo test program argument words schedule.0 schedule.1 comes
+    (comes : Result LoopReplay ReplayRefusal) × ReplaysFrom test program argument words schedule.0 schedule.1 comes
     × (outcome ≡ replay_outcome program.sizes comes)
 
 -- an accepted program is replayed on the maps of a section with the events of another
@@ -232,16 +232,16 @@ refused_as (refusals.Text fault section line) = served.Text
 refused_as _ = served.Refused
 
 -- the answer that tells an outcome
-abbrev pub answer_of : TextOutcome → Answer
-answer_of (Ok text) = record { served = served.Done; text = text }
-answer_of (Err (errors.Refused refusal)) = record { served = refused_as refusal; text = refusal_line refusal }
-answer_of (Err errors.Memory) = record { served = served.Memory; text = memory_line }
+abbrev pub text_answer : TextOutcome → Answer
+text_answer (Ok text) = record { served = served.Done; text = text }
+text_answer (Err (errors.Refused refusal)) = record { served = refused_as refusal; text = refusal_line refusal }
+text_answer (Err errors.Memory) = record { served = served.Memory; text = memory_line }
 
 -- the answer to an input
 pub record Answers (job : Job) (input : List ℕ) (answer : Answer) : Type 0 where
   pub outcome : TextOutcome
   pub comes : OfInput job input outcome
-  pub told : answer ≡ answer_of outcome
+  pub told : answer ≡ text_answer outcome
 
 -- what a function returns, seen by view, is as wanted, or memory ran out
 abbrev pub SatisfiesUnlessMemory : {X Y : Type 0} → (X → Y) → (Result Y AnswerError → Type 0) → Result X AnswerError
@@ -252,6 +252,6 @@ SatisfiesUnlessMemory view wanted (Err errors.Memory) = Unit {0}
 
 -- an answer that says what a function returned, seen by view; none tells that memory ran out
 abbrev pub AnswerTells : {X : Type 0} → (X → List ℕ) → Result X AnswerError → Answer → Type 0
-AnswerTells view (Ok x) answer = answer ≡ answer_of (Ok (view x))
-AnswerTells view (Err (errors.Refused refusal)) answer = answer ≡ answer_of (refused refusal)
+AnswerTells view (Ok x) answer = answer ≡ text_answer (Ok (view x))
+AnswerTells view (Err (errors.Refused refusal)) answer = answer ≡ text_answer (refused refusal)
 AnswerTells view (Err errors.Memory) answer = ⊥

@@ -14,7 +14,7 @@ use Rattle.loop_core_model.proofs.OneElement.{unwritten_left}
 use Rattle.loop_core_model.proofs.Turns.{Saws}
 use Rattle.loop_core_model.proofs.RunAgain.{iteration_local}
 use Rattle.loop_core_batch.specs.Lanes.{sees, NoneSees, words_after_lanes, SumsSeeNothing}
-use Rattle.loop_core_batch.specs.LoopByBatch.{GoesOn, LoopByBatch}
+use Rattle.loop_core_batch.specs.LoopByBatch.{EndsInZero, LoopByBatch}
 
 -- actions that don't see the word from before them saw the same whatever it is
 unseen_saw : (actions : List Action) (word other : ℕ) → sees actions ≡ false → SawEach actions word
@@ -77,7 +77,7 @@ module _ (accesses : ℕ → List Access) (words : List ℕ) where
 
 module _ (program : Program) (bound : ℕ) (call : LoopCall) (first lanes : ℕ) (words : List ℕ) (accesses : ℕ
     → List Access)
-    (goes_on : (lane : ℕ) → lane < lanes → GoesOn program bound call (first + lane) words (accesses lane))
+    (goes_on : (lane : ℕ) → lane < lanes → EndsInZero program bound call (first + lane) words (accesses lane))
     (none : NoneSees accesses lanes) where
   saws : (lane : ℕ) → lane < lanes → Saws (accesses lane) (before accesses words lane)
   saws lane within =

@@ -4,7 +4,7 @@ use Rattle.std.specs.Prelude.{nat_lt, nat_le}
 use Rattle.std.proofs.lemmas.Bool.{ltb-true, lt-ltb, leb-true, le-leb}
 use Rattle.loop_core_batch.specs.declared.elements.Elements.{Elements}
 use Rattle.loop_core_batch.specs.declared.elements.Elements.TheVariants.{One, Run, Between}
-use Rattle.loop_core_batch.specs.Sites.{MayAccess, MayMeet, least_of, greatest_of}
+use Rattle.loop_core_batch.specs.Sites.{MayAccess, MayMeet, least_from, greatest_of}
 
 -- two runs: the first begins after the second, by less than all lanes
 pub runs_meet : (base other lanes : ℕ) → other < base → base - other < lanes → MayMeet (Run base) (Run other) lanes
@@ -34,7 +34,7 @@ NotRuns (Between low high) later = Unit {0}
 
 -- the elements that earlier lanes may access by the first and those that later ones may by the second overlap
 abbrev pub Overlap : Elements → Elements → ℕ → Type 0
-Overlap first second lanes = max (least_of first 0) (least_of second 1) ≤ min (greatest_of first (lanes - 2))
+Overlap first second lanes = max (least_from first 0) (least_from second 1) ≤ min (greatest_of first (lanes - 2))
     (greatest_of second (lanes - 1))
 
 pub overlap_meets : (first second : Elements) (lanes : ℕ) → 2 ≤ lanes → NotRuns first second
@@ -123,7 +123,7 @@ overlap_meets (Between low high) (Between other_low other_high) lanes many not o
 
 -- an element that a lane may access lies within the bounds of lanes around it
 above_least : (elements : Elements) (from lane element : ℕ) → from ≤ lane → MayAccess elements lane element
-    → least_of elements from ≤ element
+    → least_from elements from ≤ element
 above_least (One only) from lane element within at = omega (arith, at)
 above_least (Run base) from lane element within at = omega (arith, at)
 above_least (Between low high) from lane element within at = at.0
@@ -137,9 +137,11 @@ below_greatest (Between low high) upto lane element within at = at.1
 pub meets_overlap : (first second : Elements) (lanes : ℕ) → MayMeet first second lanes → Overlap first second lanes
 meets_overlap first second lanes meet =
     let order = meet.in_order in let within = meet.within in
-    let a : least_of first 0 ≤ meet.element = above_least first 0 meet.earlier meet.element (omega arith) meet.by_first
+    let a : least_from first 0 ≤ meet.element = above_least first 0 meet.earlier meet.element (omega arith)
+    meet.by_first
     in
-    let b : least_of second 1 ≤ meet.element = above_least second 1 meet.later meet.element (omega arith) meet.by_second
+    let b : least_from second 1 ≤ meet.element = above_least second 1 meet.later meet.element (omega arith)
+    meet.by_second
     in
     let c : meet.element ≤ greatest_of first (lanes - 2) = below_greatest first (lanes - 2) meet.earlier meet.element
     (omega arith) meet.by_first in
@@ -158,7 +160,7 @@ runs_answer self later base other lanes first second behind =
 
 -- and of others
 pub others_answer : (self later : Elements) (lanes a b c d low high : ℕ) → 2 ≤ lanes → NotRuns self later →
-    a ≡ least_of self 0 → b ≡ least_of later 1 → low ≡ max a b → c ≡ greatest_of self (lanes - 2)
+    a ≡ least_from self 0 → b ≡ least_from later 1 → low ≡ max a b → c ≡ greatest_of self (lanes - 2)
     → d ≡ greatest_of later (lanes - 1) → high ≡ min c d →
     IsTrue (nat_le low high) ↔ MayMeet self later lanes
 others_answer self later lanes a b c d low high many not a_is b_is low_is c_is d_is high_is = (

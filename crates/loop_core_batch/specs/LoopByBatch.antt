@@ -12,7 +12,7 @@ use Rattle.loop_core_batch.specs.Sites.{Log, of_lane, IsLogOf, AllUnseen}
 use Rattle.loop_core_batch.specs.BySite.{words_after_sites, AllCommute}
 
 -- the iteration of this index on these words ends, returns 0 and makes these accesses
-pub record GoesOn (program : Program) (bound : ℕ) (call : LoopCall) (index : ℕ) (words : List ℕ)
+pub record EndsInZero (program : Program) (bound : ℕ) (call : LoopCall) (index : ℕ) (words : List ℕ)
     (accesses : List Access) : Type 0 where
   pub iterated : Iterated
   pub ended : iteration program bound call index words ≡ Ended iterated
@@ -25,7 +25,7 @@ pub record GoesOn (program : Program) (bound : ℕ) (call : LoopCall) (index : �
 abbrev pub LoopByBatch : Type 0
 LoopByBatch = (program : Program) (bound : ℕ) (call : LoopCall) (first lanes left : ℕ) (words : List ℕ) (accesses : ℕ
     → List Access) →
-    ((lane : ℕ) → lane < lanes → GoesOn program bound call (first + lane) words (accesses lane))
+    ((lane : ℕ) → lane < lanes → EndsInZero program bound call (first + lane) words (accesses lane))
     → NoneSees accesses lanes →
     loop_from program bound call (lanes + left) first words
     ≡ loop_from program bound call left (first + lanes) (words_after_lanes accesses lanes words)
@@ -35,7 +35,7 @@ LoopByBatch = (program : Program) (bound : ℕ) (call : LoopCall) (first lanes l
 abbrev pub LoopBySites : Type 0
 LoopBySites = (program : Program) (bound : ℕ) (call : LoopCall) (first lanes left : ℕ) (words : List ℕ)
     (sites : List Site) (log : Log) →
-    ((lane : ℕ) → lane < lanes → GoesOn program bound call (first + lane) words (of_lane log lane))
+    ((lane : ℕ) → lane < lanes → EndsInZero program bound call (first + lane) words (of_lane log lane))
     → IsLogOf lanes sites log →
     AllUnseen lanes sites → AllCommute lanes sites →
     loop_from program bound call (lanes + left) first words

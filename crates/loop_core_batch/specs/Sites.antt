@@ -44,10 +44,10 @@ pub record MayMeet (first second : Elements) (lanes : ℕ) : Type 0 where
   pub by_second : MayAccess second later element
 
 -- the least element that a lane, or one after it, may access
-abbrev pub least_of : Elements → (lane : ℕ) → ℕ
-least_of (One only) lane = only
-least_of (Run base) lane = base + lane
-least_of (Between low high) lane = low
+abbrev pub least_from : Elements → (lane : ℕ) → ℕ
+least_from (One only) lane = only
+least_from (Run base) lane = base + lane
+least_from (Between low high) lane = low
 
 -- the greatest element that a lane, or one before it, may access
 abbrev pub greatest_of : Elements → (lane : ℕ) → ℕ

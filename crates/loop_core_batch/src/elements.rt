@@ -1,7 +1,7 @@
 //! The elements that the lanes of a batch access at one site.
 
 ghost use Rattle.std.specs.Prelude.{◌≡◌, ◌↔◌, ℕ, ◌<◌, [], length, slice_index, IsTrue, IsNone, IfSome};
-ghost use Rattle.loop_core_batch.specs.Sites.{IsAround, MayAccess, MayMeet, least_of, greatest_of};
+ghost use Rattle.loop_core_batch.specs.Sites.{IsAround, MayAccess, MayMeet, least_from, greatest_of};
 
 /// The elements that lanes access, where lanes are numbered from 0 on.
 #[derive(Clone, Copy)]
@@ -48,7 +48,7 @@ impl Elements {
 
     /// The least element that a lane, or one after it, may access.
     fn least(self, lane: u32) -> u64
-        ensures { result ≡ least_of self lane }
+        ensures { result ≡ least_from self lane }
     {
         match self {
             Elements::One(only) => only as u64,

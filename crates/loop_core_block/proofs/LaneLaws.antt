@@ -11,7 +11,7 @@ use Rattle.bpf_step_ir.specs.declared.plain_op.PlainOp.{PlainOp}
 use Rattle.bpf_step_ir.specs.Translation.{AreOps}
 use Rattle.bpf_step_ir_sound.specs.Laws.{EachIterationSimulates, plain_exited}
 use Rattle.bpf_step.proofs.Callbacks.{begins}
-use Rattle.loop_core_batch.specs.LoopByBatch.{GoesOn}
+use Rattle.loop_core_batch.specs.LoopByBatch.{EndsInZero}
 use Rattle.bpf_step_batch_planes.specs.Registers.{begun_with}
 use Rattle.bpf_step_batch.specs.declared.entry.Entry.{Entry}
 use Rattle.bpf_step_batch.specs.Logs.{accesses_by, IsLogged}
@@ -36,7 +36,7 @@ module _ (its : EachIterationSimulates) (program : Program) (sound : IsSoundProg
     (same : map Some bytes ≡ call.frame) (words : List ℕ) (fit : AreMapWords program words) where
   -- a lane that returns 0 is an iteration that goes on
   goes_on : (index : ℕ) → index < call.n → (accesses : List Access)
-      → ReturnsZero ops call.callback index bytes words accesses → GoesOn program 4096 call index words accesses
+      → ReturnsZero ops call.callback index bytes words accesses → EndsInZero program 4096 call index words accesses
   goes_on index below accesses returns = record {
     iterated = record { ret = 0; steps = returns.steps; accesses = accesses; words = words_after_all accesses words };
     ended = its program sound ops are 4096 call known index below

@@ -3,7 +3,7 @@ use Rattle.std.specs.Prelude.{◌≡◌, ℕ, ◌+◌, ◌<◌, List, length, sl
 use Rattle.std.specs.List.{AllByRecursion}
 use Rattle.bpf_insn_types.specs.Program.{Program}
 use Rattle.bpf_step_model.specs.State.{LoopCall}
-use Rattle.loop_core_batch.specs.LoopByBatch.{GoesOn}
+use Rattle.loop_core_batch.specs.LoopByBatch.{EndsInZero}
 use Rattle.bpf_step_batch.specs.declared.entry.Entry.{Entry}
 use Rattle.bpf_step_batch.specs.Logs.{element_by, accesses_by}
 
@@ -20,7 +20,7 @@ IsRow row entry lanes = (lane : ℕ) → lane < lanes
 -- elements are there
 pub record IsLane (program : Program) (call : LoopCall) (words : List ℕ) (entries : List Entry) (index lane : ℕ)
     : Type 0 where
-  pub goes_on : GoesOn program 4096 call index words (accesses_by words entries lane)
+  pub goes_on : EndsInZero program 4096 call index words (accesses_by words entries lane)
   pub within : AllByRecursion (HasElement lane (length words)) entries
 
 -- the lanes are the iterations from a first index on

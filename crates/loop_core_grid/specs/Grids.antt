@@ -21,13 +21,13 @@ abbrev pub elements_of : List Cell → List ℕ
 elements_of cells = map (λ (cell : Cell). cell.element) cells
 
 -- a row has a cell of its iteration for each of these elements, in this order
-pub record IsRow (program : Program) (call : LoopCall) (words elements : List ℕ) (row : Row) : Type 0 where
+pub record IsGridRow (program : Program) (call : LoopCall) (words elements : List ℕ) (row : Row) : Type 0 where
   pub columns : elements_of row.cells.items ≡ elements
   pub cells : AllByRecursion (IsCell program call words row.index) row.cells.items
 
 -- each row is so
 abbrev pub AreRows : Program → LoopCall → (words elements : List ℕ) → List Row → Type 0
-AreRows program call words elements rows = AllByRecursion (IsRow program call words elements) rows
+AreRows program call words elements rows = AllByRecursion (IsGridRow program call words elements) rows
 
 -- each row of a grid is so, of the grid's elements
 abbrev pub IsGrid : Program → LoopCall → List ℕ → Grid → Type 0

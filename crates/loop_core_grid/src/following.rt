@@ -2,7 +2,7 @@
 
 ghost use Rattle.std.specs.Prelude.{◌≡◌, ◌<◌, IfOk, OnOk};
 ghost use Rattle.bpf_verify_sound.specs.Soundness.{OverApproximatesCall};
-ghost use Rattle.loop_core_grid.specs.Grids.{IsRow, AreRows, IsGrid};
+ghost use Rattle.loop_core_grid.specs.Grids.{IsGridRow, AreRows, IsGrid};
 
 use crate::choosing::{Span, elements_around, spans_of};
 use crate::focus::Focus;
@@ -26,7 +26,7 @@ fn row_of(
     requires known { OverApproximatesCall program.now call.now }
     requires sizes { start.now.sizes ≡ program.now.sizes }
     requires below { index < call.now.n }
-    ensures { IfOk result (IsRow program.now call.now start.now.words elements.now) }
+    ensures { IfOk result (IsGridRow program.now call.now start.now.words elements.now) }
 {
     let mut maps = start.try_copy(alloc)?;
     let mut cells = Vec::new(alloc);

@@ -9,12 +9,12 @@ use Rattle.bpf_step_model.specs.Iteration.{Iterated, iteration}
 use Rattle.bpf_step_model.specs.LoopInOrder.{behind, loop_from, loop_in_order}
 use Rattle.bpf_step.specs.Iterations.{CallbackOf, RanCallback}
 use Rattle.loop_core_sequential.specs.Loops.{RanLoopInOrder}
-use Rattle.loop_core_sequential.specs.Rests.{rest_to, WentOn, BrokeOff, RanTo, answer_of}
+use Rattle.loop_core_sequential.specs.Rests.{rest_to, RanOn, BrokeOff, RanTo, answer_of}
 use Rattle.loop_core_sequential.proofs.MapEffects.{map_effect, sizes_kept}
 
 -- nothing was done
 pub stayed : (program : Program) (call : LoopCall) (index : ℕ) (maps : MapList) → index ≤ call.n
-    → WentOn program call index index maps maps
+    → RanOn program call index index maps maps
 stayed program call index maps within = record {
   on = omega arith;
   within = within;
@@ -24,7 +24,7 @@ stayed program call index maps within = record {
 
 -- one after another
 pub went_both : (program : Program) (call : LoopCall) (from mid to : ℕ) (old now new : MapList)
-    → WentOn program call from mid old now → WentOn program call mid to now new → WentOn program call from to old new
+    → RanOn program call from mid old now → RanOn program call mid to now new → RanOn program call from to old new
 went_both program call from mid to old now new first second =
     let low = first.on in
     let high = second.on in
@@ -37,11 +37,11 @@ went_both program call from mid to old now new first second =
 
 -- to an index that is the same
 pub went_to : (program : Program) (call : LoopCall) (from next to : ℕ) (old new : MapList) → next ≡ to
-    → WentOn program call from next old new → WentOn program call from to old new
-went_to program call from next to old new same went = subst (λ (i : ℕ). WentOn program call from i old new) same went
+    → RanOn program call from next old new → RanOn program call from to old new
+went_to program call from next to old new same went = subst (λ (i : ℕ). RanOn program call from i old new) same went
 
 pub ran_both : (program : Program) (call : LoopCall) (from mid to : ℕ) (old now new : MapList) (answer : Option ℕ)
-    → WentOn program call from mid old now → RanTo program call mid to now new answer
+    → RanOn program call from mid old now → RanTo program call mid to now new answer
     → RanTo program call from to old new answer
 ran_both program call from mid to old now new (Some answer) first second =
     let low = first.on in
@@ -77,7 +77,7 @@ one_more : (n index : ℕ) → index < n → n - index ≡ suc (n - (index + 1))
 one_more n index below = omega (arith, below)
 
 module _ (program : Program) (call : LoopCall) (from index : ℕ) (first now : MapList)
-    (went : WentOn program call from index first now) (below : index < call.n) (ret steps : ℕ) (new : MapList)
+    (went : RanOn program call from index first now) (below : index < call.n) (ret steps : ℕ) (new : MapList)
     (ran : RanCallback (λ (maps : MapList). maps.words) map_effect program call index now ret steps new) where
   goes_on : (past : ℕ) → index < past → (b : Bool) → (ret == 1) ≡ b → rest_to program call past from first.words
       ≡ (if b then Ended (record { answer = index + 1; words = new.words })
@@ -99,7 +99,7 @@ module _ (program : Program) (call : LoopCall) (from index : ℕ) (first now : M
   not_one true test other = absurd (other (eqb-true ret 1 test))
 
   -- after an iteration that doesn't return 1
-  pub next : ¬ (ret ≡ 1) → WentOn program call from (index + 1) first new
+  pub next : ¬ (ret ≡ 1) → RanOn program call from (index + 1) first new
   next other =
       let on = went.on in
       record {

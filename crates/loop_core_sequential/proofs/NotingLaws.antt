@@ -10,9 +10,9 @@ use Rattle.loop_core_batch.specs.Sites.{kind_sees}
 use Rattle.bpf_step_batch.specs.declared.entry.Entry.{Entry}
 use Rattle.bpf_step_batch.specs.Logs.{element_by}
 use Rattle.loop_core_undo.specs.declared.undo_log.UndoLog.{UndoLog}
-use Rattle.loop_core_undo.specs.Undo.{log_elements, is_written, Marks}
+use Rattle.loop_core_undo.specs.Undo.{log_elements, is_written, MarksMore}
 use Rattle.loop_core_sequential.specs.Watched.{is_reduce, IsUnread, IsNoted, AreNoted}
-use Rattle.loop_core_sequential.specs.Noting.{AreBelow, Grows, AreMarked}
+use Rattle.loop_core_sequential.specs.Noting.{AreBelow, Grows, NotesWrites}
 
 -- whether any element of a row is told written, one lane more
 pub row_more : (written : ℕ → Bool) (row : List ℕ) (lane : ℕ) (any here : Bool) → here ≡ written (slice_index row lane)
@@ -55,7 +55,7 @@ grows_more words old between new first then =
       before = λ e inside. then.before e (omega (arith, inside, count)) ∙ first.before e inside;
     }
 
-pub grows_by : (which : ℕ → Bool) (words : List ℕ) (old new : UndoLog) → Marks which words old new
+pub grows_by : (which : ℕ → Bool) (words : List ℕ) (old new : UndoLog) → MarksMore which words old new
     → Grows words old new
 grows_by which words old new marks = record {
   count = marks.count;
@@ -63,7 +63,7 @@ grows_by which words old new marks = record {
   before = marks.before;
 }
 
-pub told_by : (which : ℕ → Bool) (words : List ℕ) (old new : UndoLog) → Marks which words old new → (e : ℕ)
+pub told_by : (which : ℕ → Bool) (words : List ℕ) (old new : UndoLog) → MarksMore which words old new → (e : ℕ)
     → e < log_elements old → which e ≡ true → is_written new e ≡ true
 told_by which words old new marks e inside told =
     marks.written e inside ∙ or_right (is_written old e) (which e) told
@@ -76,7 +76,7 @@ in_run first count e low high = and_from (nat_le first e) (nat_lt e (first + cou
 
 -- a row's elements are told written, one lane more
 pub row_told : (words : List ℕ) (row : List ℕ) (lane : ℕ) (old new : UndoLog)
-    → Marks (λ other. slice_index row lane == other) words old new
+    → MarksMore (λ other. slice_index row lane == other) words old new
     → ((k : ℕ) → k < lane + 1 → slice_index row k < log_elements old)
     → ((k : ℕ) → k < lane → is_written old (slice_index row k) ≡ true)
     → (k : ℕ) → k < lane + 1 → is_written new (slice_index row k) ≡ true
@@ -132,7 +132,7 @@ noted_more words first log new lanes entries k d inside so_far within grows note
 }
 
 pub all_marked : (words : List ℕ) (first log : UndoLog) (lanes : ℕ) (entries : List Entry) (k : ℕ)
-    → length entries ≤ k → NotedUpTo words first lanes entries k log → AreMarked lanes entries words first log
+    → length entries ≤ k → NotedUpTo words first lanes entries k log → NotesWrites lanes entries words first log
 all_marked words first log lanes entries k past so_far = record {
   grows = so_far.grows;
   noted = all_noted (log_elements first) lanes log entries

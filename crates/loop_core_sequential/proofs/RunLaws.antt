@@ -8,7 +8,7 @@ use Rattle.loop_core_undo.specs.declared.undo_log.UndoLog.{UndoLog}
 use Rattle.loop_core_sequential.specs.declared.running.LoopRun.{LoopRun}
 use Rattle.loop_core_sequential.specs.declared.watching.Watch.{Watch}
 use Rattle.loop_core_sequential.specs.LoopRuns.{IsLoopRun}
-use Rattle.loop_core_sequential.specs.Rests.{WentOn, RanTo}
+use Rattle.loop_core_sequential.specs.Rests.{RanOn, RanTo}
 use Rattle.loop_core_sequential.specs.Noting.{GoesWatched, WatchedTo, WatchedToEnd}
 use Rattle.loop_core_sequential.proofs.InOrder.{went_both, went_to, ran_both}
 
@@ -25,10 +25,10 @@ with_same run callback same =
 
 -- iterations come out so by the other run
 pub went_by : (run first : LoopRun) → run ≡ first → (index next : ℕ) (old new : MapList)
-    → WentOn run.program.now run.call.now index next old new
-    → WentOn first.program.now first.call.now index next old new
+    → RanOn run.program.now run.call.now index next old new
+    → RanOn first.program.now first.call.now index next old new
 went_by run first same index next old new =
-    subst (λ (r : LoopRun). WentOn r.program.now r.call.now index next old new) same
+    subst (λ (r : LoopRun). RanOn r.program.now r.call.now index next old new) same
 
 pub ran_by : (run first : LoopRun) → run ≡ first → (index next : ℕ) (old new : MapList) (answer : Option ℕ)
     → RanTo run.program.now run.call.now index next old new answer
@@ -39,8 +39,8 @@ ran_by run first same index next old new answer =
 -- after a batch that left the index where it was
 pub rest_ran_by : (run first : LoopRun) → run ≡ first → (from index next to : ℕ) → next ≡ index
     → (start old now new : MapList) (answer : Option ℕ)
-    → WentOn first.program.now first.call.now from index start old
-    → WentOn run.program.now run.call.now index next old now
+    → RanOn first.program.now first.call.now from index start old
+    → RanOn run.program.now run.call.now index next old now
     → RanTo run.program.now run.call.now index to now new answer
     → RanTo first.program.now first.call.now from to start new answer
 rest_ran_by run first same from index next to stays start old now new answer before went ran =

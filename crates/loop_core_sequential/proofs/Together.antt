@@ -14,14 +14,14 @@ use Rattle.bpf_step_ir_sound.specs.Laws.{EachIterationSimulates, plain_exited}
 use Rattle.bpf_step.proofs.Callbacks.{begins}
 use Rattle.loop_core_batch.specs.Sites.{AllUnseen}
 use Rattle.loop_core_batch.specs.BySite.{AllCommute, words_after_sites}
-use Rattle.loop_core_batch.specs.LoopByBatch.{GoesOn, LoopBySites}
+use Rattle.loop_core_batch.specs.LoopByBatch.{EndsInZero, LoopBySites}
 use Rattle.bpf_step_batch_planes.specs.Registers.{begun_with}
 use Rattle.bpf_step_batch.specs.declared.entry.Entry.{Entry}
 use Rattle.bpf_step_batch.specs.Logs.{site_of, log_by, accesses_by}
 use Rattle.bpf_step_batch.specs.Steps.{machine}
 use Rattle.bpf_step_batch.specs.Batches.{ReturnsZero, AreLanes}
 use Rattle.bpf_step_batch.proofs.LogLaws.{log_of_sites}
-use Rattle.loop_core_sequential.specs.Rests.{rest_to, WentOn}
+use Rattle.loop_core_sequential.specs.Rests.{rest_to, RanOn}
 use Rattle.loop_core_sequential.specs.Tries.{LanesAreIterations}
 
 -- iterations that are left, of which lanes are the first
@@ -38,7 +38,7 @@ goes_on : EachIterationSimulates → (program : Program) → IsSoundProgram prog
     → AreOps program ops → (call : LoopCall) → OverApproximatesCall program call → (bytes : List ℕ)
     → length bytes ≡ 512 → map Some bytes ≡ call.frame → (words : List ℕ) → AreMapWords program words → (index : ℕ)
     → index < call.n → (accesses : List Access) → ReturnsZero ops call.callback index bytes words accesses
-    → GoesOn program 4096 call index words accesses
+    → EndsInZero program 4096 call index words accesses
 goes_on its program sound ops are call known bytes long same words fit index below accesses returns = record {
   iterated = record { ret = 0; steps = returns.steps; accesses = accesses; words = words_after_all accesses words };
   ended = its program sound ops are 4096 call known index below
@@ -80,7 +80,7 @@ module _ (law : LoopBySites) (program : Program) (call : LoopCall) (first lanes 
   lanes_on left = law program 4096 call first lanes left old.words (map site_of entries) (log_by old.words entries)
       are.each (log_of_sites lanes old.words entries are.logged) unseen commute
 
-  pub lanes_went : WentOn program call first (first + lanes) old new
+  pub lanes_went : RanOn program call first (first + lanes) old new
   lanes_went = record {
     on = omega arith;
     within = within;

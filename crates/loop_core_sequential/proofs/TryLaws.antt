@@ -5,7 +5,7 @@ use Rattle.bpf_insn_types.specs.Program.{Program}
 use Rattle.bpf_step_model.specs.State.{LoopCall}
 use Rattle.loop_core_sequential.specs.declared.trying.Tried.{Tried}
 use Rattle.loop_core_sequential.specs.declared.trying.Tried.TheVariants.{Went, Met, Parted}
-use Rattle.loop_core_sequential.specs.Rests.{WentOn}
+use Rattle.loop_core_sequential.specs.Rests.{RanOn}
 use Rattle.loop_core_sequential.specs.Tries.{TriedIn, index_after}
 use Rattle.loop_core_sequential.proofs.InOrder.{stayed}
 
@@ -22,9 +22,9 @@ after_within Parted index lanes to within = omega (arith, within)
 -- the loop went on to the index after them
 pub went_after : (program : Program) (call : LoopCall) (index lanes : ℕ) (old new : MapList) (tried : Tried)
     → index ≤ call.n → TriedIn program call index lanes old new tried
-    → WentOn program call index (index_after tried index lanes) old new
+    → RanOn program call index (index_after tried index lanes) old new
 went_after program call index lanes old new Went within went = went
 went_after program call index lanes old new Met within same =
-    subst (WentOn program call index index old) (sym same) (stayed program call index old within)
+    subst (RanOn program call index index old) (sym same) (stayed program call index old within)
 went_after program call index lanes old new Parted within same =
-    subst (WentOn program call index index old) (sym same) (stayed program call index old within)
+    subst (RanOn program call index index old) (sym same) (stayed program call index old within)

@@ -15,7 +15,7 @@ use Rattle.loop_core_model.specs.Report.{judged, verdict}
 use Rattle.loop_core_model.specs.Scan.{up_to_break, scan}
 use Rattle.loop_core_model.proofs.PlaneLaws.{filter-none}
 use Rattle.loop_core_model.proofs.ScanLaws.{counted_are_scanned}
-use Rattle.loop_core_batch.specs.LoopByBatch.{GoesOn}
+use Rattle.loop_core_batch.specs.LoopByBatch.{EndsInZero}
 use Rattle.loop_core_sequential.specs.Watched.{accesses_if_ended, accesses_at, NoneReadsWritten}
 
 or_both : (a b : Bool) → a ≡ false → b ≡ false → (a || b) ≡ false
@@ -88,7 +88,7 @@ module _ (program : Program) (call : LoopCall) (words : List ℕ) where
   }
 
   -- one that goes on is in front of the others
-  one_scanned : (left index count : ℕ) → GoesOn program 4096 call index words (accesses_at program call words index)
+  one_scanned : (left index count : ℕ) → EndsInZero program 4096 call index words (accesses_at program call words index)
       → Scanned left (index + 1) count → Scanned (suc left) index (suc count)
   one_scanned left index count on rest = record {
     ran = on.iterated ∷ rest.ran;
@@ -102,7 +102,7 @@ module _ (program : Program) (call : LoopCall) (words : List ℕ) where
 
   -- and so are several
   pub scanned_from : (count left index more : ℕ) → ((i : ℕ) → i < index + count
-      → GoesOn program 4096 call i words (accesses_at program call words i))
+      → EndsInZero program 4096 call i words (accesses_at program call words i))
       → Scanned left (index + count) more → Scanned (count + left) index (count + more)
   scanned_from zero left index more each rest =
       let lefts : left ≡ zero + left = omega arith in

@@ -15,9 +15,9 @@ use Rattle.loop_core_model.proofs.OneElement.{sealed_saw, unwritten_left}
 use Rattle.loop_core_model.proofs.Turns.{Saws}
 use Rattle.loop_core_model.proofs.RunAgain.{iteration_local}
 use Rattle.loop_core_batch.specs.Lanes.{sees, NoneSees, words_after_lanes}
-use Rattle.loop_core_batch.specs.LoopByBatch.{GoesOn}
+use Rattle.loop_core_batch.specs.LoopByBatch.{EndsInZero}
 use Rattle.loop_core_batch.proofs.BatchLaws.{length-before}
-use Rattle.loop_core_sequential.specs.Rests.{rest_to, WentOn, BrokeOff}
+use Rattle.loop_core_sequential.specs.Rests.{rest_to, RanOn, BrokeOff}
 use Rattle.loop_core_sequential.specs.Watched.{RanAndPasses, accesses_if_ended, accesses_at, NoneReadsWritten, WentWatched}
 use Rattle.loop_core_sequential.proofs.InOrder.{stayed, went_both, ran_all}
 use Rattle.loop_core_sequential.proofs.WatchedFlow.{Scanned, renamed, none_scanned, last_scanned, scanned_from, passes_flow}
@@ -95,9 +95,9 @@ module _ (program : Program) (call : LoopCall) (start now : MapList) (index : �
       here.again now.words start.words it told (sym w.count)
       (saw_start it.accesses start.words now.words written w.count w.kept unread (here.saw now.words it told))
 
-  on_start : (at : ℕ) (accesses : List Access) → GoesOn program 4096 call at now.words accesses
+  on_start : (at : ℕ) (accesses : List Access) → EndsInZero program 4096 call at now.words accesses
       → ((e : ℕ) → e < length start.words → written e ≡ true → exposed (actions_at e accesses) ≡ false)
-      → GoesOn program 4096 call at start.words accesses
+      → EndsInZero program 4096 call at start.words accesses
   on_start at accesses on unread = record {
     iterated = over_words start.words on.iterated;
     ended = it_again at on.iterated on.ended
@@ -151,27 +151,27 @@ module _ (program : Program) (call : LoopCall) (start now : MapList) (index : �
             wrote)
 
     -- and each goes on from the start words
-    each_more : ((lane : ℕ) → lane < lanes → GoesOn program 4096 call (index + lane) start.words (accesses lane))
+    each_more : ((lane : ℕ) → lane < lanes → EndsInZero program 4096 call (index + lane) start.words (accesses lane))
         → (earlier : ℕ) → earlier < index + lanes
-        → GoesOn program 4096 call earlier start.words (accesses_at program call start.words earlier)
+        → EndsInZero program 4096 call earlier start.words (accesses_at program call start.words earlier)
     each_more on earlier below = go (placed index lanes earlier below)
       where
         go : IsPlaced index lanes earlier
-            → GoesOn program 4096 call earlier start.words (accesses_at program call start.words earlier)
+            → EndsInZero program 4096 call earlier start.words (accesses_at program call start.words earlier)
         go (inl old) = w.each earlier old
         go (inr new) =
-            subst (GoesOn program 4096 call earlier start.words) (sym (at_lane earlier new.0 new.1 new.2))
-            (subst (λ (i : ℕ). GoesOn program 4096 call i start.words (accesses new.0)) (sym new.2)
+            subst (EndsInZero program 4096 call earlier start.words) (sym (at_lane earlier new.0 new.1 new.2))
+            (subst (λ (i : ℕ). EndsInZero program 4096 call i start.words (accesses new.0)) (sym new.2)
             (on new.0 new.1))
 
   -- several iterations more
   more_watched : (lanes : ℕ) (accesses : ℕ → List Access)
-      → ((lane : ℕ) → lane < lanes → GoesOn program 4096 call (index + lane) start.words (accesses lane))
+      → ((lane : ℕ) → lane < lanes → EndsInZero program 4096 call (index + lane) start.words (accesses lane))
       → ((e earlier later : ℕ) → earlier < later → later < lanes → writes (actions_at e (accesses earlier)) ≡ true
       → exposed (actions_at e (accesses later)) ≡ false)
       → ((lane e : ℕ) → lane < lanes → e < length start.words → written e ≡ true
       → exposed (actions_at e (accesses lane)) ≡ false)
-      → (new : MapList) → WentOn program call index (index + lanes) now new → length new.words ≡ length now.words
+      → (new : MapList) → RanOn program call index (index + lanes) now new → length new.words ≡ length now.words
       → ((e : ℕ) → e < length now.words → ((lane : ℕ) → lane < lanes → writes (actions_at e (accesses lane)) ≡ false)
       → slice_index new.words e ≡ slice_index now.words e)
       → (written' : ℕ → Bool) → ((e : ℕ) → e < length start.words → written e ≡ true → written' e ≡ true)
@@ -221,7 +221,7 @@ module _ (program : Program) (call : LoopCall) (start now : MapList) (index : �
   -- or goes on
   one_went : (it : Iterated) → iteration program 4096 call index now.words ≡ Ended it → it.ret ≡ 0 → index < call.n
       → (new : MapList) → new.words ≡ it.words → new.sizes ≡ now.sizes
-      → WentOn program call index (index + 1) now new
+      → RanOn program call index (index + 1) now new
   one_went it told nought below new is sizes = record {
     on = omega arith;
     within = omega (arith, below);
@@ -267,7 +267,7 @@ pub one_watched : (program : Program) (call : LoopCall) (index : ℕ) (start now
 one_watched program call index start now written w below it told nought new is sizes written' unread grows notes =
     let left : new.words ≡ words_after_all it.accesses now.words =
     is ∙ it_leaves program call index now.words it told in
-    let here : GoesOn program 4096 call index start.words it.accesses =
+    let here : EndsInZero program 4096 call index start.words it.accesses =
     on_start program call start now index written w index it.accesses
     (record { iterated = it; ended = told; returned = nought; made = refl }) unread in
     more_watched program call start now index written w 1 (λ lane. it.accesses)
@@ -282,11 +282,11 @@ one_watched program call index start now written w below it told nought new is s
     ∙ unwritten_left (actions_at e it.accesses) (slice_index now.words e) (unwritten 0 (omega arith)))
     written' grows (λ lane e only inside wrote. notes e inside wrote)
   where
-    at_first : (lane : ℕ) → lane < 1 → GoesOn program 4096 call index start.words it.accesses
-        → GoesOn program 4096 call (index + lane) start.words it.accesses
+    at_first : (lane : ℕ) → lane < 1 → EndsInZero program 4096 call index start.words it.accesses
+        → EndsInZero program 4096 call (index + lane) start.words it.accesses
     at_first lane inside here =
         let first : index ≡ index + lane = omega (arith, inside) in
-        subst (λ (i : ℕ). GoesOn program 4096 call i start.words it.accesses) first here
+        subst (λ (i : ℕ). EndsInZero program 4096 call i start.words it.accesses) first here
 
 -- one iteration more, which breaks: the loop ends
 pub break_watched : (program : Program) (call : LoopCall) (index : ℕ) (start now : MapList) (written : ℕ → Bool)
@@ -338,13 +338,13 @@ all_watched program call index start now written w all =
 pub lanes_watched : (program : Program) (call : LoopCall) (index : ℕ) (start now : MapList) (written : ℕ → Bool)
     → WentWatched program call index start now written → (lanes : ℕ) → index + lanes ≤ call.n
     → (accesses : ℕ → List Access)
-    → ((lane : ℕ) → lane < lanes → GoesOn program 4096 call (index + lane) now.words (accesses lane))
+    → ((lane : ℕ) → lane < lanes → EndsInZero program 4096 call (index + lane) now.words (accesses lane))
     → NoneSees accesses lanes
     → ((lane e : ℕ) → lane < lanes → exposed (actions_at e (accesses lane)) ≡ true
     → sees (actions_at e (accesses lane)) ≡ true)
     → ((lane e : ℕ) → lane < lanes → e < length start.words → written e ≡ true
     → exposed (actions_at e (accesses lane)) ≡ false)
-    → (new : MapList) → WentOn program call index (index + lanes) now new
+    → (new : MapList) → RanOn program call index (index + lanes) now new
     → new.words ≡ words_after_lanes accesses lanes now.words → (written' : ℕ → Bool)
     → ((e : ℕ) → e < length start.words → written e ≡ true → written' e ≡ true)
     → ((lane e : ℕ) → lane < lanes → e < length start.words → writes (actions_at e (accesses lane)) ≡ true

@@ -23,7 +23,7 @@ pub record Grows (words : List ℕ) (old new : UndoLog) : Type 0 where
   pub before : (e : ℕ) → e < log_elements old → word_before new words e ≡ word_before old words e
 
 -- it grew by what the lanes of a batch write
-pub record AreMarked (lanes : ℕ) (entries : List Entry) (words : List ℕ) (old new : UndoLog) : Type 0 where
+pub record NotesWrites (lanes : ℕ) (entries : List Entry) (words : List ℕ) (old new : UndoLog) : Type 0 where
   pub grows : Grows words old new
   pub noted : AreNoted (is_written new) lanes entries
 

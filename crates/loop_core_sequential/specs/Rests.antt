@@ -12,7 +12,7 @@ rest_to program call past index words = loop_from program 4096 call (past - inde
 
 -- from one index to another it went on: wherever it ends from there on, what was left of it on the old maps is what is
 -- left of it on the new ones, which are of the old sizes
-pub record WentOn (program : Program) (call : LoopCall) (index next : ℕ) (old new : MapList) : Type 0 where
+pub record RanOn (program : Program) (call : LoopCall) (index next : ℕ) (old new : MapList) : Type 0 where
   pub on : index ≤ next
   pub within : next ≤ call.n
   pub rest : (past : ℕ) → next ≤ past → rest_to program call past index old.words ≡ rest_to program call past next
@@ -31,7 +31,7 @@ pub record BrokeOff (program : Program) (call : LoopCall) (index next : ℕ) (ol
 -- from one index to another it broke off with an answer, or went on
 abbrev pub RanTo : Program → LoopCall → (index next : ℕ) → (old new : MapList) → Option ℕ → Type 0
 RanTo program call index next old new (Some answer) = BrokeOff program call index next old new answer
-RanTo program call index next old new None = WentOn program call index next old new
+RanTo program call index next old new None = RanOn program call index next old new
 
 -- the loop's answer: that with which it broke off, or n
 abbrev pub answer_of : Option ℕ → (n : ℕ) → ℕ

@@ -6,22 +6,22 @@ use Rattle.bpf_insn_types.specs.Program.{Program}
 use Rattle.bpf_step_model.specs.State.{LoopCall}
 use Rattle.bpf_step_batch.specs.declared.entry.Entry.{Entry}
 use Rattle.bpf_step_batch.specs.Logs.{element_by, accesses_by, IsLogged}
-use Rattle.loop_core_batch.specs.LoopByBatch.{GoesOn}
+use Rattle.loop_core_batch.specs.LoopByBatch.{EndsInZero}
 use Rattle.loop_core_sequential.specs.declared.trying.Tried.{Tried}
 use Rattle.loop_core_sequential.specs.declared.trying.Tried.TheVariants.{Went, Met, Parted}
-use Rattle.loop_core_sequential.specs.Rests.{WentOn}
+use Rattle.loop_core_sequential.specs.Rests.{RanOn}
 
 -- the lanes of a batch are the iterations from an index on, each on these words: each goes on, with the accesses that
 -- the entries have of its lane, which are at their sites and of elements that are there
 pub record LanesAreIterations (program : Program) (call : LoopCall) (index lanes : ℕ) (words : List ℕ)
     (entries : List Entry) : Type 0 where
-  pub each : (lane : ℕ) → lane < lanes → GoesOn program 4096 call (index + lane) words
+  pub each : (lane : ℕ) → lane < lanes → EndsInZero program 4096 call (index + lane) words
       (accesses_by words entries lane)
   pub logged : AllByRecursion (IsLogged lanes words) entries
 
 -- a batch of iterations from an index on went, or nothing was done
 abbrev pub TriedIn : Program → LoopCall → (index lanes : ℕ) → (old new : MapList) → Tried → Type 0
-TriedIn program call index lanes old new Went = WentOn program call index (index + lanes) old new
+TriedIn program call index lanes old new Went = RanOn program call index (index + lanes) old new
 TriedIn program call index lanes old new Met = new ≡ old
 TriedIn program call index lanes old new Parted = new ≡ old
 

@@ -13,12 +13,12 @@ use Rattle.loop_core_model.specs.declared.loop_test.Test.TheVariants.{Flow}
 use Rattle.loop_core_model.specs.declared.verdict.Verdict.TheVariants.{Parallel}
 use Rattle.loop_core_model.specs.Actions.{writes, exposed}
 use Rattle.loop_core_model.specs.Report.{verdict}
-use Rattle.loop_core_batch.specs.LoopByBatch.{GoesOn}
+use Rattle.loop_core_batch.specs.LoopByBatch.{EndsInZero}
 use Rattle.loop_core_batch.specs.Sites.{kind_sees, kind_leaves}
 use Rattle.bpf_step_batch.specs.declared.entry.Entry.{Entry}
 use Rattle.bpf_step_batch.specs.Logs.{element_by}
 use Rattle.loop_core_sequential.specs.Loops.{RanLoopInOrder}
-use Rattle.loop_core_sequential.specs.Rests.{WentOn}
+use Rattle.loop_core_sequential.specs.Rests.{RanOn}
 
 -- the loop in order on the old maps ends with this answer and leaves the new ones, and it passes by the flow test
 pub record RanAndPasses (program : Program) (call : LoopCall) (old new : MapList) (answer : ℕ) : Type 0 where
@@ -47,9 +47,9 @@ NoneReadsWritten program call words index = (element earlier later : ℕ) → el
 -- others are as at the start
 pub record WentWatched (program : Program) (call : LoopCall) (index : ℕ) (start now : MapList) (written : ℕ → Bool)
     : Type 0 where
-  pub went : WentOn program call 0 index start now
+  pub went : RanOn program call 0 index start now
   pub count : length now.words ≡ length start.words
-  pub each : (earlier : ℕ) → earlier < index → GoesOn program 4096 call earlier start.words
+  pub each : (earlier : ℕ) → earlier < index → EndsInZero program 4096 call earlier start.words
       (accesses_at program call start.words earlier)
   pub unread : NoneReadsWritten program call start.words index
   pub marked : (element earlier : ℕ) → element < length start.words → earlier < index

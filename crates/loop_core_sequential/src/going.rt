@@ -3,7 +3,7 @@
 ghost use Rattle.std.specs.Prelude.{◌≡◌, ◌+◌, ◌<◌, ◌≤◌, true};
 ghost use Rattle.bpf_step_batch.specs.Logs.{entries_of};
 ghost use Rattle.loop_core_sequential.specs.LoopRuns.{IsLoopRun};
-ghost use Rattle.loop_core_sequential.specs.Rests.{WentOn};
+ghost use Rattle.loop_core_sequential.specs.Rests.{RanOn};
 ghost use Rattle.loop_core_sequential.specs.Tries.{LanesAreIterations, TriedIn, index_after};
 
 use crate::applying::{apply, are_in_order};
@@ -30,7 +30,7 @@ impl Batches {
         requires sizes { maps.old.sizes ≡ run.now.program.now.sizes }
         ensures on { index ≤ result }
         ensures within { result ≤ to }
-        ensures went { WentOn run.now.program.now run.now.call.now index result maps.old maps.new }
+        ensures went { RanOn run.now.program.now run.now.call.now index result maps.old maps.new }
     {
         let lanes = self.lanes.min(to - index);
         let tried = self.tried(run, index, lanes, maps);

@@ -4,7 +4,7 @@ ghost use Rattle.std.specs.Prelude.{◌≡◌, ℕ, ◌<◌, ◌≤◌, true, fa
 ghost use Rattle.bpf_step_batch.specs.Logs.{element_by};
 ghost use Rattle.loop_core_undo.specs.Undo.{log_elements, is_written};
 ghost use Rattle.loop_core_sequential.specs.Watched.{IsUnread};
-ghost use Rattle.loop_core_sequential.specs.Noting.{AreBelow, Grows, AreMarked};
+ghost use Rattle.loop_core_sequential.specs.Noting.{AreBelow, Grows, NotesWrites};
 
 use array_maps::Maps;
 use bpf_step_batch::Entry;
@@ -76,7 +76,7 @@ pub(crate) fn note_writes(entries: &[Entry], lanes: u32, log: &mut UndoLog, maps
     requires room { lanes ≤ 128 }
     requires within { All (AreBelow (log_elements log.old) lanes) entries.now }
     requires count { length maps.now.words ≡ log_elements log.old }
-    ensures { AreMarked lanes entries.now maps.now.words log.old log.new }
+    ensures { NotesWrites lanes entries.now maps.now.words log.old log.new }
 {
     for entry in entries {
         if leaves(entry.site.kind) {

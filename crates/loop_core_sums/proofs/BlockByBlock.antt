@@ -7,7 +7,7 @@ use Rattle.bpf_verify_sound.specs.Soundness.{AreMapWords}
 use Rattle.loop_core_model.specs.Intervals.{blocks_of, start_of, end_of}
 use Rattle.loop_core_model.proofs.SplitLaws.{faultless, rising}
 use Rattle.loop_core_sequential.specs.Loops.{RanLoopInOrder}
-use Rattle.loop_core_sequential.specs.Rests.{WentOn, RanTo}
+use Rattle.loop_core_sequential.specs.Rests.{RanOn, RanTo}
 use Rattle.loop_core_sequential.proofs.InOrder.{stayed, ran_both, broke_before, ran_all}
 use Rattle.loop_core_sums.specs.declared.partial_sum.PartialSum.{PartialSum}
 use Rattle.loop_core_sums.specs.SumLoops.{SumLoopOf}
@@ -16,12 +16,12 @@ use Rattle.loop_core_sums.specs.Sums.{combined_words, IsSumOf, AreSumsOf}
 module _ (l : SumLoopOf) (sums : List PartialSum) (are : AreSumsOf l sums) (old : MapList) where
   -- so many blocks were added up
   abbrev pub Added : (block : ℕ) → MapList → Type 0
-  Added block now = WentOn l.program l.call 0 (start_of are.bounds block) old now
+  Added block now = RanOn l.program l.call 0 (start_of are.bounds block) old now
 
   pub none_added : Added 0 old
   none_added =
       let first = (faultless l.call.n are.bounds are.split).first in
-      subst (λ (index : ℕ). WentOn l.program l.call 0 index old old) (sym first)
+      subst (λ (index : ℕ). RanOn l.program l.call 0 index old old) (sym first)
       (stayed l.program l.call 0 old (omega arith))
 
   -- the maps are of the program's sizes on the way
@@ -88,4 +88,4 @@ module _ (l : SumLoopOf) (sums : List PartialSum) (are : AreSumsOf l sums) (old 
       let at : start_of are.bounds block ≡ n =
       ap (start_of are.bounds) (all ∙ are.count) ∙ last ∙ sym n_is in
       ran_all l.program l.call n old now None n n_is
-      (subst (λ (index : ℕ). WentOn l.program l.call 0 index old now) at added) refl
+      (subst (λ (index : ℕ). RanOn l.program l.call 0 index old now) at added) refl

@@ -4,7 +4,7 @@ use Rattle.std.proofs.lemmas.Bool.{cases_Bool, both_ways, false_from_ne_true, or
 use Rattle.std.proofs.lemmas.Grind.{same_number_lists}
 use Rattle.std.proofs.lemmas.List.FromFn.{get_or-map-range_with_len, length-map-range_with_len}
 use Rattle.loop_core_undo.specs.declared.undo_log.UndoLog.{UndoLog}
-use Rattle.loop_core_undo.specs.Undo.{log_elements, is_written, is_saved, word_before, words_before, Marks}
+use Rattle.loop_core_undo.specs.Undo.{log_elements, is_written, is_saved, word_before, words_before, MarksMore}
 use Rattle.loop_core_undo.specs.Pages.{KeepsBefore}
 
 -- an element whose page isn't saved isn't told written
@@ -51,7 +51,7 @@ keeps_more now log between later first then = record {
 }
 
 -- elements that are about to be written are told so, and their words change then
-pub changed_before : (which : ℕ → Bool) (now later : List ℕ) (old new : UndoLog) → Marks which now old new
+pub changed_before : (which : ℕ → Bool) (now later : List ℕ) (old new : UndoLog) → MarksMore which now old new
     → ((e : ℕ) → which e ≡ false → get_or later e 0 ≡ get_or now e 0)
     → (e : ℕ) → e < log_elements old → word_before new later e ≡ word_before old now e
 changed_before which now later old new marks same e inside =

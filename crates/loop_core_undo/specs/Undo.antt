@@ -31,7 +31,7 @@ pub record IsEmpty (elements : ℕ) (log : UndoLog) : Type 0 where
   pub unsaved : (e : ℕ) → is_saved log e ≡ false
 
 -- some elements more are told written, before they are: the words from when the log was empty are the same
-pub record Marks (which : ℕ → Bool) (now : List ℕ) (old new : UndoLog) : Type 0 where
+pub record MarksMore (which : ℕ → Bool) (now : List ℕ) (old new : UndoLog) : Type 0 where
   pub count : log_elements new ≡ log_elements old
   pub written : (e : ℕ) → e < log_elements old → is_written new e ≡ (is_written old e || which e)
   pub before : (e : ℕ) → e < log_elements old → word_before new now e ≡ word_before old now e

@@ -27,7 +27,7 @@ pub struct UndoLog {
 
 impl UndoLog {
     ghost use Rattle.array_maps.specs.MapList.{MapList};
-    ghost use Rattle.loop_core_undo.specs.Undo.{log_elements, is_written, words_before, IsEmpty, Marks};
+    ghost use Rattle.loop_core_undo.specs.Undo.{log_elements, is_written, words_before, IsEmpty, MarksMore};
 
     /// An empty one for maps of n elements, at most 65,536.
     pub fn try_new(alloc: Global, elements: u32) -> Result<UndoLog, AllocError>
@@ -72,7 +72,7 @@ impl UndoLog {
     pub fn mark(&mut self, e: u32, maps: &Maps)
         requires within { e < log_elements self.old }
         requires count { length maps.now.words ≡ log_elements self.old }
-        ensures { Marks (λ other. e == other) maps.now.words self.old self.new }
+        ensures { MarksMore (λ other. e == other) maps.now.words self.old self.new }
     {
         self.keep(e / PAGE, maps);
         self.written[e as usize] = true;
@@ -82,7 +82,8 @@ impl UndoLog {
     pub fn mark_run(&mut self, first: u32, count: u32, maps: &Maps)
         requires within { first + count ≤ log_elements self.old }
         requires count { length maps.now.words ≡ log_elements self.old }
-        ensures { Marks (λ other. nat_le first other && nat_lt other (first + count)) maps.now.words self.old self.new }
+        ensures { MarksMore (λ other. nat_le first other && nat_lt other (first + count)) maps.now.words self.old
+            self.new }
     {
         self.keep_run(first, count, maps);
         set_flags(

@@ -11,7 +11,7 @@ use Rattle.bpf_step_model.specs.ProgramInOrder.{LoopMade, resumed, after_loop, a
 use Rattle.bpf_verify_sound.specs.Soundness.{IsSoundProgram, AreMapWords, OverApproximatesCall, EachProgramEnds, LoopEnds, ProgramEnds, EachCountIsSmall, most_from, most_after}
 use Rattle.bpf_step.specs.declared.main_function.Turned.{Turned}
 use Rattle.bpf_step.specs.declared.main_function.Turned.TheVariants as turned
-use Rattle.bpf_step.specs.Mains.{MainOf, IsAt, Waits}
+use Rattle.bpf_step.specs.Mains.{MainOf, MainIsAt, Waits}
 use Rattle.bpf_step.specs.Turns.{IsFilled, StopsAs, RanMain}
 use Rattle.bpf_step.proofs.Limits.{few_slots, few_steps, few_counts, map_words}
 use Rattle.loop_core_model.specs.declared.verdict.LoopReport.{LoopReport}
@@ -48,7 +48,7 @@ pub record StillRuns (line_of : LoopMade → BoundedResult LoopReport) (whole : 
   pub laws : Laws program
   pub same : main.program ≡ program
   pub m : Machine
-  pub at : IsAt main m
+  pub at : MainIsAt main m
   pub turns : ℕ
   pub enough : most_from program main.slot ≤ turns
   pub rest : whole ≡ told_behind line_of lines (main_from program 4096 turns m now.words)
@@ -59,7 +59,7 @@ pub record StillRuns (line_of : LoopMade → BoundedResult LoopReport) (whole : 
 -- as it does at the beginning
 pub starts : (line_of : LoopMade → BoundedResult LoopReport) (program : Program) (argument : ℕ) (main : MainOf)
     (maps : MapList) {lines : List LoopReport} → Laws program
-    → main.program ≡ program → IsAt main (main_entry argument) → maps.sizes ≡ program.sizes
+    → main.program ≡ program → MainIsAt main (main_entry argument) → maps.sizes ≡ program.sizes
     → length maps.words ≡ sum maps.sizes → AreWords maps.words → lines ≡ []
     → StillRuns line_of (reported_with line_of (program_in_order program 4096 argument maps.words)) program main maps
     maps lines
@@ -142,7 +142,7 @@ is_loop main (Refused slot answer next) call turns = absurd turns
 record IsRefused (main : MainOf) (turn : StopReason) (slot : ℕ) (answer : ℤ) : Type 0 where
   next : Machine
   turn_is : turn ≡ Refused slot answer next
-  at : IsAt main next
+  at : MainIsAt main next
 
 is_refused : (main : MainOf) (turn : StopReason) (slot : ℕ) (answer : ℤ)
     → StopsAs main turn (turned.Refused slot answer) → IsRefused main turn slot answer
@@ -162,7 +162,7 @@ is_exit main (Refused slot answer next) n turns = absurd turns
 
 -- main's next turn, where main is at a machine
 abbrev pub NextTurn : MainOf → MapList → Turned → MainOf → MapList → Type 0
-NextTurn main now turn after new = (m : Machine) → IsAt main m → RanMain words_of map_effect m now turn after new
+NextTurn main now turn after new = (m : Machine) → MainIsAt main m → RanMain words_of map_effect m now turn after new
 
 module _ {line_of : LoopMade → BoundedResult LoopReport} {whole : BoundedResult Reported} {program : Program}
     {main : MainOf} {first now : MapList} {lines : List LoopReport}
@@ -281,7 +281,7 @@ module _ {line_of : LoopMade → BoundedResult LoopReport} {whole : BoundedResul
       {told_answer : ℤ} {all : List LoopReport}
       → after.program ≡ main.program → NextTurn main now (turned.Loop call) after new
       → RanCall line_of program call new left answer verdict
-      → on.program ≡ after.program → ((m : Machine) → Waits after m → IsAt on (resumed m answer))
+      → on.program ≡ after.program → ((m : Machine) → Waits after m → MainIsAt on (resumed m answer))
       → slot ≡ call.slot → told_answer ≡ pos answer → all ≡ lines ++ record {
         slot = slot;
         answer = told_answer;
@@ -297,7 +297,7 @@ module _ {line_of : LoopMade → BoundedResult LoopReport} {whole : BoundedResul
       let filled = subst (λ (p : Program). IsFilled p this.made call) is this.filled in
       let known = subst (λ (p : Program). OverApproximatesCall p call) is this.known in
       let few = subst (λ (t : StopReason). most_after program t ≤ came.turns) this.turn_is came.few in
-      let at : IsAt on (resumed this.next answer) = goes this.next this.waits in
+      let at : MainIsAt on (resumed this.next answer) = goes this.next this.waits in
       let fit = turn_fits after new (turned.Loop call) same ran in
       let ended : loop_in_order program 4096 this.made new.words
       ≡ Ended (record { answer = answer; words = left.words }) =
@@ -338,7 +338,7 @@ module _ {line_of : LoopMade → BoundedResult LoopReport} {whole : BoundedResul
   -- with less before it
   pub loop_lessens : {after on : MainOf} {new : MapList} {call : LoopCall} {answer : ℕ} → after.program ≡ main.program
       → NextTurn main now (turned.Loop call) after new
-      → ((m : Machine) → Waits after m → IsAt on (resumed m answer))
+      → ((m : Machine) → Waits after m → MainIsAt on (resumed m answer))
       → most_from program on.slot < most_from program main.slot
   loop_lessens {after} {on} {new} {call} {answer} same next goes =
       let ran = next still.m still.at in

@@ -10,7 +10,7 @@ use Rattle.bpf_step_model.proofs.Endings.{mapped_from, ended_same}
 use Rattle.bpf_verify_sound.specs.Soundness.{IsSoundProgram, AreMapWords, OverApproximatesCall, ProgramEnds}
 use Rattle.bpf_step.specs.declared.main_function.Turned.{Turned}
 use Rattle.bpf_step.specs.declared.main_function.Turned.TheVariants as turned
-use Rattle.bpf_step.specs.Mains.{MainOf, IsAt, Waits}
+use Rattle.bpf_step.specs.Mains.{MainOf, MainIsAt, Waits}
 use Rattle.bpf_step.specs.Turns.{IsFilled, StopsAs}
 use Rattle.loop_core_model.specs.declared.loop_test.Test.{Test}
 use Rattle.loop_core_model.specs.declared.verdict.LoopReport.{LoopReport}
@@ -34,7 +34,7 @@ Completes test program most whole loops calls = (later : List LoopExplained)
 pub record CallsTold (test : Test) (program : Program) (most : ℕ) (whole : BoundedResult Finished) (main : MainOf)
     (words : List ℕ) (loops : List LoopExplained) : Type 0 where
   pub m : Machine
-  pub at : IsAt main m
+  pub at : MainIsAt main m
   pub turns : ℕ
   pub rest : Finished
   pub ends : main_from program 4096 turns m words ≡ Ended rest
@@ -52,7 +52,7 @@ ends_as program Unfinished ends = absurd ends
 
 -- at the beginning nothing is told
 pub none_told : (test : Test) (program : Program) (most argument : ℕ) (main : MainOf) (words : List ℕ)
-    {loops : List LoopExplained} → IsAt main (main_entry argument)
+    {loops : List LoopExplained} → MainIsAt main (main_entry argument)
     → ProgramEnds program (program_in_order program 4096 argument words) → loops ≡ [] →
     CallsTold test program most (program_in_order program 4096 argument words) main words loops
 unfolding program_in_order
@@ -139,7 +139,7 @@ module _ {test : Test} {program : Program} {most : ℕ} {whole : BoundedResult F
       → (call : LoopCall) (answer : ℕ) (left : MapList) (told : LoopExplained) (all : List LoopExplained)
       (resuming : MainOf) (turn : StopReason) → StopsAs after turn (turned.Loop call)
       → Onward program turn start.words so_far.rest → RanLoopInOrder program call start left answer
-      → ((m : Machine) → Waits after m → IsAt resuming (resumed m answer))
+      → ((m : Machine) → Waits after m → MainIsAt resuming (resumed m answer))
       → IsExplained test program call start.words most answer told → all ≡ loops ++ told ∷ [] →
       CallsTold test program most whole resuming left.words all
   one_made one_loop sound is start fit call answer left told all resuming (Loop made_call next) stops on looped goes
@@ -210,7 +210,7 @@ module _ {test : Test} {program : Program} {most : ℕ} {whole : BoundedResult F
   pub call_told : {call : LoopCall} {answer : ℕ} {left : MapList} {resuming : MainOf} (told : LoopExplained)
       (all : List LoopExplained) → FilledCallsAreOneLoop → IsSoundProgram program
       → NextTurn main now (turned.Loop call) after new → RanLoopInOrder program call new left answer
-      → ((m : Machine) → Waits after m → IsAt resuming (resumed m answer))
+      → ((m : Machine) → Waits after m → MainIsAt resuming (resumed m answer))
       → IsExplained test program call new.words most answer told → all ≡ loops ++ told ∷ [] →
       CallsTold test program most whole resuming left.words all
   call_told {call} {answer} {left} {resuming} told all one_loop sound next looped goes explained added =

@@ -16,7 +16,7 @@ use Rattle.loop_core_conflicts.specs.declared.conflicts.Conflicts.{Conflicts}
 use Rattle.loop_core_conflicts.specs.Told.{AreConflicts}
 use Rattle.loop_core_witness.specs.Witnesses.{Explains}
 use Rattle.spec_run_explain.specs.declared.explained.Cause.{Cause}
-use Rattle.spec_run_explain.specs.Causes.{FailsAt, elements_of}
+use Rattle.spec_run_explain.specs.Causes.{FailsAt, cause_elements}
 
 -- where a test fails, it doesn't pass
 pub fails_here : (test : Test) (program : Program) (call : LoopCall) (words : List ℕ) (element : ℕ)
@@ -47,15 +47,15 @@ all_fail test program call words most told are =
 -- one more element, and its cause
 pub one_more : (causes added : List Cause) (cause : Cause) (elements : List ℕ) (i d : ℕ) → i < length elements
     → added ≡ causes ++ cause ∷ [] → cause.element ≡ slice_index_or elements i d
-    → elements_of causes ≡ take i elements →
-    elements_of added ≡ take (i + 1) elements
+    → cause_elements causes ≡ take i elements →
+    cause_elements added ≡ take (i + 1) elements
 one_more causes added cause elements i d below pushed here before =
-    ap elements_of pushed ∙ map_push (λ (c : Cause). c.element) causes cause
+    ap cause_elements pushed ∙ map_push (λ (c : Cause). c.element) causes cause
     ∙ ap (λ (es : List ℕ). es ++ cause.element ∷ []) before
     ∙ ap (λ (e : ℕ). take i elements ++ e ∷ []) here
     ∙ sym (take_more elements i d below)
 
 -- all of them
 pub all_told : (causes : List Cause) (elements : List ℕ) (i : ℕ) → length elements ≤ i
-    → elements_of causes ≡ take i elements → elements_of causes ≡ elements
+    → cause_elements causes ≡ take i elements → cause_elements causes ≡ elements
 all_told causes elements i past taken = taken ∙ take_all i elements past

@@ -17,7 +17,7 @@ use Rattle.loop_core_conflicts.specs.declared.conflicts.Conflicts.{Conflicts}
 use Rattle.loop_core_conflicts.specs.Told.{AreConflicts}
 use Rattle.spec_run.specs.Calls.{RanCall}
 use Rattle.spec_run_explain.specs.declared.explained.LoopExplained.{LoopExplained}
-use Rattle.spec_run_explain.specs.Causes.{IsExplained, lines_of}
+use Rattle.spec_run_explain.specs.Causes.{IsExplained, report_lines}
 
 -- one more behind
 pub all_last : {A : Type 0} (P : A → Type 0) (xs ys : List A) (x : A) → ys ≡ xs ++ x ∷ [] → AllByRecursion P xs → P x
@@ -28,15 +28,16 @@ all_last P xs ys x added all last = subst (AllByRecursion P) (sym added) (go xs 
     go [] none = (last, tt)
     go (z ∷ zs) each = (each.0, go zs each.1)
 
-lines_behind : (xs : List LoopExplained) (x : LoopExplained) → lines_of (xs ++ x ∷ []) ≡ lines_of xs ++ x.line ∷ []
+lines_behind : (xs : List LoopExplained) (x : LoopExplained) → report_lines (xs ++ x ∷ []) ≡ report_lines xs ++ x.line
+    ∷ []
 lines_behind [] x = refl
 lines_behind (first ∷ xs) x = ap (λ (rest : List LoopReport). first.line ∷ rest) (lines_behind xs x)
 
 pub lines_last : (xs ys : List LoopExplained) (x : LoopExplained) (before after : List LoopReport) → ys ≡ xs ++ x ∷ []
-    → after ≡ before ++ x.line ∷ [] → lines_of xs ≡ before →
-    lines_of ys ≡ after
+    → after ≡ before ++ x.line ∷ [] → report_lines xs ≡ before →
+    report_lines ys ≡ after
 lines_last xs ys x before after added pushed same =
-    ap lines_of added ∙ lines_behind xs x ∙ ap (λ (ls : List LoopReport). ls ++ x.line ∷ []) same ∙ sym pushed
+    ap report_lines added ∙ lines_behind xs x ∙ ap (λ (ls : List LoopReport). ls ++ x.line ∷ []) same ∙ sym pushed
 
 -- the verdict that is told
 pub verdict_told : (test : Test) (program : Program) (call : LoopCall) (words : List ℕ) (most : ℕ) (told : Conflicts)

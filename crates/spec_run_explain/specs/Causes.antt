@@ -26,8 +26,8 @@ pub record FailsAt (test : Test) (program : Program) (call : LoopCall) (words : 
   pub failing : fails test (at_element element runs) ≡ true
 
 -- the elements that causes are of
-abbrev pub elements_of : List Cause → List ℕ
-elements_of causes = map (λ (c : Cause). c.element) causes
+abbrev pub cause_elements : List Cause → List ℕ
+cause_elements causes = map (λ (c : Cause). c.element) causes
 
 -- the iterations of each cause are the least pair that fails the test at its element
 abbrev pub AreCauses : Test → Program → LoopCall → List ℕ → List Cause → Type 0
@@ -49,7 +49,7 @@ pub record IsExplained (test : Test) (program : Program) (call : LoopCall) (word
   pub answer_is : told.line.answer ≡ pos answer
   pub verdict_is : verdict test program 4096 call words ≡ Ended told.line.verdict
   pub broke : IsBreak program call words told.broke
-  pub elements : AreLeast test program call words most (elements_of told.causes.items)
+  pub elements : AreLeast test program call words most (cause_elements told.causes.items)
   pub causes : AreCauses test program call words told.causes.items
 
 -- so a loop call that main made is explained: a refused one has its line alone; another one is explained on the words
@@ -75,5 +75,5 @@ IsEachExplained test program most (Ended f) loops = AreExplained test program mo
 IsEachExplained test program most _ loops = ⊥
 
 -- the lines of loop calls
-abbrev pub lines_of : List LoopExplained → List LoopReport
-lines_of loops = map (λ (told : LoopExplained). told.line) loops
+abbrev pub report_lines : List LoopExplained → List LoopReport
+report_lines loops = map (λ (told : LoopExplained). told.line) loops

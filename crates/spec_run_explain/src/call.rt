@@ -5,7 +5,7 @@ ghost use Rattle.std.specs.List.{All};
 ghost use Rattle.bpf_verify_sound.specs.Soundness.{OverApproximatesCall};
 ghost use Rattle.loop_core_witness.specs.Breaks.{IsBreak};
 ghost use Rattle.loop_core_witness.specs.Witnesses.{Explains};
-ghost use Rattle.spec_run_explain.specs.Causes.{AreCauses, FailsAt, IsExplained, elements_of};
+ghost use Rattle.spec_run_explain.specs.Causes.{AreCauses, FailsAt, IsExplained, cause_elements};
 
 use crate::explained::{Cause, LoopExplained};
 use array_maps::Maps;
@@ -55,7 +55,7 @@ fn causes_of(
     requires sizes { start.now.sizes ≡ program.now.sizes }
     requires broke { IsBreak program.now call.now start.now.words broke }
     requires failing { All (FailsAt test program.now call.now start.now.words) elements.now }
-    ensures elements { IfOk result (λ causes. elements_of causes.items ≡ elements.now) }
+    ensures elements { IfOk result (λ causes. cause_elements causes.items ≡ elements.now) }
     ensures pairs { IfOk result (λ causes. AreCauses test program.now call.now start.now.words causes.items) }
 {
     let mut causes = Vec::new(alloc);

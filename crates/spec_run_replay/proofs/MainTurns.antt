@@ -9,7 +9,7 @@ use Rattle.bpf_step_model.specs.ProgramInOrder.{LoopMade, Finished, with_loop, a
 use Rattle.bpf_verify_sound.specs.Soundness.{IsSoundProgram, AreMapWords, OverApproximatesCall, EachProgramEnds, ProgramEnds, most_from, most_after}
 use Rattle.bpf_step.specs.declared.main_function.Turned.{Turned}
 use Rattle.bpf_step.specs.declared.main_function.Turned.TheVariants as turned
-use Rattle.bpf_step.specs.Mains.{MainOf, IsAt}
+use Rattle.bpf_step.specs.Mains.{MainOf, MainIsAt}
 use Rattle.bpf_step.specs.Turns.{IsFilled, StopsAs, RanMain}
 use Rattle.bpf_step.proofs.Limits.{few_slots, few_steps}
 use Rattle.loop_core_sequential.proofs.MapEffects.{map_effect, sizes_kept}
@@ -69,7 +69,7 @@ pub record StillSeeks (program : Program) (argument : ℕ) (main : MainOf) (firs
   where
     pub same : main.program ≡ program
     pub m : Machine
-    pub at : IsAt main m
+    pub at : MainIsAt main m
     pub turns : ℕ
     pub enough : most_from program main.slot ≤ turns
     pub few : number + most_from program main.slot ≤ 4096
@@ -79,7 +79,7 @@ pub record StillSeeks (program : Program) (argument : ℕ) (main : MainOf) (firs
     pub sizes : now.sizes ≡ program.sizes
 
 pub starts : (program : Program) (argument : ℕ) (main : MainOf) (maps : MapList) → IsSoundProgram program
-    → main.program ≡ program → IsAt main (main_entry argument)
+    → main.program ≡ program → MainIsAt main (main_entry argument)
     → AreMapWords program maps.words → maps.sizes ≡ program.sizes → StillSeeks program argument main maps maps 0
 unfolding program_in_order
 starts program argument main maps sound same at fit sizes = record {
@@ -129,7 +129,7 @@ record IsRefused (main : MainOf) (turn : StopReason) : Type 0 where
   answer : ℤ
   next : Machine
   turn_is : turn ≡ Refused slot answer next
-  at : IsAt main next
+  at : MainIsAt main next
 
 is_refused : (main : MainOf) (turn : StopReason) (slot : ℕ) (answer : ℤ)
     → StopsAs main turn (turned.Refused slot answer) → IsRefused main turn

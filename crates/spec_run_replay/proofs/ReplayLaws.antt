@@ -16,18 +16,18 @@ use Rattle.spec_run_replay.specs.declared.first_loop.NumberedCall.{NumberedCall}
 use Rattle.spec_run_replay.specs.declared.replaying.ReplayRefusal.TheVariants.{NoLoop, Split, Schedule}
 use Rattle.spec_run_replay.specs.FirstLoop.{ValidLoop, first_loop}
 use Rattle.spec_run_replay.specs.FoundLoop.{IsAtCall, IsFirstLoop, CameToLoop}
-use Rattle.spec_run_replay.specs.ProgramReplay.{of_schedule, of_split, of_loop, ComesTo}
+use Rattle.spec_run_replay.specs.ProgramReplay.{of_schedule, of_split, of_loop, ReplaysFrom}
 
 module _ (test : Test) (program : Program) (argument : ℕ) (old new : MapList) (bounds : List ℕ) (events : List Event)
   where
     no_loop_of : (valid : Option ValidLoop) → first_loop program 4096 argument old.words ≡ Ended valid
         → IsFirstLoop program new valid None
-        → ComesTo test program argument old.words bounds events (Err NoLoop)
+        → ReplaysFrom test program argument old.words bounds events (Err NoLoop)
     no_loop_of None told is = record { valid = None; first = told; replays = refl }
     no_loop_of (Some valid) told is = absurd is
 
     -- main made no valid loop call
-    pub no_loop : CameToLoop program argument old new None → ComesTo test program argument old.words bounds events
+    pub no_loop : CameToLoop program argument old new None → ReplaysFrom test program argument old.words bounds events
         (Err NoLoop)
     no_loop came = no_loop_of came.valid came.told came.is
 
@@ -39,7 +39,7 @@ module _ (test : Test) (program : Program) (argument : ℕ) (old new : MapList) 
       split_refused_of : (valid : Option ValidLoop) → first_loop program 4096 argument old.words ≡ Ended valid
           → IsFirstLoop program new valid (Some found)
           → (fault : SplitFault) → split_fault bounds found.call.n ≡ Some fault
-          → ComesTo test program argument old.words
+          → ReplaysFrom test program argument old.words
           bounds events (Err (Split fault))
       split_refused_of None told is fault amiss = absurd is
       split_refused_of (Some valid) told is fault amiss = record {
@@ -52,7 +52,7 @@ module _ (test : Test) (program : Program) (argument : ℕ) (old new : MapList) 
       -- the bounds don't split its iterations
       pub split_refused : CameToLoop program argument old new (Some found) → (fault : SplitFault)
           → split_fault bounds found.call.n ≡ Some fault
-          → ComesTo test program argument old.words bounds events (Err (Split fault))
+          → ReplaysFrom test program argument old.words bounds events (Err (Split fault))
       split_refused came fault amiss = split_refused_of came.valid came.told came.is fault amiss
 
       module _ (law : FilledCallsAreOneLoop) (sound : IsSoundProgram program) (split : split_fault bounds found.call.n
@@ -74,7 +74,7 @@ module _ (test : Test) (program : Program) (argument : ℕ) (old new : MapList) 
         schedule_refused_of : (valid : Option ValidLoop) → first_loop program 4096 argument old.words ≡ Ended valid
             → IsFirstLoop program new valid (Some found)
             → (fault : ReplayFault) → replayed test program 4096 found.call new.words bounds events ≡ Err fault
-            → ComesTo test program argument old.words bounds events (Err (Schedule fault))
+            → ReplaysFrom test program argument old.words bounds events (Err (Schedule fault))
         schedule_refused_of None told is fault amiss = absurd is
         schedule_refused_of (Some valid) told is fault amiss = record {
           valid = Some valid;
@@ -85,7 +85,7 @@ module _ (test : Test) (program : Program) (argument : ℕ) (old new : MapList) 
         -- the events are no schedule of it
         pub schedule_refused : CameToLoop program argument old new (Some found) → (fault : ReplayFault)
             → replayed test program 4096 found.call new.words bounds events ≡ Err fault
-            → ComesTo test program argument old.words bounds events (Err (Schedule fault))
+            → ReplaysFrom test program argument old.words bounds events (Err (Schedule fault))
         schedule_refused came fault amiss = schedule_refused_of came.valid came.told came.is fault amiss
 
         loop_replayed_of : (valid : Option ValidLoop) → first_loop program 4096 argument old.words ≡ Ended valid
@@ -93,7 +93,7 @@ module _ (test : Test) (program : Program) (argument : ℕ) (old new : MapList) 
             → (o : Outcome) → replayed test program 4096 found.call new.words bounds events ≡ Ok (Ended o)
             → (told : LoopReport)
             → told ≡ record { slot = found.call.slot; answer = pos o.answer; verdict = o.verdict }
-            → ComesTo test program argument old.words bounds events
+            → ReplaysFrom test program argument old.words bounds events
             (Ok (record { number = found.number; told = told; words = o.words }))
         loop_replayed_of None first is o ended told told_is = absurd is
         loop_replayed_of (Some valid) first is o ended told told_is = record {
@@ -126,6 +126,6 @@ module _ (test : Test) (program : Program) (argument : ℕ) (old new : MapList) 
         pub loop_replayed : CameToLoop program argument old new (Some found) → (o : Outcome)
             → replayed test program 4096 found.call new.words bounds events ≡ Ok (Ended o) → (told : LoopReport)
             → told ≡ record { slot = found.call.slot; answer = pos o.answer; verdict = o.verdict }
-            → ComesTo test program argument old.words bounds events
+            → ReplaysFrom test program argument old.words bounds events
             (Ok (record { number = found.number; told = told; words = o.words }))
         loop_replayed came o ended told told_is = loop_replayed_of came.valid came.told came.is o ended told told_is

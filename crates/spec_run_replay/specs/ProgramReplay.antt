@@ -56,7 +56,7 @@ ended_or_refused (Ok value) = Ok (Ended value)
 ended_or_refused (Err refusal) = Err refusal
 
 -- from these words a program comes to its first valid loop, or to its end, and the replay to this
-pub record ComesTo (test : Test) (program : Program) (argument : ℕ) (words bounds : List ℕ) (events : List Event)
+pub record ReplaysFrom (test : Test) (program : Program) (argument : ℕ) (words bounds : List ℕ) (events : List Event)
     (comes : Result LoopReplay ReplayRefusal) : Type 0 where
   pub valid : Option ValidLoop
   pub first : first_loop program 4096 argument words ≡ Ended valid

@@ -2,7 +2,7 @@
 
 ghost use Rattle.std.specs.Prelude.{◌≡◌, IfOk};
 ghost use Rattle.bpf_step.specs.Iterations.{EachIterationEnds};
-ghost use Rattle.spec_run_replay.specs.ProgramReplay.{ComesTo, ReplaysUnlessMemory};
+ghost use Rattle.spec_run_replay.specs.ProgramReplay.{ReplaysFrom, ReplaysUnlessMemory};
 
 use crate::first_loop::first_loop;
 use array_maps::Maps;
@@ -79,7 +79,8 @@ pub fn replay(
     test: Test,
 ) -> Result<Replayed, NoReplay>
     requires sizes { maps.sizes ≡ program.now.sizes }
-    ensures replayed { ReplaysUnlessMemory (ComesTo test program.now argument maps.words bounds.items events.now) result }
+    ensures replayed { ReplaysUnlessMemory (ReplaysFrom test program.now argument maps.words bounds.items events.now)
+        result }
     ensures sizes { IfOk result (λ r. r.maps.sizes ≡ program.now.sizes) }
     ensures ends { EachIterationEnds program.now }
 {

@@ -26,7 +26,7 @@ use Rattle.loop_board.specs.Seats.{histories}
 use Rattle.loop_board.proofs.Sums.{times-append, times_first, times_more, once_below-below}
 use Rattle.loop_core_block.specs.Blocks.{BlockOf}
 use Rattle.loop_core_block.specs.Ran.{iterations_of, as_gathered, RecordsRun}
-use Rattle.spec_run_workers.specs.Worked.{runs_of, numbers_of, breaks_of, StandsIn}
+use Rattle.spec_run_workers.specs.Worked.{runs_of, worked_numbers, breaks_of, StandsIn}
 use Rattle.spec_run_workers.specs.CompleteLaw.{WorkerOf, seats_of, blocks_of_all, IsWorkerOf, WorkersComplete}
 use Rattle.spec_run_workers.proofs.StillWorks.{all_append}
 
@@ -171,16 +171,16 @@ module _ (test : Test) (program : Program) (call : LoopCall) (words : List ℕ) 
 
   -- how often a number is in the blocks
   same_times : (k : ℕ) (blocks : List BlockOf) → steps.times k (numbers (all_gathered blocks))
-      ≡ times k (numbers_of blocks)
+      ≡ times k (worked_numbers blocks)
   same_times k [] = refl
   same_times k (b ∷ blocks) = let here = same_bit k b.number in let rest = same_times k blocks in omega arith
 
-  times_both : (k : ℕ) (blocks more : List BlockOf) → times k (numbers_of (blocks ++ more))
-      ≡ times k (numbers_of blocks) + times k (numbers_of more)
+  times_both : (k : ℕ) (blocks more : List BlockOf) → times k (worked_numbers (blocks ++ more))
+      ≡ times k (worked_numbers blocks) + times k (worked_numbers more)
   times_both k blocks more = ap (times k) (map-append (λ (b : BlockOf). b.number) blocks more)
-      ∙ times-append k (numbers_of blocks) (numbers_of more)
+      ∙ times-append k (worked_numbers blocks) (worked_numbers more)
 
-  one_most : (k : ℕ) (w : WorkerOf) → IsWorkerOf test program call words bounds w → times k (numbers_of w.blocks)
+  one_most : (k : ℕ) (w : WorkerOf) → IsWorkerOf test program call words bounds w → times k (worked_numbers w.blocks)
       ≤ times k w.seat.history.draws
   one_most k w is =
       let numbers = ap (times k) is.worked.numbers in
@@ -188,7 +188,7 @@ module _ (test : Test) (program : Program) (call : LoopCall) (words : List ℕ) 
       let most = runs_most k bounds is.worked.draws is.worked.looks in
       omega arith
 
-  all_most : (k : ℕ) (workers : List WorkerOf) → AreWorkers workers → times k (numbers_of (blocks_of_all workers))
+  all_most : (k : ℕ) (workers : List WorkerOf) → AreWorkers workers → times k (worked_numbers (blocks_of_all workers))
       ≤ times_drawn k (histories_of workers)
   all_most k [] are = omega arith
   all_most k (w ∷ workers) are =
@@ -200,19 +200,19 @@ module _ (test : Test) (program : Program) (call : LoopCall) (words : List ℕ) 
   -- a block that some seat drew was run, or starts past what a look answered
   one_or_late : (k : ℕ) (w : WorkerOf) → IsWorkerOf test program call words bounds w → 0 < times k w.seat.history.draws
       →
-      (0 < times k (numbers_of w.blocks)) ⊎ Late bounds k (λ x. times x w.seat.history.looks)
+      (0 < times k (worked_numbers w.blocks)) ⊎ Late bounds k (λ x. times x w.seat.history.looks)
   one_or_late k w is drew =
       go (run_or_late k bounds is.worked.draws is.worked.looks is.worked.each_look
       (subst (λ (ds : List ℕ). 0 < times k ds) is.worked.did.drew drew))
     where
       go : (0 < times k (runs_of bounds is.worked.draws is.worked.looks)) ⊎ Late bounds k (λ x. times x is.worked.looks)
           →
-          (0 < times k (numbers_of w.blocks)) ⊎ Late bounds k (λ x. times x w.seat.history.looks)
+          (0 < times k (worked_numbers w.blocks)) ⊎ Late bounds k (λ x. times x w.seat.history.looks)
       go (inl run) = inl (subst (λ (ks : List ℕ). 0 < times k ks) (sym is.worked.numbers) run)
       go (inr l) = inr (subst (λ (as_seen : List ℕ). Late bounds k (λ x. times x as_seen)) (sym is.worked.did.saw) l)
 
   all_or_late : (k : ℕ) (workers : List WorkerOf) → AreWorkers workers → 0 < times_drawn k (histories_of workers) →
-      (0 < times k (numbers_of (blocks_of_all workers))) ⊎ Late bounds k (λ x. times_seen x (histories_of workers))
+      (0 < times k (worked_numbers (blocks_of_all workers))) ⊎ Late bounds k (λ x. times_seen x (histories_of workers))
   all_or_late k [] are drew = absurd (omega arith)
   all_or_late k (w ∷ workers) are drew = go (cases_lt 0 (times k w.seat.history.draws)) (all_or_late k workers are.1)
     where
@@ -226,23 +226,24 @@ module _ (test : Test) (program : Program) (call : LoopCall) (words : List ℕ) 
       seen_behind l = later bounds k (λ x. times_seen x (histories_of workers))
           (λ x. times_seen x (histories_of (w ∷ workers))) (λ x. omega arith) l
 
-      here : (0 < times k (numbers_of w.blocks)) ⊎ Late bounds k (λ x. times x w.seat.history.looks) →
-          (0 < times k (numbers_of (blocks_of_all (w ∷ workers)))) ⊎ Late bounds k
+      here : (0 < times k (worked_numbers w.blocks)) ⊎ Late bounds k (λ x. times x w.seat.history.looks) →
+          (0 < times k (worked_numbers (blocks_of_all (w ∷ workers)))) ⊎ Late bounds k
           (λ x. times_seen x (histories_of (w ∷ workers)))
       here (inl run) = inl (let both = times_both k w.blocks (blocks_of_all workers) in omega arith)
       here (inr l) = inr (seen_here l)
 
-      behind : (0 < times k (numbers_of (blocks_of_all workers))) ⊎ Late bounds k
+      behind : (0 < times k (worked_numbers (blocks_of_all workers))) ⊎ Late bounds k
           (λ x. times_seen x (histories_of workers)) →
-          (0 < times k (numbers_of (blocks_of_all (w ∷ workers)))) ⊎ Late bounds k
+          (0 < times k (worked_numbers (blocks_of_all (w ∷ workers)))) ⊎ Late bounds k
           (λ x. times_seen x (histories_of (w ∷ workers)))
       behind (inl run) = inl (let both = times_both k w.blocks (blocks_of_all workers) in omega arith)
       behind (inr l) = inr (seen_behind l)
 
       go : (0 < times k w.seat.history.draws) ⊎ (times k w.seat.history.draws ≤ 0) →
-          (0 < times_drawn k (histories_of workers) → (0 < times k (numbers_of (blocks_of_all workers))) ⊎ Late bounds k
+          (0 < times_drawn k (histories_of workers) → (0 < times k (worked_numbers (blocks_of_all workers))) ⊎ Late
+          bounds k
           (λ x. times_seen x (histories_of workers))) →
-          (0 < times k (numbers_of (blocks_of_all (w ∷ workers)))) ⊎ Late bounds k
+          (0 < times k (worked_numbers (blocks_of_all (w ∷ workers)))) ⊎ Late bounds k
           (λ x. times_seen x (histories_of (w ∷ workers)))
       go (inl drew_here) rest = here (one_or_late k w are.0 drew_here)
       go (inr not_here) rest = behind (rest (omega arith))
@@ -332,7 +333,7 @@ module _ (test : Test) (program : Program) (call : LoopCall) (words : List ℕ) 
             let one = once_below-below k claimed (omega arith) in
             omega arith
 
-        go : (k : ℕ) → k < blocks_of bounds → (0 < times k (numbers_of (blocks_of_all workers))) ⊎ Late bounds k
+        go : (k : ℕ) → k < blocks_of bounds → (0 < times k (worked_numbers (blocks_of_all workers))) ⊎ Late bounds k
             (λ x. times_seen x (histories_of workers)) →
             (is_none (block_numbered k (all_gathered (blocks_of_all workers))) ≡ false)
             ⊎ (starts_late (least_of (all_gathered (blocks_of_all workers))) (start_of bounds k) ≡ true)

@@ -17,7 +17,7 @@ use Rattle.loop_core_model.proofs.SplitLaws.{faultless, rising}
 use Rattle.loop_board.specs.Seats.{SeatRecord, after_draw, after_none, after_look, after_post}
 use Rattle.loop_core_block.specs.Blocks.{BlockOf}
 use Rattle.loop_core_block.specs.Ran.{RecordsRun}
-use Rattle.spec_run_workers.specs.Worked.{runs_of, numbers_of, breaks_of, StandsIn, DidMore, Worked, WorkerStopped, Took, NotRun}
+use Rattle.spec_run_workers.specs.Worked.{runs_of, worked_numbers, breaks_of, StandsIn, DidMore, Worked, WorkerStopped, Took, NotRun}
 
 -- one more than the greatest number drawn
 abbrev pub above : List ℕ → ℕ
@@ -108,7 +108,7 @@ pub record StillWorks (test : Test) (program : Program) (call : LoopCall) (words
   pub did : DidMore old now draws looks (breaks_of blocks)
   pub kept : now.history.found_none ≡ old.history.found_none
   pub each_look : length looks ≡ length draws
-  pub numbers : numbers_of blocks ≡ runs_of bounds draws looks
+  pub numbers : worked_numbers blocks ≡ runs_of bounds draws looks
   pub intervals : AllByRecursion (StandsIn bounds) blocks
   pub ran : AllByRecursion (RecordsRun test program call words) blocks
 
@@ -184,11 +184,11 @@ module _ (test : Test) (program : Program) (call : LoopCall) (words : List ℕ) 
           (sym (flat_map-append (λ (b : BlockOf). option_to_list b.broke) blocks taken))
           (did_look took.answer (breaks_of taken) took.did)
 
-      numbers_taken : numbers_of (blocks ++ taken) ≡ runs_of bounds still.draws still.looks
+      numbers_taken : worked_numbers (blocks ++ taken) ≡ runs_of bounds still.draws still.looks
           ++ runs_of bounds (number ∷ []) (took.answer ∷ [])
       numbers_taken =
           map-append (λ (b : BlockOf). b.number) blocks taken
-          ∙ ap (λ (ks : List ℕ). ks ++ numbers_of taken) still.numbers
+          ∙ ap (λ (ks : List ℕ). ks ++ worked_numbers taken) still.numbers
           ∙ ap (λ (ks : List ℕ). runs_of bounds still.draws still.looks ++ ks) took.numbers
 
       intervals_taken : AllByRecursion (StandsIn bounds) (blocks ++ taken)
@@ -219,7 +219,8 @@ module _ (test : Test) (program : Program) (call : LoopCall) (words : List ℕ) 
         kept = took.kept ∙ found_none_kept;
       }
         where
-          go : (late : Bool) → nat_lt took.answer (start_of bounds number) ≡ late → numbers_of taken ≡ (if late then []
+          go : (late : Bool) → nat_lt took.answer (start_of bounds number) ≡ late → worked_numbers taken ≡ (if late
+              then []
               else number ∷ []) → late ≡ false
           go false is same = refl
           go true is same = absurd (let none_there = ap length same in

@@ -20,8 +20,8 @@ runs_of bounds (number ∷ draws) (answer ∷ looks) =
     else number ∷ runs_of bounds draws looks
 
 -- the numbers of blocks
-abbrev pub numbers_of : List BlockOf → List ℕ
-numbers_of blocks = map (λ (b : BlockOf). b.number) blocks
+abbrev pub worked_numbers : List BlockOf → List ℕ
+worked_numbers blocks = map (λ (b : BlockOf). b.number) blocks
 
 -- the indices at which blocks broke, in order
 abbrev pub breaks_of : List BlockOf → List ℕ
@@ -47,7 +47,7 @@ pub record Worked (bounds : List ℕ) (old new : SeatRecord) (blocks : List Bloc
   pub looks : List ℕ
   pub did : DidMore old new draws looks (breaks_of blocks)
   pub each_look : length looks ≡ length draws
-  pub numbers : numbers_of blocks ≡ runs_of bounds draws looks
+  pub numbers : worked_numbers blocks ≡ runs_of bounds draws looks
   pub intervals : AllByRecursion (StandsIn bounds) blocks
   pub drained : new.history.found_none ≡ true
 
@@ -64,7 +64,8 @@ pub record WorkerStopped (test : Test) (program : Program) (call : LoopCall) (wo
   pub did : DidMore old new (earlier ++ last ∷ []) (seen ++ answer ∷ []) (breaks_of blocks)
   pub each_look : length seen ≡ length earlier
   pub on_time : nat_lt answer (start_of bounds last) ≡ false
-  pub numbers : (numbers_of blocks ≡ runs_of bounds earlier seen) ⊎ (numbers_of blocks ≡ runs_of bounds earlier seen
+  pub numbers : (worked_numbers blocks ≡ runs_of bounds earlier seen) ⊎ (worked_numbers blocks ≡ runs_of bounds earlier
+      seen
       ++ last ∷ [])
   pub intervals : AllByRecursion (StandsIn bounds) blocks
   pub ran : AllByRecursion (RecordsRun test program call words) blocks
@@ -77,7 +78,7 @@ pub record Took (test : Test) (program : Program) (call : LoopCall) (words : Lis
   pub answer : ℕ
   pub did : DidMore old new [] (answer ∷ []) (breaks_of taken)
   pub kept : new.history.found_none ≡ old.history.found_none
-  pub numbers : numbers_of taken ≡ runs_of bounds (number ∷ []) (answer ∷ [])
+  pub numbers : worked_numbers taken ≡ runs_of bounds (number ∷ []) (answer ∷ [])
   pub intervals : AllByRecursion (StandsIn bounds) taken
   pub ran : AllByRecursion (RecordsRun test program call words) taken
 

@@ -3,7 +3,7 @@ use Rattle.std.specs.List.{sum}
 use Rattle.bpf_verify_sound.specs.Soundness.{OverApproximatesCall, most_from}
 use Rattle.bpf_step.specs.Iterations.{CallbackOf}
 use Rattle.bpf_step.proofs.Limits.{few_steps}
-use Rattle.loop_core_sequential.specs.Rests.{WentOn}
+use Rattle.loop_core_sequential.specs.Rests.{RanOn}
 use Rattle.loop_core_sequential.proofs.InOrder.{stayed, next, breaks, counted, of_callback}
 use Rattle.loop_core_sequential.proofs.RunLaws.{callback_is, with_same}
 use Rattle.loop_core_sequential.proofs.one_by_one.alone.Goals as goal
@@ -74,5 +74,5 @@ returns-clause-ran c =
     let order = c.loop-index.auto.index-end c.requires.in_order in
     let past = c.loop-index-test.false in
     let all : c.loop-index.index ≡ c.args.to = omega (arith, order, past) in
-    subst (λ (to : ℕ). WentOn c.args.run.now.program.now c.args.run.now.call.now c.args.from to c.args.maps.now
+    subst (λ (to : ℕ). RanOn c.args.run.now.program.now c.args.run.now.call.now c.args.from to c.args.maps.now
     c.loop-index.maps) all c.loop-index.invariant.went

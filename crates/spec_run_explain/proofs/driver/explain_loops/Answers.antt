@@ -6,7 +6,7 @@ use Rattle.bpf_step.proofs.Limits.{iterations_end}
 use Rattle.loop_core_model.specs.declared.verdict.LoopReport.{LoopReport}
 use Rattle.loop_core_model.specs.Report.{loop_report}
 use Rattle.spec_run.proofs.Turns.{Laws, program_ends, starts, few_left, exits, refuses, call_sizes, loops}
-use Rattle.spec_run_explain.specs.Causes.{IsExplained, lines_of}
+use Rattle.spec_run_explain.specs.Causes.{IsExplained, report_lines}
 use Rattle.spec_run_explain.proofs.CallsTold.{none_told, call_told, refusal_told, all_told}
 use Rattle.spec_run_explain.proofs.ExplainLaws.{lines_last, ran_call, explained_on}
 use Rattle.spec_run_explain.proofs.driver.explain_loops.Goals as goal
@@ -22,7 +22,7 @@ loop-call-init c =
       still = starts (loop_report c.args.test c.args.program.now 4096) c.args.program.now c.args.argument
           c.new-main.result c.args.maps.now laws c.new-main.ensures.program c.new-main.ensures.at c.requires.sizes
           c.sizes-sizes.ensures.words c.words_fit.ensures c.new-lines.ensures.items;
-      lines = ap lines_of c.new-loops.ensures.items ∙ sym c.new-lines.ensures.items;
+      lines = ap report_lines c.new-loops.ensures.items ∙ sym c.new-lines.ensures.items;
       explained = none_told c.args.test c.args.program.now c.args.most c.args.argument c.new-main.result
           c.args.maps.now.words c.new-main.ensures.at
           (program_ends laws c.args.argument (search rules) c.args.maps.now c.requires.sizes c.sizes-sizes.ensures.words

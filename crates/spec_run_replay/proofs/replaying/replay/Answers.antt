@@ -7,7 +7,7 @@ use Rattle.loop_core_model.specs.declared.verdict.LoopReport.{LoopReport}
 use Rattle.loop_core_model.specs.declared.replay_fault.ReplayFault.{ReplayFault}
 use Rattle.loop_core_model.specs.Outcome.{Outcome, replayed}
 use Rattle.spec_run_replay.specs.FoundLoop.{CameToLoop}
-use Rattle.spec_run_replay.specs.ProgramReplay.{ComesTo}
+use Rattle.spec_run_replay.specs.ProgramReplay.{ReplaysFrom}
 use Rattle.spec_run_replay.specs.declared.first_loop.NumberedCall.{NumberedCall}
 use Rattle.spec_run_replay.specs.declared.replaying.ReplayRefusal.TheVariants.{Schedule}
 use Rattle.spec_run_replay.proofs.ReplayLaws.{schedule_refused, loop_replayed}
@@ -69,7 +69,7 @@ returns-in-Err-Fault-clause-replayed c =
     let amiss = ap (λ (b : List ℕ). replayed c.args.test program 4096 found.call new.words b c.args.events.now)
     (sym c.in-Ok.ensures.ok)
     ∙ c.in-Err-Fault.ensures.fault c.in-Err-Fault.fault (ap Err c.in-Err-Fault.field-0-is) in
-    subst (λ (fault : ReplayFault). ComesTo c.args.test program c.args.argument c.args.maps.words bounds
+    subst (λ (fault : ReplayFault). ReplaysFrom c.args.test program c.args.argument c.args.maps.words bounds
     c.args.events.now (Err (Schedule fault))) (sym c.in-Err-Fault.fault-is)
     (schedule_refused c.args.test program c.args.argument c.args.maps new bounds c.args.events.now found
     c.law_of_filled_calls.ensures (sound at) (split at) (came at) c.in-Err-Fault.fault amiss)
