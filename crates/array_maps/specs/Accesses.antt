@@ -1,6 +1,7 @@
 -- What a program does to the elements of its maps. The maps are one list of words: the elements of map 0, then
 -- those of map 1, and so on.
-use Rattle.std.specs.Prelude.{◌≡◌, ℕ, zero, suc, ◌+◌, ◌<◌, ◌==◌, if◌then◌else◌, List, [], ◌∷◌, length, slice_index, slice_set}
+use Rattle.std.specs.Prelude.{◌≡◌, ℕ, zero, suc, ◌+◌, ◌<◌, ◌==◌, if◌then◌else◌}
+use Rattle.std.specs.Prelude.{List, [], ◌∷◌, length, slice_index, slice_set}
 use Rattle.bpf_insn_types.specs.declared.insn.Width.TheVariants.{W64}
 use Rattle.bpf_insn_types.specs.declared.insn.AluOp.{AluOp}
 use Rattle.bpf_insn_types.specs.Words.{alu}

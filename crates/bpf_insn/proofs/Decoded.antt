@@ -1,5 +1,7 @@
 -- Reading instructions one after the other, as a loop does.
-use Rattle.std.proofs.Common.{◌≡◌, ℕ, zero, suc, ◌+◌, ◌-◌, ◌*◌, ◌/◌, ◌%◌, ◌≤◌, ◌<◌, cond, ltb, List, [], ◌∷◌, ◌++◌, length, drop, take, Option, Some, None, Result, Ok, Err, refl, sym, ap, subst, ◌∙◌, append_assoc, length-drop, arith, inl, inr}
+use Rattle.std.proofs.Common.{◌≡◌, ℕ, zero, suc, ◌+◌, ◌-◌, ◌*◌, ◌/◌, ◌%◌, ◌≤◌, ◌<◌, cond, ltb, List, []}
+use Rattle.std.proofs.Common.{◌∷◌, ◌++◌, length, drop, take, Option, Some, None, Result, Ok, Err, refl}
+use Rattle.std.proofs.Common.{sym, ap, subst, ◌∙◌, append_assoc, length-drop, arith, inl, inr}
 use Rattle.std.proofs.lemmas.List.{append-nil, drop-drop, nil_from_length, get_or-drop, take_all}
 use Rattle.std.proofs.lemmas.Bool.{le-ltb, lt-ltb, cases_lt}
 use Rattle.bpf_insn_types.specs.declared.insn.Insn.{Insn}
@@ -10,7 +12,8 @@ use Rattle.bpf_insn.specs.declared.codec_error.CodecError.{CodecError}
 use Rattle.bpf_insn.specs.declared.codec_error.CodecError.TheVariants.{Refused, Memory}
 use Rattle.bpf_insn_types.specs.Slots.{slots_of}
 use Rattle.bpf_insn.specs.SlotBytes.{slot_at}
-use Rattle.bpf_insn.specs.Reading.{insn_of_slot, front_slot, first_insn, FailsFirst, slots_in, first, more_of, insn_before, end_of_bytes, insns_in, reading}
+use Rattle.bpf_insn.specs.Reading.{insn_of_slot, front_slot, first_insn, FailsFirst, slots_in, first}
+use Rattle.bpf_insn.specs.Reading.{more_of, insn_before, end_of_bytes, insns_in, reading}
 use Rattle.std.specs.Prelude.{IfOk}
 use Rattle.std.specs.Global.{Vec}
 use Rattle.bpf_insn_types.specs.Outcome.{RefusalMatches, MatchesUnlessMemory}

@@ -1,5 +1,6 @@
 -- The opcode tables both ways, by computation.
-use Rattle.std.proofs.Common.{◌≡◌, ℕ, zero, suc, ◌<◌, Bool, true, false, Option, Some, None, refl, sym, subst, arith, eqb, inl, inr}
+use Rattle.std.proofs.Common.{◌≡◌, ℕ, zero, suc, ◌<◌, Bool, true, false, Option, Some}
+use Rattle.std.proofs.Common.{None, refl, sym, subst, arith, eqb, inl, inr}
 use Rattle.std.specs.Prelude.{IfSome, ◌&&◌}
 use Rattle.std.proofs.lemmas.Bool.{eqb-true, cases_eq}
 use Rattle.bpf_insn_types.specs.declared.insn.Width.{Width}

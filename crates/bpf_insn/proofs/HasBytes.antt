@@ -20,7 +20,8 @@ use Rattle.bpf_insn.specs.declared.form.AluCode.TheVariants as alu
 use Rattle.bpf_insn.specs.declared.form.Form.{Form}
 use Rattle.bpf_insn.specs.declared.form.Form.TheVariants as form
 use Rattle.bpf_insn.specs.SlotBytes.{slot}
-use Rattle.bpf_insn.specs.Spelling.{op_offset, endian_imm, callee_src, atomic_imm, kind_src, has_next, second, both, two_slots, spelling}
+use Rattle.bpf_insn.specs.Spelling.{op_offset, endian_imm, callee_src, atomic_imm, kind_src}
+use Rattle.bpf_insn.specs.Spelling.{has_next, second, both, two_slots, spelling}
 use Rattle.bpf_insn_types.specs.Values.{InsnFits}
 use Rattle.bpf_insn.proofs.Bytes.{HasBytes, HaveBytes}
 use Rattle.bpf_insn.proofs.ReadsBack.{callee_src-le, kind_src-le}

@@ -1,5 +1,6 @@
 -- The two laws: what is read is spelled so, and what is spelled so is read.
-use Rattle.std.proofs.Common.{◌≡◌, ℕ, zero, suc, ◌+◌, ◌-◌, ◌*◌, ◌%◌, ◌≤◌, List, [], ◌∷◌, ◌++◌, length, Some, Result, Ok, Err, refl, sym, ap, subst, ◌∙◌, length-append, arith, inl, inr}
+use Rattle.std.proofs.Common.{◌≡◌, ℕ, zero, suc, ◌+◌, ◌-◌, ◌*◌, ◌%◌, ◌≤◌, List, [], ◌∷◌, ◌++◌, length, Some}
+use Rattle.std.proofs.Common.{Result, Ok, Err, refl, sym, ap, subst, ◌∙◌, length-append, arith, inl, inr}
 use Rattle.std.specs.Prelude.{IfOk}
 use Rattle.bpf_insn_types.specs.declared.insn.Insn.{Insn}
 use Rattle.bpf_insn.specs.declared.slot.Slot.{Slot}
@@ -16,7 +17,8 @@ use Rattle.bpf_insn.proofs.Spelled.{Reads}
 use Rattle.bpf_insn.proofs.SlotReads.{NextHolds, slot_reads}
 use Rattle.bpf_insn.proofs.ReadsBack.{ReadsBack, reads_back}
 use Rattle.bpf_insn.proofs.HasBytes.{spelling_has}
-use Rattle.bpf_insn.proofs.Bytes.{IsBytes, AreSlots, HaveBytes, slots_bytes-slots_in, slots_in-are, slots_in-slots_bytes}
+use Rattle.bpf_insn.proofs.Bytes.{IsBytes, AreSlots, HaveBytes, slots_bytes-slots_in}
+use Rattle.bpf_insn.proofs.Bytes.{slots_in-are, slots_in-slots_bytes}
 
 -- ---- results
 

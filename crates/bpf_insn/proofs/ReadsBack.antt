@@ -1,5 +1,6 @@
 -- What is spelled is read again.
-use Rattle.std.proofs.Common.{◌≡◌, ℕ, zero, suc, ◌≤◌, Bool, true, false, cond, ltb, List, [], ◌∷◌, Option, Some, Result, Ok, Err, refl, ap, ◌∙◌, arith}
+use Rattle.std.proofs.Common.{◌≡◌, ℕ, zero, suc, ◌≤◌, Bool, true, false, cond, ltb, List, []}
+use Rattle.std.proofs.Common.{◌∷◌, Option, Some, Result, Ok, Err, refl, ap, ◌∙◌, arith}
 use Rattle.std.specs.Prelude.{◌||◌, ℤ, pos, negsuc}
 use Rattle.std.proofs.lemmas.Bool.{le-ltb}
 use Rattle.bpf_insn_types.specs.declared.insn.Width.{Width}
@@ -29,10 +30,13 @@ use Rattle.bpf_insn.specs.declared.codec_error.CodecFault.{CodecFault}
 use Rattle.bpf_insn.specs.declared.codec_error.CodecFault.TheVariants as faults
 use Rattle.bpf_insn.specs.Opcode.{opcode, form_at}
 use Rattle.bpf_insn.specs.SlotBytes.{slot}
-use Rattle.bpf_insn.specs.Spelling.{code_of, op_offset, endian_imm, callee_src, atomic_imm, kind_src, has_next, second, two_slots, spelling}
+use Rattle.bpf_insn.specs.Spelling.{code_of, op_offset, endian_imm, callee_src, atomic_imm}
+use Rattle.bpf_insn.specs.Spelling.{kind_src, has_next, second, two_slots, spelling}
 use Rattle.bpf_insn_types.specs.Values.{InsnFits}
-use Rattle.bpf_insn.specs.Reading.{unused_are_zero, alu_op_at, alu_reg_insn, mov_at, endian_at, call_at, atomic_at, imm_kind_at, load_imm_at, insn_of_form, checked_slot, insn_of_slot}
-use Rattle.bpf_insn.proofs.Forms.{form_at-alu_imm, form_at-alu_reg, form_at-jump_imm, form_at-jump_reg, form_at-neg, form_at-endian, form_at-load, form_at-store_imm, form_at-store, form_at-atomic}
+use Rattle.bpf_insn.specs.Reading.{unused_are_zero, alu_op_at, alu_reg_insn, mov_at, endian_at, call_at, atomic_at}
+use Rattle.bpf_insn.specs.Reading.{imm_kind_at, load_imm_at, insn_of_form, checked_slot, insn_of_slot}
+use Rattle.bpf_insn.proofs.Forms.{form_at-alu_imm, form_at-alu_reg, form_at-jump_imm, form_at-jump_reg, form_at-neg}
+use Rattle.bpf_insn.proofs.Forms.{form_at-endian, form_at-load, form_at-store_imm, form_at-store, form_at-atomic}
 
 -- the slots of a spelling are read as this instruction
 abbrev pub ReadsBack : Insn → Result (List Slot) CodecFault → Type 0

@@ -1,5 +1,6 @@
 -- What is read from slots is spelled by them: every form.
-use Rattle.std.proofs.Common.{◌≡◌, ℕ, zero, suc, ◌<◌, Bool, true, false, cond, eqb, ltb, List, [], ◌∷◌, Option, Some, None, Result, Ok, Err, refl, sym, ap, ◌∙◌, arith, inl, inr}
+use Rattle.std.proofs.Common.{◌≡◌, ℕ, zero, suc, ◌<◌, Bool, true, false, cond, eqb, ltb, List, [], ◌∷◌, Option}
+use Rattle.std.proofs.Common.{Some, None, Result, Ok, Err, refl, sym, ap, ◌∙◌, arith, inl, inr}
 use Rattle.std.specs.Prelude.{IfOk, IfSome, ◌&&◌, ◌||◌, not, ℤ, pos, negsuc}
 use Rattle.std.proofs.lemmas.Bool.{eqb-true, ltb-false}
 use Rattle.bpf_insn_types.specs.declared.insn.Width.{Width}
@@ -25,9 +26,12 @@ use Rattle.bpf_insn.specs.declared.codec_error.CodecFault.TheVariants as faults
 use Rattle.bpf_insn.specs.Opcode.{opcode, form_at}
 use Rattle.bpf_insn.specs.SlotBytes.{slot}
 use Rattle.bpf_insn.specs.Spelling.{endian_imm, callee_src, atomic_imm, kind_src, has_next, second, both, two_slots}
-use Rattle.bpf_insn.specs.Reading.{is, uses_dst, uses_src, uses_offset, uses_imm, unused_are_zero, endian_at, call_at, atomic_at, atomic_insn, imm_kind_at, is_second, load_imm_at, insn_of_form, checked_slot, insn_of_slot}
+use Rattle.bpf_insn.specs.Reading.{is, uses_dst, uses_src, uses_offset, uses_imm, unused_are_zero}
+use Rattle.bpf_insn.specs.Reading.{endian_at, call_at, atomic_at, atomic_insn, imm_kind_at, is_second}
+use Rattle.bpf_insn.specs.Reading.{load_imm_at, insn_of_form, checked_slot, insn_of_slot}
 use Rattle.bpf_insn.proofs.Forms.{opcode-form_at}
-use Rattle.bpf_insn.proofs.Spelled.{Holds, Reads, Passed, if_ok, if_some, and_true, or_false, not_false, is_true, slot_is, one_is, imm_reads, reg_reads, mov_reads}
+use Rattle.bpf_insn.proofs.Spelled.{Holds, Reads, Passed, if_ok, if_some, and_true, or_false, not_false}
+use Rattle.bpf_insn.proofs.Spelled.{is_true, slot_is, one_is, imm_reads, reg_reads, mov_reads}
 
 -- ---- byte orders, calls
 

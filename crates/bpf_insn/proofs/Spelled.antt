@@ -1,5 +1,6 @@
 -- What is read from slots is spelled by them.
-use Rattle.std.proofs.Common.{◌≡◌, ℕ, ◌≤◌, Bool, true, false, cond, eqb, [], ◌∷◌, Option, Some, Result, Ok, Err, refl, sym, ap, ◌∙◌, inl, ◌⊎◌}
+use Rattle.std.proofs.Common.{◌≡◌, ℕ, ◌≤◌, Bool, true, false, cond, eqb, [], ◌∷◌, Option}
+use Rattle.std.proofs.Common.{Some, Result, Ok, Err, refl, sym, ap, ◌∙◌, inl, ◌⊎◌}
 use Rattle.std.specs.Prelude.{IfOk, IfSome, ◌&&◌, ◌||◌, not, ℤ, pos, negsuc, FitsSigned}
 use Rattle.std.specs.Int.{w16, w32}
 use Rattle.std.proofs.lemmas.Bool.{eqb-true}
@@ -23,7 +24,8 @@ use Rattle.bpf_insn.specs.Opcode.{opcode, form_at}
 use Rattle.bpf_insn.specs.SlotBytes.{slot}
 use Rattle.bpf_insn.specs.Spelling.{code_of, op_offset, one_slot, spelling}
 use Rattle.bpf_insn_types.specs.Values.{InsnFits}
-use Rattle.bpf_insn.specs.Reading.{is, uses_dst, uses_src, uses_offset, uses_imm, has_signed, signed_op_at, alu_op_at, alu_insn, movsx_32, mov_at}
+use Rattle.bpf_insn.specs.Reading.{is, uses_dst, uses_src, uses_offset, uses_imm, has_signed}
+use Rattle.bpf_insn.specs.Reading.{signed_op_at, alu_op_at, alu_insn, movsx_32, mov_at}
 
 -- the signed fields of a slot fit
 pub record Holds (s : Slot) : Type 0 where

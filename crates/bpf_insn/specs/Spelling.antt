@@ -1,5 +1,6 @@
 -- The one spelling of each instruction, a case a form.
-use Rattle.std.specs.Prelude.{◌≡◌, ℕ, zero, ℤ, pos, ◌+◌, ◌/◌, length, IfSome, Bool, true, false, List, [], ◌∷◌, ◌++◌, Result, Ok, Err}
+use Rattle.std.specs.Prelude.{◌≡◌, ℕ, zero, ℤ, pos, ◌+◌, ◌/◌, length, IfSome, Bool}
+use Rattle.std.specs.Prelude.{true, false, List, [], ◌∷◌, ◌++◌, Result, Ok, Err}
 use Rattle.std.specs.Option.{option_to_list}
 use Rattle.bpf_insn_types.specs.declared.insn.Width.TheVariants.{W32}
 use Rattle.bpf_insn_types.specs.declared.insn.Size.TheVariants as size

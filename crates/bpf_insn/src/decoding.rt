@@ -1,8 +1,11 @@
 //! Bytes to instructions.
 
-ghost use Rattle.std.specs.Prelude.{◌≡◌, ◌≤◌, ◌<◌, ◌*◌, List, length, drop, ◌++◌, ◌∷◌, [], IfOk, IfErr, OnOk, MatchResult};
+ghost use Rattle.std.specs.Prelude.{◌≡◌, ◌≤◌, ◌<◌, ◌*◌, List, length, drop, ◌++◌};
+ghost use Rattle.std.specs.Prelude.{◌∷◌, [], IfOk, IfErr, OnOk, MatchResult};
 ghost use Rattle.bpf_insn_types.specs.Slots.{slots_of};
-ghost use Rattle.bpf_insn.specs.Reading.{signed_op_at, alu_op_at, alu_insn, mov_at, alu_reg_insn, endian_at, call_at, atomic_at, atomic_insn, imm_kind_at, is_second, load_imm_at, insn_of_form, insn_of_slot, front_slot, first_insn, FailsFirst, reading};
+ghost use Rattle.bpf_insn.specs.Reading.{signed_op_at, alu_op_at, alu_insn, mov_at, alu_reg_insn, endian_at, call_at};
+ghost use Rattle.bpf_insn.specs.Reading.{atomic_at, atomic_insn, imm_kind_at, is_second, load_imm_at, insn_of_form};
+ghost use Rattle.bpf_insn.specs.Reading.{insn_of_slot, front_slot, first_insn, FailsFirst, reading};
 ghost use Rattle.bpf_insn_types.specs.Outcome.{MatchesUnlessMemory};
 ghost use Rattle.bpf_insn.specs.CodecRefusal.{codec_refusal};
 ghost use Rattle.bpf_insn_types.specs.Values.{AreInsns};

@@ -2,7 +2,9 @@
 
 ghost use Rattle.std.specs.Prelude.{◌≡◌, ◌≤◌, ◌∷◌, [], MatchResult, IfOk, Some};
 ghost use Rattle.bpf_insn.specs.SlotBytes.{slot, SlotFits};
-ghost use Rattle.bpf_insn.specs.Spelling.{code_of, op_offset, movsx_offset, endian_imm, callee_src, atomic_imm, kind_src, has_next, two_slots, spelling, spelled_slots, SpelledFits, Appends, program_spelling};
+ghost use Rattle.bpf_insn.specs.Spelling.{code_of, op_offset, movsx_offset, endian_imm, callee_src};
+ghost use Rattle.bpf_insn.specs.Spelling.{atomic_imm, kind_src, has_next, two_slots, spelling, spelled_slots};
+ghost use Rattle.bpf_insn.specs.Spelling.{SpelledFits, Appends, program_spelling};
 ghost use Rattle.bpf_insn_types.specs.Outcome.{MatchesUnlessMemory};
 ghost use Rattle.bpf_insn.specs.CodecRefusal.{codec_refusal};
 

@@ -1,7 +1,8 @@
 //! Arithmetic on words.
 
 ghost use Rattle.std.specs.Prelude.{◌≡◌, ◌<◌};
-ghost use Rattle.bpf_insn_types.specs.Words.{modulus, quotient, remainder, signed_quotient, signed_remainder, arithmetic_shift, computed, alu, negated, shift};
+ghost use Rattle.bpf_insn_types.specs.Words.{modulus, quotient, remainder, signed_quotient, signed_remainder};
+ghost use Rattle.bpf_insn_types.specs.Words.{arithmetic_shift, computed, alu, negated, shift};
 
 use crate::insn::{AluOp, Width};
 use crate::widths::{greatest, low_part, shift_amount, signed_value};

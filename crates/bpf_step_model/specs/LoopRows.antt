@@ -10,7 +10,8 @@ use Rattle.bpf_insn_types.specs.declared.insn.Operand.TheVariants.{Imm}
 use Rattle.bpf_insn_types.specs.declared.insn.Callee.TheVariants.{Helper}
 use Rattle.bpf_insn_types.specs.declared.insn.ImmKind.TheVariants.{Code, Number}
 use Rattle.bpf_insn_types.specs.declared.insn.Insn.{Insn}
-use Rattle.bpf_insn_types.specs.declared.insn.Insn.TheVariants.{Alu, Call, Exit, Jump, Load, Store, StoreImm, Atomic, LoadImm}
+use Rattle.bpf_insn_types.specs.declared.insn.Insn.TheVariants.{Alu, Call, Exit, Jump, Load, Store}
+use Rattle.bpf_insn_types.specs.declared.insn.Insn.TheVariants.{StoreImm, Atomic, LoadImm}
 use Rattle.bpf_insn_types.specs.Program.{Program}
 use Rattle.bpf_step_model.specs.State.{LoopCall, Bytes, fresh_frame}
 use Rattle.bpf_step_model.specs.Memory.{written_at}

@@ -11,7 +11,8 @@ use Rattle.bpf_insn_types.specs.declared.insn.EndianBits.TheVariants.{B16 as E16
 use Rattle.bpf_insn_types.specs.declared.insn.Callee.TheVariants.{Helper}
 use Rattle.bpf_insn_types.specs.declared.insn.ImmKind.TheVariants.{Number, Map}
 use Rattle.bpf_insn_types.specs.declared.insn.Insn.{Insn}
-use Rattle.bpf_insn_types.specs.declared.insn.Insn.TheVariants.{Alu, Neg, Movsx, Endian, Ja32, Call, Exit, Jump, Load, StoreImm, LoadImm}
+use Rattle.bpf_insn_types.specs.declared.insn.Insn.TheVariants.{Alu, Neg, Movsx, Endian, Ja32, Call, Exit}
+use Rattle.bpf_insn_types.specs.declared.insn.Insn.TheVariants.{Jump, Load, StoreImm, LoadImm}
 use Rattle.bpf_insn_types.specs.Program.{Program}
 use Rattle.bpf_step_model.specs.Run.{Ended, Stuck}
 use Rattle.bpf_step_model.specs.ProgramInOrder.{program_in_order}

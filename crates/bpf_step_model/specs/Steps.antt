@@ -4,7 +4,8 @@ use Rattle.array_maps.specs.Accesses.{Access, words_after}
 use Rattle.bpf_insn_types.specs.Program.{Program}
 use Rattle.bpf_step_model.specs.State.{Machine}
 use Rattle.bpf_step_model.specs.Step.{Request, StepOutcome, NoStep, Next, Asks, Loops, Refuses, Exits, step}
-use Rattle.bpf_step_model.specs.Run.{Ended, Stuck, StopReason, Exit, Loop, Refused, RunSegment, action_of, after_request, run}
+use Rattle.bpf_step_model.specs.Run.{Ended, Stuck, StopReason, Exit, Loop, Refused}
+use Rattle.bpf_step_model.specs.Run.{RunSegment, action_of, after_request, run}
 
 -- the access that a request is, where a word stands
 abbrev pub access_of : ℕ → Request → ℕ → Access

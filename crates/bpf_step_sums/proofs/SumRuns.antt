@@ -7,7 +7,8 @@ use Rattle.loop_core_model.specs.Actions.{reduces_by}
 use Rattle.bpf_step_model.specs.Step.{Request}
 use Rattle.bpf_step_model.specs.Run.{BoundedResult, Ended, Stuck, Unfinished, action_of, mapped}
 use Rattle.bpf_step_ir.specs.declared.plain_op.PlainOp.{PlainOp}
-use Rattle.bpf_step_ir.specs.Plain.{Plain, PlainStepOutcome, Halts, Goes, Wants, CallsLoop, RefusesLoop, Ends, plain_step, plain_after_request}
+use Rattle.bpf_step_ir.specs.Plain.{Plain, PlainStepOutcome, Halts, Goes, Wants, CallsLoop}
+use Rattle.bpf_step_ir.specs.Plain.{RefusesLoop, Ends, plain_step, plain_after_request}
 use Rattle.bpf_step_ir.specs.PlainRun.{PlainRunSegment, op_of, with_op, after_plain_access, after_plain_step, plain_run}
 use Rattle.bpf_step_sums.specs.SumOps.{AddUp}
 use Rattle.bpf_step_sums.specs.SumLaw.{EndsReducing, SumsReduceAlone}

@@ -14,8 +14,14 @@ use Rattle.bpf_step_model.specs.LoopCalls.{Validity, RefusedBy, Valid, call_vali
 use Rattle.bpf_step_model.specs.Run.{action_of}
 use Rattle.bpf_step_model.specs.Step.{extended, atomic_left}
 use Rattle.bpf_step_ir.specs.declared.plain_op.PlainOp.{PlainOp}
-use Rattle.bpf_step_ir.specs.declared.plain_op.PlainOp.TheVariants.{Stop, Alu, Neg, Movsx, Endian, SetWide, Jump, JumpIf, Exit, LoadFrame, StoreFrame, ChangeFrame, LoadElement, StoreElement, ChangeElement, Lookup, CallLoop}
-use Rattle.bpf_step_ir.specs.Plain.{Plain, word, plain_operand, further, landed, with_word, with_bytes, PlainStepOutcome, Halts, Goes, Wants, CallsLoop, RefusesLoop, Ends, bytes_in, plain_number_at, plain_written_at, plain_puts, compared_word, plain_found, plain_loop_call_step, plain_step, plain_after_request}
+use Rattle.bpf_step_ir.specs.declared.plain_op.PlainOp.TheVariants.{Stop, Alu, Neg, Movsx, Endian, SetWide, Jump}
+use Rattle.bpf_step_ir.specs.declared.plain_op.PlainOp.TheVariants.{JumpIf, Exit, LoadFrame, StoreFrame, ChangeFrame}
+use Rattle.bpf_step_ir.specs.declared.plain_op.PlainOp.TheVariants.{LoadElement, StoreElement, ChangeElement}
+use Rattle.bpf_step_ir.specs.declared.plain_op.PlainOp.TheVariants.{Lookup, CallLoop}
+use Rattle.bpf_step_ir.specs.Plain.{Plain, word, plain_operand, further, landed, with_word, with_bytes}
+use Rattle.bpf_step_ir.specs.Plain.{PlainStepOutcome, Halts, Goes, Wants, CallsLoop, RefusesLoop, Ends, bytes_in}
+use Rattle.bpf_step_ir.specs.Plain.{plain_number_at, plain_written_at, plain_puts, compared_word, plain_found}
+use Rattle.bpf_step_ir.specs.Plain.{plain_loop_call_step, plain_step, plain_after_request}
 use Rattle.bpf_step_sums.specs.SumOps.{is_between, keeps_to, stays_within}
 
 -- a machine is at one of the slots from one up to, and without, another

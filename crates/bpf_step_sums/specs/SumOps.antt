@@ -7,7 +7,10 @@ use Rattle.bpf_insn_types.specs.declared.insn.AtomicOp.TheVariants.{Simple, Fetc
 use Rattle.array_maps.specs.declared.access.Op.{Op}
 use Rattle.bpf_step_model.specs.Step.{map_operator}
 use Rattle.bpf_step_ir.specs.declared.plain_op.PlainOp.{PlainOp}
-use Rattle.bpf_step_ir.specs.declared.plain_op.PlainOp.TheVariants.{Stop, Alu, Neg, Movsx, Endian, SetWide, Jump, JumpIf, Exit, LoadFrame, StoreFrame, ChangeFrame, LoadElement, StoreElement, ChangeElement, Lookup, CallLoop}
+use Rattle.bpf_step_ir.specs.declared.plain_op.PlainOp.TheVariants.{Stop, Alu, Neg, Movsx, Endian, SetWide, Jump}
+use Rattle.bpf_step_ir.specs.declared.plain_op.PlainOp.TheVariants.{JumpIf, Exit, LoadFrame, StoreFrame, ChangeFrame}
+use Rattle.bpf_step_ir.specs.declared.plain_op.PlainOp.TheVariants.{LoadElement, StoreElement, ChangeElement}
+use Rattle.bpf_step_ir.specs.declared.plain_op.PlainOp.TheVariants.{Lookup, CallLoop}
 use Rattle.bpf_step_ir.specs.PlainRun.{op_of}
 use Rattle.loop_core_model.specs.Actions.{is_same}
 

@@ -1,5 +1,6 @@
 -- A unit is read back from its canonical text.
-use Rattle.std.proofs.Common.{◌≡◌, ℕ, ◌+◌, ◌*◌, ◌≤◌, List, [], ◌∷◌, ◌++◌, length, flat_map, Option, Ok, Err, refl, sym, ap, ◌∙◌, append_assoc, append-nil, arith}
+use Rattle.std.proofs.Common.{◌≡◌, ℕ, ◌+◌, ◌*◌, ◌≤◌, List, [], ◌∷◌, ◌++◌, length, flat_map, Option}
+use Rattle.std.proofs.Common.{Ok, Err, refl, sym, ap, ◌∙◌, append_assoc, append-nil, arith}
 use Rattle.std.specs.Prelude.{nat_le, nat_lt}
 use Rattle.std.proofs.lemmas.Bool.{le-leb, le-ltb, cond-true, cond-false}
 use Rattle.std.proofs.lemmas.List.{length-append}
@@ -20,7 +21,8 @@ use Rattle.bpf_text_operands.specs.Statements.{insn_of_line}
 use Rattle.bpf_text_operands.proofs.InsnBack.{insn_back}
 use Rattle.bpf_text_lex.proofs.ResultLaws.{same_ok, mapped}
 use Rattle.bpf_insn_types.specs.Program.{slot_count, Program}
-use Rattle.bpf_text_asm.specs.AssemblerText.{name_of, is_label, labels_from, label_at, in_limit, line_at, insns_behind, unit_of, assembler_text}
+use Rattle.bpf_text_asm.specs.AssemblerText.{name_of, is_label, labels_from, label_at, in_limit}
+use Rattle.bpf_text_asm.specs.AssemblerText.{line_at, insns_behind, unit_of, assembler_text}
 use Rattle.bpf_insn_types.specs.Limits.{IsUnit}
 use Rattle.bpf_text_asm.specs.AssemblerForm.{assembler_lines, assembler_form}
 use Rattle.bpf_insn_types.proofs.ProgramLaws.{slots_some, slot_count-append}

@@ -1,7 +1,9 @@
 //! Lines: where they end, where their comments begin, and the blanks round them.
 
-ghost use Rattle.std.specs.Prelude.{◌≡◌, ◌+◌, ◌<◌, ◌≤◌, ◌^◌, ◌==◌, [], ◌∷◌, length, position, not, ◌||◌, IfSome, IfNone};
-ghost use Rattle.bpf_text_lex.specs.Lines.{lines_of, before_comment, is_blank, trim_start, trim_end, trim, content_of, contents_of, contents_from};
+ghost use Rattle.std.specs.Prelude.{◌≡◌, ◌+◌, ◌<◌, ◌≤◌, ◌^◌, ◌==◌, [], ◌∷◌, length};
+ghost use Rattle.std.specs.Prelude.{position, not, ◌||◌, IfSome, IfNone};
+ghost use Rattle.bpf_text_lex.specs.Lines.{lines_of, before_comment, is_blank, trim_start, trim_end};
+ghost use Rattle.bpf_text_lex.specs.Lines.{trim, content_of, contents_of, contents_from};
 
 use crate::words::is_blank;
 use std::marker::Model;

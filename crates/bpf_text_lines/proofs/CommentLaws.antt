@@ -1,5 +1,6 @@
 -- A text's first line, and the comments of the lines below it.
-use Rattle.std.proofs.Common.{◌≡◌, ℕ, suc, ◌+◌, ◌-◌, ◌<◌, ◌≤◌, Bool, true, false, ◌==◌, List, [], ◌∷◌, length, drop, refl, sym, ap, ◌∙◌, arith}
+use Rattle.std.proofs.Common.{◌≡◌, ℕ, suc, ◌+◌, ◌-◌, ◌<◌, ◌≤◌, Bool, true, false, ◌==◌}
+use Rattle.std.proofs.Common.{List, [], ◌∷◌, length, drop, refl, sym, ap, ◌∙◌, arith}
 use Rattle.std.specs.List.{position_or_len, before_first, after_first}
 use Rattle.std.proofs.lemmas.List.{length-drop, take_all}
 use Rattle.std.proofs.lemmas.Bool.Decides.{nat_tests}

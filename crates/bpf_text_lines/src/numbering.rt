@@ -1,6 +1,7 @@
 //! The lines of slots.
 
-ghost use Rattle.std.specs.Prelude.{◌≡◌, ◌∷◌, [], ◌++◌, ◌≤◌, ◌-◌, length, slice_index, replicate, ◌==◌, ◌&&◌, IfOk, OnOk};
+ghost use Rattle.std.specs.Prelude.{◌≡◌, ◌∷◌, [], ◌++◌, ◌≤◌, ◌-◌, length, slice_index};
+ghost use Rattle.std.specs.Prelude.{replicate, ◌==◌, ◌&&◌, IfOk, OnOk};
 ghost use Rattle.bpf_text_lex.specs.Lines.{contents_of};
 ghost use Rattle.bpf_text_asm.specs.AssemblerText.{is_label, line_slots};
 ghost use Rattle.bpf_text_lines.specs.SlotLines.{lines_taking, lines_by_slot};

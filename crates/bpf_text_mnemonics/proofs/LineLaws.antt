@@ -1,9 +1,11 @@
 -- The lines of a text are those that were joined by newlines, and printed lines say what they are.
-use Rattle.std.proofs.Common.{◌≡◌, ℕ, ◌+◌, ◌≤◌, Bool, true, false, ◌&&◌, ◌==◌, not, List, [], ◌∷◌, ◌++◌, refl, sym, ap, ◌∙◌, arith}
+use Rattle.std.proofs.Common.{◌≡◌, ℕ, ◌+◌, ◌≤◌, Bool, true, false, ◌&&◌, ◌==◌, not}
+use Rattle.std.proofs.Common.{List, [], ◌∷◌, ◌++◌, refl, sym, ap, ◌∙◌, arith}
 use Rattle.std.specs.Prelude.{nat_le}
 use Rattle.std.specs.List.{list_all}
 use Rattle.std.proofs.lemmas.Bool.{ne_eqb, leb-true, and_parts, cond-false}
-use Rattle.bpf_text_lex.specs.Lines.{with_front, lines_of, before_comment, is_blank, trim_start, trim_end, trim, content_of, with_content, contents_from}
+use Rattle.bpf_text_lex.specs.Lines.{with_front, lines_of, before_comment, is_blank, trim_start}
+use Rattle.bpf_text_lex.specs.Lines.{trim_end, trim, content_of, with_content, contents_from}
 use Rattle.bpf_text_lex.proofs.LineLaws.{trim_end-kept}
 use Rattle.bpf_text_mnemonics.proofs.SolidWords.{in_line, is_solid, Ends, Line}
 

@@ -1,5 +1,7 @@
 -- The first line of a unit is read back as its sizes.
-use Rattle.std.proofs.Common.{◌≡◌, ℕ, suc, ◌+◌, ◌-◌, ◌*◌, ◌^◌, ◌<◌, ◌≤◌, true, ◌&&◌, cond, List, [], ◌∷◌, ◌++◌, map, length, codes, flat_map, Ok, Err, refl, sym, ap, ◌∙◌, append_assoc, append-nil, subst, arith, bytes_eq, decimal}
+use Rattle.std.proofs.Common.{◌≡◌, ℕ, suc, ◌+◌, ◌-◌, ◌*◌, ◌^◌, ◌<◌, ◌≤◌, true, ◌&&◌, cond, List, []}
+use Rattle.std.proofs.Common.{◌∷◌, ◌++◌, map, length, codes, flat_map, Ok, Err, refl, sym, ap, ◌∙◌}
+use Rattle.std.proofs.Common.{append_assoc, append-nil, subst, arith, bytes_eq, decimal}
 use Rattle.std.specs.Prelude.{nat_le, sum}
 use Rattle.std.specs.List.{list_all}
 use Rattle.std.proofs.lemmas.Bool.{leb-true, and_parts, and_from, cond-true, cond-false, or_left}
@@ -15,7 +17,8 @@ use Rattle.bpf_text_lex.specs.Fields.{as_field, numbers_in, fields_of}
 use Rattle.bpf_insn_types.specs.Limits.{sizes_fit}
 use Rattle.bpf_text_lex.specs.Head.{as_sizes, head_of}
 use Rattle.bpf_text_mnemonics.specs.PrintedLines.{size_spelling, head_spelling}
-use Rattle.bpf_text_mnemonics.proofs.SolidWords.{in_line, is_solid, solids_in_line, all_append, Ends, ends_behind, ends_word as ends_solid, Line}
+use Rattle.bpf_text_mnemonics.proofs.SolidWords.{in_line, is_solid, solids_in_line, all_append, Ends}
+use Rattle.bpf_text_mnemonics.proofs.SolidWords.{ends_behind, ends_word as ends_solid, Line}
 use Rattle.bpf_text_mnemonics.proofs.PrintedInsns.{decimal_solid, decimal_short}
 use Rattle.bpf_text_mnemonics.proofs.LineLaws.{solid_no_blank}
 

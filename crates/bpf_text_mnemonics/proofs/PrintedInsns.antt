@@ -1,5 +1,6 @@
 -- Instructions are printed as lines.
-use Rattle.std.proofs.Common.{◌≡◌, ℕ, suc, ℤ, pos, negsuc, ◌+◌, ◌<◌, ◌≤◌, ◌^◌, true, List, [], ◌∷◌, ◌++◌, length, refl, ap, arith}
+use Rattle.std.proofs.Common.{◌≡◌, ℕ, suc, ℤ, pos, negsuc, ◌+◌, ◌<◌, ◌≤◌, ◌^◌, true}
+use Rattle.std.proofs.Common.{List, [], ◌∷◌, ◌++◌, length, refl, ap, arith}
 use Rattle.std.specs.Fmt.{decimal, signed_decimal}
 use Rattle.std.specs.List.{list_all}
 use Rattle.std.proofs.lemmas.List.{length-append}
@@ -24,7 +25,8 @@ use Rattle.bpf_text_mnemonics.specs.PrintedLines.{distance_spelling, value_spell
 use Rattle.bpf_text_lex.proofs.SpellingLaws.{decimal_digits}
 use Rattle.bpf_text_mnemonics.proofs.Bounds.{InBound, far_bound}
 use Rattle.bpf_text_mnemonics.proofs.WideLaws.{wide_fits}
-use Rattle.bpf_text_mnemonics.proofs.SolidWords.{in_line, is_solid, solids_in_line, all_append, Ends, ends_behind, ends_word, Line, Front, digits_solid}
+use Rattle.bpf_text_mnemonics.proofs.SolidWords.{in_line, is_solid, solids_in_line, all_append, Ends}
+use Rattle.bpf_text_mnemonics.proofs.SolidWords.{ends_behind, ends_word, Line, Front, digits_solid}
 use Rattle.bpf_text_mnemonics.proofs.MnemonicFronts.{mnemonic_front}
 
 pub decimal_solid : (n : ℕ) → n < 2 ^ 64 → list_all is_solid (decimal n) ≡ true

@@ -5,7 +5,8 @@ ghost use Rattle.std.specs.Int.{w16};
 ghost use Rattle.std.specs.List.{flat_map};
 ghost use Rattle.std.specs.String.{string_bytes};
 ghost use Rattle.bpf_text_mnemonics.specs.MnemonicWords.{mnemonic_word};
-ghost use Rattle.bpf_text_mnemonics.specs.PrintedLines.{distance_spelling, value_spelling, operands_spelling, insn_line, head_line, size_spelling};
+ghost use Rattle.bpf_text_mnemonics.specs.PrintedLines.{distance_spelling, value_spelling, operands_spelling};
+ghost use Rattle.bpf_text_mnemonics.specs.PrintedLines.{insn_line, head_line, size_spelling};
 
 use crate::mnemonic::Mnemonic;
 use crate::statement::{mnemonic_of, operands_of};

@@ -19,7 +19,8 @@ use Rattle.bpf_text_operands.specs.declared.kind.Kind.TheVariants as kind
 use Rattle.bpf_text_operands.specs.Statements.{with_operands, insn_of_line}
 use Rattle.bpf_text_operands.proofs.MnemonicLaws.{exit_back}
 use Rattle.bpf_text_lex.proofs.ResultLaws.{same_ok}
-use Rattle.bpf_text_operands.proofs.LineBack.{line_one, line_two, line_three, reg_reads, imm_reads, near_reads, far_reads, address_reads, imm_operand, reg_operand, wide_reads}
+use Rattle.bpf_text_operands.proofs.LineBack.{line_one, line_two, line_three, reg_reads, imm_reads, near_reads}
+use Rattle.bpf_text_operands.proofs.LineBack.{far_reads, address_reads, imm_operand, reg_operand, wide_reads}
 use Rattle.bpf_text_mnemonics.proofs.WideLaws.{wide_low, wide_high, wide_fits}
 
 module _ (find : List ℕ → Option ℕ) (slot : ℕ) where

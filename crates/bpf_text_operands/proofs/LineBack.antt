@@ -1,5 +1,6 @@
 -- The line of an instruction is read back as it.
-use Rattle.std.proofs.Common.{◌≡◌, ℕ, suc, ℤ, pos, negsuc, ◌<◌, ◌≤◌, ◌^◌, true, false, ◌==◌, ◌-◌, get_or, List, [], ◌∷◌, ◌++◌, length, Ok, Option, Some, refl, ap, ◌∙◌, append_assoc, arith}
+use Rattle.std.proofs.Common.{◌≡◌, ℕ, suc, ℤ, pos, negsuc, ◌<◌, ◌≤◌, ◌^◌, true, false, ◌==◌, ◌-◌, get_or, List}
+use Rattle.std.proofs.Common.{[], ◌∷◌, ◌++◌, length, Ok, Option, Some, refl, ap, ◌∙◌, append_assoc, arith}
 use Rattle.std.specs.Prelude.{FitsSigned, nat_lt}
 use Rattle.std.specs.Char.{is_ascii_digit}
 use Rattle.std.specs.List.{list_all}
@@ -21,10 +22,14 @@ use Rattle.bpf_text_operands.specs.declared.kind.Kind.{Kind}
 use Rattle.bpf_text_operands.specs.declared.kind.Kind.TheVariants as kind
 use Rattle.bpf_text_operands.specs.declared.kind.Kinds.TheVariants as kinds
 use Rattle.bpf_text_operands.specs.SignedNumbers.{is_register}
-use Rattle.bpf_text_operands.specs.Operands.{kinds_of, pair, as_reg, as_imm, as_wide, as_distance, as_far_distance, value_at, cut_comma, one_operand, two_operands, three_operands, both_at, three_at, operands_at}
-use Rattle.bpf_text_operands.specs.Statements.{statement_at, insn_of_mnemonic, some_insn, built, with_operands, insn_of_line}
+use Rattle.bpf_text_operands.specs.Operands.{kinds_of, pair, as_reg, as_imm, as_wide, as_distance, as_far_distance}
+use Rattle.bpf_text_operands.specs.Operands.{value_at, cut_comma, one_operand, two_operands, three_operands}
+use Rattle.bpf_text_operands.specs.Operands.{both_at, three_at, operands_at}
+use Rattle.bpf_text_operands.specs.Statements.{statement_at, insn_of_mnemonic, some_insn}
+use Rattle.bpf_text_operands.specs.Statements.{built, with_operands, insn_of_line}
 use Rattle.bpf_text_operands.proofs.MnemonicLaws.{HasWord, mnemonic_back}
-use Rattle.bpf_text_operands.proofs.PlainLaws.{Plain, plain-append, plain-digits, plain-no_comma, trim_start-text, trim_start-plain, trim-plain, cut_back}
+use Rattle.bpf_text_operands.proofs.PlainLaws.{Plain, plain-append, plain-digits, plain-no_comma, trim_start-text}
+use Rattle.bpf_text_operands.proofs.PlainLaws.{trim_start-plain, trim-plain, cut_back}
 use Rattle.bpf_text_operands.proofs.ValueLaws.{register_decimal, signed_back, distance_back, address_back}
 use Rattle.bpf_text_mnemonics.proofs.Bounds.{InBound, near_bound, far_bound}
 

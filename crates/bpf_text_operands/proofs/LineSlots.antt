@@ -1,5 +1,6 @@
 -- A line takes the slots of the instruction that it is.
-use Rattle.std.proofs.Common.{◌≡◌, ℕ, ℤ, ◌-◌, ◌^◌, Bool, true, false, cond, ◌&&◌, ◌||◌, ◌==◌, List, length, drop, Option, Some, None, Result, Ok, Err, refl, sym, ap, ◌∙◌}
+use Rattle.std.proofs.Common.{◌≡◌, ℕ, ℤ, ◌-◌, ◌^◌, Bool, true, false, cond, ◌&&◌, ◌||◌, ◌==◌, List, length}
+use Rattle.std.proofs.Common.{drop, Option, Some, None, Result, Ok, Err, refl, sym, ap, ◌∙◌}
 use Rattle.std.specs.Prelude.{is_ok}
 use Rattle.std.proofs.lemmas.Bool.{and_from, or_left, or_right, cond-true}
 use Rattle.bpf_insn_types.specs.declared.insn.ImmKind.{ImmKind}
@@ -24,9 +25,14 @@ use Rattle.bpf_text_operands.specs.declared.kind.Kind.{Kind}
 use Rattle.bpf_text_operands.specs.declared.kind.Kind.TheVariants as kind
 use Rattle.bpf_text_operands.specs.declared.kind.Kinds.{Kinds}
 use Rattle.bpf_text_operands.specs.declared.kind.Kinds.TheVariants as kinds
-use Rattle.bpf_text_operands.specs.SignedNumbers.{is_register, register_at, ahead, back, signed_at, is_ahead, is_offset, offset_at, to_label, distance_at}
-use Rattle.bpf_text_operands.specs.Operands.{kinds_of, pair, as_reg, as_imm, as_wide, as_distance, as_far_distance, as_address, is_bracketed, inside, base_part, offset_part, value_at, cut_comma, one_operand, two_operands, three_operands, both_at, three_at, operands_at, stands, both_stand, three_stand, all_stand}
-use Rattle.bpf_text_operands.specs.Statements.{statement_at, two_slots_of, insn_of_mnemonic, some_insn, built, with_operands, insn_of_line, mnemonic_slots, slots_where, slots_at}
+use Rattle.bpf_text_operands.specs.SignedNumbers.{is_register, register_at, ahead, back, signed_at, is_ahead}
+use Rattle.bpf_text_operands.specs.SignedNumbers.{is_offset, offset_at, to_label, distance_at}
+use Rattle.bpf_text_operands.specs.Operands.{kinds_of, pair, as_reg, as_imm, as_wide, as_distance, as_far_distance}
+use Rattle.bpf_text_operands.specs.Operands.{as_address, is_bracketed, inside, base_part, offset_part, value_at}
+use Rattle.bpf_text_operands.specs.Operands.{cut_comma, one_operand, two_operands, three_operands, both_at, three_at}
+use Rattle.bpf_text_operands.specs.Operands.{operands_at, stands, both_stand, three_stand, all_stand}
+use Rattle.bpf_text_operands.specs.Statements.{statement_at, two_slots_of, insn_of_mnemonic, some_insn, built}
+use Rattle.bpf_text_operands.specs.Statements.{with_operands, insn_of_line, mnemonic_slots, slots_where, slots_at}
 
 -- ---- what is read has its form
 

@@ -1,5 +1,6 @@
 -- Looking for a word in a table, as a loop does.
-use Rattle.std.proofs.Common.{◌≡◌, ℕ, zero, suc, ◌+◌, ◌<◌, false, List, [], ◌∷◌, length, drop, get_or, Option, sym, ◌∙◌, refl, add-one, arith}
+use Rattle.std.proofs.Common.{◌≡◌, ℕ, zero, suc, ◌+◌, ◌<◌, false, List, [], ◌∷◌, length}
+use Rattle.std.proofs.Common.{drop, get_or, Option, sym, ◌∙◌, refl, add-one, arith}
 use Rattle.std.specs.Str.{bytes_eq}
 use Rattle.bpf_text_operands.specs.declared.stem.Stem.{Stem}
 use Rattle.bpf_text_operands.specs.Stems.{stem_word, first_stem}

@@ -1,5 +1,7 @@
 -- Each operand is read back from its spelling.
-use Rattle.std.proofs.Common.{◌≡◌, ℕ, suc, ℤ, pos, negsuc, ◌+◌, ◌-◌, ◌<◌, ◌≤◌, ◌^◌, Bool, true, false, cond, ◌&&◌, ◌==◌, List, [], ◌∷◌, ◌++◌, length, take, drop, get_or, Result, Ok, Err, Option, refl, ap, ◌∙◌, arith}
+use Rattle.std.proofs.Common.{◌≡◌, ℕ, suc, ℤ, pos, negsuc, ◌+◌, ◌-◌, ◌<◌, ◌≤◌, ◌^◌, Bool, true}
+use Rattle.std.proofs.Common.{false, cond, ◌&&◌, ◌==◌, List, [], ◌∷◌, ◌++◌, length, take, drop}
+use Rattle.std.proofs.Common.{get_or, Result, Ok, Err, Option, refl, ap, ◌∙◌, arith}
 use Rattle.std.specs.Prelude.{nat_lt, FitsSigned}
 use Rattle.std.specs.Char.{is_ascii_digit}
 use Rattle.std.specs.Fmt.{decimal, signed_decimal}
@@ -17,8 +19,10 @@ use Rattle.bpf_text_lex.specs.declared.text_error.TextFault.TheVariants as fault
 use Rattle.bpf_text_mnemonics.specs.declared.value.Value.{Value}
 use Rattle.bpf_text_mnemonics.specs.declared.value.Value.TheVariants as value
 use Rattle.bpf_text_mnemonics.specs.PrintedLines.{distance_spelling, value_spelling}
-use Rattle.bpf_text_operands.specs.SignedNumbers.{as_register, register_at, ahead, back, signed_at, offset_at, distance_at}
-use Rattle.bpf_text_operands.specs.Operands.{pair, as_address, is_sign, is_bracketed, inside, base_part, offset_part, address_at}
+use Rattle.bpf_text_operands.specs.SignedNumbers.{as_register, register_at, ahead, back}
+use Rattle.bpf_text_operands.specs.SignedNumbers.{signed_at, offset_at, distance_at}
+use Rattle.bpf_text_operands.specs.Operands.{pair, as_address, is_sign, is_bracketed, inside}
+use Rattle.bpf_text_operands.specs.Operands.{base_part, offset_part, address_at}
 use Rattle.bpf_text_mnemonics.proofs.Bounds.{InBound}
 
 -- digits have no sign

@@ -1,5 +1,6 @@
 -- The operands of a line: what kinds a mnemonic takes, and what a word of a kind means.
-use Rattle.std.specs.Prelude.{ℕ, ℤ, ◌+◌, ◌-◌, ◌^◌, ◌==◌, ◌&&◌, ◌||◌, nat_lt, nat_le, Bool, false, if◌then◌else◌, List, length, take, drop, slice_index, position, Option, Some, None, is_ok, Result, Ok, Err}
+use Rattle.std.specs.Prelude.{ℕ, ℤ, ◌+◌, ◌-◌, ◌^◌, ◌==◌, ◌&&◌, ◌||◌, nat_lt, nat_le, Bool, false, if◌then◌else◌, List}
+use Rattle.std.specs.Prelude.{length, take, drop, slice_index, position, Option, Some, None, is_ok, Result, Ok, Err}
 use Rattle.std.specs.List.{position_or_len}
 use Rattle.bpf_insn_types.specs.declared.insn.ImmKind.TheVariants as load
 use Rattle.bpf_text_lex.specs.Lines.{trim}
@@ -19,7 +20,8 @@ use Rattle.bpf_text_operands.specs.declared.kind.Kind.{Kind}
 use Rattle.bpf_text_operands.specs.declared.kind.Kind.TheVariants as kind
 use Rattle.bpf_text_operands.specs.declared.kind.Kinds.{Kinds}
 use Rattle.bpf_text_operands.specs.declared.kind.Kinds.TheVariants as kinds
-use Rattle.bpf_text_operands.specs.SignedNumbers.{is_register, register_at, signed_at, is_offset, offset_at, distance_at}
+use Rattle.bpf_text_operands.specs.SignedNumbers.{is_register, register_at, signed_at}
+use Rattle.bpf_text_operands.specs.SignedNumbers.{is_offset, offset_at, distance_at}
 
 -- the kinds of operands that a mnemonic takes
 abbrev pub kinds_of : Mnemonic → Kinds

@@ -1,5 +1,6 @@
 -- What a line that isn't a label means: the instruction of its mnemonic and operands.
-use Rattle.std.specs.Prelude.{ℕ, ◌%◌, ◌/◌, ◌^◌, if◌then◌else◌, List, take, drop, Option, Some, None, pos, Result, Ok, Err}
+use Rattle.std.specs.Prelude.{ℕ, ◌%◌, ◌/◌, ◌^◌, if◌then◌else◌, List, take, drop}
+use Rattle.std.specs.Prelude.{Option, Some, None, pos, Result, Ok, Err}
 use Rattle.std.specs.Int.{w32, cast_signed}
 use Rattle.std.specs.List.{position_or_len}
 use Rattle.bpf_insn_types.specs.declared.insn.ImmKind.{ImmKind}

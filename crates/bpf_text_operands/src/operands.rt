@@ -1,10 +1,14 @@
 //! The operands of a line.
 
-ghost use Rattle.std.specs.Prelude.{◌≡◌, ◌<◌, ◌≤◌, ◌-◌, ◌^◌, Some, None, IfSome, IfNone, IfOk, FitsSigned, length, position, ◌==◌};
+ghost use Rattle.std.specs.Prelude.{◌≡◌, ◌<◌, ◌≤◌, ◌-◌, ◌^◌, Some, None, IfSome, IfNone};
+ghost use Rattle.std.specs.Prelude.{IfOk, FitsSigned, length, position, ◌==◌};
 ghost use Rattle.std.specs.Int.{w16};
 ghost use Rattle.bpf_text_operands.specs.LabelTable.{label_slots};
 ghost use Rattle.bpf_text_operands.specs.SignedNumbers.{register_at, signed_at, offset_at, distance_at};
-ghost use Rattle.bpf_text_operands.specs.Operands.{pair, as_reg, as_imm, as_wide, as_distance, as_far_distance, is_sign, is_bracketed, inside, base_part, offset_part, address_at, value_at, cut_comma, both_at, three_at, operands_at, stands, both_stand, three_stand, all_stand};
+ghost use Rattle.bpf_text_operands.specs.Operands.{pair, as_reg, as_imm, as_wide, as_distance, as_far_distance};
+ghost use Rattle.bpf_text_operands.specs.Operands.{is_sign, is_bracketed, inside, base_part, offset_part, address_at};
+ghost use Rattle.bpf_text_operands.specs.Operands.{value_at, cut_comma, both_at, three_at, operands_at, stands};
+ghost use Rattle.bpf_text_operands.specs.Operands.{both_stand, three_stand, all_stand};
 ghost use Rattle.bpf_text_lex.specs.Fields.{field_of};
 
 use crate::kind::{Kind, Kinds};

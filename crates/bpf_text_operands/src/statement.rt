@@ -2,7 +2,8 @@
 
 ghost use Rattle.std.specs.Prelude.{◌≡◌, Some, None, IfSome, IfNone, ◌≤◌};
 ghost use Rattle.bpf_text_operands.specs.LabelTable.{label_slots};
-ghost use Rattle.bpf_text_operands.specs.Statements.{first_word, behind_word, statement_at, insn_of_line, mnemonic_slots, slots_at, built};
+ghost use Rattle.bpf_text_operands.specs.Statements.{first_word, behind_word, statement_at, insn_of_line};
+ghost use Rattle.bpf_text_operands.specs.Statements.{mnemonic_slots, slots_at, built};
 
 use crate::building::insn_of_mnemonic;
 use crate::kind::kinds_of;

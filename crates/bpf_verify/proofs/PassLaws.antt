@@ -1,5 +1,6 @@
 -- A pass over a program's slots, step by step.
-use Rattle.std.proofs.Common.{◌≡◌, ℕ, zero, suc, ◌+◌, ◌-◌, ◌<◌, ◌≤◌, Bool, true, false, List, [], ◌∷◌, ◌++◌, length, get_or, refl, ap, sym, ◌∙◌, subst, arith, add-one, Option, Some, None, is_some, take}
+use Rattle.std.proofs.Common.{◌≡◌, ℕ, zero, suc, ◌+◌, ◌-◌, ◌<◌, ◌≤◌, Bool, true, false, List, [], ◌∷◌, ◌++◌, length}
+use Rattle.std.proofs.Common.{get_or, refl, ap, sym, ◌∙◌, subst, arith, add-one, Option, Some, None, is_some, take}
 use Rattle.std.specs.Prelude.{nat_lt}
 use Rattle.std.proofs.lemmas.Bool.Decides.{nat_tests}
 use Rattle.bpf_insn_types.specs.Slots.{slots_of}
@@ -8,7 +9,8 @@ use Rattle.bpf_insn_types.specs.Program.{Program, insn_at, slot_count, named_by,
 use Rattle.bpf_verify_model.specs.declared.rule.Rule.{Rule}
 use Rattle.bpf_verify_model.specs.declared.state.State.{State}
 use Rattle.bpf_verify_model.specs.States.{known_main_entry}
-use Rattle.bpf_verify_model.specs.Rules.{named_at, with_target, targets_in, slot_fault, insn_fault, state_fault, callback_fault, exit_fault, or_else, reached, fault_of}
+use Rattle.bpf_verify_model.specs.Rules.{named_at, with_target, targets_in, slot_fault, insn_fault, state_fault}
+use Rattle.bpf_verify_model.specs.Rules.{callback_fault, exit_fault, or_else, reached, fault_of}
 use Rattle.bpf_verify_model.specs.Flow.{flow}
 use Rattle.bpf_verify_model.specs.Inflow.{flow_unless, flow_if_reached, flow_from, received_all, entry, incoming}
 use Rattle.bpf_verify_model.specs.Accepted.{BrokenRule, unless_earlier, fault_at_insn, fault_within}
@@ -17,7 +19,8 @@ use Rattle.bpf_verify.specs.declared.error.VerifyError.TheVariants.{Refused, Mem
 use Rattle.bpf_verify.specs.declared.layout.Layout.{Layout}
 use Rattle.bpf_verify.specs.Layout.{IsLayout}
 use Rattle.bpf_verify.specs.Passing.{InsnStartsAt, out_of, Passed, IsFault}
-use Rattle.bpf_insn_types.proofs.ProgramLaws.{slots_some, slots_two, slot_count-more, slot_count-front, insn_at-index, insn_at-index_inner}
+use Rattle.bpf_insn_types.proofs.ProgramLaws.{slots_some, slots_two, slot_count-more, slot_count-front}
+use Rattle.bpf_insn_types.proofs.ProgramLaws.{insn_at-index, insn_at-index_inner}
 use Rattle.bpf_verify.proofs.StartLaws.{get_or-push-below, get_or-push-at}
 
 -- the least rule from its parts

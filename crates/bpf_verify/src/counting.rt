@@ -1,6 +1,7 @@
 //! How many instructions each function takes at most.
 
-ghost use Rattle.std.specs.Prelude.{◌≡◌, ℕ, ◌<◌, ◌≤◌, ◌∷◌, [], ◌++◌, map, length, replicate, slice_set, slice_index_or, IfOk, IfErr, OnOk};
+ghost use Rattle.std.specs.Prelude.{◌≡◌, ℕ, ◌<◌, ◌≤◌, ◌∷◌, [], ◌++◌, map, length, replicate};
+ghost use Rattle.std.specs.Prelude.{slice_set, slice_index_or, IfOk, IfErr, OnOk};
 ghost use Rattle.bpf_insn_types.specs.Program.{slot_count};
 ghost use Rattle.bpf_verify_model.specs.Count.{behind_jump, through, longest, JumpsForward};
 ghost use Rattle.bpf_verify.specs.Counting.{most_at, AreLongest};

@@ -1,6 +1,7 @@
 //! Where instructions stand, and in which functions.
 
-ghost use Rattle.std.specs.Prelude.{◌≡◌, ◌<◌, ◌≤◌, ◌&&◌, false, if◌then◌else◌, ◌++◌, ◌∷◌, [], length, slice_index_or, option_to_list, IfSome, IfNone, IfOk, IfErr, OnOk};
+ghost use Rattle.std.specs.Prelude.{◌≡◌, ◌<◌, ◌≤◌, ◌&&◌, false, if◌then◌else◌, ◌++◌, ◌∷◌, [], length, slice_index_or};
+ghost use Rattle.std.specs.Prelude.{option_to_list, IfSome, IfNone, IfOk, IfErr, OnOk};
 ghost use Rattle.bpf_insn_types.specs.Program.{slot_count};
 ghost use Rattle.bpf_verify.specs.SlotFlags.{slot_flagged, StartFlags, NamedFlags};
 ghost use Rattle.bpf_verify.specs.Layout.{IsLayout};

@@ -5,7 +5,8 @@ ghost use Rattle.std.specs.Prelude.{◌≡◌, ℕ, ◌+◌, ◌<◌, ◌≤◌,
 ghost use Rattle.std.specs.List.{list_any};
 ghost use Rattle.bpf_insn_types.specs.Limits.{AreSizes};
 ghost use Rattle.bpf_insn_types.specs.Program.{slot_count, insn_at, function_of, leads_to};
-ghost use Rattle.bpf_verify_model.specs.Rules.{leads_later, jumps_astray, falls_off, starts, names_none, targets_in, with_target, slot_fault, reached, state_fault, exit_fault, fault_of};
+ghost use Rattle.bpf_verify_model.specs.Rules.{leads_later, jumps_astray, falls_off, starts, names_none, targets_in};
+ghost use Rattle.bpf_verify_model.specs.Rules.{with_target, slot_fault, reached, state_fault, exit_fault, fault_of};
 ghost use Rattle.bpf_verify_model.specs.Accepted.{fault_within};
 ghost use Rattle.bpf_step_ir.specs.Translation.{op_at, AreOps};
 ghost use Rattle.bpf_verify.specs.Layout.{IsLayout, function_starting_at};

@@ -1,6 +1,7 @@
 -- Longest paths: past the end there is none, what is known of later slots alone matters, and one isn't longer than
 -- there are slots.
-use Rattle.std.proofs.Common.{◌≡◌, ℕ, zero, suc, ◌+◌, ◌<◌, ◌≤◌, max, List, refl, ap, sym, ◌∙◌, arith, Option, Some, None}
+use Rattle.std.proofs.Common.{◌≡◌, ℕ, zero, suc, ◌+◌, ◌<◌, ◌≤◌, max, List, refl}
+use Rattle.std.proofs.Common.{ap, sym, ◌∙◌, arith, Option, Some, None}
 use Rattle.bpf_insn_types.specs.declared.insn.Insn.{Insn}
 use Rattle.bpf_insn_types.specs.declared.insn.Insn.TheVariants.{Ja, Ja32, Jump, Exit}
 use Rattle.bpf_insn_types.specs.Slots.{slots_of}

@@ -1,5 +1,6 @@
 -- Which programs are accepted, and the first fault of the others.
-use Rattle.std.specs.Prelude.{◌≡◌, ℕ, zero, suc, ◌<◌, ◌≤◌, ◌==◌, Bool, false, not, ◌||◌, nat_lt, if◌then◌else◌, Option, Some, None}
+use Rattle.std.specs.Prelude.{◌≡◌, ℕ, zero, suc, ◌<◌, ◌≤◌, ◌==◌, Bool, false, not}
+use Rattle.std.specs.Prelude.{◌||◌, nat_lt, if◌then◌else◌, Option, Some, None}
 use Rattle.bpf_insn_types.specs.Limits.{sizes_fit}
 use Rattle.bpf_insn_types.specs.declared.insn.Insn.{Insn}
 use Rattle.bpf_insn_types.specs.Program.{Program, insn_at, slot_count}

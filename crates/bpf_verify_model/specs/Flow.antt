@@ -1,5 +1,6 @@
 -- What flows from a slot to later ones.
-use Rattle.std.specs.Prelude.{ℕ, ℤ, pos, negsuc, ◌+◌, ◌+ℤ◌, ◌-◌, ◌*◌, ◌^◌, ◌==◌, Bool, nat_le, if◌then◌else◌, min, max, List, slice_get, slice_set, Option, Some, None}
+use Rattle.std.specs.Prelude.{ℕ, ℤ, pos, negsuc, ◌+◌, ◌+ℤ◌, ◌-◌, ◌*◌, ◌^◌, ◌==◌, Bool, nat_le, if◌then◌else◌}
+use Rattle.std.specs.Prelude.{min, max, List, slice_get, slice_set, Option, Some, None}
 use Rattle.std.specs.Int.{cast_unsigned, w32}
 use Rattle.bpf_insn_types.specs.declared.insn.Width.{Width}
 use Rattle.bpf_insn_types.specs.declared.insn.Width.TheVariants.{W32, W64}
@@ -12,20 +13,25 @@ use Rattle.bpf_insn_types.specs.declared.insn.AtomicOp.TheVariants.{Fetch, Xchg,
 use Rattle.bpf_insn_types.specs.declared.insn.Operand.{Operand}
 use Rattle.bpf_insn_types.specs.declared.insn.Operand.TheVariants.{Imm, Reg}
 use Rattle.bpf_insn_types.specs.declared.insn.ImmKind.{ImmKind}
-use Rattle.bpf_insn_types.specs.declared.insn.ImmKind.TheVariants.{Number as NumberKind, Code as CodeKind, Map as MapKind, MapValue}
+use Rattle.bpf_insn_types.specs.declared.insn.ImmKind.TheVariants.{Number as NumberKind, Code as CodeKind}
+use Rattle.bpf_insn_types.specs.declared.insn.ImmKind.TheVariants.{Map as MapKind, MapValue}
 use Rattle.bpf_insn_types.specs.declared.insn.Insn.{Insn}
-use Rattle.bpf_insn_types.specs.declared.insn.Insn.TheVariants.{Alu, Neg, Movsx, Endian, Ja, Ja32, Jump, Call, Exit, Load, LoadSx, StoreImm, Store, Atomic, LoadImm}
+use Rattle.bpf_insn_types.specs.declared.insn.Insn.TheVariants.{Alu, Neg, Movsx, Endian, Ja, Ja32, Jump, Call, Exit}
+use Rattle.bpf_insn_types.specs.declared.insn.Insn.TheVariants.{Load, LoadSx, StoreImm, Store, Atomic, LoadImm}
 use Rattle.bpf_insn_types.specs.Slots.{slots_of}
 use Rattle.bpf_insn_types.specs.Words.{word_of}
 use Rattle.bpf_insn_types.specs.Program.{moved, code_target}
 use Rattle.bpf_insn_types.specs.Sizes.{bytes_of}
 use Rattle.value_range_model.specs.Spans.{Span, exact, top, norm}
-use Rattle.value_range_model.specs.declared.operation.Operation.TheVariants.{Alu as AluOperation, Neg as NegOperation, Movsx as MovsxOperation, Endian as EndianOperation}
+use Rattle.value_range_model.specs.declared.operation.Operation.TheVariants.{Alu as AluOperation, Neg as NegOperation}
+use Rattle.value_range_model.specs.declared.operation.Operation.TheVariants.{Movsx as MovsxOperation}
+use Rattle.value_range_model.specs.declared.operation.Operation.TheVariants.{Endian as EndianOperation}
 use Rattle.value_range_model.specs.declared.condition.Condition.TheVariants.{Holds}
 use Rattle.value_range_model.specs.AluRows.{span_of}
 use Rattle.value_range_model.specs.RefineRows.{refined, opposite}
 use Rattle.bpf_verify_model.specs.declared.abstract_value.AbstractValue.{AbstractValue}
-use Rattle.bpf_verify_model.specs.declared.abstract_value.AbstractValue.TheVariants.{Unwritten, Number, Frame, Ctx, Map, Area, AreaOrNull, Code}
+use Rattle.bpf_verify_model.specs.declared.abstract_value.AbstractValue.TheVariants.{Unwritten, Number, Frame, Ctx}
+use Rattle.bpf_verify_model.specs.declared.abstract_value.AbstractValue.TheVariants.{Map, Area, AreaOrNull, Code}
 use Rattle.bpf_verify_model.specs.declared.helper.Helper.{Helper}
 use Rattle.bpf_verify_model.specs.declared.helper.Helper.TheVariants.{Lookup, Loop}
 use Rattle.bpf_verify_model.specs.declared.state.State.{State}

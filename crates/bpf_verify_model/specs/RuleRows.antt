@@ -8,7 +8,8 @@ use Rattle.bpf_insn_types.specs.declared.insn.Operand.TheVariants.{Imm}
 use Rattle.bpf_insn_types.specs.declared.insn.Insn.TheVariants.{Jump, Exit, StoreImm}
 use Rattle.value_range_model.specs.Spans.{exact, norm}
 use Rattle.bpf_verify_model.specs.declared.abstract_value.AbstractValue.{AbstractValue}
-use Rattle.bpf_verify_model.specs.declared.abstract_value.AbstractValue.TheVariants.{Unwritten, Number, Frame, Area, AreaOrNull}
+use Rattle.bpf_verify_model.specs.declared.abstract_value.AbstractValue.TheVariants.{Unwritten, Number, Frame}
+use Rattle.bpf_verify_model.specs.declared.abstract_value.AbstractValue.TheVariants.{Area, AreaOrNull}
 use Rattle.bpf_verify_model.specs.declared.state.State.{State}
 use Rattle.bpf_verify_model.specs.declared.outflow.Outflow.{Outflow}
 use Rattle.bpf_verify_model.specs.declared.rule.Rule.TheVariants.{AccessBounds, CallbackResult}

@@ -1,5 +1,6 @@
 -- The first fault of a program, and the slots up to it.
-use Rattle.std.proofs.Common.{◌≡◌, ℕ, zero, suc, ◌<◌, ◌≤◌, Bool, true, false, not, ◌||◌, List, refl, ap, sym, ◌∙◌, subst, arith, Option, Some, None, is_some}
+use Rattle.std.proofs.Common.{◌≡◌, ℕ, zero, suc, ◌<◌, ◌≤◌, Bool, true, false, not, ◌||◌, List}
+use Rattle.std.proofs.Common.{refl, ap, sym, ◌∙◌, subst, arith, Option, Some, None, is_some}
 use Rattle.std.specs.Prelude.{nat_eq, nat_lt, if◌then◌else◌}
 use Rattle.std.proofs.lemmas.Bool.Decides.{nat_tests}
 use Rattle.bpf_insn_types.specs.declared.insn.Insn.{Insn}
@@ -8,7 +9,8 @@ use Rattle.bpf_insn_types.specs.Program.{Program, insn_at, slot_count}
 use Rattle.bpf_insn_types.proofs.ProgramLaws.{insn_at-end}
 use Rattle.bpf_verify_model.specs.declared.rule.Rule.{Rule}
 use Rattle.bpf_verify_model.specs.declared.rule.Rule.TheVariants.{NoSlot, OverLimits}
-use Rattle.bpf_verify_model.specs.Accepted.{BrokenRule, unless_earlier, fault_at, fault_at_insn, fault_within, first_fault, is_too_large, WithinLimits}
+use Rattle.bpf_verify_model.specs.Accepted.{BrokenRule, unless_earlier, fault_at, fault_at_insn, fault_within}
+use Rattle.bpf_verify_model.specs.Accepted.{first_fault, is_too_large, WithinLimits}
 use Rattle.bpf_verify_model.proofs.JumpLaws.{first_fault-within}
 use Rattle.bpf_verify.proofs.PassLaws.{fault_within-later}
 use Rattle.bpf_verify_origin.specs.Edges.{slots_before, passed_slots}

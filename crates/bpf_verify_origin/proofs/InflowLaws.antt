@@ -1,5 +1,6 @@
 -- Where the edges into each slot come from, as a pass goes on.
-use Rattle.std.proofs.Common.{◌≡◌, ℕ, zero, suc, ◌+◌, ◌<◌, ◌≤◌, Bool, true, false, ◌||◌, List, length, get_or, refl, ap, sym, ◌∙◌, subst, arith, add-one, Option, Some, None, is_some}
+use Rattle.std.proofs.Common.{◌≡◌, ℕ, zero, suc, ◌+◌, ◌<◌, ◌≤◌, Bool, true, false, ◌||◌, List, length, get_or}
+use Rattle.std.proofs.Common.{refl, ap, sym, ◌∙◌, subst, arith, add-one, Option, Some, None, is_some}
 use Rattle.std.specs.Prelude.{nat_eq, nat_lt, replicate}
 use Rattle.std.proofs.lemmas.Bool.Decides.{nat_tests}
 use Rattle.bpf_insn_types.specs.declared.insn.Insn.{Insn}

@@ -1,5 +1,6 @@
 -- What an inspection of a program has.
-use Rattle.std.specs.Prelude.{◌≡◌, ℕ, ◌<◌, ◌≤◌, ◌==◌, ◌||◌, Bool, true, List, length, slice_index_or, Option, Some, None, is_some, nat_le}
+use Rattle.std.specs.Prelude.{◌≡◌, ℕ, ◌<◌, ◌≤◌, ◌==◌, ◌||◌, Bool, true, List, length}
+use Rattle.std.specs.Prelude.{slice_index_or, Option, Some, None, is_some, nat_le}
 use Rattle.std.specs.Option.{option_map}
 use Rattle.bpf_insn_types.specs.Program.{Program, insn_at, slot_count}
 use Rattle.bpf_verify_model.specs.declared.state.State.{State}

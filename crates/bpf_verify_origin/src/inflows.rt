@@ -1,6 +1,7 @@
 //! Where the edges into each slot come from: a table, made in one pass.
 
-ghost use Rattle.std.specs.Prelude.{◌≡◌, ℕ, ◌<◌, ◌≤◌, ◌==◌, ◌++◌, ◌∷◌, [], true, length, replicate, slice_index_or, IfOk, OnOk};
+ghost use Rattle.std.specs.Prelude.{◌≡◌, ℕ, ◌<◌, ◌≤◌, ◌==◌, ◌++◌, ◌∷◌, [], true, length};
+ghost use Rattle.std.specs.Prelude.{replicate, slice_index_or, IfOk, OnOk};
 ghost use Rattle.bpf_insn_types.specs.Program.{slot_count};
 ghost use Rattle.bpf_verify.specs.States.{AreStatesBefore};
 ghost use Rattle.bpf_verify_origin.specs.declared.inflow.Inflow.TheVariants.{Nowhere};

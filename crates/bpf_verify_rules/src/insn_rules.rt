@@ -2,7 +2,10 @@
 //! to V5).
 
 ghost use Rattle.std.specs.Prelude.{◌≡◌, ◌==◌};
-ghost use Rattle.bpf_verify_model.specs.Rules.{jump_distance, goes_on, is_code_kind, is_code_load, calls_no_helper, calls_otherwise, is_outer_kind, loads_outer, count_of_map, has_byte, lacks_map, loads_no_map, fetches_into_r10, writes_r10, insn_fault, is_loop, uses_callbacks, callback_fault};
+ghost use Rattle.bpf_verify_model.specs.Rules.{jump_distance, goes_on, is_code_kind, is_code_load, calls_no_helper};
+ghost use Rattle.bpf_verify_model.specs.Rules.{calls_otherwise, is_outer_kind, loads_outer, count_of_map, has_byte};
+ghost use Rattle.bpf_verify_model.specs.Rules.{lacks_map, loads_no_map, fetches_into_r10, writes_r10, insn_fault};
+ghost use Rattle.bpf_verify_model.specs.Rules.{is_loop, uses_callbacks, callback_fault};
 
 use bpf_insn_types::{AtomicOp, Callee, ImmKind, Insn, Reg};
 use bpf_verify_model::{Helper, Rule};

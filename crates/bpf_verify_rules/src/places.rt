@@ -1,7 +1,9 @@
 //! Where an access may go, by the abstract value of its base.
 
 ghost use Rattle.std.specs.Prelude.{◌≡◌, ◌+ℤ◌, ◌*◌, ◌^◌, ◌≤◌, pos, slice_get};
-ghost use Rattle.bpf_verify_model.specs.Accesses.{is_memory, is_part_of_half, is_misaligned, is_spread, misses_alignment, is_outside_frame, is_outside_map, is_outside, lacks_bytes, caller_lacks, has_unwritten_byte, is_ctx};
+ghost use Rattle.bpf_verify_model.specs.Accesses.{is_memory, is_part_of_half, is_misaligned, is_spread};
+ghost use Rattle.bpf_verify_model.specs.Accesses.{misses_alignment, is_outside_frame, is_outside_map, is_outside};
+ghost use Rattle.bpf_verify_model.specs.Accesses.{lacks_bytes, caller_lacks, has_unwritten_byte, is_ctx};
 
 use bpf_insn_types::FRAME_BYTES;
 use bpf_verify_model::{AbstractValue, State};

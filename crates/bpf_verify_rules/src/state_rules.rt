@@ -3,7 +3,13 @@
 ghost use Rattle.std.specs.Prelude.{◌≡◌, ◌≤◌};
 ghost use Rattle.bpf_verify_model.specs.declared.helper.Helper.TheVariants.{Lookup, Loop};
 ghost use Rattle.bpf_verify_model.specs.Accesses.{memory_access_of};
-ghost use Rattle.bpf_verify_model.specs.Rules.{unwritten_register, unwritten_operand, unwritten_compared, unwritten_arguments, unwritten_operands, reads_unwritten, has_wrong_arithmetic_operands, has_wrong_comparison_operands, compares_with_no_number, stores_no_number, place_fault, bytes_fault, access_fault, is_key_position, is_key, is_map, is_code, is_ctx_argument, has_wrong_loop_arguments, helper_fault, call_fault, operand_fault, state_fault, is_bit, end_fault, exit_fault, or_else};
+ghost use Rattle.bpf_verify_model.specs.Rules.{unwritten_register, unwritten_operand, unwritten_compared};
+ghost use Rattle.bpf_verify_model.specs.Rules.{unwritten_arguments, unwritten_operands, reads_unwritten};
+ghost use Rattle.bpf_verify_model.specs.Rules.{has_wrong_arithmetic_operands, has_wrong_comparison_operands};
+ghost use Rattle.bpf_verify_model.specs.Rules.{compares_with_no_number, stores_no_number, place_fault, bytes_fault};
+ghost use Rattle.bpf_verify_model.specs.Rules.{access_fault, is_key_position, is_key, is_map, is_code, is_ctx_argument};
+ghost use Rattle.bpf_verify_model.specs.Rules.{has_wrong_loop_arguments, helper_fault, call_fault, operand_fault};
+ghost use Rattle.bpf_verify_model.specs.Rules.{state_fault, is_bit, end_fault, exit_fault, or_else};
 
 use crate::access::{access_of, reads, writes};
 use crate::places::{

@@ -1,5 +1,6 @@
 -- Atomic operations go on within the abstract states.
-use Rattle.std.proofs.Common.{◌≡◌, ℕ, ◌+◌, ◌<◌, ◌≤◌, ◌^◌, Bool, true, false, not, Option, Some, None, refl, sym, ap, subst, arith}
+use Rattle.std.proofs.Common.{◌≡◌, ℕ, ◌+◌, ◌<◌, ◌≤◌, ◌^◌, Bool, true, false, not}
+use Rattle.std.proofs.Common.{Option, Some, None, refl, sym, ap, subst, arith}
 use Rattle.std.specs.Prelude.{ℤ, if◌then◌else◌}
 use Rattle.bpf_insn_types.specs.Sizes.{atomic_bytes}
 use Rattle.bpf_insn_types.specs.declared.insn.Width.{Width}
@@ -27,7 +28,8 @@ use Rattle.bpf_verify_model.specs.Flow.{with_fetched, ahead_outflow, flow, known
 use Rattle.bpf_step_model.specs.State.{Value, Word, Machine, register, advanced, with_register, with_frame}
 use Rattle.bpf_step_model.specs.Memory.{Place, InFrame, InMap, written_at, number_at, place}
 use Rattle.bpf_step_model.specs.SoundMachine.{SoundMachine}
-use Rattle.bpf_step_model.specs.Step.{NoStep, tells, atomic_left, changes_frame, request_of, changes_at, changes, may_tell, compared_value, insn_step}
+use Rattle.bpf_step_model.specs.Step.{NoStep, tells, atomic_left, changes_frame, request_of, changes_at}
+use Rattle.bpf_step_model.specs.Step.{changes, may_tell, compared_value, insn_step}
 use Rattle.bpf_step_model.specs.Run.{after_request, part_bytes}
 use Rattle.bpf_verify_sound.specs.Containment.{ContainsValue, Contained}
 use Rattle.bpf_verify_sound.specs.KnownStates.{IsWellFormedState}

@@ -1,5 +1,6 @@
 -- What a comparison says is the abstract state on the edge that it takes.
-use Rattle.std.proofs.Common.{◌≡◌, ℕ, zero, ◌<◌, ◌%◌, ◌^◌, Bool, true, false, not, Option, Some, None, refl, sym, ap, ◌∙◌, subst, arith}
+use Rattle.std.proofs.Common.{◌≡◌, ℕ, zero, ◌<◌, ◌%◌, ◌^◌, Bool, true, false, not, Option}
+use Rattle.std.proofs.Common.{Some, None, refl, sym, ap, ◌∙◌, subst, arith}
 use Rattle.std.specs.Prelude.{ℤ, pos, ◌==◌, if◌then◌else◌, FitsSigned}
 use Rattle.std.specs.Int.{w32}
 use Rattle.std.proofs.lemmas.Int.{ints}
@@ -24,7 +25,8 @@ use Rattle.bpf_verify_model.specs.declared.state.State.{State}
 use Rattle.bpf_verify_model.specs.declared.outflow.BranchStates.{BranchStates}
 use Rattle.bpf_verify_model.specs.States.{known_register, with_known}
 use Rattle.bpf_verify_model.specs.Values.{known_operand, is_number_value, is_null_check, compares}
-use Rattle.bpf_verify_model.specs.Flow.{compared_imm, refines, unrefined_branch, number_branch, register_branch, operand_branch, null_check_branch, branch_states}
+use Rattle.bpf_verify_model.specs.Flow.{compared_imm, refines, unrefined_branch, number_branch, register_branch}
+use Rattle.bpf_verify_model.specs.Flow.{operand_branch, null_check_branch, branch_states}
 use Rattle.bpf_step_model.specs.State.{Value, Word, Area, Machine, register}
 use Rattle.bpf_step_model.specs.Values.{operand_value, on_two_words, comparison_of}
 use Rattle.bpf_verify_sound.specs.Containment.{ContainsValue, Contained, ContainedIf}

@@ -1,5 +1,6 @@
 -- Where each instruction goes on, and that a caller's frame stays: the machine by itself.
-use Rattle.std.proofs.Common.{◌≡◌, ℕ, suc, ◌+◌, ◌≤◌, max, ◌⊎◌, inl, inr, Bool, true, false, Option, Some, None, refl, sym, subst, arith}
+use Rattle.std.proofs.Common.{◌≡◌, ℕ, suc, ◌+◌, ◌≤◌, max, ◌⊎◌, inl, inr, Bool, true}
+use Rattle.std.proofs.Common.{false, Option, Some, None, refl, sym, subst, arith}
 use Rattle.std.specs.Prelude.{ℤ, pos, nat_le, ◌==◌, if◌then◌else◌, slice_get}
 use Rattle.std.proofs.lemmas.Bool.Decides.{nat_tests}
 use Rattle.bpf_insn_types.specs.Sizes.{bytes_of, atomic_bytes}
@@ -12,18 +13,25 @@ use Rattle.bpf_insn_types.specs.declared.insn.Operand.{Operand}
 use Rattle.bpf_insn_types.specs.declared.insn.Callee.{Callee}
 use Rattle.bpf_insn_types.specs.declared.insn.Callee.TheVariants as callee
 use Rattle.bpf_insn_types.specs.declared.insn.Insn.{Insn}
-use Rattle.bpf_insn_types.specs.declared.insn.Insn.TheVariants.{Alu, Neg, Movsx, Endian, Ja, Ja32, Jump, Call, Exit, Load as LoadInsn, LoadSx, StoreImm, Store as StoreInsn, Atomic, LoadImm}
+use Rattle.bpf_insn_types.specs.declared.insn.Insn.TheVariants.{Alu, Neg, Movsx, Endian, Ja, Ja32, Jump, Call}
+use Rattle.bpf_insn_types.specs.declared.insn.Insn.TheVariants.{Exit, Load as LoadInsn, LoadSx, StoreImm}
+use Rattle.bpf_insn_types.specs.declared.insn.Insn.TheVariants.{Store as StoreInsn, Atomic, LoadImm}
 use Rattle.bpf_insn_types.specs.declared.extension.Extension.{Extension}
 use Rattle.bpf_insn_types.specs.declared.extension.Extension.TheVariants.{Zeros, Signs}
 use Rattle.bpf_insn_types.specs.Program.{Program, moved}
 use Rattle.bpf_insn_types.specs.Words.{word_of, negated, moved_signed, in_order}
 use Rattle.bpf_verify_model.specs.Rules.{jump_distance, jump_target, goes_on}
 use Rattle.bpf_verify_model.specs.Count.{behind_jump, through}
-use Rattle.bpf_step_model.specs.State.{Value, Word, Frame, Map, Code, Bytes, Machine, register, advanced, with_register, with_frame}
+use Rattle.bpf_step_model.specs.State.{Value, Word, Frame, Map, Code, Bytes, Machine, register}
+use Rattle.bpf_step_model.specs.State.{advanced, with_register, with_frame}
 use Rattle.bpf_step_model.specs.Memory.{Place, InFrame, InCaller, InMap, number_at, written_at, place}
 use Rattle.bpf_step_model.specs.Values.{operand_value, on_word, result_of, comparison_of}
 use Rattle.bpf_step_model.specs.LoopCalls.{Validity, RefusedBy, Valid, call_validity}
-use Rattle.bpf_step_model.specs.Step.{Load, StepOutcome, NoStep, Next, Asks, Loops, Refuses, Exits, sets, jumps, branches, loaded, caller_number, loads, stores_at, stores, tells, atomic_left, changes_frame, changes_at, compared_value, may_tell, changes, wide_value, key_at, lookup_result, answers, looks_up, loop_call_step, calls_loop, takes_ctx, takes_flags, takes_arguments, loops, calls, ends_with, ends, insn_step}
+use Rattle.bpf_step_model.specs.Step.{Load, StepOutcome, NoStep, Next, Asks, Loops, Refuses, Exits, sets, jumps}
+use Rattle.bpf_step_model.specs.Step.{branches, loaded, caller_number, loads, stores_at, stores, tells, atomic_left}
+use Rattle.bpf_step_model.specs.Step.{changes_frame, changes_at, compared_value, may_tell, changes, wide_value, key_at}
+use Rattle.bpf_step_model.specs.Step.{lookup_result, answers, looks_up, loop_call_step, calls_loop, takes_ctx}
+use Rattle.bpf_step_model.specs.Step.{takes_flags, takes_arguments, loops, calls, ends_with, ends, insn_step}
 
 -- a slot to which an instruction leads
 abbrev pub IsNextSlot : ℕ → Insn → ℕ → Type 0

@@ -1,10 +1,13 @@
 -- Each instruction that breaks no rule goes on within the abstract states.
-use Rattle.std.proofs.Common.{◌≡◌, ℕ, zero, suc, ◌+◌, Bool, true, false, Option, Some, None, is_none, refl, sym, ap, ◌∙◌}
+use Rattle.std.proofs.Common.{◌≡◌, ℕ, zero, suc, ◌+◌, Bool, true, false, Option}
+use Rattle.std.proofs.Common.{Some, None, is_none, refl, sym, ap, ◌∙◌}
 use Rattle.std.specs.Prelude.{ℤ, pos, negsuc, ◌==◌, if◌then◌else◌}
 use Rattle.bpf_insn_types.specs.declared.insn.Callee.{Callee}
 use Rattle.bpf_insn_types.specs.declared.insn.Callee.TheVariants as callee
 use Rattle.bpf_insn_types.specs.declared.insn.Insn.{Insn}
-use Rattle.bpf_insn_types.specs.declared.insn.Insn.TheVariants.{Alu, Neg, Movsx, Endian, Ja, Ja32, Jump, Call, Exit, Load as LoadInsn, LoadSx, StoreImm, Store as StoreInsn, Atomic, LoadImm}
+use Rattle.bpf_insn_types.specs.declared.insn.Insn.TheVariants.{Alu, Neg, Movsx, Endian, Ja, Ja32, Jump, Call}
+use Rattle.bpf_insn_types.specs.declared.insn.Insn.TheVariants.{Exit, Load as LoadInsn, LoadSx, StoreImm}
+use Rattle.bpf_insn_types.specs.declared.insn.Insn.TheVariants.{Store as StoreInsn, Atomic, LoadImm}
 use Rattle.bpf_insn_types.specs.Limits.{sizes_fit}
 use Rattle.bpf_insn_types.specs.Program.{Program, function_of, leads_to}
 use Rattle.bpf_insn_types.specs.WordBounds.{ResultsFit}

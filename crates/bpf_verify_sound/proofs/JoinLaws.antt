@@ -11,7 +11,8 @@ use Rattle.bpf_verify_model.specs.declared.abstract_value.AbstractValue.TheVaria
 use Rattle.bpf_verify_model.specs.declared.state.State.{State}
 use Rattle.bpf_verify_model.specs.States.{joined_values, joined_registers, joined_callers, joined_states}
 use Rattle.bpf_step_model.specs.State.{Value, Unwritten, Word, Frame, Ctx, Map, Area, Code, Bytes, Machine}
-use Rattle.bpf_verify_sound.specs.Containment.{ContainsValue, ContainEach, IsWritten, AreWritten, AreWrittenByCaller, Contained}
+use Rattle.bpf_verify_sound.specs.Containment.{ContainsValue, ContainEach, IsWritten, AreWritten}
+use Rattle.bpf_verify_sound.specs.Containment.{AreWrittenByCaller, Contained}
 
 -- what is kept only where a test holds
 if_kept : (test : Bool) (x : AbstractValue) (v : Value) → (test ≡ true → ContainsValue x v)

@@ -1,5 +1,6 @@
 -- A loop call goes on within the abstract states, and so do its iterations start.
-use Rattle.std.proofs.Common.{◌≡◌, ℕ, zero, suc, ◌+◌, ◌-◌, ◌%◌, ◌^◌, ◌<◌, ◌≤◌, inr, Bool, true, false, not, ◌||◌, replicate, Option, Some, None, is_some, refl, sym, ap, ◌∙◌, subst, arith}
+use Rattle.std.proofs.Common.{◌≡◌, ℕ, zero, suc, ◌+◌, ◌-◌, ◌%◌, ◌^◌, ◌<◌, ◌≤◌, inr, Bool, true, false, not, ◌||◌}
+use Rattle.std.proofs.Common.{replicate, Option, Some, None, is_some, refl, sym, ap, ◌∙◌, subst, arith}
 use Rattle.std.specs.Prelude.{ℤ, negsuc, nat_lt, ◌==◌, if◌then◌else◌}
 use Rattle.std.proofs.lemmas.Bool.Decides.{nat_tests}
 use Rattle.bpf_insn_types.specs.declared.insn.Width.TheVariants.{W32, W64}
@@ -21,11 +22,14 @@ use Rattle.bpf_verify_model.specs.declared.state.State.{State}
 use Rattle.bpf_verify_model.specs.States.{known_register}
 use Rattle.bpf_verify_model.specs.Values.{is_number_value}
 use Rattle.bpf_verify_model.specs.Rules.{is_code, is_ctx_argument, has_wrong_loop_arguments, helper_fault}
-use Rattle.bpf_verify_model.specs.Flow.{known_after_call, most_iterations, known_index, known_ctx, known_callback_entry, enters, edge_to}
-use Rattle.bpf_step_model.specs.State.{Value, Unwritten, Word, Frame, Code, Bytes, Machine, register, advanced, after_call, ctx_value, fresh_frame, callback_entry}
+use Rattle.bpf_verify_model.specs.Flow.{known_after_call, most_iterations, known_index, known_ctx}
+use Rattle.bpf_verify_model.specs.Flow.{known_callback_entry, enters, edge_to}
+use Rattle.bpf_step_model.specs.State.{Value, Unwritten, Word, Frame, Code, Bytes, Machine, register, advanced}
+use Rattle.bpf_step_model.specs.State.{after_call, ctx_value, fresh_frame, callback_entry}
 use Rattle.bpf_step_model.specs.SoundMachine.{SoundValue, SoundMachine}
 use Rattle.bpf_step_model.specs.LoopCalls.{RefusedBy, Valid, count_validity}
-use Rattle.bpf_step_model.specs.Step.{NoStep, Refuses, loop_call_step, calls_loop, takes_ctx, takes_flags, takes_arguments, loops}
+use Rattle.bpf_step_model.specs.Step.{NoStep, Refuses, loop_call_step, calls_loop, takes_ctx}
+use Rattle.bpf_step_model.specs.Step.{takes_flags, takes_arguments, loops}
 use Rattle.bpf_verify_sound.specs.Containment.{ContainsValue, AreWritten, Contained}
 use Rattle.bpf_verify_sound.specs.KnownStates.{HasSpan, IsWellFormedState}
 use Rattle.bpf_verify_sound.specs.Ways.{StepFlows}

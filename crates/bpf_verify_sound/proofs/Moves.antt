@@ -1,5 +1,6 @@
 -- A machine that goes on: after an instruction, with a register set, or at a jump's target.
-use Rattle.std.proofs.Common.{◌≡◌, ℕ, ◌+◌, ◌<◌, inl, inr, Bool, true, false, not, ◌&&◌, Option, Some, None, is_none, refl, sym, subst, arith}
+use Rattle.std.proofs.Common.{◌≡◌, ℕ, ◌+◌, ◌<◌, inl, inr, Bool, true, false, not, ◌&&◌}
+use Rattle.std.proofs.Common.{Option, Some, None, is_none, refl, sym, subst, arith}
 use Rattle.std.specs.Prelude.{nat_lt, ◌==◌, if◌then◌else◌, List}
 use Rattle.std.proofs.lemmas.Bool.Decides.{nat_tests}
 use Rattle.bpf_insn_types.specs.Slots.{slots_of}
@@ -13,7 +14,8 @@ use Rattle.bpf_verify_model.specs.States.{with_known}
 use Rattle.bpf_verify_model.specs.Rules.{leads_later, goes_on, falls_off}
 use Rattle.bpf_verify_model.specs.Flow.{with_known_result, edge_to, ahead_outflow}
 use Rattle.bpf_step_model.specs.State.{Value, Machine, advanced, at_slot, with_register}
-use Rattle.bpf_step_model.specs.Step.{StepOutcome, NoStep, Next, Asks, Loops, Refuses, Exits, sets, jumps, within_function, Request, Load, Store, StoreHalf, Update, Fetch}
+use Rattle.bpf_step_model.specs.Step.{StepOutcome, NoStep, Next, Asks, Loops, Refuses, Exits, sets, jumps}
+use Rattle.bpf_step_model.specs.Step.{within_function, Request, Load, Store, StoreHalf, Update, Fetch}
 use Rattle.bpf_step_model.specs.Run.{after_request}
 use Rattle.bpf_verify_sound.specs.Containment.{ContainsValue, Contained}
 use Rattle.bpf_verify_sound.specs.Ways.{FollowsValue, GoesBy, StepFlows}

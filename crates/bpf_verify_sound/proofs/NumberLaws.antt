@@ -18,7 +18,8 @@ use Rattle.value_range_model.proofs.AluContains.{span_of-contains}
 use Rattle.value_range_model.proofs.RowSpans.{operand-span}
 use Rattle.bpf_verify_model.specs.declared.abstract_value.AbstractValue.{AbstractValue}
 use Rattle.bpf_verify_model.specs.declared.abstract_value.AbstractValue.TheVariants as known
-use Rattle.bpf_verify_model.specs.Values.{known_of_number, known_of_numbers, known_copy, known_position, known_area, known_moved, known_sum, known_result}
+use Rattle.bpf_verify_model.specs.Values.{known_of_number, known_of_numbers, known_copy, known_position}
+use Rattle.bpf_verify_model.specs.Values.{known_area, known_moved, known_sum, known_result}
 use Rattle.bpf_step_model.specs.State.{Value, Word, Frame, Ctx, Map, Area, Code}
 use Rattle.bpf_step_model.specs.Values.{on_word, on_words, copied, within_frame, area_address, shifted, result_of}
 use Rattle.bpf_verify_sound.specs.Containment.{ContainsValue}

@@ -1,5 +1,6 @@
 -- Where an access goes that breaks no rule.
-use Rattle.std.proofs.Common.{◌≡◌, ℕ, ◌+◌, ◌-◌, ◌*◌, ◌/◌, ◌%◌, ◌^◌, ◌<◌, ◌≤◌, zero, suc, Bool, true, false, not, ◌&&◌, ◌||◌, Option, Some, None, refl, sym, ap, ◌∙◌, subst, arith, List, [], ◌∷◌, take}
+use Rattle.std.proofs.Common.{◌≡◌, ℕ, ◌+◌, ◌-◌, ◌*◌, ◌/◌, ◌%◌, ◌^◌, ◌<◌, ◌≤◌, zero, suc, Bool, true, false, not, ◌&&◌}
+use Rattle.std.proofs.Common.{◌||◌, Option, Some, None, refl, sym, ap, ◌∙◌, subst, arith, List, [], ◌∷◌, take}
 use Rattle.std.specs.Prelude.{ℤ, pos, negsuc, ◌+ℤ◌, int_lt, nat_lt, nat_le, ◌==◌, if◌then◌else◌, slice_get}
 use Rattle.std.specs.Ordering.{int_eq}
 use Rattle.std.specs.List.{sum}
@@ -16,10 +17,12 @@ use Rattle.value_range_model.proofs.Multiples.{coarser}
 use Rattle.bpf_verify_model.specs.declared.abstract_value.AbstractValue.{AbstractValue}
 use Rattle.bpf_verify_model.specs.declared.abstract_value.AbstractValue.TheVariants as known
 use Rattle.bpf_verify_model.specs.declared.memory_access.MemoryAccess.{MemoryAccess}
-use Rattle.bpf_verify_model.specs.Accesses.{is_memory, is_part_of_half, is_misaligned, is_spread, misses_alignment, is_outside_frame, is_outside_map, is_outside}
+use Rattle.bpf_verify_model.specs.Accesses.{is_memory, is_part_of_half, is_misaligned, is_spread, misses_alignment}
+use Rattle.bpf_verify_model.specs.Accesses.{is_outside_frame, is_outside_map, is_outside}
 use Rattle.bpf_verify_model.specs.Rules.{place_fault}
 use Rattle.bpf_step_model.specs.State.{Value, Frame, Ctx, Area}
-use Rattle.bpf_step_model.specs.Memory.{Place, InFrame, InCaller, InMap, frame_position, in_frame, in_caller, part_at, in_element, in_map, place}
+use Rattle.bpf_step_model.specs.Memory.{Place, InFrame, InCaller, InMap, frame_position, in_frame}
+use Rattle.bpf_step_model.specs.Memory.{in_caller, part_at, in_element, in_map, place}
 use Rattle.bpf_step_model.specs.Run.{part_bytes}
 use Rattle.bpf_verify_sound.specs.Containment.{ContainsValue}
 use Rattle.bpf_verify_sound.specs.KnownStates.{HasSpan}

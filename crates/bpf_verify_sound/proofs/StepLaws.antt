@@ -14,7 +14,8 @@ use Rattle.bpf_verify_model.specs.Inflow.{flow_unless, flow_from, state_before}
 use Rattle.bpf_verify_model.specs.Accepted.{Accepted}
 use Rattle.bpf_step_model.specs.State.{Machine, callback_entry}
 use Rattle.bpf_step_model.specs.SoundMachine.{SoundMachine}
-use Rattle.bpf_step_model.specs.Step.{StepOutcome, NoStep, Next, Asks, Loops, Refuses, Exits, within_function, insn_step, insn_step_if_any, step}
+use Rattle.bpf_step_model.specs.Step.{StepOutcome, NoStep, Next, Asks, Loops, Refuses, Exits}
+use Rattle.bpf_step_model.specs.Step.{within_function, insn_step, insn_step_if_any, step}
 use Rattle.bpf_step_model.specs.Run.{after_request}
 use Rattle.bpf_step_model.specs.ProgramInOrder.{resumed}
 use Rattle.bpf_verify_sound.specs.Containment.{Contained, ContainedIf, ContainedBefore}

@@ -1,5 +1,6 @@
 -- Two-slot loads go on within the abstract states.
-use Rattle.std.proofs.Common.{◌≡◌, ℕ, zero, suc, ◌+◌, ◌*◌, ◌<◌, ◌≤◌, ◌^◌, Bool, true, false, ◌&&◌, List, length, Option, Some, None, is_none, refl, sym, ap, subst, arith}
+use Rattle.std.proofs.Common.{◌≡◌, ℕ, zero, suc, ◌+◌, ◌*◌, ◌<◌, ◌≤◌, ◌^◌, Bool, true, false, ◌&&◌, List}
+use Rattle.std.proofs.Common.{length, Option, Some, None, is_none, refl, sym, ap, subst, arith}
 use Rattle.std.specs.Prelude.{ℤ, pos, negsuc, nat_lt, nat_le, ◌==◌, if◌then◌else◌, slice_get, FitsSigned}
 use Rattle.std.specs.List.{list_any, list_all, sum}
 use Rattle.std.specs.Int.{cast_unsigned, w32}
@@ -7,7 +8,8 @@ use Rattle.std.proofs.lemmas.Int.{ints}
 use Rattle.std.proofs.lemmas.Bool.Decides.{nat_tests}
 use Rattle.bpf_insn_types.specs.Limits.{sizes_fit}
 use Rattle.bpf_insn_types.specs.declared.insn.ImmKind.{ImmKind}
-use Rattle.bpf_insn_types.specs.declared.insn.ImmKind.TheVariants.{Number, MapFd, MapFdValue, Variable, Code as CodeKind, Map as MapKind, MapValue}
+use Rattle.bpf_insn_types.specs.declared.insn.ImmKind.TheVariants.{Number, MapFd, MapFdValue, Variable}
+use Rattle.bpf_insn_types.specs.declared.insn.ImmKind.TheVariants.{Code as CodeKind, Map as MapKind, MapValue}
 use Rattle.bpf_insn_types.specs.declared.insn.Insn.TheVariants.{LoadImm}
 use Rattle.bpf_insn_types.specs.Program.{Program, insn_at, code_target, callback_starts}
 use Rattle.value_range_model.specs.Spans.{Contains, exact}

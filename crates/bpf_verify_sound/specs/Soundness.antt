@@ -1,5 +1,6 @@
 -- The soundness of the verifier: an accepted program's machine is never stuck.
-use Rattle.std.specs.Prelude.{◌≡◌, ℕ, ℤ, pos, negsuc, ◌+◌, ◌<◌, ◌≤◌, ◌^◌, true, List, length, Option, Some, None, is_some}
+use Rattle.std.specs.Prelude.{◌≡◌, ℕ, ℤ, pos, negsuc, ◌+◌, ◌<◌, ◌≤◌, ◌^◌, true}
+use Rattle.std.specs.Prelude.{List, length, Option, Some, None, is_some}
 use Rattle.std.specs.List.{AllByRecursion, sum}
 use Rattle.bpf_insn_types.specs.Values.{AreInsns}
 use Rattle.bpf_insn_types.specs.Program.{Program, slot_count, function_of}
@@ -9,7 +10,8 @@ use Rattle.bpf_verify_model.specs.Count.{longest, function_start, count_of}
 use Rattle.bpf_verify_model.specs.Inflow.{state_before}
 use Rattle.bpf_step_model.specs.State.{Machine, LoopCall, main_entry, callback_entry}
 use Rattle.bpf_step_model.specs.Step.{StepOutcome, NoStep, Next, Asks, Loops, Refuses, Exits, step}
-use Rattle.bpf_step_model.specs.Run.{BoundedResult, Ended, Stuck, Unfinished, StopReason, Exit, Loop, Refused, RunSegment, after_request, action_of, run}
+use Rattle.bpf_step_model.specs.Run.{BoundedResult, Ended, Stuck, Unfinished, StopReason, Exit, Loop}
+use Rattle.bpf_step_model.specs.Run.{Refused, RunSegment, after_request, action_of, run}
 use Rattle.bpf_step_model.specs.Iteration.{Iterated, iteration}
 use Rattle.bpf_step_model.specs.LoopInOrder.{Looped, loop_in_order}
 use Rattle.bpf_step_model.specs.ProgramInOrder.{LoopMade, Finished, resumed, program_in_order}

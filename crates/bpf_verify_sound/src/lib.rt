@@ -1,7 +1,9 @@
 //! An accepted program's machine is never stuck. These are definitions and laws alone: nothing runs here.
 #![tactic(auto)]
 
-ghost use Rattle.bpf_verify_sound.specs.Soundness.{EntryIsOverApproximated, ProgressAndPreservation, MachinesStaySound, EachStateIsWellFormed, NoRunIsStuck, EachRunEnds, CallbacksExit, EachCallbackStartsItsFunction, EachCountIsSmall, EachProgramEnds};
+ghost use Rattle.bpf_verify_sound.specs.Soundness.{EntryIsOverApproximated, ProgressAndPreservation, MachinesStaySound};
+ghost use Rattle.bpf_verify_sound.specs.Soundness.{EachStateIsWellFormed, NoRunIsStuck, EachRunEnds, CallbacksExit};
+ghost use Rattle.bpf_verify_sound.specs.Soundness.{EachCallbackStartsItsFunction, EachCountIsSmall, EachProgramEnds};
 
 use bpf_insn_types::results_fit;
 

@@ -7,7 +7,9 @@ ghost use Rattle.bpf_insn_types.specs.Program.{code_target};
 ghost use Rattle.bpf_insn_types.specs.Sizes.{bytes_of};
 ghost use Rattle.bpf_verify_model.specs.States.{known_register};
 ghost use Rattle.bpf_verify_model.specs.Values.{known_operand, known_of_number, known_result};
-ghost use Rattle.bpf_verify_model.specs.Flow.{with_known_result, number_of_size, with_written, with_store, with_fetched, known_code, known_wide, known_after_call, address_in, known_lookup, known_answer, known_behind};
+ghost use Rattle.bpf_verify_model.specs.Flow.{with_known_result, number_of_size, with_written, with_store};
+ghost use Rattle.bpf_verify_model.specs.Flow.{with_fetched, known_code, known_wide, known_after_call, address_in};
+ghost use Rattle.bpf_verify_model.specs.Flow.{known_lookup, known_answer, known_behind};
 
 use bpf_insn_types::{AluOp, AtomicOp, FRAME_BYTES, ImmKind, Insn, Operand, Reg, Size, Width};
 use bpf_verify_model::{AbstractValue, Helper, State, reg};

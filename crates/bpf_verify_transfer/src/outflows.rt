@@ -4,7 +4,8 @@ ghost use Rattle.std.specs.Prelude.{◌≡◌, ◌≤◌, ◌+◌};
 ghost use Rattle.bpf_insn_types.specs.Slots.{slots_of};
 ghost use Rattle.bpf_insn_types.specs.Program.{moved};
 ghost use Rattle.bpf_verify_model.specs.States.{known_register};
-ghost use Rattle.bpf_verify_model.specs.Flow.{edge_to, branch_outflow, jump_outflow, ahead_outflow, enters, calls_back, known_behind, flow};
+ghost use Rattle.bpf_verify_model.specs.Flow.{edge_to, branch_outflow, jump_outflow, ahead_outflow};
+ghost use Rattle.bpf_verify_model.specs.Flow.{enters, calls_back, known_behind, flow};
 
 use crate::behind_insn::behind;
 use crate::comparisons::branch_states;

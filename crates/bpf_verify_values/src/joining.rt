@@ -1,7 +1,9 @@
 //! The join of two abstract states.
 
 ghost use Rattle.std.specs.Prelude.{◌≡◌, ◌==◌, if◌then◌else◌, length};
-ghost use Rattle.bpf_verify_model.specs.declared.abstract_value.AbstractValue.TheVariants.{Unwritten, Number, Frame, Ctx, Map, Area, AreaOrNull, Code};
+ghost use Rattle.bpf_verify_model.specs.declared.abstract_value.AbstractValue.TheVariants.{Unwritten, Number, Frame};
+ghost use Rattle.bpf_verify_model.specs.declared.abstract_value.AbstractValue.TheVariants.{Ctx, Map, Area, AreaOrNull};
+ghost use Rattle.bpf_verify_model.specs.declared.abstract_value.AbstractValue.TheVariants.{Code};
 ghost use Rattle.bpf_verify_model.specs.States.{joined_values, joined_registers, joined_callers, joined_states};
 
 use bpf_verify_model::{AbstractValue, Registers, State, reg};

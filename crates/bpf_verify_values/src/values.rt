@@ -3,7 +3,9 @@
 ghost use Rattle.std.specs.Prelude.{◌≡◌};
 ghost use Rattle.bpf_insn_types.specs.declared.insn.Width.TheVariants.{W64};
 ghost use Rattle.bpf_verify_model.specs.declared.abstract_value.AbstractValue.TheVariants.{Number, Area};
-ghost use Rattle.bpf_verify_model.specs.Values.{known_operand, known_of_number, known_of_numbers, known_copy, known_position, known_area, known_moved, known_sum, known_result, is_number_value, is_unwritten, is_null_check, compares};
+ghost use Rattle.bpf_verify_model.specs.Values.{known_operand, known_of_number, known_of_numbers, known_copy};
+ghost use Rattle.bpf_verify_model.specs.Values.{known_position, known_area, known_moved, known_sum, known_result};
+ghost use Rattle.bpf_verify_model.specs.Values.{is_number_value, is_unwritten, is_null_check, compares};
 
 use bpf_insn_types::{AluOp, Compare, FRAME_BYTES, MAX_OFFSET, Operand, Width, alu_word};
 use bpf_verify_model::{AbstractValue, State};

@@ -1,5 +1,6 @@
 -- Lists that meet element by element.
-use Rattle.std.proofs.Common.{◌≡◌, ℕ, zero, suc, ◌+◌, ◌<◌, List, [], ◌∷◌, map, length, get_or, set, refl, ap, sym, ◌∙◌, subst, arith, add-one, ◌≤◌}
+use Rattle.std.proofs.Common.{◌≡◌, ℕ, zero, suc, ◌+◌, ◌<◌, List, [], ◌∷◌, map, length, get_or}
+use Rattle.std.proofs.Common.{set, refl, ap, sym, ◌∙◌, subst, arith, add-one, ◌≤◌}
 use Rattle.std.specs.Prelude.{zip}
 
 -- two lists that meet up to an index, and from there on the first

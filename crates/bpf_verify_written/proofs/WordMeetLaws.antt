@@ -1,5 +1,6 @@
 -- The bytes in words that meet word by word.
-use Rattle.std.proofs.Common.{◌≡◌, ℕ, ◌/◌, ◌%◌, ◌<◌, min, Bool, false, ◌&&◌, eqb, List, length, get_or, ap, sym, ◌∙◌, inl, inr, arith, ext_get_or}
+use Rattle.std.proofs.Common.{◌≡◌, ℕ, ◌/◌, ◌%◌, ◌<◌, min, Bool, false, ◌&&◌, eqb, List, length}
+use Rattle.std.proofs.Common.{get_or, ap, sym, ◌∙◌, inl, inr, arith, ext_get_or}
 use Rattle.std.specs.Prelude.{zip, bit_and}
 use Rattle.std.specs.Int.{bit_at}
 use Rattle.std.proofs.lemmas.Bool.{cases_lt}

@@ -1,5 +1,7 @@
 -- What a loop over the bytes of a place has tested or marked so far.
-use Rattle.std.proofs.Common.{◌≡◌, ℕ, zero, suc, ◌+◌, ◌-◌, ◌<◌, ◌≤◌, Bool, true, false, List, [], ◌∷◌, ◌++◌, length, get_or, set, take, drop, replicate, refl, sym, ◌∙◌, ap, arith, get_or-take, get_or-drop, length-drop, take-append-drop, append-nil}
+use Rattle.std.proofs.Common.{◌≡◌, ℕ, zero, suc, ◌+◌, ◌-◌, ◌<◌, ◌≤◌, Bool, true, false, List, [], ◌∷◌, ◌++◌}
+use Rattle.std.proofs.Common.{length, get_or, set, take, drop, replicate, refl, sym, ◌∙◌, ap, arith, get_or-take}
+use Rattle.std.proofs.Common.{get_or-drop, length-drop, take-append-drop, append-nil}
 use Rattle.std.specs.Prelude.{slice_range}
 use Rattle.std.proofs.lemmas.List.{length-take, get_or_default}
 use Rattle.std.proofs.lemmas.List.Folds.{list_all_at}

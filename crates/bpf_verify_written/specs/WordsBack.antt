@@ -1,5 +1,7 @@
 -- The bytes in words give the words back.
-use Rattle.std.proofs.Common.{◌≡◌, ℕ, ◌+◌, ◌*◌, ◌/◌, ◌%◌, ◌^◌, ◌-◌, ◌<◌, ◌≤◌, Bool, false, cond, eqb, List, length, get_or, drop, sym, ◌∙◌, ap, inl, inr, arith, ext_get_or, get_or-take, get_or-drop, eq-eqb, ne_eqb}
+use Rattle.std.proofs.Common.{◌≡◌, ℕ, ◌+◌, ◌*◌, ◌/◌, ◌%◌, ◌^◌, ◌-◌, ◌<◌, ◌≤◌, Bool, false, cond}
+use Rattle.std.proofs.Common.{eqb, List, length, get_or, drop, sym, ◌∙◌, ap, inl, inr, arith}
+use Rattle.std.proofs.Common.{ext_get_or, get_or-take, get_or-drop, eq-eqb, ne_eqb}
 use Rattle.std.specs.Prelude.{slice_range}
 use Rattle.std.specs.Int.{bit_at}
 use Rattle.std.specs.Simd.Lanes.{mask_l}

@@ -2,7 +2,9 @@
 
 ghost use Rattle.std.specs.Prelude.{IfOk};
 ghost use Rattle.clap.specs.Words.{new_app};
-ghost use Rattle.bpfspec_command_line.specs.CommandLine.{IsArg, IsCommand, arg_rule, blocks_rule, bpfspec_app, hex_rule, order_app, replay_app, run_app, test_rule, top_app, valued_rule, verify_app, workers_rule};
+ghost use Rattle.bpfspec_command_line.specs.CommandLine.{IsArg, IsCommand, arg_rule, blocks_rule, bpfspec_app};
+ghost use Rattle.bpfspec_command_line.specs.CommandLine.{hex_rule, order_app, replay_app, run_app, test_rule};
+ghost use Rattle.bpfspec_command_line.specs.CommandLine.{top_app, valued_rule, verify_app, workers_rule};
 
 use clap::{Arg, ArgAction, Command};
 use std::alloc::{AllocError, Global};

@@ -3,7 +3,8 @@ use Rattle.std.proofs.Common.{◌≡◌, ℕ, ◌+◌, true, List, [], Option, N
 use Rattle.std.proofs.lemmas.List.{append-nil}
 use Rattle.std.specs.Io.KnownBytes.{Appends}
 use Rattle.bpfspec_serve.specs.declared.serving.Served.{Served}
-use Rattle.bpfspec_serve.specs.HowServed.{HowServed, HowWritten, Written, Broke_off, Answered, Out_of_memory, Read_failed}
+use Rattle.bpfspec_serve.specs.HowServed.{HowServed, HowWritten, Written, Broke_off}
+use Rattle.bpfspec_serve.specs.HowServed.{Answered, Out_of_memory, Read_failed}
 use Rattle.bpfspec_serve.specs.Output.{Answer}
 use Rattle.bpfspec_explain_serve.specs.Explained.{is_answered}
 

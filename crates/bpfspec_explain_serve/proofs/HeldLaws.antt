@@ -1,13 +1,15 @@
 -- An answer that is written to memory. `old` and `new` count the reads that failed before and after, and `failed` the
 -- writes, of which none failed before.
-use Rattle.std.proofs.Common.{◌≡◌, ◌≢◌, ◌⊎◌, inl, inr, ℕ, ◌+◌, ◌<◌, true, List, [], ◌++◌, Option, Some, Ok, Err, ap, sym, subst, ◌∙◌, arith}
+use Rattle.std.proofs.Common.{◌≡◌, ◌≢◌, ◌⊎◌, inl, inr, ℕ, ◌+◌, ◌<◌, true, List, [], ◌++◌}
+use Rattle.std.proofs.Common.{Option, Some, Ok, Err, ap, sym, subst, ◌∙◌, arith}
 use Rattle.bpfspec_command_line.specs.declared.job.Job.{Job}
 use Rattle.bpfspec_output.specs.declared.refusal.Refusal.{Refusal}
 use Rattle.bpfspec_output.specs.declared.refusal.Refusal.TheVariants as refusals
 use Rattle.bpfspec_serve.specs.declared.answer_error.AnswerError.TheVariants as errors
 use Rattle.bpfspec_serve.specs.declared.serving.Served.{Served}
 use Rattle.bpfspec_serve.specs.declared.serving.Served.TheVariants as served
-use Rattle.bpfspec_serve.specs.HowServed.{AnswersReader, HowServed, Written, Broke_off, Answered, Out_of_memory, Read_failed}
+use Rattle.bpfspec_serve.specs.HowServed.{AnswersReader, HowServed, Written, Broke_off}
+use Rattle.bpfspec_serve.specs.HowServed.{Answered, Out_of_memory, Read_failed}
 use Rattle.bpfspec_serve.specs.Output.{Answer, TextOutcome, text_answer, refused_as}
 use Rattle.bpfspec_explain_serve.specs.Explained.{is_answered}
 

@@ -3,7 +3,8 @@
 ghost use Rattle.std.specs.Prelude.{◌≡◌, ℕ, List, map, IfOk, IfSome};
 ghost use Rattle.clap.specs.Words.{found_of, rows_of};
 ghost use Rattle.bpfspec_command_line.specs.CommandLine.{IsArg, IsCommand};
-ghost use Rattle.bpfspec_explain_serve.specs.Asked.{Asks, AsksBy, HasFlag, IsExtent, all_rule, explain_app, flag_rule, picture_rule, states_rule, bare_app};
+ghost use Rattle.bpfspec_explain_serve.specs.Asked.{Asks, AsksBy, HasFlag, IsExtent, all_rule, explain_app};
+ghost use Rattle.bpfspec_explain_serve.specs.Asked.{flag_rule, picture_rule, states_rule, bare_app};
 
 use crate::ask::Ask;
 use crate::faults::{fault_of, value_fault, words_fault};

@@ -3,7 +3,8 @@
 ghost use Rattle.std.specs.Prelude.{◌≡◌, ◌++◌, IfOk, OnOk};
 ghost use Rattle.std.specs.String.{string_bytes};
 ghost use Rattle.bpfspec_output.specs.declared.refusal.Refusal.TheVariants.{Text, Codec};
-ghost use Rattle.bpfspec_output.specs.Refusals.{section_name, split_fault_number, schedule_fault_text, what_is_refused, refusal_line};
+ghost use Rattle.bpfspec_output.specs.Refusals.{section_name, split_fault_number, schedule_fault_text};
+ghost use Rattle.bpfspec_output.specs.Refusals.{what_is_refused, refusal_line};
 
 use bpf_insn::CodecFault;
 use bpf_text_lex::TextFault;

@@ -5,7 +5,8 @@ ghost use Rattle.std.specs.List.{sum};
 ghost use Rattle.std.specs.String.{string_bytes};
 ghost use Rattle.loop_core_model.specs.declared.verdict.Verdict.TheVariants.{Conflict};
 ghost use Rattle.bpf_text.specs.MapsText.{lists, maps_spelling};
-ghost use Rattle.bpfspec_output.specs.ReportText.{values_of, verdict_text, loop_line, return_line, report_text, replay_text};
+ghost use Rattle.bpfspec_output.specs.ReportText.{values_of, verdict_text, loop_line, return_line};
+ghost use Rattle.bpfspec_output.specs.ReportText.{report_text, replay_text};
 ghost use Rattle.bpfspec_output.specs.NumberedLines.{numbered_lines};
 
 use array_maps::Maps;

@@ -1,5 +1,6 @@
 -- Pieces that are true, and one more.
-use Rattle.std.proofs.Common.{◌≡◌, ℕ, Bool, true, false, if◌then◌else◌, List, [], ◌∷◌, ◌++◌, sym, ◌∙◌, subst, ap, refl, Option, Some, None}
+use Rattle.std.proofs.Common.{◌≡◌, ℕ, Bool, true, false, if◌then◌else◌, List, [], ◌∷◌}
+use Rattle.std.proofs.Common.{◌++◌, sym, ◌∙◌, subst, ap, refl, Option, Some, None}
 use Rattle.std.specs.Prelude.{IfSome, OnOk, Result, Ok, Err, is_ok, slice_get}
 use Rattle.std.specs.Option.{option_map}
 use Rattle.bpf_insn_types.specs.declared.insn.Insn.{Insn}
@@ -13,7 +14,8 @@ use Rattle.bpf_verify_origin.specs.declared.fault.Fault.{Fault}
 use Rattle.bpf_verify_origin.specs.Inspected.{broken_rule, IsStateBefore, IsStateBetween}
 use Rattle.bpfspec_reasons.specs.declared.piece.Piece.{Piece}
 use Rattle.bpfspec_reasons.specs.declared.piece.Piece.TheVariants as pieces
-use Rattle.bpfspec_reasons.specs.Truth.{AreTrue, IsValueBefore, IsValueBetween, IsUnwritten, ExplanationOf, slot_or, line_of, first_line, slot_with, slot_told, line_of_fault}
+use Rattle.bpfspec_reasons.specs.Truth.{AreTrue, IsValueBefore, IsValueBetween, IsUnwritten, ExplanationOf, slot_or}
+use Rattle.bpfspec_reasons.specs.Truth.{line_of, first_line, slot_with, slot_told, line_of_fault}
 
 pub true-none : (program : Program) (told : List Piece) → told ≡ [] → AreTrue program told
 true-none program told none = subst (AreTrue program) (sym none) tt

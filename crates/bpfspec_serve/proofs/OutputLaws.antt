@@ -1,5 +1,6 @@
 -- What inputs can be read.
-use Rattle.std.proofs.Common.{◌≡◌, ℕ, ◌≤◌, ◌<◌, Bool, false, true, List, length, if◌then◌else◌, Result, Ok, Err, refl, take, Option, Some, None, IfSome, sym, ap, ◌∙◌, subst, nat_eq, arith}
+use Rattle.std.proofs.Common.{◌≡◌, ℕ, ◌≤◌, ◌<◌, Bool, false, true, List, length, if◌then◌else◌, Result, Ok, Err}
+use Rattle.std.proofs.Common.{refl, take, Option, Some, None, IfSome, sym, ap, ◌∙◌, subst, nat_eq, arith}
 use Rattle.std.specs.Cmp.Lexicographic.{pointwise, same_text}
 use Rattle.std.specs.List.{concat}
 use Rattle.array_maps.specs.MapList.{lengths}
@@ -22,7 +23,8 @@ use Rattle.bpfspec_serve.specs.declared.answer_error.AnswerError.TheVariants as 
 use Rattle.bpfspec_serve.specs.declared.serving.Served.{Served}
 use Rattle.bpfspec_command_line.specs.declared.job.Job.{Job}
 use Rattle.std.proofs.lemmas.List.{take_all, length-take}
-use Rattle.bpfspec_serve.specs.Output.{refused, readable, fitting, OfReadable, OfInput, Answer, Answers, IsPrinted, SatisfiesUnlessMemory, AnswerTells}
+use Rattle.bpfspec_serve.specs.Output.{refused, readable, fitting, OfReadable, OfInput, Answer, Answers}
+use Rattle.bpfspec_serve.specs.Output.{IsPrinted, SatisfiesUnlessMemory, AnswerTells}
 
 -- an input that isn't too long
 short : (input : List ℕ) → length input ≤ 3145728 → readable input

@@ -5,7 +5,9 @@ ghost use Rattle.bpf_insn_types.specs.Program.{callback_starts};
 ghost use Rattle.std.specs.String.{string_bytes};
 ghost use Rattle.bpfspec_command_line.specs.declared.job.Job.TheVariants.{Serve, Run};
 ghost use Rattle.bpfspec_command_line.specs.declared.job.Mode.TheVariants.{Order, Replay};
-ghost use Rattle.bpfspec_serve.specs.Output.{unit_program, function_numbered, functions_of, replay_refusal, PrintsReportInOrder, PrintsReportByPlan, ReplaysTo, InMode, OfReadable, OfInput, SatisfiesUnlessMemory, written, accepted, verified};
+ghost use Rattle.bpfspec_serve.specs.Output.{unit_program, function_numbered, functions_of, replay_refusal};
+ghost use Rattle.bpfspec_serve.specs.Output.{PrintsReportInOrder, PrintsReportByPlan, ReplaysTo, InMode, OfReadable};
+ghost use Rattle.bpfspec_serve.specs.Output.{OfInput, SatisfiesUnlessMemory, written, accepted, verified};
 ghost use Rattle.bpfspec_serve.specs.Sections.{unit_section};
 
 use crate::answer_error::AnswerError;

@@ -5,7 +5,8 @@ ghost use Rattle.array_maps.specs.MapList.{lists, zero_maps};
 ghost use Rattle.bpf_text.specs.EventsText.{events_text};
 ghost use Rattle.bpfspec_output.specs.declared.refusal.Refusal.TheVariants.{Text};
 ghost use Rattle.bpfspec_serve.specs.declared.answer_error.AnswerError.TheVariants.{Refused};
-ghost use Rattle.bpfspec_serve.specs.Output.{text_error, codec_error, readable, unit_program, fitting, maps_start_words, in_section, SatisfiesUnlessMemory, accepted};
+ghost use Rattle.bpfspec_serve.specs.Output.{text_error, codec_error, readable, unit_program, fitting};
+ghost use Rattle.bpfspec_serve.specs.Output.{maps_start_words, in_section, SatisfiesUnlessMemory, accepted};
 
 use crate::answer_error::AnswerError;
 use array_maps::{Maps, MapsError};

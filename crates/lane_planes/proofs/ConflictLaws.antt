@@ -1,5 +1,6 @@
 -- A plane of conflicts says what the marks tell.
-use Rattle.std.proofs.Common.{◌≡◌, ℕ, zero, suc, ◌+◌, ◌-◌, ◌*◌, ◌/◌, ◌%◌, ◌^◌, ◌<◌, ◌≤◌, min, false, List, [], ◌∷◌, length, refl, sym, ◌∙◌, ap, subst, ⊎_elim, arith}
+use Rattle.std.proofs.Common.{◌≡◌, ℕ, zero, suc, ◌+◌, ◌-◌, ◌*◌, ◌/◌, ◌%◌, ◌^◌, ◌<◌, ◌≤◌, min, false}
+use Rattle.std.proofs.Common.{List, [], ◌∷◌, length, refl, sym, ◌∙◌, ap, subst, ⊎_elim, arith}
 use Rattle.std.specs.Prelude.{◌==◌, ◌&&◌, ◌||◌, not, nat_lt, slice_index, bit_and}
 use Rattle.std.specs.List.{filter, range_with_len}
 use Rattle.std.proofs.Math.Bool.{and_comm}
@@ -7,7 +8,8 @@ use Rattle.std.proofs.lemmas.Bool.{cases_lt}
 use Rattle.std.proofs.lemmas.List.{get_or_past}
 use Rattle.std.proofs.lemmas.Nat.Bits.{bit_at-zero, bit_at_above}
 use Rattle.array_maps.specs.declared.access.Op.TheVariants.{Add, Or, And, Xor, AddH}
-use Rattle.loop_core_model.specs.Marks.{Visit, Marks, marks_of, first_number, marked_reduction, marked_fails, marked_conflict}
+use Rattle.loop_core_model.specs.Marks.{Visit, Marks, marks_of, first_number, marked_reduction}
+use Rattle.loop_core_model.specs.Marks.{marked_fails, marked_conflict}
 use Rattle.loop_core_model.specs.Planes.{bit_of, elements_in_plane}
 use Rattle.loop_core_model.proofs.MarkLaws.{first_is_number}
 use Rattle.loop_core_model.proofs.PlaneLaws.{plane_has_elements}

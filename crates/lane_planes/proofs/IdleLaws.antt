@@ -1,5 +1,6 @@
 -- Where no access is marked, nothing is marked.
-use Rattle.std.proofs.Common.{◌≡◌, ℕ, zero, suc, ◌+◌, ◌-◌, ◌*◌, ◌/◌, ◌%◌, ◌^◌, ◌<◌, ◌≤◌, min, Bool, true, false, List, length, None, refl, sym, ◌∙◌, ap, subst, ⊎_elim, arith}
+use Rattle.std.proofs.Common.{◌≡◌, ℕ, zero, suc, ◌+◌, ◌-◌, ◌*◌, ◌/◌, ◌%◌, ◌^◌, ◌<◌, ◌≤◌, min, Bool, true}
+use Rattle.std.proofs.Common.{false, List, length, None, refl, sym, ◌∙◌, ap, subst, ⊎_elim, arith}
 use Rattle.std.specs.Prelude.{◌==◌, nat_lt, slice_index, slice_set}
 use Rattle.std.specs.Int.{bit_at}
 use Rattle.std.proofs.lemmas.Bool.{cases_lt}
@@ -102,9 +103,11 @@ pub untouched_idle : (planes : Planes) (page : ℕ) → StandForSome planes → 
 untouched_idle planes page some untouched fit =
     let visits = some.visits in
     let idle : (e : ℕ) → e / 64 ≡ page → e < planes.elements → AreIdle (marks_of (some.visits e)) =
-    λ e here below. idle_marks (visits e) (sym (some.stand.marks e below).plain ∙ zero_bits planes.plain.items page e here
+    λ e here below. idle_marks (visits e) (sym (some.stand.marks e below).plain ∙ zero_bits planes.plain.items page e
+    here
     untouched.plain)
-    (λ op. sym ((some.stand.marks e below).by op) ∙ zero_bits (plane_by planes.operators op) page e here (untouched.by op))
+    (λ op. sym ((some.stand.marks e below).by op) ∙ zero_bits (plane_by planes.operators op) page e here
+    (untouched.by op))
     in
     record {
       plain = untouched.plain;

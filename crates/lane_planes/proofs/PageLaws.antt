@@ -10,7 +10,8 @@ use Rattle.shadow_marks.specs.declared.planes.OperatorPlanes.{OperatorPlanes}
 use Rattle.shadow_marks.specs.declared.planes.Planes.{Planes}
 use Rattle.shadow_marks.specs.Standing.{ArePlanes, AreTested, test_of}
 use Rattle.lane_planes.specs.Writes.{Writes}
-use Rattle.lane_planes.specs.Merged.{Ored, WrittenByTwo, Lesser, Greater, FirstsFit, MergedOperators, MergedTested, MergedPages}
+use Rattle.lane_planes.specs.Merged.{Ored, WrittenByTwo, Lesser, Greater, FirstsFit}
+use Rattle.lane_planes.specs.Merged.{MergedOperators, MergedTested, MergedPages}
 use Rattle.lane_planes.proofs.Writing.{writes_none, writes_same, writes_on}
 
 -- what is written at an index

@@ -10,7 +10,8 @@ use Rattle.shadow_marks.specs.declared.planes.Tested.TheVariants.{Lrpd, Flow}
 use Rattle.shadow_marks.specs.declared.planes.Planes.{Planes}
 use Rattle.shadow_marks.specs.Standing.{IsBitPlane, ArePlanes, AreTested, plane_by, test_of, words_for}
 use Rattle.shadow_marks.specs.Ending.{KeepsShape}
-use Rattle.lane_planes.specs.Merged.{Ored, WrittenByTwo, FirstsFit, MergedOperators, MergedPages, MergedPlanes, MergedTested, IsMerge}
+use Rattle.lane_planes.specs.Merged.{Ored, WrittenByTwo, FirstsFit, MergedOperators, MergedPages}
+use Rattle.lane_planes.specs.Merged.{MergedPlanes, MergedTested, IsMerge}
 use Rattle.lane_planes.proofs.BitMeaning.{bit}
 use Rattle.lane_planes.proofs.MergeLaws.{ored_at, two_at, merged_at, joined_stand}
 

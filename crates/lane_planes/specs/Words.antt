@@ -1,5 +1,6 @@
 -- Words of bits, of which bit k of word i says something of element 64 i + k.
-use Rattle.std.specs.Prelude.{◌≡◌, ℕ, ◌+◌, ◌-◌, ◌*◌, ◌^◌, min, length, ◌<◌, Bool, ◌==◌, nat_lt, List, [], ◌∷◌, slice_index, bit_and, bit_or}
+use Rattle.std.specs.Prelude.{◌≡◌, ℕ, ◌+◌, ◌-◌, ◌*◌, ◌^◌, min, length, ◌<◌, Bool, ◌==◌}
+use Rattle.std.specs.Prelude.{nat_lt, List, [], ◌∷◌, slice_index, bit_and, bit_or}
 use Rattle.std.specs.Int.{bit_at, bit_not, w64}
 
 -- the bits that are set in some of these words

@@ -1,5 +1,6 @@
 -- A seat is cut in two, or two are made one: the sums over all views stay as they are, and so does the rule.
-use Rattle.std.proofs.Common.{◌≡◌, ◌≢◌, ◌⊎◌, ℕ, ◌+◌, ◌<◌, List, [], ◌∷◌, ◌++◌, set, inl, inr, ⊎_elim, refl, sym, ◌∙◌, subst, arith}
+use Rattle.std.proofs.Common.{◌≡◌, ◌≢◌, ◌⊎◌, ℕ, ◌+◌, ◌<◌, List, [], ◌∷◌, ◌++◌, set}
+use Rattle.std.proofs.Common.{inl, inr, ⊎_elim, refl, sym, ◌∙◌, subst, arith}
 use mathlib.Core.Option.{some}
 use lib.ListN.{get_elem?}
 use Rattle.atomic_table.specs.Table.{Splits, Joins}
@@ -8,7 +9,8 @@ use Rattle.loop_board.specs.declared.view.Extent.{Extent}
 use Rattle.loop_board.specs.declared.view.SeatView.{SeatView}
 use Rattle.loop_board.specs.Sums.{total, times}
 use Rattle.loop_board.specs.History.{no_post}
-use Rattle.loop_board.specs.Rule.{spent_view, opening_view, ViewFits, Agrees, BoardInvariant, parts_of, nones_of, drawn_in, posted_in, seen_in, less_a_part, together}
+use Rattle.loop_board.specs.Rule.{spent_view, opening_view, ViewFits, Agrees, BoardInvariant, parts_of}
+use Rattle.loop_board.specs.Rule.{nones_of, drawn_in, posted_in, seen_in, less_a_part, together}
 use Rattle.loop_board.proofs.Sums.{total-set, total-push, times-append}
 use Rattle.loop_board.proofs.Moves.{of_board, fits_set, least_as}
 

@@ -1,5 +1,6 @@
 -- All seats become one, which then knows the sums over all of them, and what the two words have to do with these.
-use Rattle.std.proofs.Common.{Some, append_assoc, ◌≡◌, ◌⊎◌, ℕ, zero, suc, ◌+◌, ◌<◌, ◌≤◌, min, Bool, true, false, IsTrue, List, [], ◌∷◌, ◌++◌, All, ⊎_elim, refl, sym, ap, ◌∙◌, subst, arith}
+use Rattle.std.proofs.Common.{Some, append_assoc, ◌≡◌, ◌⊎◌, ℕ, zero, suc, ◌+◌, ◌<◌, ◌≤◌, min, Bool, true, false}
+use Rattle.std.proofs.Common.{IsTrue, List, [], ◌∷◌, ◌++◌, All, ⊎_elim, refl, sym, ap, ◌∙◌, subst, arith}
 use mathlib.Core.Option.{some, some-injective, some-ne-none}
 use lib.ListN.{get_elem?}
 use Rattle.atomic_table.specs.Seated.{TableId}
@@ -9,7 +10,8 @@ use Rattle.loop_board.specs.declared.view.SeatView.{SeatView}
 use Rattle.loop_board.specs.Sums.{total, times}
 use Rattle.loop_board.specs.History.{Legal, no_post, least_post, times_posted, some_found_none}
 use Rattle.loop_board.specs.Seats.{BoardId, SeatRecord, histories}
-use Rattle.loop_board.specs.Rule.{spent_view, ViewFits, Agrees, BoardInvariant, IsWorkers, parts_of, posted_in, together, board_id_of, seat_record}
+use Rattle.loop_board.specs.Rule.{spent_view, ViewFits, Agrees, BoardInvariant, IsWorkers, parts_of}
+use Rattle.loop_board.specs.Rule.{posted_in, together, board_id_of, seat_record}
 use Rattle.loop_board.specs.Whole.{IsWhole, IsTally}
 use Rattle.loop_board.proofs.Sums.{le_total, times-append}
 use Rattle.std.proofs.lemmas.List.Elements.{All-pop}

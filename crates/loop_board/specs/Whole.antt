@@ -3,7 +3,8 @@ use Rattle.std.specs.Prelude.{◌≡◌, ℕ, ◌<◌, ◌≤◌, ◌⊎◌, Lis
 use Rattle.loop_board.specs.declared.view.Extent.{Extent}
 use Rattle.loop_board.specs.declared.view.SeatView.{SeatView}
 use Rattle.loop_board.specs.Sums.{times, once_below}
-use Rattle.loop_board.specs.History.{no_post, IsIndexOrNone, IsLeast, times_drawn, times_posted, times_seen, some_found_none}
+use Rattle.loop_board.specs.History.{no_post, IsIndexOrNone, IsLeast, times_drawn}
+use Rattle.loop_board.specs.History.{times_posted, times_seen, some_found_none}
 use Rattle.loop_board.specs.Seats.{SeatRecord, histories}
 
 -- the view has what all of these seats did, and a part for each

@@ -1,8 +1,10 @@
 //! The board itself: claims, looks, posts, and the tally at the end.
 
-ghost use Rattle.std.specs.Prelude.{◌≡◌, ◌<◌, ◌≤◌, ◌↔◌, [], replicate, vec_len, All, IsTrue, IsNone, IfSome, IfNone, IfOk, IfErr, OnOk};
+ghost use Rattle.std.specs.Prelude.{◌≡◌, ◌<◌, ◌≤◌, ◌↔◌, [], replicate, vec_len, All, IsTrue};
+ghost use Rattle.std.specs.Prelude.{IsNone, IfSome, IfNone, IfOk, IfErr, OnOk};
 ghost use Rattle.loop_board.specs.History.{IsIndexOrNone, Legal, least_post};
-ghost use Rattle.loop_board.specs.Seats.{IsWithinLimits, new_seat, after_draw, after_none, after_look, after_post, histories};
+ghost use Rattle.loop_board.specs.Seats.{IsWithinLimits, new_seat, after_draw, after_none};
+ghost use Rattle.loop_board.specs.Seats.{after_look, after_post, histories};
 
 use crate::dealing::deal;
 use crate::error::BoardError;

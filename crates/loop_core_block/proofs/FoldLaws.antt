@@ -1,5 +1,6 @@
 -- Sites that are folded in one after another.
-use Rattle.std.proofs.Common.{◌≡◌, ℕ, zero, suc, ◌+◌, ◌<◌, ◌≤◌, true, List, [], length, take, drop, slice_index_or, map, Option, Some, None, refl, sym, ◌∙◌, ap, subst, arith, drop_of_length-le}
+use Rattle.std.proofs.Common.{◌≡◌, ℕ, zero, suc, ◌+◌, ◌<◌, ◌≤◌, true, List, [], length, take, drop, slice_index_or}
+use Rattle.std.proofs.Common.{map, Option, Some, None, refl, sym, ◌∙◌, ap, subst, arith, drop_of_length-le}
 use Rattle.std.specs.Prelude.{slice_index}
 use Rattle.std.specs.List.{All, AllByRecursion}
 use Rattle.std.proofs.lemmas.List.{drop_more, take_more, get_or_default, get_or-take, length-take}
@@ -7,7 +8,8 @@ use Rattle.std.proofs.lemmas.List.Elements.{All-from_recursion}
 use Rattle.array_maps.specs.Accesses.{Access, Action, Read, Write, Reduce}
 use Rattle.array_maps.specs.declared.access.Op.{Op}
 use Rattle.loop_core_model.specs.declared.access.Access.{Access as Kind}
-use Rattle.loop_core_model.specs.declared.access.Access.TheVariants.{Read as Reads, Write as Writes, Both, Reduce as Reduces}
+use Rattle.loop_core_model.specs.declared.access.Access.TheVariants.{Read as Reads, Write as Writes}
+use Rattle.loop_core_model.specs.declared.access.Access.TheVariants.{Both, Reduce as Reduces}
 use Rattle.loop_core_model.specs.Flags.{Flags}
 use Rattle.loop_core_model.specs.Marks.{Marks}
 use Rattle.shadow_marks.specs.declared.planes.Planes.{Planes}
@@ -23,7 +25,8 @@ use Rattle.loop_core_batch.specs.declared.elements.Elements.TheVariants.{One, Be
 use Rattle.bpf_step_batch.specs.declared.entry.Entry.{Entry}
 use Rattle.bpf_step_batch.specs.Logs.{element_by, action_by, access_by, log_by, site_of}
 use Rattle.loop_core_block.specs.Batches.{HasElement, IsRow}
-use Rattle.loop_core_block.specs.Folding.{by_site, lead_of, leads_of, marks_by_flags, marks_by_lead, EndsSite, PlanesFold, CopyFolds}
+use Rattle.loop_core_block.specs.Folding.{by_site, lead_of, leads_of, marks_by_flags, marks_by_lead}
+use Rattle.loop_core_block.specs.Folding.{EndsSite, PlanesFold, CopyFolds}
 use Rattle.loop_core_block.specs.Placing.{HasPlace}
 use Rattle.loop_core_block.proofs.Grid.{over_same}
 

@@ -1,11 +1,14 @@
 -- What lanes keep of an element, lane by lane.
-use Rattle.std.proofs.Common.{◌≡◌, ℕ, zero, suc, Bool, true, false, eqb, ◌⊎◌, inl, inr, List, [], ◌∷◌, ◌++◌, Option, Some, refl, sym, ◌∙◌, ap, append_assoc}
+use Rattle.std.proofs.Common.{◌≡◌, ℕ, zero, suc, Bool, true, false, eqb, ◌⊎◌, inl, inr, List, []}
+use Rattle.std.proofs.Common.{◌∷◌, ◌++◌, Option, Some, refl, sym, ◌∙◌, ap, append_assoc}
 use Rattle.std.specs.Prelude.{slice_index, if◌then◌else◌}
 use Rattle.std.specs.List.{AllByRecursion}
 use Rattle.std.proofs.lemmas.List.{append-nil}
-use Rattle.array_maps.specs.Accesses.{Access, Action, Read, Write, ReadWrite, Reduce, combined, left_by, left_by_all, actions_at}
+use Rattle.array_maps.specs.Accesses.{Access, Action, Read, Write, ReadWrite, Reduce}
+use Rattle.array_maps.specs.Accesses.{combined, left_by, left_by_all, actions_at}
 use Rattle.loop_core_model.specs.declared.access.Access.{Access as Kind}
-use Rattle.loop_core_model.specs.declared.access.Access.TheVariants.{Read as Reads, Write as Writes, Both, Reduce as Reduces}
+use Rattle.loop_core_model.specs.declared.access.Access.TheVariants.{Read as Reads, Write as Writes}
+use Rattle.loop_core_model.specs.declared.access.Access.TheVariants.{Both, Reduce as Reduces}
 use Rattle.loop_core_model.specs.Actions.{is_write, joined}
 use Rattle.loop_core_model.specs.Committed.{last_value}
 use Rattle.loop_core_model.specs.Conflict.{at_element}
@@ -18,7 +21,8 @@ use Rattle.private_copy.specs.Reductions.{reduction_after, reduction_of}
 use Rattle.private_copy.specs.Touched.{pages_after}
 use Rattle.private_copy.specs.Copies.{last_after}
 use Rattle.private_copy.specs.Noting.{last_by_lane, reduction_by_lane}
-use Rattle.private_copy.proofs.IterationLaws.{last_more, last_none, reduction_more, reduction_none, at_last, joined_last, pages_after-append}
+use Rattle.private_copy.proofs.IterationLaws.{last_more, last_none, reduction_more, reduction_none}
+use Rattle.private_copy.proofs.IterationLaws.{at_last, joined_last, pages_after-append}
 use Rattle.bpf_step_batch.specs.declared.entry.Entry.{Entry}
 use Rattle.bpf_step_batch.specs.Logs.{element_by, action_by, access_by, log_by, accesses_by}
 use Rattle.loop_core_block.specs.Folding.{over_sites, FoldBoth, MayFold}

@@ -1,5 +1,7 @@
 -- What lanes mark at an element, lane by lane.
-use Rattle.std.proofs.Common.{◌≡◌, ℕ, zero, suc, ◌+◌, ◌<◌, ◌≤◌, Bool, true, false, ◌||◌, eqb, List, [], ◌∷◌, ◌++◌, length, map, Option, Some, None, refl, sym, ◌∙◌, ap, append_assoc, eq-eqb, ne_eqb, eqb-true, arith, length-append}
+use Rattle.std.proofs.Common.{◌≡◌, ℕ, zero, suc, ◌+◌, ◌<◌, ◌≤◌, Bool, true, false, ◌||◌, eqb, List}
+use Rattle.std.proofs.Common.{[], ◌∷◌, ◌++◌, length, map, Option, Some, None, refl, sym, ◌∙◌, ap}
+use Rattle.std.proofs.Common.{append_assoc, eq-eqb, ne_eqb, eqb-true, arith, length-append}
 use Rattle.std.specs.Prelude.{slice_index, if◌then◌else◌}
 use Rattle.std.specs.List.{AllByRecursion, list_any}
 use Rattle.std.proofs.Math.Bool.{or-false}
@@ -7,7 +9,8 @@ use Rattle.std.proofs.lemmas.List.{append-nil}
 use Rattle.std.proofs.lemmas.List.Folds.{list_any-append}
 use Rattle.array_maps.specs.Accesses.{Access, Action, actions_at}
 use Rattle.loop_core_model.specs.declared.access.Access.{Access as Kind}
-use Rattle.loop_core_model.specs.declared.access.Access.TheVariants.{Read as Reads, Write as Writes, Both, Reduce as Reduces}
+use Rattle.loop_core_model.specs.declared.access.Access.TheVariants.{Read as Reads, Write as Writes}
+use Rattle.loop_core_model.specs.declared.access.Access.TheVariants.{Both, Reduce as Reduces}
 use Rattle.loop_core_model.specs.Flags.{Flags, flags_of, flagged, kind_of, no_flags}
 use Rattle.loop_core_model.specs.Marks.{Visit, Marks, marks_of, marks_of_one, merged}
 use Rattle.loop_core_model.proofs.FlagLaws.{flags_follow_kinds}
@@ -21,7 +24,8 @@ use Rattle.private_copy.specs.Visits.{visits_of}
 use Rattle.private_copy.proofs.VisitLaws.{visits_more}
 use Rattle.bpf_step_batch.specs.declared.entry.Entry.{Entry}
 use Rattle.bpf_step_batch.specs.Logs.{element_by, action_by, access_by, accesses_by, site_of, IsLogged}
-use Rattle.loop_core_block.specs.Folding.{over_sites, are_same, FoldBoth, MayFold, flags_over, has_elements, lead_of, Lead, leads_of, marks_by_flags, marks_by_lead}
+use Rattle.loop_core_block.specs.Folding.{over_sites, are_same, FoldBoth, MayFold, flags_over, has_elements}
+use Rattle.loop_core_block.specs.Folding.{lead_of, Lead, leads_of, marks_by_flags, marks_by_lead}
 use Rattle.loop_core_block.proofs.Grid.{Swap, AllSwap}
 use Rattle.loop_core_block.proofs.PairLaws.{pairs_first, pairs_behind}
 use Rattle.loop_core_block.proofs.KeptLanes.{runs_of}

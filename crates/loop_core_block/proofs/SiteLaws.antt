@@ -1,5 +1,6 @@
 -- Sites that are looked at one after another.
-use Rattle.std.proofs.Common.{◌≡◌, ℕ, ◌+◌, ◌<◌, ◌≤◌, Bool, true, false, ◌||◌, List, length, drop, map, slice_index_or, sym, ◌∙◌, ap, drop_of_length-le}
+use Rattle.std.proofs.Common.{◌≡◌, ℕ, ◌+◌, ◌<◌, ◌≤◌, Bool, true, false, ◌||◌, List, length}
+use Rattle.std.proofs.Common.{drop, map, slice_index_or, sym, ◌∙◌, ap, drop_of_length-le}
 use Rattle.std.specs.Prelude.{if◌then◌else◌}
 use Rattle.std.proofs.lemmas.List.{drop_more}
 use Rattle.loop_core_model.specs.Flags.{Flags, flagged}

@@ -1,5 +1,6 @@
 -- A batch that is folded into a block site by site, and what that comes to lane by lane.
-use Rattle.std.specs.Prelude.{◌≡◌, ℕ, Bool, true, false, ◌==◌, if◌then◌else◌, List, [], ◌∷◌, ◌++◌, map, Option, Some, None}
+use Rattle.std.specs.Prelude.{◌≡◌, ℕ, Bool, true, false, ◌==◌, if◌then◌else◌}
+use Rattle.std.specs.Prelude.{List, [], ◌∷◌, ◌++◌, map, Option, Some, None}
 use Rattle.std.specs.List.{AllPairs, list_any}
 use Rattle.array_maps.specs.Accesses.{Access}
 use Rattle.loop_core_model.specs.Flags.{Flags, no_flags, flagged}

@@ -9,7 +9,8 @@ ghost use Rattle.bpf_step_batch.specs.Logs.{IsLogged};
 ghost use Rattle.loop_core_block.specs.Batches.{IsLane, AreIterations};
 ghost use Rattle.loop_core_block.specs.Folding.{MayFold};
 ghost use Rattle.loop_core_block.specs.Workspaces.{IsWorkspaceFor};
-ghost use Rattle.loop_core_block.specs.Runs.{start_words, IsReady, IsOf, IsReadyFor, RunnerHasRun, RanOneMore, RanMore, RanTogether, RanUpTo};
+ghost use Rattle.loop_core_block.specs.Runs.{start_words, IsReady, IsOf, IsReadyFor, RunnerHasRun};
+ghost use Rattle.loop_core_block.specs.Runs.{RanOneMore, RanMore, RanTogether, RanUpTo};
 
 use crate::batching::run_together;
 use crate::folding::may_fold;

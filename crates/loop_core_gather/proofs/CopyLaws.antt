@@ -1,5 +1,6 @@
 -- Blocks of which only the planes are others.
-use Rattle.std.proofs.Common.{◌≡◌, ℕ, zero, suc, ◌<◌, ◌≤◌, ◌/◌, List, [], ◌∷◌, ◌++◌, take, drop, length, map, get_or, set, Option, Some, None, refl, sym, ◌∙◌, ap, subst, arith}
+use Rattle.std.proofs.Common.{◌≡◌, ℕ, zero, suc, ◌<◌, ◌≤◌, ◌/◌, List, [], ◌∷◌, ◌++◌, take, drop, length}
+use Rattle.std.proofs.Common.{map, get_or, set, Option, Some, None, refl, sym, ◌∙◌, ap, subst, arith}
 use Rattle.std.specs.Prelude.{slice_get, slice_index}
 use Rattle.std.specs.List.{All, cons_option, range_with_len}
 use Rattle.std.specs.Option.{option_map}
@@ -18,7 +19,8 @@ use Rattle.lane_planes.specs.Merged.{StandForSome}
 use Rattle.loop_core_block.specs.declared.block.Block.{Block as Held}
 use Rattle.loop_core_block.specs.Blocks.{BlockOf}
 use Rattle.loop_core_block.specs.Shown.{shown}
-use Rattle.loop_core_gather.specs.Held.{chosen, visits_at, is_reduction, kept_of, left_at, left_words, IsUntouchedElement, TellsUntouched, AreHeld, AreInOne, HavePlanes, HaveCopiesOf}
+use Rattle.loop_core_gather.specs.Held.{chosen, visits_at, is_reduction, kept_of, left_at, left_words}
+use Rattle.loop_core_gather.specs.Held.{IsUntouchedElement, TellsUntouched, AreHeld, AreInOne, HavePlanes, HaveCopiesOf}
 use Rattle.loop_core_gather.proofs.ChoiceLaws.{chosen_next, all_at}
 
 abbrev copy_in : BlockOf → PrivateCopy

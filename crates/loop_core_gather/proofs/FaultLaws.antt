@@ -1,5 +1,6 @@
 -- The faults of blocks that were run, and those that count, are what follows from what is told of them.
-use Rattle.std.proofs.Common.{◌≡◌, ℕ, Bool, true, false, List, [], ◌∷◌, map, Some, None, Option, refl, sym, ◌∙◌, ap, subst}
+use Rattle.std.proofs.Common.{◌≡◌, ℕ, Bool, true, false, List, [], ◌∷◌, map, Some}
+use Rattle.std.proofs.Common.{None, Option, refl, sym, ◌∙◌, ap, subst}
 use Rattle.std.specs.Prelude.{not, is_none, if◌then◌else◌, slice_get}
 use Rattle.std.specs.List.{list_any}
 use Rattle.loop_core_model.specs.declared.faults.GatherFault.TheVariants.{Missing, Twice, Foreign}

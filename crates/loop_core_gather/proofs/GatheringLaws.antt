@@ -1,5 +1,6 @@
 -- What is known as blocks are gathered.
-use Rattle.std.proofs.Common.{◌≡◌, ℕ, ◌/◌, ◌<◌, ◌≤◌, Bool, true, false, refl, arith, List, length, map, Option, Some, None, sym, ◌∙◌, ap, subst}
+use Rattle.std.proofs.Common.{◌≡◌, ℕ, ◌/◌, ◌<◌, ◌≤◌, Bool, true, false, refl, arith, List}
+use Rattle.std.proofs.Common.{length, map, Option, Some, None, sym, ◌∙◌, ap, subst}
 use Rattle.std.specs.Prelude.{slice_index}
 use Rattle.std.specs.List.{All, filter, range_with_len}
 use Rattle.std.proofs.lemmas.List.{length-map}
@@ -26,7 +27,8 @@ use Rattle.loop_core_block.specs.Ran.{RecordsRun}
 use Rattle.loop_core_block.specs.Shown.{shown}
 use Rattle.loop_core_gather.specs.declared.summary.Summary.{Summary}
 use Rattle.loop_core_gather.specs.Counting.{told_fault, Counts}
-use Rattle.loop_core_gather.specs.Held.{told_of, chosen, visits_at, left_words, IsUntouchedElement, TellsUntouched, AreHeld, GatheredOf}
+use Rattle.loop_core_gather.specs.Held.{told_of, chosen, visits_at, left_words, IsUntouchedElement}
+use Rattle.loop_core_gather.specs.Held.{TellsUntouched, AreHeld, GatheredOf}
 use Rattle.loop_core_gather.specs.Touched.{is_page_marked, AreMarked}
 use Rattle.loop_core_gather.specs.Gathered.{all_gathered, HasOutcome}
 use Rattle.loop_core_gather.proofs.BlocksCount.{summary_of, BlocksCount}

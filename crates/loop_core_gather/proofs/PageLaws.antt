@@ -1,5 +1,6 @@
 -- The words of a page: those that are left there, block after block.
-use Rattle.std.proofs.Common.{◌≡◌, ℕ, ◌+◌, ◌*◌, ◌/◌, ◌%◌, ◌<◌, ◌≤◌, Bool, true, false, eqb, List, [], drop, length, map, get_or, set, refl, sym, ◌∙◌, ap, inl, inr, arith, get_or-set_same, get_or-set_other}
+use Rattle.std.proofs.Common.{◌≡◌, ℕ, ◌+◌, ◌*◌, ◌/◌, ◌%◌, ◌<◌, ◌≤◌, Bool, true, false, eqb, List, [], drop, length, map}
+use Rattle.std.proofs.Common.{get_or, set, refl, sym, ◌∙◌, ap, inl, inr, arith, get_or-set_same, get_or-set_other}
 use Rattle.std.specs.Prelude.{slice_index, bit_or, if◌then◌else◌, ◌==◌, ◌&&◌, not}
 use Rattle.std.specs.Int.{bit_at}
 use Rattle.std.specs.List.{count_by}

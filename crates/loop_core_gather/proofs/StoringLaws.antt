@@ -1,5 +1,7 @@
 -- Pages stored in maps, one after another.
-use Rattle.std.proofs.Common.{◌≡◌, ◌≢◌, ℕ, zero, suc, ◌+◌, ◌*◌, ◌/◌, ◌%◌, ◌<◌, ◌≤◌, Bool, ◌||◌, List, [], ◌∷◌, drop, take, length, get_or, set, refl, sym, ◌∙◌, ap, subst, inl, inr, arith, get_or-set_same, get_or-set_other}
+use Rattle.std.proofs.Common.{◌≡◌, ◌≢◌, ℕ, zero, suc, ◌+◌, ◌*◌, ◌/◌, ◌%◌, ◌<◌, ◌≤◌, Bool, ◌||◌}
+use Rattle.std.proofs.Common.{List, [], ◌∷◌, drop, take, length, get_or, set, refl, sym, ◌∙◌, ap}
+use Rattle.std.proofs.Common.{subst, inl, inr, arith, get_or-set_same, get_or-set_other}
 use Rattle.std.specs.Prelude.{slice_index}
 use Rattle.std.proofs.Math.ListN.{drop_of_length-le}
 use Rattle.std.proofs.lemmas.Bool.{cases_eq, ne_eqb}

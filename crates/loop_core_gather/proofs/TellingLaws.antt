@@ -1,5 +1,6 @@
 -- Gathered blocks tell the loop's verdict, and after a pass its outcome.
-use Rattle.std.proofs.Common.{◌≡◌, ℕ, ◌<◌, ◌≤◌, Bool, List, [], ◌∷◌, length, map, Option, None, refl, sym, ◌∙◌, ap, subst, arith}
+use Rattle.std.proofs.Common.{◌≡◌, ℕ, ◌<◌, ◌≤◌, Bool, List, [], ◌∷◌, length, map}
+use Rattle.std.proofs.Common.{Option, None, refl, sym, ◌∙◌, ap, subst, arith}
 use Rattle.std.specs.Prelude.{slice_index}
 use Rattle.std.specs.List.{All, AllByRecursion, filter, range_with_len}
 use Rattle.std.proofs.lemmas.List.{ext_get_or}
@@ -42,7 +43,8 @@ use Rattle.loop_core_gather.specs.Gathered.{all_gathered, HasOutcome}
 use Rattle.loop_core_gather.proofs.BlocksCount.{summary_of, BlocksCount, counting_of}
 use Rattle.loop_core_gather.proofs.FollowLaws.{Follow, counting_follow}
 use Rattle.loop_core_gather.proofs.ChoiceLaws.{AreAt, are_at, all_chosen}
-use Rattle.loop_core_gather.proofs.JoiningLaws.{at_blocks, runs_of, joined_at, told, visits_in, marks_follow, runs_all, ran_is, all_kept, tells_reduction}
+use Rattle.loop_core_gather.proofs.JoiningLaws.{at_blocks, runs_of, joined_at, told, visits_in, marks_follow}
+use Rattle.loop_core_gather.proofs.JoiningLaws.{runs_all, ran_is, all_kept, tells_reduction}
 
 -- what is gathered is what is told
 same_told : (test : Test) (program : Program) (call : LoopCall) (words : List ℕ) (b : BlockOf)

@@ -1,5 +1,6 @@
 -- What is told of blocks says what they do.
-use Rattle.std.proofs.Common.{◌≡◌, ℕ, suc, ◌+◌, ◌<◌, ◌≤◌, Bool, true, false, List, [], ◌∷◌, ◌++◌, map, length, drop, Some, None, Option, refl, sym, ◌∙◌, ap, arith, append_assoc, length-append}
+use Rattle.std.proofs.Common.{◌≡◌, ℕ, suc, ◌+◌, ◌<◌, ◌≤◌, Bool, true, false, List, [], ◌∷◌, ◌++◌, map, length, drop}
+use Rattle.std.proofs.Common.{Some, None, Option, refl, sym, ◌∙◌, ap, arith, append_assoc, length-append}
 use Rattle.std.specs.Prelude.{slice_get, slice_index, ◌==◌, ◌||◌, not, cond, if◌then◌else◌}
 use Rattle.std.specs.List.{list_any, position_from}
 use Rattle.std.proofs.Math.Seq.{drop-cons}
@@ -7,7 +8,8 @@ use Rattle.std.proofs.Math.ListN.{drop_of_length-le}
 use Rattle.std.proofs.lemmas.List.{append-nil}
 use Rattle.loop_core_model.specs.LeastBreak.{lesser}
 use Rattle.loop_core_model.specs.Block.{break_from}
-use Rattle.loop_core_model.specs.Gather.{Block, least_of, starts_late, block_numbered, lacks_block, counting, twice, stands_in}
+use Rattle.loop_core_model.specs.Gather.{Block, least_of, starts_late, block_numbered}
+use Rattle.loop_core_model.specs.Gather.{lacks_block, counting, twice, stands_in}
 use Rattle.loop_core_gather.specs.declared.summary.Summary.{Summary}
 use Rattle.loop_core_gather.specs.Told.{least_told, twice_told, stands_told, with_place, order_from, order_told}
 use Rattle.loop_core_gather.proofs.BlocksCount.{summary_of}

@@ -1,5 +1,6 @@
 -- What is kept of gathered blocks, and what a pass leaves by it.
-use Rattle.std.specs.Prelude.{◌≡◌, ℕ, ◌/◌, ◌<◌, ◌≤◌, Bool, false, not, ◌&&◌, ◌==◌, List, map, length, slice_get, slice_index, Some, None}
+use Rattle.std.specs.Prelude.{◌≡◌, ℕ, ◌/◌, ◌<◌, ◌≤◌, Bool, false, not, ◌&&◌, ◌==◌, List}
+use Rattle.std.specs.Prelude.{map, length, slice_get, slice_index, Some, None}
 use Rattle.std.specs.Int.{bit_at}
 use Rattle.std.specs.List.{All, count_by, filter_map, range_with_len}
 use Rattle.array_maps.specs.Accesses.{operators}

@@ -1,5 +1,6 @@
 -- What the marks of a set of iterations tell, and how they come about.
-use Rattle.std.proofs.Common.{◌≡◌, ℕ, ◌+◌, ◌-◌, ◌≤◌, Bool, true, false, not, ◌&&◌, ◌||◌, ◌⊎◌, inl, inr, List, [], ◌∷◌, ◌++◌, Option, Some, None, refl, sym, ◌∙◌, ap, arith}
+use Rattle.std.proofs.Common.{◌≡◌, ℕ, ◌+◌, ◌-◌, ◌≤◌, Bool, true, false, not, ◌&&◌, ◌||◌, ◌⊎◌, inl, inr}
+use Rattle.std.proofs.Common.{List, [], ◌∷◌, ◌++◌, Option, Some, None, refl, sym, ◌∙◌, ap, arith}
 use Rattle.std.specs.Prelude.{if◌then◌else◌, ◌==◌, nat_lt, min, max, is_some}
 use Rattle.std.specs.List.{list_any, count_by}
 use Rattle.std.proofs.Math.Bool.{or_assoc, or_comm, or-false}
@@ -14,7 +15,9 @@ use Rattle.loop_core_model.specs.Actions.{writes, exposed, reduces_by, joined, o
 use Rattle.loop_core_model.specs.Conflict.{fails_lrpd, fails_flow, fails, conflicts}
 use Rattle.loop_core_model.specs.LeastBreak.{lesser}
 use Rattle.loop_core_model.specs.Flags.{is_plain, flags_of}
-use Rattle.loop_core_model.specs.Marks.{Visit, actions_of, numbered, Marks, two_write, first_writer, last_reader, marks_of, marked_reduction, stands_before, first_number, marked_fails, marked_conflict, marks_of_one, merged}
+use Rattle.loop_core_model.specs.Marks.{Visit, actions_of, numbered, Marks, two_write, first_writer, last_reader}
+use Rattle.loop_core_model.specs.Marks.{marks_of, marked_reduction, stands_before, first_number, marked_fails}
+use Rattle.loop_core_model.specs.Marks.{marked_conflict, marks_of_one, merged}
 use Rattle.loop_core_model.specs.MarkLaw.{MarksTell, FirstIsNumber, MarksMerge}
 use Rattle.loop_core_model.proofs.ReductionLaws.{only-kept, any-joined, has}
 

@@ -1,5 +1,6 @@
 -- The elements of a plane are counted by the bits of its words.
-use Rattle.std.proofs.Common.{◌≡◌, ℕ, zero, suc, ◌+◌, ◌*◌, ◌/◌, ◌%◌, ◌^◌, ◌≤◌, ◌<◌, Bool, true, false, cond, List, [], ◌∷◌, ◌++◌, length, map, refl, sym, ◌∙◌, ap, ap₂, subst, arith, Option, Some, None}
+use Rattle.std.proofs.Common.{◌≡◌, ℕ, zero, suc, ◌+◌, ◌*◌, ◌/◌, ◌%◌, ◌^◌, ◌≤◌, ◌<◌, Bool, true, false, cond, List, []}
+use Rattle.std.proofs.Common.{◌∷◌, ◌++◌, length, map, refl, sym, ◌∙◌, ap, ap₂, subst, arith, Option, Some, None}
 use Rattle.std.specs.Prelude.{◌==◌, count_ones, slice_index_or, if◌then◌else◌}
 use Rattle.std.specs.Int.{w64, bit_at, trailing_zeros}
 use Rattle.std.specs.Int.Count.{ones_step}
@@ -14,7 +15,8 @@ use Rattle.std.proofs.lemmas.Nat.Bits.{bit_at_lowest, bit_at-suc, bit_at-zero, b
 use Rattle.array_maps.specs.MapList.{AreWords}
 use Rattle.loop_core_model.specs.declared.verdict.Verdict.TheVariants.{Conflict}
 use Rattle.loop_core_model.specs.Report.{judged}
-use Rattle.loop_core_model.specs.Planes.{bit_of, elements_in_plane, least_element_in, judged_by, set_bits, least_bit, PlaneJudges}
+use Rattle.loop_core_model.specs.Planes.{bit_of, elements_in_plane, least_element_in, judged_by}
+use Rattle.loop_core_model.specs.Planes.{set_bits, least_bit, PlaneJudges}
 use Rattle.loop_core_model.proofs.PlaneLaws.{range-append, filter-same, filter-none}
 
 -- the places of a word's bits that are set

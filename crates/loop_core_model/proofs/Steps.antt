@@ -1,5 +1,6 @@
 -- What one event keeps.
-use Rattle.std.proofs.Common.{◌≡◌, ℕ, zero, suc, ◌+◌, ◌-◌, ◌<◌, ◌≤◌, Bool, true, false, ◌⊎◌, inl, inr, List, [], ◌∷◌, Option, Some, None, refl, sym, ◌∙◌, ap, subst, arith}
+use Rattle.std.proofs.Common.{◌≡◌, ℕ, zero, suc, ◌+◌, ◌-◌, ◌<◌, ◌≤◌, Bool, true, false, ◌⊎◌, inl, inr}
+use Rattle.std.proofs.Common.{List, [], ◌∷◌, Option, Some, None, refl, sym, ◌∙◌, ap, subst, arith}
 use Rattle.std.specs.Prelude.{◌==◌, nat_lt, min, if◌then◌else◌}
 use Rattle.std.proofs.lemmas.Bool.{ltb-false, ltb-true, eqb-true, eqb-false, lt-ltb, eq-eqb, ne_eqb, cases_eq}
 use Rattle.std.proofs.Math.Nat.{min-le_right, min_comm}
@@ -9,7 +10,8 @@ use Rattle.loop_core_model.specs.Gather.{starts_late}
 use Rattle.loop_core_event.specs.declared.event.EventKind.{EventKind}
 use Rattle.loop_core_event.specs.declared.event.EventKind.TheVariants.{Claim, Look, Turn, Post, Stop}
 use Rattle.loop_core_model.specs.Intervals.{blocks_of, start_of, end_of}
-use Rattle.loop_core_model.specs.Events.{Worker, Idle, Holding, Running, Posting, Drained, Stopped, Shared, Moved, becomes, having_run, posts, transition}
+use Rattle.loop_core_model.specs.Events.{Worker, Idle, Holding, Running, Posting, Drained, Stopped}
+use Rattle.loop_core_model.specs.Events.{Shared, Moved, becomes, having_run, posts, transition}
 use Rattle.loop_core_model.proofs.SplitLaws.{rising}
 
 abbrev pub bit : Bool → ℕ

@@ -6,7 +6,8 @@ use Rattle.array_maps.specs.declared.access.Op.TheVariants.{Add, And, AddH}
 use Rattle.bpf_insn_types.specs.declared.insn.Insn.{Insn}
 use Rattle.bpf_step_model.specs.Run.{BoundedResult, Ended, mapped}
 use Rattle.bpf_step_model.specs.Iteration.{Iterated}
-use Rattle.bpf_step_model.specs.LoopRows.{looping, worked_call, add_index, shift_right, shift_left, last_writer, mixed_operators, and_operands}
+use Rattle.bpf_step_model.specs.LoopRows.{looping, worked_call, add_index, shift_right, shift_left}
+use Rattle.bpf_step_model.specs.LoopRows.{last_writer, mixed_operators, and_operands}
 use Rattle.loop_core_model.specs.Conflict.{at_element}
 use Rattle.loop_core_model.specs.LeastBreak.{accesses_of_each}
 use Rattle.loop_core_model.specs.VerdictRows.{add_halves, add_half_and_whole, store_half}

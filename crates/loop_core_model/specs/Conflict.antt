@@ -1,5 +1,6 @@
 -- Which elements conflict. An iteration is the list of its actions at the element; iterations stand by rising index.
-use Rattle.std.specs.Prelude.{◌≡◌, ◌≢◌, ℕ, ◌<◌, Bool, true, false, ◌&&◌, ◌||◌, ◌↔◌, List, [], ◌∷◌, map, length, slice_index_or, is_none}
+use Rattle.std.specs.Prelude.{◌≡◌, ◌≢◌, ℕ, ◌<◌, Bool, true, false, ◌&&◌, ◌||◌, ◌↔◌, List}
+use Rattle.std.specs.Prelude.{[], ◌∷◌, map, length, slice_index_or, is_none}
 use Rattle.std.specs.List.{list_any, filter, range_with_len}
 use Rattle.array_maps.specs.Accesses.{Action, Access, actions_at}
 use Rattle.loop_core_model.specs.declared.loop_test.Test.{Test}

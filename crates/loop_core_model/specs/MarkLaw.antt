@@ -6,7 +6,8 @@ use Rattle.loop_core_model.specs.Actions.{joined, only_operator}
 use Rattle.loop_core_model.specs.Conflict.{conflicts}
 use Rattle.loop_core_model.specs.LeastBreak.{lesser}
 use Rattle.loop_core_model.specs.Flags.{flags_of}
-use Rattle.loop_core_model.specs.Marks.{Visit, numbered, Marks, marks_of, marked_reduction, stands_before, first_number, marked_conflict, no_marks, marks_of_one, merged}
+use Rattle.loop_core_model.specs.Marks.{Visit, numbered, Marks, marks_of, marked_reduction, stands_before}
+use Rattle.loop_core_model.specs.Marks.{first_number, marked_conflict, no_marks, marks_of_one, merged}
 
 -- the marks tell exactly which elements are reduction-only, and which conflict by either test
 pub record MarksTell : Type 0 where

@@ -1,6 +1,7 @@
 -- Worked planes: the marks of loops that are run as one block, as planes of words, and the verdicts that planes of
 -- conflicts tell. Each is worked out by hand.
-use Rattle.std.specs.Prelude.{◌≡◌, ℕ, zero, suc, ◌+◌, ◌*◌, Bool, if◌then◌else◌, List, [], ◌∷◌, map, take, drop, replicate, Option, Some, None}
+use Rattle.std.specs.Prelude.{◌≡◌, ℕ, zero, suc, ◌+◌, ◌*◌, Bool, if◌then◌else◌, List, []}
+use Rattle.std.specs.Prelude.{◌∷◌, map, take, drop, replicate, Option, Some, None}
 use Rattle.array_maps.specs.declared.access.Op.TheVariants.{Add, Or, And, Xor, AddH}
 use Rattle.bpf_step_model.specs.Run.{BoundedResult, Ended, mapped}
 use Rattle.bpf_step_model.specs.Iteration.{Iterated}

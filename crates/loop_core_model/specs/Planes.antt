@@ -1,5 +1,6 @@
 -- Conflicting elements as a plane: a word for each 64 elements, of which each bit says whether an element is one.
-use Rattle.std.specs.Prelude.{◌≡◌, ℕ, ◌+◌, ◌*◌, ◌/◌, ◌%◌, ◌≤◌, ◌<◌, Bool, false, ◌==◌, if◌then◌else◌, List, [], ◌∷◌, length, slice_index_or, count_ones, Option, Some, None}
+use Rattle.std.specs.Prelude.{◌≡◌, ℕ, ◌+◌, ◌*◌, ◌/◌, ◌%◌, ◌≤◌, ◌<◌, Bool, false, ◌==◌, if◌then◌else◌, List}
+use Rattle.std.specs.Prelude.{[], ◌∷◌, length, slice_index_or, count_ones, Option, Some, None}
 use Rattle.std.specs.Int.{w64, bit_at, trailing_zeros}
 use Rattle.std.specs.List.{filter, range_with_len}
 use Rattle.array_maps.specs.MapList.{AreWords}

@@ -1,5 +1,6 @@
 -- Worked lists of events. Each is worked out by hand.
-use Rattle.std.specs.Prelude.{◌≡◌, ℕ, ◌-◌, pos, List, [], ◌∷◌, ◌++◌, length, replicate, Option, Some, None, Result, Ok, Err}
+use Rattle.std.specs.Prelude.{◌≡◌, ℕ, ◌-◌, pos, List, [], ◌∷◌, ◌++◌, length, replicate}
+use Rattle.std.specs.Prelude.{Option, Some, None, Result, Ok, Err}
 use Rattle.bpf_insn_types.specs.declared.insn.Size.TheVariants.{Dw}
 use Rattle.bpf_insn_types.specs.declared.insn.Width.TheVariants.{W64}
 use Rattle.bpf_insn_types.specs.declared.insn.Compare.TheVariants.{Eq}

@@ -9,7 +9,9 @@ use Rattle.bpf_insn_types.specs.declared.insn.Insn.{Insn}
 use Rattle.bpf_insn_types.specs.declared.insn.Insn.TheVariants.{Exit, Load, Store, StoreImm, Atomic}
 use Rattle.bpf_step_model.specs.Run.{Ended}
 use Rattle.bpf_step_model.specs.Lines.{mov, alu_imm, map_value, end, loop_with}
-use Rattle.bpf_step_model.specs.LoopRows.{looping, skip_unless, add_index, increment, shift_right, shift_left, last_writer, mixed_operators, break_at_five, break_that_never_comes, and_operands, add_fetched, two_loops}
+use Rattle.bpf_step_model.specs.LoopRows.{looping, skip_unless, add_index, increment, shift_right, shift_left}
+use Rattle.bpf_step_model.specs.LoopRows.{last_writer, mixed_operators, break_at_five, break_that_never_comes}
+use Rattle.bpf_step_model.specs.LoopRows.{and_operands, add_fetched, two_loops}
 use Rattle.loop_core_model.specs.declared.loop_test.Test.{Test}
 use Rattle.loop_core_model.specs.declared.loop_test.Test.TheVariants.{Lrpd, Flow}
 use Rattle.loop_core_model.specs.declared.verdict.Verdict.{Verdict}

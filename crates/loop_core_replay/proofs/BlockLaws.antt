@@ -1,5 +1,6 @@
 -- Blocks that are under way, and blocks that were run.
-use Rattle.std.proofs.Common.{◌≡◌, ℕ, zero, suc, ◌+◌, ◌++◌, ◌<◌, ◌⊎◌, inl, inr, List, [], ◌∷◌, length, Option, Some, None, refl, sym, ◌∙◌, ap, subst, arith}
+use Rattle.std.proofs.Common.{◌≡◌, ℕ, zero, suc, ◌+◌, ◌++◌, ◌<◌, ◌⊎◌, inl, inr, List, [], ◌∷◌}
+use Rattle.std.proofs.Common.{length, Option, Some, None, refl, sym, ◌∙◌, ap, subst, arith}
 use Rattle.std.specs.Prelude.{replicate, slice_index_or, slice_set, is_some}
 use Rattle.std.specs.List.{AllByRecursion, insert}
 use Rattle.std.proofs.lemmas.Bool.{cases_eq}
@@ -11,7 +12,8 @@ use Rattle.loop_core_block.specs.Blocks.{BlockOf}
 use Rattle.loop_core_block.specs.Shown.{shown}
 use Rattle.loop_core_block.specs.Loops.{LoopOf}
 use Rattle.loop_core_block.specs.LoopBlocks.{IsBlockOf}
-use Rattle.loop_core_replay.specs.Replays.{BlocksOf, block_numbers, IfBlockOf, AreBlocks, IsUnderWay, BreaksAt, BlockHasRun}
+use Rattle.loop_core_replay.specs.Replays.{BlocksOf, block_numbers, IfBlockOf, AreBlocks}
+use Rattle.loop_core_replay.specs.Replays.{IsUnderWay, BreaksAt, BlockHasRun}
 
 none_at : (n k : ℕ) (nothing : Option Block) → slice_index_or (replicate n nothing) k nothing ≡ nothing
 none_at zero k nothing = refl

@@ -1,5 +1,6 @@
 -- What events do to a replay.
-use Rattle.std.proofs.Common.{◌≡◌, ℕ, zero, suc, ◌+◌, ◌-◌, ◌<◌, Bool, true, false, List, [], ◌∷◌, ◌++◌, take, Option, Some, None, refl, sym, ◌∙◌, ap, subst, arith}
+use Rattle.std.proofs.Common.{◌≡◌, ℕ, zero, suc, ◌+◌, ◌-◌, ◌<◌, Bool, true, false, List, [], ◌∷◌}
+use Rattle.std.proofs.Common.{◌++◌, take, Option, Some, None, refl, sym, ◌∙◌, ap, subst, arith}
 use Rattle.std.specs.Prelude.{slice_get, if◌then◌else◌, OnOk, Result, Ok, Err}
 use Rattle.std.specs.Option.{option_to_list}
 use Rattle.std.proofs.lemmas.Bool.{eq-eqb, ne_eqb}
@@ -24,7 +25,8 @@ use Rattle.loop_core_workers.specs.Steps.{Leads, Faults, StepFollows, IsBefore, 
 use Rattle.loop_core_workers.specs.InTurn.{LeadTo, EventsInTurn}
 use Rattle.loop_core_workers.proofs.StandingLaws.{seen_at, at_is}
 use Rattle.loop_core_block.specs.Loops.{LoopOf, IsSpeculative}
-use Rattle.loop_core_replay.specs.Replays.{BlocksOf, ReplayOf, loop_breaks, block_numbers, state_of, AreBlocks, BreaksAt, BlockHasRun, HasCome}
+use Rattle.loop_core_replay.specs.Replays.{BlocksOf, ReplayOf, loop_breaks, block_numbers, state_of}
+use Rattle.loop_core_replay.specs.Replays.{AreBlocks, BreaksAt, BlockHasRun, HasCome}
 
 -- a state that events lead to is sound
 sound_of : (s : LoopOf) → IsSpeculative s → (events : List Event) (place : ℕ) (now : ScheduleState)

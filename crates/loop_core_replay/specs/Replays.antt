@@ -1,5 +1,6 @@
 -- How a replay stands while a list of events goes by.
-use Rattle.std.specs.Prelude.{◌≡◌, ℕ, ◌<◌, Bool, true, List, ◌∷◌, map, length, slice_index_or, Option, Some, None, is_some, Ok}
+use Rattle.std.specs.Prelude.{◌≡◌, ℕ, ◌<◌, Bool, true, List, ◌∷◌, map, length, slice_index_or}
+use Rattle.std.specs.Prelude.{Option, Some, None, is_some, Ok}
 use Rattle.std.specs.List.{AllByRecursion}
 use Rattle.bpf_step_model.specs.Run.{Ended}
 use Rattle.bpf_step_model.specs.Iteration.{Iterated}

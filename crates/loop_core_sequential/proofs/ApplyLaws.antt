@@ -1,19 +1,23 @@
 -- What a batch leaves in the maps.
-use Rattle.std.proofs.Common.{◌≡◌, ℕ, zero, suc, ◌+◌, ◌-◌, ◌<◌, ◌≤◌, List, [], ◌∷◌, ◌++◌, length, map, take, drop, set, slice_index, slice_index_or, refl, sym, ap, subst, ◌∙◌, arith}
+use Rattle.std.proofs.Common.{◌≡◌, ℕ, zero, suc, ◌+◌, ◌-◌, ◌<◌, ◌≤◌, List, [], ◌∷◌, ◌++◌, length, map, take}
+use Rattle.std.proofs.Common.{drop, set, slice_index, slice_index_or, refl, sym, ap, subst, ◌∙◌, arith}
 use Rattle.std.specs.List.{AllByRecursion}
-use Rattle.std.proofs.lemmas.List.{set-get_or, length-set, drop_more, take_more, take_more_set, take_all, map-append, get_or-take, length-take-le}
+use Rattle.std.proofs.lemmas.List.{set-get_or, length-set, drop_more, take_more, take_more_set}
+use Rattle.std.proofs.lemmas.List.{take_all, map-append, get_or-take, length-take-le}
 use Rattle.std.proofs.lemmas.List.Elements.{All-from_recursion}
 use Rattle.array_maps.specs.declared.access.Op.{Op}
 use Rattle.array_maps.specs.Accesses.{Action, Write, Reduce, Access, combined, words_after, words_after_run}
 use Rattle.array_maps.specs.MapList.{MapList}
 use Rattle.loop_core_model.specs.declared.access.Access.{Access as Kind}
-use Rattle.loop_core_model.specs.declared.access.Access.TheVariants.{Read as Reads, Write as Writes, Both, Reduce as Reduces}
+use Rattle.loop_core_model.specs.declared.access.Access.TheVariants.{Read as Reads, Write as Writes}
+use Rattle.loop_core_model.specs.declared.access.Access.TheVariants.{Both, Reduce as Reduces}
 use Rattle.loop_core_batch.specs.declared.elements.Elements.{Elements}
 use Rattle.loop_core_batch.specs.declared.elements.Elements.TheVariants.{One, Run}
 use Rattle.loop_core_batch.specs.declared.site.Site.{Site}
 use Rattle.loop_core_batch.specs.BySite.{SumsAtOnce, combined_to, words_after_site, words_after_sites}
 use Rattle.bpf_step_batch.specs.declared.entry.Entry.{Entry}
-use Rattle.bpf_step_batch.specs.Logs.{element_by, action_by, access_by, log_by, site_of, stored_by, reduced_by, IsLogged}
+use Rattle.bpf_step_batch.specs.Logs.{element_by, action_by, access_by, log_by, site_of}
+use Rattle.bpf_step_batch.specs.Logs.{stored_by, reduced_by, IsLogged}
 
 -- accesses that leave the same at the same elements
 pub same_site : (a b : ℕ → Access) → ((lane : ℕ) (words : List ℕ) → words_after (a lane) words ≡ words_after (b lane)

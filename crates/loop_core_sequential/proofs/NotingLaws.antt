@@ -1,5 +1,6 @@
 -- What is noted of batches.
-use Rattle.std.proofs.Common.{◌≡◌, ℕ, ◌+◌, ◌<◌, ◌≤◌, Bool, true, false, ◌||◌, ◌&&◌, ◌==◌, All, List, length, take, slice_index, slice_index_or, inl, inr, refl, sym, ◌∙◌, ap, subst, arith}
+use Rattle.std.proofs.Common.{◌≡◌, ℕ, ◌+◌, ◌<◌, ◌≤◌, Bool, true, false, ◌||◌, ◌&&◌, ◌==◌, All, List, length, take}
+use Rattle.std.proofs.Common.{slice_index, slice_index_or, inl, inr, refl, sym, ◌∙◌, ap, subst, arith}
 use Rattle.std.specs.Prelude.{nat_le, nat_lt}
 use Rattle.std.proofs.lemmas.Bool.{cases_eq, both_ways, or_parts, or_left, or_right, and_from, eq-eqb, le-leb, lt-ltb}
 use Rattle.std.proofs.lemmas.List.Elements.{All-more, recursion_from_All}

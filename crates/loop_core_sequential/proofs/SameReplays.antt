@@ -9,7 +9,8 @@ use Rattle.loop_core_model.specs.declared.replay_fault.ReplayFault.{ReplayFault}
 use Rattle.loop_core_model.specs.declared.replay_fault.ReplayFault.TheVariants as faults
 use Rattle.loop_core_model.specs.Intervals.{blocks_of, end_of}
 use Rattle.loop_core_model.specs.Events.{Worker, Idle, Running, Posting, Shared, Moved, becomes, having_run, transition}
-use Rattle.loop_core_model.specs.Schedule.{ScheduleState, at_first, worker_of, if_enabled, after_event, and_then, after_events, if_ended, replay}
+use Rattle.loop_core_model.specs.Schedule.{ScheduleState, at_first, worker_of, if_enabled, after_event}
+use Rattle.loop_core_model.specs.Schedule.{and_then, after_events, if_ended, replay}
 use Rattle.loop_core_model.proofs.SplitLaws.{faultless, rising}
 use Rattle.loop_core_model.proofs.Steps.{RunsFrom, Fits}
 use Rattle.loop_core_model.proofs.ScheduleLaws.{Sound, OneOk, event_ok, sound_at_first}

@@ -1,5 +1,6 @@
 -- Loops that are watched while they run in order.
-use Rattle.std.proofs.Common.{◌≡◌, ℕ, zero, suc, ◌+◌, ◌-◌, ◌<◌, ◌≤◌, ◌==◌, if◌then◌else◌, Bool, true, false, leb, ◌⊎◌, inl, inr, List, length, slice_index, Some, None, refl, sym, ap, subst, ◌∙◌, arith}
+use Rattle.std.proofs.Common.{◌≡◌, ℕ, zero, suc, ◌+◌, ◌-◌, ◌<◌, ◌≤◌, ◌==◌, if◌then◌else◌, Bool, true, false, leb, ◌⊎◌}
+use Rattle.std.proofs.Common.{inl, inr, List, length, slice_index, Some, None, refl, sym, ap, subst, ◌∙◌, arith}
 use Rattle.std.proofs.lemmas.Bool.Decides.{leb_tells}
 use Rattle.array_maps.specs.Accesses.{Access, SawEach, actions_at, words_after_all}
 use Rattle.array_maps.specs.MapList.{MapList}
@@ -18,9 +19,11 @@ use Rattle.loop_core_batch.specs.Lanes.{sees, NoneSees, words_after_lanes}
 use Rattle.loop_core_batch.specs.LoopByBatch.{EndsInZero}
 use Rattle.loop_core_batch.proofs.BatchLaws.{length-before}
 use Rattle.loop_core_sequential.specs.Rests.{rest_to, RanOn, BrokeOff}
-use Rattle.loop_core_sequential.specs.Watched.{RanAndPasses, accesses_if_ended, accesses_at, NoneReadsWritten, WentWatched}
+use Rattle.loop_core_sequential.specs.Watched.{RanAndPasses, accesses_if_ended, accesses_at}
+use Rattle.loop_core_sequential.specs.Watched.{NoneReadsWritten, WentWatched}
 use Rattle.loop_core_sequential.proofs.InOrder.{stayed, went_both, ran_all}
-use Rattle.loop_core_sequential.proofs.WatchedFlow.{Scanned, renamed, none_scanned, last_scanned, scanned_from, passes_flow}
+use Rattle.loop_core_sequential.proofs.WatchedFlow.{Scanned, renamed, none_scanned, last_scanned}
+use Rattle.loop_core_sequential.proofs.WatchedFlow.{scanned_from, passes_flow}
 
 -- what makes a test true that is false is false too
 pub not_so : (a b : Bool) → (a ≡ true → b ≡ true) → b ≡ false → a ≡ false

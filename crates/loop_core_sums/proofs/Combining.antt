@@ -1,5 +1,6 @@
 -- Words that are combined, element by element.
-use Rattle.std.proofs.Common.{◌≡◌, ℕ, zero, suc, ◌+◌, ◌-◌, ◌<◌, ◌≤◌, ◌^◌, Bool, true, false, List, [], ◌∷◌, length, slice_set, refl, sym, ap, ◌∙◌, subst, arith}
+use Rattle.std.proofs.Common.{◌≡◌, ℕ, zero, suc, ◌+◌, ◌-◌, ◌<◌, ◌≤◌, ◌^◌, Bool, true, false, List}
+use Rattle.std.proofs.Common.{[], ◌∷◌, length, slice_set, refl, sym, ap, ◌∙◌, subst, arith}
 use Rattle.std.specs.Prelude.{slice_index, ◌==◌, ◌%◌, bit_and, bit_or, bit_xor}
 use Rattle.std.specs.Int.Bits.{or_zero_r, xor_zero_r}
 use Rattle.std.specs.List.{list_all}
@@ -10,7 +11,8 @@ use Rattle.std.proofs.lemmas.Nat.{and_mask}
 use Rattle.bpf_insn_types.specs.Words.{alu}
 use Rattle.array_maps.specs.declared.access.Op.{Op}
 use Rattle.array_maps.specs.declared.access.Op.TheVariants.{Add, Or, And, Xor, AddH}
-use Rattle.array_maps.specs.Accesses.{Action, Reduce, Access, combined, left_by_all, actions_at, words_after_all, words_after_run}
+use Rattle.array_maps.specs.Accesses.{Action, Reduce, Access, combined, left_by_all, actions_at}
+use Rattle.array_maps.specs.Accesses.{words_after_all, words_after_run}
 use Rattle.array_maps.specs.Halves.{half_of, halves_added}
 use Rattle.array_maps.specs.MapList.{AreWords}
 use Rattle.array_maps.proofs.ElementLaws.{length-words_after, length-words_after_all, element_after_all}

@@ -1,5 +1,6 @@
 -- How an iteration goes on, and how it ends.
-use Rattle.std.proofs.Common.{◌≡◌, ℕ, ℤ, zero, suc, ◌+◌, ◌<◌, ◌≤◌, ◌^◌, List, [], ◌∷◌, ◌++◌, length, set, Option, Some, None, refl, sym, ap, subst, ◌∙◌, arith}
+use Rattle.std.proofs.Common.{◌≡◌, ℕ, ℤ, zero, suc, ◌+◌, ◌<◌, ◌≤◌, ◌^◌, List, [], ◌∷◌, ◌++◌, length}
+use Rattle.std.proofs.Common.{set, Option, Some, None, refl, sym, ap, subst, ◌∙◌, arith}
 use Rattle.std.specs.Prelude.{slice_get, slice_index}
 use Rattle.std.specs.List.{sum}
 use Rattle.std.proofs.lemmas.List.{append-nil}
@@ -13,10 +14,12 @@ use Rattle.bpf_step_model.specs.Run.{Ended, Exit, action_of, after_request, foll
 use Rattle.bpf_step_model.specs.Iteration.{exited, iteration}
 use Rattle.bpf_step_model.specs.Steps.{access_of, GoesOn, EndsBy, Steps}
 use Rattle.bpf_step_model.proofs.StateLists.{runs_states}
-use Rattle.bpf_verify_sound.specs.Soundness.{IsSoundProgram, AreMapWords, OverApproximatesCall, StepsOverApproximated, ProgressAndPreservation, EachRunEnds, CallbacksExit, most_from}
+use Rattle.bpf_verify_sound.specs.Soundness.{IsSoundProgram, AreMapWords, OverApproximatesCall, StepsOverApproximated}
+use Rattle.bpf_verify_sound.specs.Soundness.{ProgressAndPreservation, EachRunEnds, CallbacksExit, most_from}
 use Rattle.bpf_verify_sound.proofs.RunLaws.{word-at, words-known}
 use Rattle.bpf_step_ir.specs.declared.plain_op.PlainOp.{PlainOp}
-use Rattle.bpf_step_ir.specs.Plain.{Plain, PlainStepOutcome, Goes, Wants, CallsLoop, RefusesLoop, Ends, plain_step, plain_after_request}
+use Rattle.bpf_step_ir.specs.Plain.{Plain, PlainStepOutcome, Goes, Wants, CallsLoop, RefusesLoop}
+use Rattle.bpf_step_ir.specs.Plain.{Ends, plain_step, plain_after_request}
 use Rattle.bpf_step_ir.specs.PlainRun.{op_of}
 use Rattle.bpf_step_ir.specs.Translation.{AreOps}
 use Rattle.bpf_step_ir_sound.specs.Standing.{Simulates, SimulatesStep}
@@ -36,7 +39,8 @@ use Rattle.loop_core_trace.specs.Traced.{AreSlots, IsTraceOf}
 use Rattle.loop_core_trace.proofs.TouchLaws.{AsTouched, TouchIs, as_touched}
 use Rattle.loop_core_trace.proofs.SlotLaws.{no_slots_yet, slots_next}
 use Rattle.loop_core_trace.proofs.JournalLaws.{undoes_next}
-use Rattle.loop_core_trace.proofs.Underway.{EndsByExit, ends_by_exit, later, steps_more, requested, Underway, over, simulated}
+use Rattle.loop_core_trace.proofs.Underway.{EndsByExit, ends_by_exit, later, steps_more}
+use Rattle.loop_core_trace.proofs.Underway.{requested, Underway, over, simulated}
 
 -- maps as a store
 abbrev pub words_of : MapList → List ℕ

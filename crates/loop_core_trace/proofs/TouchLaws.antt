@@ -14,8 +14,13 @@ use Rattle.bpf_step_model.specs.LoopCalls.{Validity, RefusedBy, Valid, call_vali
 use Rattle.bpf_step_model.specs.Step.{Request, extended, store_of, request_of}
 use Rattle.bpf_step_model.specs.Run.{action_of}
 use Rattle.bpf_step_ir.specs.declared.plain_op.PlainOp.{PlainOp}
-use Rattle.bpf_step_ir.specs.declared.plain_op.PlainOp.TheVariants.{Stop, Alu, Neg, Movsx, Endian, SetWide, Jump, JumpIf, Exit, LoadFrame, StoreFrame, ChangeFrame, LoadElement, StoreElement, ChangeElement, Lookup, CallLoop}
-use Rattle.bpf_step_ir.specs.Plain.{Plain, word, plain_operand, further, landed, with_bytes, PlainStepOutcome, Halts, Goes, Wants, writes_word, bytes_in, plain_number_at, plain_written_at, plain_found, changes_number, byte_named, part_named, plain_loop_call_step, plain_step}
+use Rattle.bpf_step_ir.specs.declared.plain_op.PlainOp.TheVariants.{Stop, Alu, Neg, Movsx, Endian, SetWide, Jump}
+use Rattle.bpf_step_ir.specs.declared.plain_op.PlainOp.TheVariants.{JumpIf, Exit, LoadFrame, StoreFrame, ChangeFrame}
+use Rattle.bpf_step_ir.specs.declared.plain_op.PlainOp.TheVariants.{LoadElement, StoreElement, ChangeElement}
+use Rattle.bpf_step_ir.specs.declared.plain_op.PlainOp.TheVariants.{Lookup, CallLoop}
+use Rattle.bpf_step_ir.specs.Plain.{Plain, word, plain_operand, further, landed, with_bytes, PlainStepOutcome, Halts}
+use Rattle.bpf_step_ir.specs.Plain.{Goes, Wants, writes_word, bytes_in, plain_number_at, plain_written_at, plain_found}
+use Rattle.bpf_step_ir.specs.Plain.{changes_number, byte_named, part_named, plain_loop_call_step, plain_step}
 use Rattle.loop_core_model.specs.Actions.{is_write, is_plain_write}
 use Rattle.loop_core_trace.specs.declared.touch.Touch.{Touch}
 use Rattle.loop_core_trace.specs.Touches.{is_half, touched_by}

@@ -1,5 +1,6 @@
 -- An iteration under way, operation by operation.
-use Rattle.std.proofs.Common.{◌≡◌, ℕ, zero, suc, ◌+◌, ◌<◌, Bool, true, false, nat_lt, List, [], ◌++◌, length, Option, Some, None, refl, sym, ap, subst, ◌∙◌, arith}
+use Rattle.std.proofs.Common.{◌≡◌, ℕ, zero, suc, ◌+◌, ◌<◌, Bool, true, false, nat_lt, List, [], ◌++◌}
+use Rattle.std.proofs.Common.{length, Option, Some, None, refl, sym, ap, subst, ◌∙◌, arith}
 use Rattle.std.specs.List.{sum}
 use Rattle.std.proofs.lemmas.Bool.{ltb-true, ltb-false}
 use Rattle.std.proofs.lemmas.List.{append-nil, append_assoc, get_or_past}
@@ -8,13 +9,17 @@ use Rattle.array_maps.specs.MapList.{MapList}
 use Rattle.array_maps.specs.Halves.{part_of}
 use Rattle.bpf_insn_types.specs.Program.{Program}
 use Rattle.bpf_step_model.specs.State.{Word, Machine, LoopCall, callback_entry}
-use Rattle.bpf_step_model.specs.Step.{Request, Load, Store, StoreHalf, Update, Fetch, StepOutcome, NoStep, Next, Asks, Loops, Refuses, Exits, extended, step}
-use Rattle.bpf_step_model.specs.Run.{BoundedResult, Ended, Stuck, Unfinished, RunSegment, part_bytes, after_request, mapped, with_first_step, run}
+use Rattle.bpf_step_model.specs.Step.{Request, Load, Store, StoreHalf, Update, Fetch, StepOutcome}
+use Rattle.bpf_step_model.specs.Step.{NoStep, Next, Asks, Loops, Refuses, Exits, extended, step}
+use Rattle.bpf_step_model.specs.Run.{BoundedResult, Ended, Stuck, Unfinished, RunSegment, part_bytes}
+use Rattle.bpf_step_model.specs.Run.{after_request, mapped, with_first_step, run}
 use Rattle.bpf_step_model.specs.Steps.{GoesOn, Steps}
-use Rattle.bpf_verify_sound.specs.Soundness.{IsSoundProgram, AreMapWords, OverApproximates, StepsOverApproximated, ProgressAndPreservation, EndsWithin, IsExit, EndsAtExit}
+use Rattle.bpf_verify_sound.specs.Soundness.{IsSoundProgram, AreMapWords, OverApproximates, StepsOverApproximated}
+use Rattle.bpf_verify_sound.specs.Soundness.{ProgressAndPreservation, EndsWithin, IsExit, EndsAtExit}
 use Rattle.bpf_step_ir.specs.declared.plain_op.PlainOp.{PlainOp}
 use Rattle.bpf_step_ir.specs.declared.plain_op.PlainOp.TheVariants.{Stop}
-use Rattle.bpf_step_ir.specs.Plain.{Plain, PlainStepOutcome, Halts, Goes, Wants, CallsLoop, RefusesLoop, Ends, plain_step, plain_after_request}
+use Rattle.bpf_step_ir.specs.Plain.{Plain, PlainStepOutcome, Halts, Goes, Wants, CallsLoop}
+use Rattle.bpf_step_ir.specs.Plain.{RefusesLoop, Ends, plain_step, plain_after_request}
 use Rattle.bpf_step_ir.specs.PlainRun.{op_of}
 use Rattle.bpf_step_ir.specs.Translation.{op_at, AreOps}
 use Rattle.bpf_step_ir_sound.specs.Standing.{Simulates, SimulatesStep}

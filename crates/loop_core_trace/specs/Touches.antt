@@ -1,5 +1,6 @@
 -- Which element an operation accesses, and what comes of it.
-use Rattle.std.specs.Prelude.{ℕ, ℤ, ◌/◌, Bool, true, false, ◌==◌, if◌then◌else◌, List, [], ◌∷◌, ◌++◌, slice_index, Option, Some, None}
+use Rattle.std.specs.Prelude.{ℕ, ℤ, ◌/◌, Bool, true, false, ◌==◌, if◌then◌else◌, List}
+use Rattle.std.specs.Prelude.{[], ◌∷◌, ◌++◌, slice_index, Option, Some, None}
 use Rattle.bpf_insn_types.specs.declared.insn.Width.{Width}
 use Rattle.bpf_insn_types.specs.declared.insn.Width.TheVariants.{W32, W64}
 use Rattle.bpf_step_ir.specs.declared.plain_op.PlainOp.{PlainOp}

@@ -1,8 +1,10 @@
 -- What accesses do to watched maps, one after another.
-use Rattle.std.proofs.Common.{◌≡◌, ℕ, ◌<◌, Bool, true, false, ◌||◌, ◌&&◌, ◌==◌, not, cond, List, [], ◌∷◌, length, get_or, set, inl, inr, refl, sym, ◌∙◌, ap, subst, arith, get_or-set_other}
+use Rattle.std.proofs.Common.{◌≡◌, ℕ, ◌<◌, Bool, true, false, ◌||◌, ◌&&◌, ◌==◌, not, cond, List, [], ◌∷◌, length}
+use Rattle.std.proofs.Common.{get_or, set, inl, inr, refl, sym, ◌∙◌, ap, subst, arith, get_or-set_other}
 use Rattle.std.proofs.lemmas.Bool.{cases_eq, cases_lt, cases_Bool, both_ways, or_parts, or_left, eq-eqb, ne_eqb}
 use Rattle.std.proofs.lemmas.List.{get_or_past, set-get_or}
-use Rattle.array_maps.specs.Accesses.{Access, Action, Read, Write, ReadWrite, Reduce, actions_at, left_by, words_after, words_after_all}
+use Rattle.array_maps.specs.Accesses.{Access, Action, Read, Write, ReadWrite, Reduce, actions_at}
+use Rattle.array_maps.specs.Accesses.{left_by, words_after, words_after_all}
 use Rattle.array_maps.specs.MapList.{MapList}
 use Rattle.array_maps.specs.Store.{Effects}
 use Rattle.loop_core_model.specs.Actions.{is_write, is_plain_write, writes, exposed}

@@ -1,5 +1,6 @@
 -- What an undo log keeps: which elements were written since it was empty, and the words from before.
-use Rattle.std.specs.Prelude.{◌≡◌, ℕ, ◌<◌, ◌/◌, Bool, false, ◌||◌, if◌then◌else◌, List, map, length, slice_index, slice_index_or}
+use Rattle.std.specs.Prelude.{◌≡◌, ℕ, ◌<◌, ◌/◌, Bool, false, ◌||◌, if◌then◌else◌}
+use Rattle.std.specs.Prelude.{List, map, length, slice_index, slice_index_or}
 use Rattle.std.specs.List.{range_with_len}
 use Rattle.loop_core_undo.specs.declared.undo_log.UndoLog.{UndoLog}
 

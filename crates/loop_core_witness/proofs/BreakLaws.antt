@@ -1,11 +1,13 @@
 -- The iteration at which a loop breaks.
-use Rattle.std.proofs.Common.{◌≡◌, ℕ, ◌+◌, ◌≤◌, ◌<◌, ◌⊎◌, inl, inr, List, length, Option, Some, None, refl, sym, ap, subst, ◌∙◌, arith, eqb}
+use Rattle.std.proofs.Common.{◌≡◌, ℕ, ◌+◌, ◌≤◌, ◌<◌, ◌⊎◌, inl, inr, List, length, Option}
+use Rattle.std.proofs.Common.{Some, None, refl, sym, ap, subst, ◌∙◌, arith, eqb}
 use Rattle.std.specs.Prelude.{◌==◌, Bool, true, false}
 use Rattle.std.proofs.lemmas.Bool.Decides.{eqb_tells}
 use Rattle.std.specs.List.{sum}
 use Rattle.array_maps.specs.MapList.{MapList, AreWords}
 use Rattle.bpf_insn_types.specs.Program.{Program}
-use Rattle.bpf_verify_sound.specs.Soundness.{IsSoundProgram, OverApproximatesCall, IterationEnds, callback_count, EachProgramEnds, EachCountIsSmall}
+use Rattle.bpf_verify_sound.specs.Soundness.{IsSoundProgram, OverApproximatesCall, IterationEnds}
+use Rattle.bpf_verify_sound.specs.Soundness.{callback_count, EachProgramEnds, EachCountIsSmall}
 use Rattle.bpf_step.proofs.Limits.{iterations_end, map_words}
 use Rattle.bpf_step_model.specs.State.{LoopCall}
 use Rattle.bpf_step_model.specs.Run.{BoundedResult, Ended, Stuck, Unfinished}

@@ -1,5 +1,6 @@
 -- What is told of an element.
-use Rattle.std.proofs.Common.{◌≡◌, ◌≢◌, ℕ, ◌+◌, ◌<◌, ◌≤◌, List, map, Option, Some, None, refl, sym, ap, subst, ◌∙◌, arith}
+use Rattle.std.proofs.Common.{◌≡◌, ◌≢◌, ℕ, ◌+◌, ◌<◌, ◌≤◌, List, map, Option, Some}
+use Rattle.std.proofs.Common.{None, refl, sym, ap, subst, ◌∙◌, arith}
 use Rattle.std.specs.Prelude.{Bool, true, false}
 use Rattle.std.specs.List.{range_with_len}
 use Rattle.array_maps.specs.Accesses.{Action}
@@ -21,7 +22,8 @@ use Rattle.loop_core_witness.specs.Firsts.{NoneDoes, FirstAt, FirstIs}
 use Rattle.loop_core_witness.specs.Witnesses.{IsTold, Explains}
 use Rattle.loop_core_witness.proofs.BreakLaws.{counted_within}
 use Rattle.loop_core_witness.proofs.Runs.{AllRan, all_ran}
-use Rattle.loop_core_witness.proofs.PairLaws.{iterations, none_writes, none_reads, flow_none, flow_found, two_found, writer_found, lrpd_none, reader_found}
+use Rattle.loop_core_witness.proofs.PairLaws.{iterations, none_writes, none_reads, flow_none, flow_found}
+use Rattle.loop_core_witness.proofs.PairLaws.{two_found, writer_found, lrpd_none, reader_found}
 
 -- without a pair the test doesn't fail
 no_pair : (test : Test) (its : List (List Action)) → (FailingPair test its → ⊥) → fails test its ≡ false

@@ -4,7 +4,8 @@ use Rattle.loop_core_model.specs.Intervals.{blocks_of, end_of}
 use Rattle.loop_core_model.specs.Events as events
 use Rattle.loop_core_model.specs.Schedule.{ScheduleState}
 use Rattle.loop_core_workers.specs.declared.worker.Worker.{Worker}
-use Rattle.loop_core_workers.specs.declared.worker.Worker.TheVariants.{Idle, Holding, Running, Posting, Drained, Stopped}
+use Rattle.loop_core_workers.specs.declared.worker.Worker.TheVariants.{Idle, Holding, Running, Posting}
+use Rattle.loop_core_workers.specs.declared.worker.Worker.TheVariants.{Drained, Stopped}
 use Rattle.loop_core_workers.specs.declared.worker.Shared.{Shared}
 
 -- what a worker does, as schedules say it

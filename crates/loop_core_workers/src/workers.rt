@@ -1,6 +1,7 @@
 //! The workers of a replayed schedule.
 
-ghost use Rattle.std.specs.Prelude.{◌≡◌, ◌<◌, ◌≤◌, ℕ, Bool, true, false, List, [], length, IfSome, IfOk, IfErr, OnOk, OnErr};
+ghost use Rattle.std.specs.Prelude.{◌≡◌, ◌<◌, ◌≤◌, ℕ, Bool, true, false, List, []};
+ghost use Rattle.std.specs.Prelude.{length, IfSome, IfOk, IfErr, OnOk, OnErr};
 ghost use Rattle.std.specs.List.{list_all};
 ghost use Rattle.loop_core_model.specs.declared.replay_fault.ReplayFault.TheVariants.{NotEnded};
 ghost use Rattle.loop_core_model.specs.Schedule.{at_first, has_ended, is_stopped, worker_of};

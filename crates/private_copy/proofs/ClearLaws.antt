@@ -1,5 +1,7 @@
 -- Placed pages are taken back, from the last to the first.
-use Rattle.std.proofs.Common.{◌≡◌, ◌≢◌, ℕ, ◌+◌, ◌-◌, ◌/◌, ◌<◌, ◌≤◌, Bool, true, false, ◌||◌, eqb, Some, None, List, [], ◌∷◌, length, take, get_or, set, is_some, refl, sym, ◌∙◌, ap, subst, inl, inr, arith, get_or-set_same, get_or-set_other, ne_eqb}
+use Rattle.std.proofs.Common.{◌≡◌, ◌≢◌, ℕ, ◌+◌, ◌-◌, ◌/◌, ◌<◌, ◌≤◌, Bool, true, false, ◌||◌, eqb, Some}
+use Rattle.std.proofs.Common.{None, List, [], ◌∷◌, length, take, get_or, set, is_some, refl, sym, ◌∙◌, ap}
+use Rattle.std.proofs.Common.{subst, inl, inr, arith, get_or-set_same, get_or-set_other, ne_eqb}
 use Rattle.std.proofs.Math.Bool.{or-false}
 use Rattle.std.proofs.Math.ListN.{get_or-eq_default}
 use Rattle.std.proofs.lemmas.Bool.{cases_eq, cases_lt}
@@ -56,7 +58,8 @@ one_back keys n number table none within is inside nothing among page there = el
 pub none_back : (keys : List ℕ) (n number : ℕ) (table : List Slot) → n < length keys → get_or keys n 0 ≡ number
     → length table ≤ number → AreAmong keys (n + 1) table → AreAmong keys n table
 none_back keys n number table within is past among page there = elim (cases_lt page (length table)) [
-  | inl inside ↦ among_others keys n number page within is (λ same. omega (arith, same, inside, past)) (among page there)
+  | inl inside ↦ among_others keys n number page within is (λ same. omega (arith, same, inside, past))
+      (among page there)
   | inr out ↦ absurd (not_both (sym there ∙ ap is_some (get_or-eq_default table None out)))
 ]
 

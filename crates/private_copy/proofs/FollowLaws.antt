@@ -1,5 +1,6 @@
 -- A copy follows the accesses of the iteration under way.
-use Rattle.std.proofs.Common.{◌≡◌, ℕ, ◌+◌, ◌<◌, Bool, true, false, eqb, List, [], ◌∷◌, ◌++◌, length, refl, sym, ◌∙◌, ap, subst, append_assoc, arith}
+use Rattle.std.proofs.Common.{◌≡◌, ℕ, ◌+◌, ◌<◌, Bool, true, false, eqb, List, [], ◌∷◌, ◌++◌}
+use Rattle.std.proofs.Common.{length, refl, sym, ◌∙◌, ap, subst, append_assoc, arith}
 use Rattle.std.specs.Prelude.{slice_index}
 use Rattle.std.proofs.lemmas.Bool.{eqb-true, eqb-false}
 use Rattle.std.proofs.lemmas.List.{append-nil}
@@ -18,7 +19,8 @@ use Rattle.private_copy.specs.Touched.{with_page, page_of}
 use Rattle.private_copy.specs.Copies.{PrivateCopy, last_after, Accessed, CopyRecordsWithin}
 use Rattle.private_copy.specs.Shown.{copy_of}
 use Rattle.private_copy.specs.CopyLaw.{AccessEffect, AccessesFollow}
-use Rattle.private_copy.proofs.IterationLaws.{last_more, reduction_more, pages_more, at_last, actions_here, actions_other}
+use Rattle.private_copy.proofs.IterationLaws.{last_more, reduction_more, pages_more, at_last}
+use Rattle.private_copy.proofs.IterationLaws.{actions_here, actions_other}
 
 -- the flags at an element
 flags_step : (old new : PrivateCopy) (accesses : List Access) (access : Access) (e : ℕ) → Accessed old access new →

@@ -1,5 +1,6 @@
 -- A private copy of maps: what it shows, and what is remembered of the iterations that used it.
-use Rattle.std.specs.Prelude.{◌≡◌, ◌≢◌, ℕ, ◌+◌, ◌<◌, Bool, true, false, if◌then◌else◌, List, [], ◌∷◌, ◌++◌, length, slice_index, Option, Some}
+use Rattle.std.specs.Prelude.{◌≡◌, ◌≢◌, ℕ, ◌+◌, ◌<◌, Bool, true, false, if◌then◌else◌, List}
+use Rattle.std.specs.Prelude.{[], ◌∷◌, ◌++◌, length, slice_index, Option, Some}
 use Rattle.array_maps.specs.Accesses.{Access, Action, actions_at, left_by, words_after, words_after_all}
 use Rattle.loop_core_model.specs.Actions.{is_write, joined}
 use Rattle.loop_core_model.specs.Committed.{last_value}

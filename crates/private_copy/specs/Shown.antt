@@ -1,5 +1,6 @@
 -- What a copy's private fields show.
-use Rattle.std.specs.Prelude.{◌≡◌, ℕ, ◌+◌, true, false, ◌==◌, if◌then◌else◌, map, length, slice_index, Option, Some, None}
+use Rattle.std.specs.Prelude.{◌≡◌, ℕ, ◌+◌, true, false, ◌==◌, if◌then◌else◌, map}
+use Rattle.std.specs.Prelude.{length, slice_index, Option, Some, None}
 use Rattle.std.specs.List.{range_with_len}
 use Rattle.private_copy.specs.declared.page.Cell.{Cell}
 use Rattle.private_copy.specs.declared.private.Private.{Private}

@@ -1,6 +1,7 @@
 //! Pages that are placed at the first access of one of their elements.
 
-ghost use Rattle.std.specs.Prelude.{◌≡◌, ◌≢◌, ℕ, ◌+◌, ◌-◌, ◌/◌, ◌%◌, ◌<◌, ◌≤◌, [], ◌∷◌, ◌++◌, false, true, min, length, slice_get, nat_eq, Some, IfSome, IfNone, IfOk, OnOk};
+ghost use Rattle.std.specs.Prelude.{◌≡◌, ◌≢◌, ℕ, ◌+◌, ◌-◌, ◌/◌, ◌%◌, ◌<◌, ◌≤◌, [], ◌∷◌, ◌++◌, false, true};
+ghost use Rattle.std.specs.Prelude.{min, length, slice_get, nat_eq, Some, IfSome, IfNone, IfOk, OnOk};
 ghost use Rattle.indexmap.specs.IndexSet.{contains};
 ghost use Rattle.private_copy.specs.Cells.{total_of, cell_at, blank, mixed_cell};
 ghost use Rattle.private_copy.specs.Touched.{has_page, with_page};
@@ -152,8 +153,8 @@ impl Pages {
         }
     }
 
-    /// Sees that the page of an element is placed, and gives the element's cell. Where it isn't placed, there is a spare
-    /// one.
+    /// Sees that the page of an element is placed, and gives the element's cell. Where it isn't placed, there is a
+    /// spare one.
     #[inline]
     pub(crate) fn visit(&mut self, e: u32) -> Cell
         requires within { e / 64 < total_of self.old }

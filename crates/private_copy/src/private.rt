@@ -1,6 +1,7 @@
 //! A private copy of maps, and the iterations that use it.
 
-ghost use Rattle.std.specs.Prelude.{◌≡◌, ◌≢◌, ℕ, ◌+◌, ◌-◌, ◌*◌, ◌/◌, ◌^◌, ◌<◌, ◌≤◌, ◌++◌, ◌∷◌, [], false, true, min, length, slice_get, IfOk, OnErr, OnOk, List};
+ghost use Rattle.std.specs.Prelude.{◌≡◌, ◌≢◌, ℕ, ◌+◌, ◌-◌, ◌*◌, ◌/◌, ◌^◌, ◌<◌, ◌≤◌, ◌++◌, ◌∷◌, [], false};
+ghost use Rattle.std.specs.Prelude.{true, min, length, slice_get, IfOk, OnErr, OnOk, List};
 ghost use Rattle.std.specs.List.{All};
 ghost use Rattle.array_maps.specs.Accesses.{Access};
 ghost use Rattle.shadow_marks.specs.Iteration.{element_count, touched_count};

@@ -1,5 +1,7 @@
 -- Marks are taken away page by page.
-use Rattle.std.proofs.Common.{◌≡◌, ◌≢◌, ℕ, ◌+◌, ◌*◌, ◌/◌, ◌%◌, ◌<◌, ◌≤◌, min, max, Bool, true, false, not, ◌||◌, eqb, List, [], ◌∷◌, length, set, get_or, inl, inr, refl, sym, ◌∙◌, ap, subst, arith, length-set, get_or-set_same, get_or-set_other}
+use Rattle.std.proofs.Common.{◌≡◌, ◌≢◌, ℕ, ◌+◌, ◌*◌, ◌/◌, ◌%◌, ◌<◌, ◌≤◌, min, max, Bool, true, false, not}
+use Rattle.std.proofs.Common.{◌||◌, eqb, List, [], ◌∷◌, length, set, get_or, inl, inr, refl, sym, ◌∙◌}
+use Rattle.std.proofs.Common.{ap, subst, arith, length-set, get_or-set_same, get_or-set_other}
 use Rattle.std.specs.Prelude.{slice_index, bit_or, if◌then◌else◌}
 use Rattle.std.specs.Int.{bit_at}
 use Rattle.std.specs.List.{list_any}
@@ -19,7 +21,8 @@ use Rattle.loop_core_model.specs.Planes.{bit_of}
 use Rattle.shadow_marks.specs.declared.planes.Tested.{Tested}
 use Rattle.shadow_marks.specs.declared.planes.Tested.TheVariants.{Lrpd as ByLrpd, Flow as ByFlow}
 use Rattle.shadow_marks.specs.declared.planes.Planes.{Planes}
-use Rattle.shadow_marks.specs.Standing.{words_for, IsBitPlane, plane_by, AreTested, ArePlanes, test_of, TestedStandAt, StandAt, StandFor, IsUnmarkedPage, no_visits}
+use Rattle.shadow_marks.specs.Standing.{words_for, IsBitPlane, plane_by, AreTested, ArePlanes, test_of}
+use Rattle.shadow_marks.specs.Standing.{TestedStandAt, StandAt, StandFor, IsUnmarkedPage, no_visits}
 use Rattle.shadow_marks.specs.Ending.{KeepsShape}
 use Rattle.shadow_marks.specs.Runs.{ChangesRun}
 use Rattle.shadow_marks.specs.Clearing.{ClearsBits, SetsNumbers, OperatorsClear, TestedClears, ClearsPage}

@@ -1,5 +1,7 @@
 -- Flags that come into planes are marks that are merged.
-use Rattle.std.proofs.Common.{◌≡◌, ◌≢◌, ℕ, ◌+◌, ◌/◌, ◌%◌, ◌<◌, Bool, true, false, ◌&&◌, ◌||◌, eqb, min, max, List, length, refl, replicate, sym, ◌∙◌, ap, inl, inr, arith, eq-eqb, ne_eqb, Option, Some, None}
+use Rattle.std.proofs.Common.{◌≡◌, ◌≢◌, ℕ, ◌+◌, ◌/◌, ◌%◌, ◌<◌, Bool, true, false, ◌&&◌, ◌||◌}
+use Rattle.std.proofs.Common.{eqb, min, max, List, length, refl, replicate, sym, ◌∙◌, ap, inl}
+use Rattle.std.proofs.Common.{inr, arith, eq-eqb, ne_eqb, Option, Some, None}
 use Rattle.std.specs.Prelude.{if◌then◌else◌}
 use Rattle.std.proofs.Math.Bool.{or-false}
 use Rattle.std.proofs.lemmas.Bool.{cases_lt}
@@ -19,7 +21,9 @@ use Rattle.shadow_marks.specs.declared.planes.Tested.TheVariants.{Lrpd as ByLrpd
 use Rattle.shadow_marks.specs.declared.planes.OperatorPlanes.{OperatorPlanes}
 use Rattle.shadow_marks.specs.declared.planes.Planes.{Planes}
 use Rattle.shadow_marks.specs.Bits.{OrsBit}
-use Rattle.shadow_marks.specs.Standing.{words_for, IsBitPlane, plane_by, EachPlane, AreLrpdPlanes, AreFlowPlanes, AreTested, ArePlanes, test_of, LrpdStandAt, FlowStandAt, TestedStandAt, no_visits, StandFor}
+use Rattle.shadow_marks.specs.Standing.{words_for, IsBitPlane, plane_by, EachPlane, AreLrpdPlanes}
+use Rattle.shadow_marks.specs.Standing.{AreFlowPlanes, AreTested, ArePlanes, test_of, LrpdStandAt}
+use Rattle.shadow_marks.specs.Standing.{FlowStandAt, TestedStandAt, no_visits, StandFor}
 use Rattle.shadow_marks.specs.Ending.{TestedHave, LrpdFolds, FlowFolds, TestedFolds, OperatorsFold, Folds}
 
 -- one plane

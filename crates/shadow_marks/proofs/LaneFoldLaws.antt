@@ -1,5 +1,6 @@
 -- Planes that lanes changed one by one have the marks of all lanes.
-use Rattle.std.proofs.Common.{◌≡◌, ℕ, zero, suc, ◌+◌, ◌<◌, ◌≤◌, ◌≢◌, Bool, true, false, not, ◌&&◌, ◌||◌, eqb, min, max, List, length, refl, sym, ◌∙◌, ap, arith}
+use Rattle.std.proofs.Common.{◌≡◌, ℕ, zero, suc, ◌+◌, ◌<◌, ◌≤◌, ◌≢◌, Bool, true, false, not, ◌&&◌}
+use Rattle.std.proofs.Common.{◌||◌, eqb, min, max, List, length, refl, sym, ◌∙◌, ap, arith}
 use Rattle.std.specs.Prelude.{slice_index, if◌then◌else◌}
 use Rattle.std.specs.List.{All}
 use Rattle.std.proofs.Math.Bool.{or-false}
@@ -11,7 +12,8 @@ use Rattle.shadow_marks.specs.declared.planes.Tested.TheVariants.{Lrpd as ByLrpd
 use Rattle.shadow_marks.specs.declared.planes.Planes.{Planes}
 use Rattle.shadow_marks.specs.Standing.{IsBitPlane, AreTested, ArePlanes, test_of, TestedStandAt}
 use Rattle.shadow_marks.specs.Lanes.{over_lanes, marks_by, FoldsLanes}
-use Rattle.shadow_marks.specs.LaneFolds.{at_lane, OrsLanes, Writers, writers_at, one_writer_more, WritesLanes, OperatorsFoldLanes, TestedFoldLanes}
+use Rattle.shadow_marks.specs.LaneFolds.{at_lane, OrsLanes, Writers, writers_at, one_writer_more}
+use Rattle.shadow_marks.specs.LaneFolds.{WritesLanes, OperatorsFoldLanes, TestedFoldLanes}
 use Rattle.shadow_marks.proofs.FoldLaws.{first_here, last_here}
 use Rattle.shadow_marks.proofs.LanesInTurn.{untouched}
 

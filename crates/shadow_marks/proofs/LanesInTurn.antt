@@ -1,5 +1,6 @@
 -- Lanes change a plane, one after another.
-use Rattle.std.proofs.Common.{◌≡◌, ℕ, zero, suc, ◌+◌, ◌<◌, ◌≤◌, ◌≢◌, Bool, true, false, ◌&&◌, ◌||◌, eqb, List, refl, sym, ◌∙◌, ap, subst, arith, ne_eqb}
+use Rattle.std.proofs.Common.{◌≡◌, ℕ, zero, suc, ◌+◌, ◌<◌, ◌≤◌, ◌≢◌, Bool, true, false, ◌&&◌}
+use Rattle.std.proofs.Common.{◌||◌, eqb, List, refl, sym, ◌∙◌, ap, subst, arith, ne_eqb}
 use Rattle.std.specs.Prelude.{slice_index, if◌then◌else◌}
 use Rattle.std.specs.Vec.{with_items}
 use Rattle.std.specs.declared.vec.Vec.{Vec}
@@ -8,7 +9,8 @@ use Rattle.std.proofs.lemmas.Bool.{eqb-true, eqb-false}
 use Rattle.loop_core_model.specs.Planes.{bit_of}
 use Rattle.shadow_marks.specs.Bits.{OrsBit}
 use Rattle.shadow_marks.specs.Lanes.{over_lanes}
-use Rattle.shadow_marks.specs.LaneFolds.{at_lane, OrsLanes, ChangesLanes, Writers, writers_at, one_writer_more, WritesLanes}
+use Rattle.shadow_marks.specs.LaneFolds.{at_lane, OrsLanes, ChangesLanes, Writers, writers_at}
+use Rattle.shadow_marks.specs.LaneFolds.{one_writer_more, WritesLanes}
 use Rattle.shadow_marks.proofs.FoldLaws.{ored_here, ored_there}
 use Rattle.shadow_marks.proofs.FoldsInTurn.{over_more}
 use Rattle.shadow_marks.proofs.FoldRuns.{refilled}

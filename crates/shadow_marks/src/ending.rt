@@ -7,7 +7,8 @@ ghost use Rattle.shadow_marks.specs.Iteration.{element_count, flags_at, AreFlags
 ghost use Rattle.shadow_marks.specs.Kept.{flags_in};
 ghost use Rattle.shadow_marks.specs.Standing.{EachPlane, ArePlanes, StandAt, StandFor, one_more};
 ghost use Rattle.shadow_marks.specs.Bits.{ChangesNumber};
-ghost use Rattle.shadow_marks.specs.Ending.{LrpdHave, FlowHave, TestedHave, LrpdFolds, FlowFolds, TestedFolds, OperatorsFold, KeepsShape, Folds};
+ghost use Rattle.shadow_marks.specs.Ending.{LrpdHave, FlowHave, TestedHave, LrpdFolds, FlowFolds};
+ghost use Rattle.shadow_marks.specs.Ending.{TestedFolds, OperatorsFold, KeepsShape, Folds};
 
 use crate::bits::{is_also_set, or_bit};
 use crate::element_flags::{ElementFlags, Flag};

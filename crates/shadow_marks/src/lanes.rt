@@ -5,7 +5,9 @@ ghost use Rattle.std.specs.List.{All};
 ghost use Rattle.shadow_marks.specs.Kept.{flags_in};
 ghost use Rattle.shadow_marks.specs.Standing.{ArePlanes, EachPlane};
 ghost use Rattle.shadow_marks.specs.Lanes.{FoldsLanes};
-ghost use Rattle.shadow_marks.specs.LaneFolds.{HaveBits, OrsLanes, ChangesLanes, WritesLanes, OperatorsFoldLanes, LrpdHaveEach, LrpdFoldLanes, FlowHaveEach, FlowFoldLanes, TestedHaveEach, TestedFoldLanes};
+ghost use Rattle.shadow_marks.specs.LaneFolds.{HaveBits, OrsLanes, ChangesLanes, WritesLanes, OperatorsFoldLanes};
+ghost use Rattle.shadow_marks.specs.LaneFolds.{LrpdHaveEach, LrpdFoldLanes, FlowHaveEach, FlowFoldLanes};
+ghost use Rattle.shadow_marks.specs.LaneFolds.{TestedHaveEach, TestedFoldLanes};
 
 use crate::bits::{is_set, or_bit};
 use crate::element_flags::{ElementFlags, Flag};

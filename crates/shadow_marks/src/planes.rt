@@ -3,7 +3,8 @@
 ghost use Rattle.std.specs.Prelude.{◌≡◌, ◌<◌, ◌↔◌, IfOk, replicate, false, ℕ};
 ghost use Rattle.array_maps.specs.declared.access.Op.{Op as Operator};
 ghost use Rattle.loop_core_model.specs.Marks.{no_marks};
-ghost use Rattle.shadow_marks.specs.Standing.{words_for, plane_by, AreTested, ArePlanes, test_of, TestedStandAt, no_visits, StandFor, IsUnmarkedPage};
+ghost use Rattle.shadow_marks.specs.Standing.{words_for, plane_by, AreTested, ArePlanes, test_of, TestedStandAt};
+ghost use Rattle.shadow_marks.specs.Standing.{no_visits, StandFor, IsUnmarkedPage};
 
 use loop_core_model::Test;
 use std::alloc::{AllocError, Global};

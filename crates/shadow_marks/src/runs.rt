@@ -1,12 +1,14 @@
 //! Iterations that had the same flags at elements that follow each other.
 
-ghost use Rattle.std.specs.Prelude.{◌≡◌, ◌+◌, ◌-◌, ◌*◌, ◌^◌, ◌<◌, ◌≤◌, ◌&&◌, ◌||◌, ℕ, true, length, min, max, if◌then◌else◌};
+ghost use Rattle.std.specs.Prelude.{◌≡◌, ◌+◌, ◌-◌, ◌*◌, ◌^◌, ◌<◌, ◌≤◌, ◌&&◌, ◌||◌};
+ghost use Rattle.std.specs.Prelude.{ℕ, true, length, min, max, if◌then◌else◌};
 ghost use Rattle.loop_core_model.specs.Planes.{bit_of};
 ghost use Rattle.shadow_marks.specs.Kept.{flags_in};
 ghost use Rattle.shadow_marks.specs.Standing.{ArePlanes, EachPlane};
 ghost use Rattle.shadow_marks.specs.Lanes.{FoldsLanes};
 ghost use Rattle.shadow_marks.specs.Runs.{is_between, IsFirstPart, OrsRun, OrsRunWhere, ChangesRun};
-ghost use Rattle.shadow_marks.specs.RunFolds.{OperatorsFoldRun, LrpdHaveRun, LrpdFoldRun, FlowHaveRun, FlowFoldRun, TestedHaveRun, TestedFoldRun};
+ghost use Rattle.shadow_marks.specs.RunFolds.{OperatorsFoldRun, LrpdHaveRun, LrpdFoldRun, FlowHaveRun};
+ghost use Rattle.shadow_marks.specs.RunFolds.{FlowFoldRun, TestedHaveRun, TestedFoldRun};
 
 use crate::element_flags::{ElementFlags, Flag};
 use crate::planes::{FlowPlanes, LrpdPlanes, NO_WRITER, OperatorPlanes, Planes, Tested};

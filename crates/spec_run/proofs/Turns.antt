@@ -1,14 +1,17 @@
 -- Main's turns, one after another. `line_of` tells the line of a loop call that main made, and `whole` is the report of
 -- the whole program.
-use Rattle.std.proofs.Common.{◌≡◌, ℕ, ℤ, pos, zero, suc, ◌+◌, ◌<◌, ◌≤◌, ◌^◌, List, [], ◌∷◌, ◌++◌, length, Some, None, refl, sym, ap, subst, ◌∙◌, arith}
+use Rattle.std.proofs.Common.{◌≡◌, ℕ, ℤ, pos, zero, suc, ◌+◌, ◌<◌, ◌≤◌, ◌^◌, List, [], ◌∷◌}
+use Rattle.std.proofs.Common.{◌++◌, length, Some, None, refl, sym, ap, subst, ◌∙◌, arith}
 use Rattle.std.specs.List.{sum}
 use Rattle.array_maps.specs.MapList.{MapList, AreWords}
 use Rattle.bpf_insn_types.specs.Program.{Program}
 use Rattle.bpf_step_model.specs.State.{Machine, LoopCall, main_entry}
 use Rattle.bpf_step_model.specs.Run.{BoundedResult, Ended, followed, StopReason, Exit, Loop, Refused, RunSegment, run}
 use Rattle.bpf_step_model.specs.LoopInOrder.{Looped, loop_in_order}
-use Rattle.bpf_step_model.specs.ProgramInOrder.{LoopMade, resumed, after_loop, after_stop, after_segment, main_from, program_in_order}
-use Rattle.bpf_verify_sound.specs.Soundness.{IsSoundProgram, AreMapWords, OverApproximatesCall, EachProgramEnds, LoopEnds, ProgramEnds, EachCountIsSmall, most_from, most_after}
+use Rattle.bpf_step_model.specs.ProgramInOrder.{LoopMade, resumed, after_loop, after_stop, after_segment}
+use Rattle.bpf_step_model.specs.ProgramInOrder.{main_from, program_in_order}
+use Rattle.bpf_verify_sound.specs.Soundness.{IsSoundProgram, AreMapWords, OverApproximatesCall, EachProgramEnds}
+use Rattle.bpf_verify_sound.specs.Soundness.{LoopEnds, ProgramEnds, EachCountIsSmall, most_from, most_after}
 use Rattle.bpf_step.specs.declared.main_function.Turned.{Turned}
 use Rattle.bpf_step.specs.declared.main_function.Turned.TheVariants as turned
 use Rattle.bpf_step.specs.Mains.{MainOf, MainIsAt, Waits}

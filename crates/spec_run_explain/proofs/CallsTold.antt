@@ -1,11 +1,14 @@
 -- The loop calls that main made so far, explained one by one.
-use Rattle.std.proofs.Common.{◌≡◌, ℕ, ℤ, zero, suc, pos, List, [], ◌∷◌, ◌++◌, Some, None, refl, sym, ap, subst, ◌∙◌, append_assoc, append-nil}
+use Rattle.std.proofs.Common.{◌≡◌, ℕ, ℤ, zero, suc, pos, List, [], ◌∷◌, ◌++◌, Some, None}
+use Rattle.std.proofs.Common.{refl, sym, ap, subst, ◌∙◌, append_assoc, append-nil}
 use Rattle.array_maps.specs.MapList.{MapList}
 use Rattle.bpf_insn_types.specs.Program.{Program}
 use Rattle.bpf_step_model.specs.State.{Machine, LoopCall, main_entry}
-use Rattle.bpf_step_model.specs.Run.{BoundedResult, Ended, Stuck, Unfinished, mapped, followed, StopReason, Exit, Loop, Refused, RunSegment, run}
+use Rattle.bpf_step_model.specs.Run.{BoundedResult, Ended, Stuck, Unfinished, mapped, followed}
+use Rattle.bpf_step_model.specs.Run.{StopReason, Exit, Loop, Refused, RunSegment, run}
 use Rattle.bpf_step_model.specs.LoopInOrder.{Looped, loop_in_order}
-use Rattle.bpf_step_model.specs.ProgramInOrder.{LoopMade, Finished, with_loop, resumed, after_loop, after_stop, after_segment, main_from, program_in_order}
+use Rattle.bpf_step_model.specs.ProgramInOrder.{LoopMade, Finished, with_loop, resumed, after_loop, after_stop}
+use Rattle.bpf_step_model.specs.ProgramInOrder.{after_segment, main_from, program_in_order}
 use Rattle.bpf_step_model.proofs.Endings.{mapped_from, ended_same}
 use Rattle.bpf_verify_sound.specs.Soundness.{IsSoundProgram, AreMapWords, OverApproximatesCall, ProgramEnds}
 use Rattle.bpf_step.specs.declared.main_function.Turned.{Turned}
@@ -19,7 +22,8 @@ use Rattle.loop_core_sequential.specs.FilledCalls.{FilledCallsAreOneLoop}
 use Rattle.loop_core_sequential.specs.Loops.{RanLoopInOrder}
 use Rattle.spec_run.proofs.Turns.{NextTurn}
 use Rattle.spec_run_explain.specs.declared.explained.LoopExplained.{LoopExplained}
-use Rattle.spec_run_explain.specs.Causes.{IsExplained, IsCallExplained, WasRefused, WasMade, AreExplained, IsEachExplained}
+use Rattle.spec_run_explain.specs.Causes.{IsExplained, IsCallExplained, WasRefused}
+use Rattle.spec_run_explain.specs.Causes.{WasMade, AreExplained, IsEachExplained}
 
 -- the line of a refused call
 abbrev refused_line : (slot : ℕ) (answer : ℤ) → LoopReport

@@ -1,6 +1,6 @@
 //! A loop call by several workers: each in a thread of its own, over one board; what they ran is gathered, and
-//! committed, or the loop is run in order. A loop that adds up needs no board: each worker adds up a share of it. A loop
-//! that is little work is run in order first, watched.
+//! committed, or the loop is run in order. A loop that adds up needs no board: each worker adds up a share of it. A
+//! loop that is little work is run in order first, watched.
 #![tactic(auto)]
 
 mod decision;

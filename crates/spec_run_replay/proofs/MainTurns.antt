@@ -1,12 +1,16 @@
 -- Main's turns up to its first valid loop call.
-use Rattle.std.proofs.Common.{◌≡◌, ℕ, ℤ, zero, suc, ◌+◌, ◌<◌, ◌≤◌, ◌^◌, List, Option, Some, None, refl, sym, ap, subst, ◌∙◌, arith}
+use Rattle.std.proofs.Common.{◌≡◌, ℕ, ℤ, zero, suc, ◌+◌, ◌<◌, ◌≤◌, ◌^◌, List, Option}
+use Rattle.std.proofs.Common.{Some, None, refl, sym, ap, subst, ◌∙◌, arith}
 use Rattle.array_maps.specs.MapList.{MapList}
 use Rattle.bpf_insn_types.specs.Program.{Program}
 use Rattle.bpf_step_model.specs.State.{Machine, LoopCall, main_entry}
-use Rattle.bpf_step_model.specs.Run.{BoundedResult, Ended, Stuck, Unfinished, mapped, followed, StopReason, Exit, Loop, Refused, RunSegment, run}
+use Rattle.bpf_step_model.specs.Run.{BoundedResult, Ended, Stuck, Unfinished, mapped, followed}
+use Rattle.bpf_step_model.specs.Run.{StopReason, Exit, Loop, Refused, RunSegment, run}
 use Rattle.bpf_step_model.specs.LoopInOrder.{Looped, loop_in_order}
-use Rattle.bpf_step_model.specs.ProgramInOrder.{LoopMade, Finished, with_loop, after_loop, after_stop, after_segment, main_from, program_in_order}
-use Rattle.bpf_verify_sound.specs.Soundness.{IsSoundProgram, AreMapWords, OverApproximatesCall, EachProgramEnds, ProgramEnds, most_from, most_after}
+use Rattle.bpf_step_model.specs.ProgramInOrder.{LoopMade, Finished, with_loop, after_loop, after_stop}
+use Rattle.bpf_step_model.specs.ProgramInOrder.{after_segment, main_from, program_in_order}
+use Rattle.bpf_verify_sound.specs.Soundness.{IsSoundProgram, AreMapWords, OverApproximatesCall, EachProgramEnds}
+use Rattle.bpf_verify_sound.specs.Soundness.{ProgramEnds, most_from, most_after}
 use Rattle.bpf_step.specs.declared.main_function.Turned.{Turned}
 use Rattle.bpf_step.specs.declared.main_function.Turned.TheVariants as turned
 use Rattle.bpf_step.specs.Mains.{MainOf, MainIsAt}

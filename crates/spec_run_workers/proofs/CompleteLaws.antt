@@ -1,5 +1,6 @@
 -- The blocks of workers whose histories are legal are complete.
-use Rattle.std.proofs.Common.{◌≡◌, ℕ, zero, suc, ◌+◌, ◌<◌, ◌≤◌, min, Bool, true, false, ◌||◌, IsTrue, ◌⊎◌, inl, inr, List, [], ◌∷◌, ◌++◌, Option, Some, None, map, length, refl, sym, ◌∙◌, ap, subst, arith}
+use Rattle.std.proofs.Common.{◌≡◌, ℕ, zero, suc, ◌+◌, ◌<◌, ◌≤◌, min, Bool, true, false, ◌||◌, IsTrue, ◌⊎◌, inl, inr}
+use Rattle.std.proofs.Common.{List, [], ◌∷◌, ◌++◌, Option, Some, None, map, length, refl, sym, ◌∙◌, ap, subst, arith}
 use Rattle.std.specs.Prelude.{nat_lt, ◌==◌, ◌&&◌, is_none, slice_get, slice_index, if◌then◌else◌}
 use Rattle.std.specs.Option.{option_to_list}
 use Rattle.std.specs.List.{AllByRecursion}
@@ -14,7 +15,8 @@ use Rattle.loop_core_model.specs.declared.loop_test.Test.{Test}
 use Rattle.loop_core_model.specs.LeastBreak.{lesser}
 use Rattle.loop_core_model.specs.Block.{break_from}
 use Rattle.loop_core_model.specs.Split.{split_fault}
-use Rattle.loop_core_model.specs.Gather.{Block, starts_late, block_numbered, least_of, is_bound, stands_in, gather_fault}
+use Rattle.loop_core_model.specs.Gather.{Block, starts_late, block_numbered, least_of}
+use Rattle.loop_core_model.specs.Gather.{is_bound, stands_in, gather_fault}
 use Rattle.loop_core_model.specs.Intervals.{blocks_of, start_of}
 use Rattle.loop_core_model.proofs.SplitLaws.{faultless, rising}
 use Rattle.loop_core_model.proofs.ScheduleLaws.{no_fault}

@@ -1,5 +1,7 @@
 -- What a worker's loop keeps.
-use Rattle.std.proofs.Common.{◌≡◌, ℕ, zero, suc, ◌+◌, ◌-◌, ◌<◌, ◌≤◌, max, Bool, true, false, inl, inr, List, [], ◌∷◌, ◌++◌, Option, Some, None, All, map, length, refl, sym, ◌∙◌, ap, subst, arith, append_assoc, append-nil, length-append}
+use Rattle.std.proofs.Common.{◌≡◌, ℕ, zero, suc, ◌+◌, ◌-◌, ◌<◌, ◌≤◌, max, Bool, true, false, inl, inr}
+use Rattle.std.proofs.Common.{List, [], ◌∷◌, ◌++◌, Option, Some, None, All, map, length, refl, sym, ◌∙◌}
+use Rattle.std.proofs.Common.{ap, subst, arith, append_assoc, append-nil, length-append}
 use Rattle.std.specs.Prelude.{nat_lt, slice_index, if◌then◌else◌, Result, Ok, Err, OnErr}
 use Rattle.std.proofs.lemmas.Bool.{ltb-true}
 use Rattle.std.specs.Option.{option_to_list}
@@ -17,7 +19,8 @@ use Rattle.loop_core_model.proofs.SplitLaws.{faultless, rising}
 use Rattle.loop_board.specs.Seats.{SeatRecord, after_draw, after_none, after_look, after_post}
 use Rattle.loop_core_block.specs.Blocks.{BlockOf}
 use Rattle.loop_core_block.specs.Ran.{RecordsRun}
-use Rattle.spec_run_workers.specs.Worked.{runs_of, worked_numbers, breaks_of, StandsIn, DidMore, Worked, WorkerStopped, Took, NotRun}
+use Rattle.spec_run_workers.specs.Worked.{runs_of, worked_numbers, breaks_of, StandsIn, DidMore}
+use Rattle.spec_run_workers.specs.Worked.{Worked, WorkerStopped, Took, NotRun}
 
 -- one more than the greatest number drawn
 abbrev pub above : List ℕ → ℕ

@@ -4,7 +4,8 @@ use Rattle.std.specs.Prelude.{if◌then◌else◌}
 use Rattle.std.proofs.lemmas.Bool.{eqb-true, eqb-false}
 use Rattle.array_maps.specs.Accesses.{Action, Read, Write, ReadWrite, Reduce}
 use Rattle.loop_core_model.specs.declared.access.Access.{Access as Kind}
-use Rattle.loop_core_model.specs.declared.access.Access.TheVariants.{Read as Reads, Write as Writes, Both, Reduce as Reduces}
+use Rattle.loop_core_model.specs.declared.access.Access.TheVariants.{Read as Reads, Write as Writes}
+use Rattle.loop_core_model.specs.declared.access.Access.TheVariants.{Both, Reduce as Reduces}
 use Rattle.loop_core_model.specs.Marks.{Visit}
 use Rattle.loop_core_model.specs.Flags.{kind_of, flags_of, flagged}
 use Rattle.loop_core_model.proofs.FlagLaws.{flags_follow_kinds}

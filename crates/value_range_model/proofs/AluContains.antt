@@ -7,13 +7,15 @@ use Rattle.std.proofs.lemmas.Bool.{ltb-true, and_parts, cond-true, lt-ltb}
 use Rattle.bpf_insn_types.specs.declared.insn.Width.{Width}
 use Rattle.bpf_insn_types.specs.declared.insn.Width.TheVariants.{W32, W64}
 use Rattle.bpf_insn_types.specs.declared.insn.AluOp.{AluOp}
-use Rattle.bpf_insn_types.specs.declared.insn.AluOp.TheVariants.{Add, Sub, Mul, Div, Sdiv, Or, And, Lsh, Rsh, Mod, Smod, Xor, Mov, Arsh}
+use Rattle.bpf_insn_types.specs.declared.insn.AluOp.TheVariants.{Add, Sub, Mul, Div, Sdiv, Or, And, Lsh}
+use Rattle.bpf_insn_types.specs.declared.insn.AluOp.TheVariants.{Rsh, Mod, Smod, Xor, Mov, Arsh}
 use Rattle.bpf_insn_types.specs.declared.insn.ByteOrder.{ByteOrder}
 use Rattle.bpf_insn_types.specs.declared.insn.ByteOrder.TheVariants.{Le, Be, Swap}
 use Rattle.bpf_insn_types.specs.declared.insn.EndianBits.{EndianBits}
 use Rattle.bpf_insn_types.specs.declared.insn.MovsxBits.{MovsxBits}
 use Rattle.bpf_insn_types.specs.declared.insn.MovsxBits.TheVariants.{B8, B16 as Low16, B32 as Low32}
-use Rattle.bpf_insn_types.specs.Words.{modulus, computed, alu, negated, moved_signed, sign_extended, in_order, low_modulus, endian_modulus}
+use Rattle.bpf_insn_types.specs.Words.{modulus, computed, alu, negated, moved_signed, sign_extended}
+use Rattle.bpf_insn_types.specs.Words.{in_order, low_modulus, endian_modulus}
 use Rattle.bpf_insn_types.specs.WordBounds.{ResultsFit}
 use Rattle.bpf_insn_types.proofs.WordLaws.{modulus-positive}
 use Rattle.value_range_model.specs.Spans.{Span, IsSpan, Contains, is_exact, exact, top, norm}
@@ -21,7 +23,9 @@ use Rattle.value_range_model.proofs.Multiples.{multiple-zero, zero-multiple}
 use Rattle.value_range_model.proofs.SpanLaws.{contains_by_test, exact-contains, exact-number, top-contains, number-word}
 use Rattle.value_range_model.specs.declared.operation.Operation.{Operation}
 use Rattle.value_range_model.specs.declared.operation.Operation.TheVariants.{Alu, Neg, Movsx, Endian}
-use Rattle.value_range_model.specs.AluRows.{meant, low32, range_at_width, operand, negative, extended_range, top_bits, little, ordered, alu_row, row, alu_reads_exact, reads_exact, of_operands, span_of}
+use Rattle.value_range_model.specs.AluRows.{meant, low32, range_at_width, operand, negative, extended_range}
+use Rattle.value_range_model.specs.AluRows.{top_bits, little, ordered, alu_row, row, alu_reads_exact}
+use Rattle.value_range_model.specs.AluRows.{reads_exact, of_operands, span_of}
 use Rattle.value_range_model.proofs.RowContains.{difference-contains, alu_row-contains}
 
 -- the part of a word that an operation takes

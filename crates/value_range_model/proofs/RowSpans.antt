@@ -7,7 +7,8 @@ use Rattle.std.proofs.lemmas.Bool.{ltb-true, eqb-false}
 use Rattle.bpf_insn_types.specs.declared.insn.Width.{Width}
 use Rattle.bpf_insn_types.specs.declared.insn.Width.TheVariants.{W32, W64}
 use Rattle.bpf_insn_types.specs.declared.insn.AluOp.{AluOp}
-use Rattle.bpf_insn_types.specs.declared.insn.AluOp.TheVariants.{Add, Sub, Mul, Div, Sdiv, Or, And, Lsh, Rsh, Mod, Smod, Xor, Mov, Arsh}
+use Rattle.bpf_insn_types.specs.declared.insn.AluOp.TheVariants.{Add, Sub, Mul, Div, Sdiv, Or, And, Lsh}
+use Rattle.bpf_insn_types.specs.declared.insn.AluOp.TheVariants.{Rsh, Mod, Smod, Xor, Mov, Arsh}
 use Rattle.bpf_insn_types.specs.declared.insn.ByteOrder.{ByteOrder}
 use Rattle.bpf_insn_types.specs.declared.insn.ByteOrder.TheVariants.{Le, Be, Swap}
 use Rattle.bpf_insn_types.specs.declared.insn.EndianBits.{EndianBits}
@@ -19,8 +20,14 @@ use Rattle.value_range_model.specs.Spans.{Span, IsSpan, is_exact, exact, top, no
 use Rattle.value_range_model.proofs.SpanLaws.{is_by_test, exact-span, norm-span, up_to-span, top-span}
 use Rattle.value_range_model.specs.declared.operation.Operation.{Operation}
 use Rattle.value_range_model.specs.declared.operation.Operation.TheVariants.{Alu, Neg, Movsx, Endian}
-use Rattle.value_range_model.specs.AluRows.{meant, low32, range_at_width, operand, filled, added, subtracted, multiplied, divided_by, divided, left_over_by, left_over, with_bits, common_bits, other_bits, shifted_left_by, shifted_left, shifted_right_by, shifted_right, shifted_signed, negative, extended_range, top_bits, little, ordered, alu_row, row, reads_exact, of_operands, span_of}
-use Rattle.value_range_model.proofs.RowBounds.{zero_some, added_some, subtracted_some, multiplied_some, divided_some, with_bits_some, shifted_left_some, shifted_right_some, or-word, filled-least}
+use Rattle.value_range_model.specs.AluRows.{meant, low32, range_at_width, operand, filled, added, subtracted}
+use Rattle.value_range_model.specs.AluRows.{multiplied, divided_by, divided, left_over_by, left_over, with_bits}
+use Rattle.value_range_model.specs.AluRows.{common_bits, other_bits, shifted_left_by, shifted_left, shifted_right_by}
+use Rattle.value_range_model.specs.AluRows.{shifted_right, shifted_signed, negative, extended_range, top_bits, little}
+use Rattle.value_range_model.specs.AluRows.{ordered, alu_row, row, reads_exact, of_operands, span_of}
+use Rattle.value_range_model.proofs.RowBounds.{zero_some, added_some, subtracted_some, multiplied_some}
+use Rattle.value_range_model.proofs.RowBounds.{divided_some, with_bits_some, shifted_left_some, shifted_right_some}
+use Rattle.value_range_model.proofs.RowBounds.{or-word, filled-least}
 
 -- those with n trailing zeros
 spread-span : (width : Width) (z : ℕ) → z ≤ 64 → IsSpan (norm 0 (modulus width - 1) z)

@@ -1,13 +1,17 @@
 -- What spans contain, and that they are spans.
-use Rattle.std.proofs.Common.{◌≡◌, ◌∙◌, ℕ, ◌-◌, ◌%◌, ◌^◌, ◌<◌, ◌≤◌, min, max, Bool, true, false, refl, sym, ap, subst, arith, inl, inr, ⊎_elim}
+use Rattle.std.proofs.Common.{◌≡◌, ◌∙◌, ℕ, ◌-◌, ◌%◌, ◌^◌, ◌<◌, ◌≤◌, min, max, Bool, true}
+use Rattle.std.proofs.Common.{false, refl, sym, ap, subst, arith, inl, inr, ⊎_elim}
 use Rattle.std.specs.Prelude.{◌⊎◌, ◌==◌, if◌then◌else◌}
 use Rattle.std.proofs.lemmas.Bool.{eqb-true, eq-eqb, ne_eqb, cond-true, cond-false, cond_both, cases_lt}
-use Rattle.std.proofs.Math.Nat.{min-le_left, min-le_right, le-max_left, le-max_right, min-eq_left, min-eq_right, max-eq_left, max-eq_right}
+use Rattle.std.proofs.Math.Nat.{min-le_left, min-le_right, le-max_left, le-max_right, min-eq_left}
+use Rattle.std.proofs.Math.Nat.{min-eq_right, max-eq_left, max-eq_right}
 use Rattle.bpf_insn_types.specs.declared.insn.Width.{Width}
 use Rattle.bpf_insn_types.specs.declared.insn.Width.TheVariants.{W32, W64}
 use Rattle.bpf_insn_types.specs.Words.{modulus}
-use Rattle.value_range_model.specs.Spans.{Span, IsSpan, Contains, is_exact, exact, top, rounded_up, rounded_down, norm, join}
-use Rattle.value_range_model.proofs.Multiples.{min-first, min-second, multiple-zero, trailing-multiple, trailing-most, down-most, down-multiple, down-least, up-least, up-multiple, up-most}
+use Rattle.value_range_model.specs.Spans.{Span, IsSpan, Contains, is_exact, exact, top}
+use Rattle.value_range_model.specs.Spans.{rounded_up, rounded_down, norm, join}
+use Rattle.value_range_model.proofs.Multiples.{min-first, min-second, multiple-zero, trailing-multiple, trailing-most}
+use Rattle.value_range_model.proofs.Multiples.{down-most, down-multiple, down-least, up-least, up-multiple, up-most}
 
 -- whichever span is chosen, by what the test finds
 pub is_by_test : (s t : Span) (b : Bool) → (b ≡ true → IsSpan s) → (b ≡ false → IsSpan t) → IsSpan (if b then s else t)

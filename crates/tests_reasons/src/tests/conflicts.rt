@@ -4,7 +4,8 @@
 use crate::tests::telling::end_so;
 use std::test::Fail;
 
-// Each iteration adds its element to the next; by the last two rows it is set to the next, which conflicts by LRPD alone.
+// Each iteration adds its element to the next; by the last two rows it is set to the next, which conflicts by LRPD
+// alone.
 const CONFLICTS: &str = "
     explain: maps 8 | mov64 r1, 7 | ldcode r2, callback | mov64 r3, 0 | mov64 r4, 0 | call 181 | exit | callback: | \
         lsh64 r1, 3 | ldmapval r2, 0, 0 | add64 r2, r1 | ldx64 r3, [r2+0] | ldx64 r4, [r2+8] ; the next one | \

@@ -1,4 +1,5 @@
-use Rattle.std.proofs.Common.{◌≡◌, ◌+◌, ℕ, Bool, false, List, ◌++◌, [], take, length, get_or, ap, sym, ◌∙◌, arith, Option}
+use Rattle.std.proofs.Common.{◌≡◌, ◌+◌, ℕ, Bool, false, List, ◌++◌, [], take}
+use Rattle.std.proofs.Common.{length, get_or, ap, sym, ◌∙◌, arith, Option}
 use Rattle.std.specs.Prelude.{nat_eq}
 use Rattle.std.specs.List.{list_any, cons_option}
 use Rattle.bpf_insn_types.specs.declared.insn.Insn.{Insn}

@@ -4,7 +4,8 @@ use Rattle.bpf_insn_types.specs.Program.{Program, slot_count, named_by}
 use Rattle.bpf_insn_types.proofs.ProgramLaws.{take-whole}
 use Rattle.bpf_verify_model.specs.Rules.{targets_in, with_target}
 use Rattle.bpf_verify.proofs.PassLaws.{passed-none, passed-over, known-here}
-use Rattle.bpf_verify.proofs.StateLaws.{StatesBelow, states-none, states-put, states-over, states-up_to, states-all, passed-fine, passed-listed, Here, here-index}
+use Rattle.bpf_verify.proofs.StateLaws.{StatesBelow, states-none, states-put, states-over, states-up_to}
+use Rattle.bpf_verify.proofs.StateLaws.{states-all, passed-fine, passed-listed, Here, here-index}
 use Rattle.bpf_verify.proofs.states.states_before.Goals as goal
 
 pub loop-insn-init : goal.loop-insn-init

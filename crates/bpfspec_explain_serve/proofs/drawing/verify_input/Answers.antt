@@ -1,6 +1,7 @@
 use Rattle.std.proofs.Common.{ℕ, ap, ◌∙◌, arith}
 use Rattle.std.specs.declared.vec.Vec.{Vec}
-use Rattle.bpfspec_explain_serve.proofs.HeldLaws.{one_of, held_answer, reads_well, read_failed, never_device, memory_out, memory_told}
+use Rattle.bpfspec_explain_serve.proofs.HeldLaws.{one_of, held_answer, reads_well, read_failed}
+use Rattle.bpfspec_explain_serve.proofs.HeldLaws.{never_device, memory_out, memory_told}
 use Rattle.bpfspec_explain_serve.proofs.drawing.verify_input.Goals as goal
 
 pub returns-then-failures-gt0-clause-memory : goal.returns-then-failures-gt0-clause-memory

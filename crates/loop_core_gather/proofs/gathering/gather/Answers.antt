@@ -8,7 +8,8 @@ use Rattle.loop_core_block.specs.Shown.{shown}
 use Rattle.loop_core_gather.specs.Gathered.{HasOutcome}
 use Rattle.loop_core_gather.specs.Held.{told_of, HaveCopiesOf, GatheredOf}
 use Rattle.loop_core_gather.proofs.CopyLaws.{taken, words_same, held_same}
-use Rattle.loop_core_gather.proofs.GatheringLaws.{faulty, faultless, places_at, same_stand, answer_fits, are_held, all_tell}
+use Rattle.loop_core_gather.proofs.GatheringLaws.{faulty, faultless, places_at, same_stand}
+use Rattle.loop_core_gather.proofs.GatheringLaws.{answer_fits, are_held, all_tell}
 use Rattle.loop_core_gather.proofs.gathering.gather.Goals.{In-Ok, In_ok-planes}
 use Rattle.loop_core_gather.proofs.gathering.gather.Goals as goal
 

@@ -8,7 +8,8 @@ use Rattle.loop_core_trace.specs.Journals.{Undoes}
 use Rattle.loop_core_trace.specs.Traced.{IsTraceOf}
 use Rattle.loop_core_trace.proofs.Underway.{within, can, touched_within}
 use Rattle.loop_core_trace.proofs.GoingOn.{IsNoted, is_noted, goes_on, calls_none, refuses_none, ended, begun}
-use Rattle.loop_core_trace.proofs.following.follow.Goals.{After-operations, In-loop, After-index-ops-slot, In_ok-slots, In-End}
+use Rattle.loop_core_trace.proofs.following.follow.Goals.{After-operations, In-loop, After-index-ops-slot}
+use Rattle.loop_core_trace.proofs.following.follow.Goals.{In_ok-slots, In-End}
 use Rattle.loop_core_trace.proofs.following.follow.Goals as goal
 
 -- the program was accepted, and its slots fit
@@ -112,6 +113,7 @@ pub loop-preserved : goal.loop-preserved
 loop-preserved c =
     let at = goal.at.loop-preserved c in
     goes_on c.law_of_steps.ensures.step c.law_of_operations.ensures.step (sound at.After-operations)
-    c.operations.ensures.ops c.loop.invariant c.index-ops-slot.result (is at.After-index-ops-slot) c.note_access.new.journal.items
+    c.operations.ensures.ops c.loop.invariant c.index-ops-slot.result (is at.After-index-ops-slot)
+    c.note_access.new.journal.items
     c.in_ok-slots.slots (was at.In_ok-slots) c.in-On.next c.execute.new.registers c.execute.new.frame
     c.frame-caller.result.now c.execute.new.store c.in-On.ensures.did

@@ -2,7 +2,8 @@ use Rattle.std.proofs.Common.{rules, w64, ◌∙◌, IfOk, refl, subst}
 use Rattle.std.proofs.lemmas.Int.{to_z-of_z}
 use Rattle.bpf_step.proofs.Limits.{iterations_end}
 use Rattle.spec_run.specs.Calls.{RanCall}
-use Rattle.spec_run.proofs.Turns.{Laws, program_ends, starts, few_left, exits, refuses, refusal_lessens, call_sizes, loops, loop_lessens}
+use Rattle.spec_run.proofs.Turns.{Laws, program_ends, starts, few_left, exits, refuses}
+use Rattle.spec_run.proofs.Turns.{refusal_lessens, call_sizes, loops, loop_lessens}
 use Rattle.spec_run.proofs.driver.run_main.Goals as goal
 
 pub loop-call-init : goal.loop-call-init

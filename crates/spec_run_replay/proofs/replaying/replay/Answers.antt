@@ -1,4 +1,5 @@
-use Rattle.std.proofs.Common.{rules, ◌≡◌, ℕ, ℤ, pos, w64, ◌<◌, ◌^◌, ◌∙◌, sym, ap, subst, List, None, Some, Err, Option, arith}
+use Rattle.std.proofs.Common.{rules, ◌≡◌, ℕ, ℤ, pos, w64, ◌<◌, ◌^◌, ◌∙◌, sym, ap}
+use Rattle.std.proofs.Common.{subst, List, None, Some, Err, Option, arith}
 use Rattle.std.proofs.lemmas.Int.{ints}
 use Rattle.std.specs.Int.{cast_signed, cast_unsigned}
 use Rattle.bpf_verify_sound.specs.Soundness.{IsSoundProgram}

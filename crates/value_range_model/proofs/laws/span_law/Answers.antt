@@ -1,5 +1,6 @@
 -- Each part is a lemma of SpanLaws.
-use Rattle.value_range_model.proofs.SpanLaws.{exact-span, exact-contains, top-span, top-contains, norm-span, norm-some, norm-contains, join-span, join-first, join-second}
+use Rattle.value_range_model.proofs.SpanLaws.{exact-span, exact-contains, top-span, top-contains, norm-span, norm-some}
+use Rattle.value_range_model.proofs.SpanLaws.{norm-contains, join-span, join-first, join-second}
 use Rattle.value_range_model.proofs.laws.span_law.Goals as goal
 
 pub returns : goal.returns

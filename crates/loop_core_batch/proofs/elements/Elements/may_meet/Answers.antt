@@ -1,7 +1,8 @@
 use Rattle.std.proofs.Common.{arith}
 use Rattle.loop_core_batch.proofs.Meeting.{NotRuns, runs_answer, others_answer, not_first, not_second}
 use Rattle.loop_core_batch.proofs.elements.Elements.may_meet.Goals as goal
-use Rattle.loop_core_batch.proofs.elements.Elements.may_meet.Goals.{in_default-via-in-Run+in_default, in_default-via-in_default}
+use Rattle.loop_core_batch.proofs.elements.Elements.may_meet.Goals.{in_default-via-in-Run+in_default}
+use Rattle.loop_core_batch.proofs.elements.Elements.may_meet.Goals.{in_default-via-in_default}
 
 pub returns-then-other-base : goal.returns-then-other-base
 returns-then-other-base c =

@@ -10,7 +10,8 @@ use Rattle.private_copy.proofs.pages.Pages.overwrite.Goals as goal
 pub returns-in_default : goal.returns-in_default
 returns-in_default c =
     let at = read_at c.self.inside.table.items c.args.self.now c.args.page c.index.result.now None
-    (ap total_of c.self.view_is) c.requires.within c.index.ensures (default_none c.index.result.now c.in_default.not-Some) in
+    (ap total_of c.self.view_is) c.requires.within c.index.ensures (default_none c.index.result.now
+    c.in_default.not-Some) in
     subst (λ (v : PlacedPages). AreOverwritten (λ k. last_in (cell_at v (c.args.page * 64 + k))) c.args.count
     c.args.own.now c.args.own.now) c.self.view_is
     (none_overwritten c.self.inside.table.items c.args.page c.args.count c.args.own.now at.was c.requires.few)

@@ -33,7 +33,9 @@ clear_bits-requires-4 c =
 pub returns : goal.returns
 returns c = record {
   written = cleared_in c.args.self.now.written _ _ c.args.page c.deref_mut.ensures.value c.clear_bits.ensures;
-  written_by_two = cleared_in c.args.self.now.written_by_two _ _ c.args.page c.deref_mut-2.ensures.value c.clear_bits-2.ensures;
+  written_by_two = cleared_in c.args.self.now.written_by_two _ _ c.args.page c.deref_mut-2.ensures.value
+      c.clear_bits-2.ensures;
   read_only = cleared_in c.args.self.now.read_only _ _ c.args.page c.deref_mut-3.ensures.value c.clear_bits-3.ensures;
-  read_and_written = cleared_in c.args.self.now.read_and_written _ _ c.args.page c.deref_mut-4.ensures.value c.clear_bits-4.ensures;
+  read_and_written = cleared_in c.args.self.now.read_and_written _ _ c.args.page c.deref_mut-4.ensures.value
+      c.clear_bits-4.ensures;
 }

@@ -44,15 +44,20 @@ returns c =
     let is_plain : c.index.result.now ≡ slice_index planes.plain.items page =
     c.index.ensures ∙ get_or_default planes.plain.items page c.index.result.now 0 (omega (arith, plain, within)) in
     let is_add : c.index-2.result.now ≡ slice_index planes.operators.add.items page =
-    c.index-2.ensures ∙ get_or_default planes.operators.add.items page c.index-2.result.now 0 (omega (arith, add, within)) in
+    c.index-2.ensures ∙ get_or_default planes.operators.add.items page c.index-2.result.now 0
+    (omega (arith, add, within)) in
     let is_or : c.index-3.result.now ≡ slice_index planes.operators.or.items page =
-    c.index-3.ensures ∙ get_or_default planes.operators.or.items page c.index-3.result.now 0 (omega (arith, or, within)) in
+    c.index-3.ensures ∙ get_or_default planes.operators.or.items page c.index-3.result.now 0 (omega (arith, or, within))
+    in
     let is_and : c.index-4.result.now ≡ slice_index planes.operators.and.items page =
-    c.index-4.ensures ∙ get_or_default planes.operators.and.items page c.index-4.result.now 0 (omega (arith, and, within)) in
+    c.index-4.ensures ∙ get_or_default planes.operators.and.items page c.index-4.result.now 0
+    (omega (arith, and, within)) in
     let is_xor : c.index-5.result.now ≡ slice_index planes.operators.xor.items page =
-    c.index-5.ensures ∙ get_or_default planes.operators.xor.items page c.index-5.result.now 0 (omega (arith, xor, within)) in
+    c.index-5.ensures ∙ get_or_default planes.operators.xor.items page c.index-5.result.now 0
+    (omega (arith, xor, within)) in
     let is_addh : c.index-6.result.now ≡ slice_index planes.operators.addh.items page =
-    c.index-6.ensures ∙ get_or_default planes.operators.addh.items page c.index-6.result.now 0 (omega (arith, addh, within)) in (
+    c.index-6.ensures ∙ get_or_default planes.operators.addh.items page c.index-6.result.now 0
+    (omega (arith, addh, within)) in (
       λ unset. unmarked_by_words planes page _ _ _ _ _ _ unset is_plain is_add is_or is_and is_xor is_addh,
       λ none. no_words planes page _ _ _ _ _ _ is_plain is_add is_or is_and is_xor is_addh none,
     )

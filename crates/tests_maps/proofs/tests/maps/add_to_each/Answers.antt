@@ -1,4 +1,5 @@
-use Rattle.std.proofs.Common.{◌≡◌, ℕ, ◌+◌, ◌<◌, List, [], ◌∷◌, ◌++◌, map, take, length, get_or, sym, ◌∙◌, ap, subst, arith}
+use Rattle.std.proofs.Common.{◌≡◌, ℕ, ◌+◌, ◌<◌, List, [], ◌∷◌, ◌++◌, map, take}
+use Rattle.std.proofs.Common.{length, get_or, sym, ◌∙◌, ap, subst, arith}
 use Rattle.std.proofs.lemmas.List.{take_more, map-append}
 use Rattle.array_maps.specs.Accesses.{Access, words_after, words_after_all}
 use Rattle.array_maps.specs.Store.{Effects}
