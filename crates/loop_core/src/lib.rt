@@ -20,7 +20,7 @@
 pub use loop_core_block::{Block, BlockWorkspace, SpeculativeLoop, run_block};
 pub use loop_core_event::{Event, EventKind};
 pub use loop_core_gather::{
-    GatherError, GatherFault, Gathered, LeftPage, LoopOutcome, gather, settle, store_pages,
+    GatherError, GatherFault, Gathered, LeftPage, LoopOutcome, commit_or_rerun, gather, store_pages,
 };
 pub use loop_core_model::{Test, Verdict};
 pub use loop_core_replay::{ReplayError, ReplayFault, replay_loop};

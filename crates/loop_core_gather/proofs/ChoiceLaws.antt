@@ -16,7 +16,7 @@ use Rattle.loop_core_model.specs.Kept.{Kept, applied, last_of, committed_of_kept
 use Rattle.loop_core_block.specs.declared.block.Block.{Block as Held}
 use Rattle.loop_core_block.specs.Blocks.{BlockOf}
 use Rattle.loop_core_block.specs.Shown.{shown}
-use Rattle.loop_core_gather.specs.Held.{chosen, visits_at, kept_of, IsUntouchedElement, TellsUntouched}
+use Rattle.loop_core_gather.specs.Held.{chosen, visits_at, kept_at, IsUntouchedElement, TellsUntouched}
 
 -- the block at a place
 pub shown_there : (blocks : List Held) (place : ℕ) (b : Held) → place < length blocks → b ≡ get_or blocks place b
@@ -69,7 +69,7 @@ kept_first false k later value = go (last_of (map (λ (k : Kept). k.last_value) 
 
 -- a block of which nothing is kept leaves the value
 unchanged : (reduced : Bool) (value e : ℕ) (b : BlockOf) → IsUntouchedElement e b
-    → left_by reduced value (kept_of e b) ≡ value
+    → left_by reduced value (kept_at e b) ≡ value
 unchanged true value e b none = ap (applied value) none.partial
 unchanged false value e b none = ap (λ (o : Option ℕ). unwrap_or o value) none.last_value
 
@@ -77,56 +77,56 @@ unchanged false value e b none = ap (λ (o : Option ℕ). unwrap_or o value) non
 pub kept_next : (reduced : Bool) (word e : ℕ) (blocks : List Held) (places : List ℕ) (i value left : ℕ) (b : Held)
     (touched : Bool) (next : ℕ) → TellsUntouched word e (map shown blocks) places →
     i < length places → get_or places i 0 < length blocks → b ≡ get_or blocks (get_or places i 0) b →
-    touched ≡ (bit_at word i == 1) → next ≡ (if touched then left_by reduced value (kept_of e (shown b)) else value) →
-    left ≡ committed_of_kept reduced (map (kept_of e) (chosen (drop i places) (map shown blocks))) value →
-    left ≡ committed_of_kept reduced (map (kept_of e) (chosen (drop (i + 1) places) (map shown blocks))) next
+    touched ≡ (bit_at word i == 1) → next ≡ (if touched then left_by reduced value (kept_at e (shown b)) else value) →
+    left ≡ committed_of_kept reduced (map (kept_at e) (chosen (drop i places) (map shown blocks))) value →
+    left ≡ committed_of_kept reduced (map (kept_at e) (chosen (drop (i + 1) places) (map shown blocks))) next
 kept_next reduced word e blocks places i value left b touched next untouched inside within is bit made so_far =
-    let later = map (kept_of e) (chosen (drop (i + 1) places) (map shown blocks)) in
-    let after = left_by reduced value (kept_of e (shown b)) in
+    let later = map (kept_at e) (chosen (drop (i + 1) places) (map shown blocks)) in
+    let after = left_by reduced value (kept_at e (shown b)) in
     let same : touched ≡ false → after ≡ value = λ unset. unchanged reduced value e (shown b) (untouched i (shown b)
     inside (shown_there blocks (get_or places i 0) b within is) (sym bit ∙ unset)) in
     so_far
-    ∙ ap (λ bs. committed_of_kept reduced (map (kept_of e) bs) value) (chosen_next blocks places i b inside within is)
-    ∙ kept_first reduced (kept_of e (shown b)) later value
+    ∙ ap (λ bs. committed_of_kept reduced (map (kept_at e) bs) value) (chosen_next blocks places i b inside within is)
+    ∙ kept_first reduced (kept_at e (shown b)) later value
     ∙ ap (λ v. committed_of_kept reduced later v) (sym (made ∙ by_bit touched value after same))
 
 -- a block whose bit isn't set leaves the value
 module _ (word e : ℕ) (blocks : List BlockOf) (places : List ℕ) (untouched : TellsUntouched word e blocks places) where
   skip : (reduced : Bool) (i value : ℕ) → i < length places → (bit_at word i == 1) ≡ false →
-      committed_of_kept reduced (map (kept_of e) (chosen (drop i places) blocks)) value
-      ≡ committed_of_kept reduced (map (kept_of e) (chosen (drop (i + 1) places) blocks)) value
+      committed_of_kept reduced (map (kept_at e) (chosen (drop i places) blocks)) value
+      ≡ committed_of_kept reduced (map (kept_at e) (chosen (drop (i + 1) places) blocks)) value
   skip reduced i value inside bit =
-      ap (λ ps. committed_of_kept reduced (map (kept_of e) (chosen ps blocks)) value) (drop-cons places i 0 inside)
+      ap (λ ps. committed_of_kept reduced (map (kept_at e) (chosen ps blocks)) value) (drop-cons places i 0 inside)
       ∙ go (slice_get blocks (get_or places i 0)) refl
-      ∙ ap (λ n. committed_of_kept reduced (map (kept_of e) (chosen (drop n places) blocks)) value) (sym (add-one i))
+      ∙ ap (λ n. committed_of_kept reduced (map (kept_at e) (chosen (drop n places) blocks)) value) (sym (add-one i))
     where
       go : (o : Option BlockOf) → slice_get blocks (get_or places i 0) ≡ o →
-          committed_of_kept reduced (map (kept_of e) (cons_option o (chosen (drop (suc i) places) blocks))) value
-          ≡ committed_of_kept reduced (map (kept_of e) (chosen (drop (suc i) places) blocks)) value
+          committed_of_kept reduced (map (kept_at e) (cons_option o (chosen (drop (suc i) places) blocks))) value
+          ≡ committed_of_kept reduced (map (kept_at e) (chosen (drop (suc i) places) blocks)) value
       go None is = refl
       go (Some b) is =
-          let later = map (kept_of e) (chosen (drop (suc i) places) blocks) in
-          kept_first reduced (kept_of e b) later value
+          let later = map (kept_at e) (chosen (drop (suc i) places) blocks) in
+          kept_first reduced (kept_at e b) later value
           ∙ ap (λ v. committed_of_kept reduced later v) (unchanged reduced value e b (untouched i b inside is bit))
 
-  nothing_left : (reduced : Bool) (value : ℕ) → committed_of_kept reduced (map (kept_of e) (chosen [] blocks)) value
+  nothing_left : (reduced : Bool) (value : ℕ) → committed_of_kept reduced (map (kept_at e) (chosen [] blocks)) value
       ≡ value
   nothing_left true value = refl
   nothing_left false value = refl
 
   skip_all : (reduced : Bool) (value : ℕ) → ((i : ℕ) → (bit_at word i == 1) ≡ false) → (n i : ℕ) → length places ≡ i + n
       →
-      committed_of_kept reduced (map (kept_of e) (chosen (drop i places) blocks)) value ≡ value
+      committed_of_kept reduced (map (kept_at e) (chosen (drop i places) blocks)) value ≡ value
   skip_all reduced value bits zero i long =
       let past : length places ≤ i = omega (arith, long) in
-      ap (λ ps. committed_of_kept reduced (map (kept_of e) (chosen ps blocks)) value) (drop_of_length-le places past)
+      ap (λ ps. committed_of_kept reduced (map (kept_at e) (chosen ps blocks)) value) (drop_of_length-le places past)
       ∙ nothing_left reduced value
   skip_all reduced value bits (suc n) i long =
       skip reduced i value (omega (arith, long)) (bits i) ∙ skip_all reduced value bits n (i + 1) (omega (arith, long))
 
   -- and where no bit is set all of them do
   pub left_alone : (reduced : Bool) (value : ℕ) → word ≡ 0
-      → committed_of_kept reduced (map (kept_of e) (chosen places blocks)) value ≡ value
+      → committed_of_kept reduced (map (kept_at e) (chosen places blocks)) value ≡ value
   left_alone reduced value none =
       skip_all reduced value (λ i. ap (λ w. bit_at w i == 1) none ∙ ap (λ b. b == 1) (bit_at-zero i)) (length places) 0
       (omega arith)

@@ -19,7 +19,7 @@ use Rattle.lane_planes.specs.Merged.{StandForSome}
 use Rattle.loop_core_block.specs.declared.block.Block.{Block as Held}
 use Rattle.loop_core_block.specs.Blocks.{BlockOf}
 use Rattle.loop_core_block.specs.Shown.{shown}
-use Rattle.loop_core_gather.specs.Held.{chosen, visits_at, is_reduction, kept_of, left_at, left_words}
+use Rattle.loop_core_gather.specs.Held.{chosen, visits_at, is_reduction, kept_at, left_at, left_words}
 use Rattle.loop_core_gather.specs.Held.{IsUntouchedElement, TellsUntouched, AreHeld, AreInOne, HavePlanes, HaveCopiesOf}
 use Rattle.loop_core_gather.proofs.ChoiceLaws.{chosen_next, all_at}
 
@@ -31,22 +31,22 @@ abbrev kept_in : ℕ → PrivateCopy → Kept
 kept_in e copy = record { last_value = copy.last e; partial = combination (copy.reduction e) }
 
 kept_front : (e : ℕ) (o p : Option BlockOf) (these those : List BlockOf) → option_map copy_in o ≡ option_map copy_in p
-    → map (kept_of e) these ≡ map (kept_of e) those
-    → map (kept_of e) (cons_option o these) ≡ map (kept_of e) (cons_option p those)
+    → map (kept_at e) these ≡ map (kept_at e) those
+    → map (kept_at e) (cons_option o these) ≡ map (kept_at e) (cons_option p those)
 kept_front e None None these those same rest = rest
 kept_front e None (Some b) these those same rest = absurd (cc)
 kept_front e (Some a) None these those same rest = absurd (cc)
 kept_front e (Some a) (Some b) these those same rest =
     let copies : a.copy ≡ b.copy = cc in
-    ap (λ (c : PrivateCopy). kept_in e c ∷ map (kept_of e) these) copies
-    ∙ ap (λ (ks : List Kept). kept_of e b ∷ ks) rest
+    ap (λ (c : PrivateCopy). kept_in e c ∷ map (kept_at e) these) copies
+    ∙ ap (λ (ks : List Kept). kept_at e b ∷ ks) rest
 
 module _ (old new : List BlockOf) (same : HaveCopiesOf old new) where
   copies_at : (place : ℕ) → option_map copy_in (slice_get new place) ≡ option_map copy_in (slice_get old place)
   copies_at place = sym (slice_get-map copy_in new place) ∙ ap (λ (cs : List PrivateCopy). slice_get cs place) same
       ∙ slice_get-map copy_in old place
 
-  kept_same : (e : ℕ) (places : List ℕ) → map (kept_of e) (chosen places new) ≡ map (kept_of e) (chosen places old)
+  kept_same : (e : ℕ) (places : List ℕ) → map (kept_at e) (chosen places new) ≡ map (kept_at e) (chosen places old)
   kept_same e [] = refl
   kept_same e (place ∷ places) =
       kept_front e (slice_get new place) (slice_get old place) (chosen places new) (chosen places old) (copies_at place)

@@ -9,7 +9,7 @@ use Rattle.private_copy.proofs.AccessLaws.{shown_at, shown_length}
 use Rattle.loop_core_block.specs.declared.block.Block.{Block as Held}
 use Rattle.loop_core_block.specs.Blocks.{BlockOf}
 use Rattle.loop_core_block.specs.Shown.{shown}
-use Rattle.loop_core_gather.specs.Held.{chosen, is_reduction, kept_of, left_at, left_words, TellsUntouched, GatheredOf}
+use Rattle.loop_core_gather.specs.Held.{chosen, is_reduction, kept_at, left_at, left_words, TellsUntouched, GatheredOf}
 use Rattle.loop_core_gather.proofs.ChoiceLaws.{left_alone}
 
 pub held_length : (planes : Planes) (blocks : List BlockOf) (start : List ℕ) → length (left_words planes blocks start)
@@ -47,14 +47,14 @@ starts_are blocks now elements many same count all =
 pub element_is : (planes : Planes) (blocks now : List Held) (places at : List ℕ) (start : List ℕ) (e : ℕ)
     (reduced : Bool) (o : GatheredOf) → is_reduction planes e ≡ reduced → e < length start →
     now ≡ blocks → at ≡ places → left_words planes (chosen places (map shown blocks)) start ≡ o.words →
-    committed_of_kept reduced (map (kept_of e) (chosen at (map shown now))) (slice_index start e) ≡ slice_index o.words
+    committed_of_kept reduced (map (kept_at e) (chosen at (map shown now))) (slice_index start e) ≡ slice_index o.words
     e
 element_is planes blocks now places at start e reduced o by inside same_blocks same_places words =
-    ap (λ (bs : List Held). committed_of_kept reduced (map (kept_of e) (chosen at (map shown bs)))
+    ap (λ (bs : List Held). committed_of_kept reduced (map (kept_at e) (chosen at (map shown bs)))
     (slice_index start e)) same_blocks
-    ∙ ap (λ (ps : List ℕ). committed_of_kept reduced (map (kept_of e) (chosen ps (map shown blocks)))
+    ∙ ap (λ (ps : List ℕ). committed_of_kept reduced (map (kept_at e) (chosen ps (map shown blocks)))
     (slice_index start e)) same_places
-    ∙ ap (λ (b : Bool). committed_of_kept b (map (kept_of e) (chosen places (map shown blocks))) (slice_index start e))
+    ∙ ap (λ (b : Bool). committed_of_kept b (map (kept_at e) (chosen places (map shown blocks))) (slice_index start e))
     (sym by)
     ∙ sym (shown_at (left_at planes (chosen places (map shown blocks)) start) (length start) e inside)
     ∙ ap (λ (ws : List ℕ). slice_index ws e) words

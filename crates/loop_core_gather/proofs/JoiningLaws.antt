@@ -29,7 +29,7 @@ use Rattle.private_copy.proofs.ReductionLaws.{partial_is_combination}
 use Rattle.loop_core_block.specs.Blocks.{BlockOf}
 use Rattle.loop_core_block.specs.Ran.{iterations_of, as_gathered, RecordsRun}
 use Rattle.loop_core_model.specs.Block.{block_run}
-use Rattle.loop_core_gather.specs.Held.{visits_at, is_reduction, kept_of}
+use Rattle.loop_core_gather.specs.Held.{visits_at, is_reduction, kept_at}
 use Rattle.loop_core_gather.proofs.FollowLaws.{Follow}
 
 -- the iterations of a block at an element
@@ -97,7 +97,7 @@ module _ (program : Program) (call : LoopCall) (words : List ℕ) where
 
   -- its copy keeps what its iterations leave
   same_kept : (test : Test) (e : ℕ) (b : BlockOf) → e < length words → RecordsRun test program call words b
-      → kept_of e b ≡ kept (at_block e (told b)) (slice_index words e)
+      → kept_at e b ≡ kept (at_block e (told b)) (slice_index words e)
   same_kept test e b inside is =
       let long : length b.copy.start ≡ length words = ap length is.start in
       let within : e < length b.copy.start = omega arith in
@@ -115,10 +115,10 @@ module _ (program : Program) (call : LoopCall) (words : List ℕ) where
 
   pub all_kept : (test : Test) (e : ℕ) (blocks : List BlockOf) → e < length words
       → AllByRecursion (RecordsRun test program call words) blocks →
-      map (kept_of e) blocks ≡ map (λ its. kept its (slice_index words e)) (at_blocks e (map told blocks))
+      map (kept_at e) blocks ≡ map (λ its. kept its (slice_index words e)) (at_blocks e (map told blocks))
   all_kept test e [] inside all = refl
   all_kept test e (b ∷ blocks) inside all =
-      ap (λ k. k ∷ map (kept_of e) blocks) (same_kept test e b inside all.0)
+      ap (λ k. k ∷ map (kept_at e) blocks) (same_kept test e b inside all.0)
       ∙ ap (λ ks. kept (at_block e (told b)) (slice_index words e) ∷ ks) (all_kept test e blocks inside all.1)
 
 -- planes tell which elements are reduction-only

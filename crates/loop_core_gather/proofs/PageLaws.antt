@@ -20,7 +20,7 @@ use Rattle.shadow_marks.specs.declared.planes.Planes.{Planes}
 use Rattle.shadow_marks.specs.Standing.{plane_by}
 use Rattle.loop_core_block.specs.declared.block.Block.{Block as Held}
 use Rattle.loop_core_block.specs.Shown.{shown}
-use Rattle.loop_core_gather.specs.Held.{chosen, kept_of, is_reduction, TellsUntouched}
+use Rattle.loop_core_gather.specs.Held.{chosen, kept_at, is_reduction, TellsUntouched}
 use Rattle.loop_core_gather.specs.Pages.{IsPageOf}
 use Rattle.loop_core_gather.proofs.ChoiceLaws.{kept_next}
 
@@ -51,7 +51,7 @@ at_own all own page e is here =
 
 -- what blocks at places leave of a word
 abbrev pub written : List Held → List ℕ → (e word : ℕ) → ℕ
-written blocks places e word = committed_of_kept false (map (kept_of e) (chosen places (map shown blocks))) word
+written blocks places e word = committed_of_kept false (map (kept_at e) (chosen places (map shown blocks))) word
 
 -- of a page the elements are set by the blocks at the first n places: what is left of the rest is left of all
 pub record OverwrittenUpTo (elements page : ℕ) (blocks : List Held) (places old now : List ℕ) (n : ℕ) : Type 0 where

@@ -38,7 +38,7 @@ use Rattle.private_copy.proofs.AccessLaws.{shown_at, shown_length}
 use Rattle.loop_core_block.specs.Blocks.{BlockOf}
 use Rattle.loop_core_block.specs.Ran.{RecordsRun}
 use Rattle.loop_core_gather.specs.declared.summary.Summary.{Summary}
-use Rattle.loop_core_gather.specs.Held.{told_of, chosen, visits_at, kept_of, left_at, left_words}
+use Rattle.loop_core_gather.specs.Held.{told_of, chosen, visits_at, kept_at, left_at, left_words}
 use Rattle.loop_core_gather.specs.Gathered.{all_gathered, HasOutcome}
 use Rattle.loop_core_gather.proofs.BlocksCount.{summary_of, BlocksCount, counting_of}
 use Rattle.loop_core_gather.proofs.FollowLaws.{Follow, counting_follow}
@@ -161,7 +161,7 @@ module _ (test : Test) (program : Program) (call : LoopCall) (words : List ℕ) 
         let own : List BlockOf = counting in
         let all : List (List (List Action)) = at_blocks e (map (told program call words) counting) in
         let within_planes : e < planes.elements = omega (arith, inside, elements) in
-        ap (λ (b : Bool). committed_of_kept b (map (kept_of e) own) word)
+        ap (λ (b : Bool). committed_of_kept b (map (kept_at e) own) word)
         (tells_reduction planes e (marks_of (visits_at (visits_in program call words) counting e))
         (stand.marks e within_planes) ∙ ap marked_reduction (marks_are e))
         ∙ ap (λ ks. committed_of_kept (marked_reduction (marks_of_blocks 0 all)) ks word)

@@ -55,12 +55,12 @@ is_reduction planes e = not (bit_of planes.plain.items e) && (count_by (λ op. b
     operators == 1)
 
 -- what is kept of a block at an element
-abbrev pub kept_of : ℕ → BlockOf → Kept
-kept_of e b = record { last_value = b.copy.last e; partial = combination (b.copy.reduction e) }
+abbrev pub kept_at : ℕ → BlockOf → Kept
+kept_at e b = record { last_value = b.copy.last e; partial = combination (b.copy.reduction e) }
 
 -- what a pass leaves at an element
 abbrev pub left_at : Planes → List BlockOf → List ℕ → ℕ → ℕ
-left_at planes blocks start e = committed_of_kept (is_reduction planes e) (map (kept_of e) blocks) (slice_index start e)
+left_at planes blocks start e = committed_of_kept (is_reduction planes e) (map (kept_at e) blocks) (slice_index start e)
 
 -- the words that a pass leaves
 abbrev pub left_words : Planes → List BlockOf → List ℕ → List ℕ

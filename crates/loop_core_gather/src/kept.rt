@@ -7,7 +7,7 @@ ghost use Rattle.std.specs.Option.{unwrap_or};
 ghost use Rattle.private_copy.specs.Reductions.{combination};
 ghost use Rattle.loop_core_model.specs.Kept.{applied as applied_to, committed_of_kept};
 ghost use Rattle.loop_core_block.specs.Shown.{shown};
-ghost use Rattle.loop_core_gather.specs.Held.{chosen, kept_of, TellsUntouched};
+ghost use Rattle.loop_core_gather.specs.Held.{chosen, kept_at, TellsUntouched};
 
 use array_maps::{Op, combine};
 use loop_core_block::Block;
@@ -61,7 +61,7 @@ pub(crate) fn combined(blocks: &[Block], places: &[usize], touched: u64, e: u32,
     requires few { length places.now ≤ 64 }
     requires within { All (λ b. e < length (shown b).copy.start) blocks.now }
     requires touched { TellsUntouched touched e (map shown blocks.now) places.now }
-    ensures { result ≡ committed_of_kept true (map (kept_of e) (chosen places.now (map shown blocks.now))) word }
+    ensures { result ≡ committed_of_kept true (map (kept_at e) (chosen places.now (map shown blocks.now))) word }
 {
     let mut value = word;
     for (i, place) in places.iter().enumerate() {
@@ -83,7 +83,7 @@ pub(crate) fn last_written(
     requires few { length places.now ≤ 64 }
     requires within { All (λ b. e < length (shown b).copy.start) blocks.now }
     requires touched { TellsUntouched touched e (map shown blocks.now) places.now }
-    ensures { result ≡ committed_of_kept false (map (kept_of e) (chosen places.now (map shown blocks.now))) word }
+    ensures { result ≡ committed_of_kept false (map (kept_at e) (chosen places.now (map shown blocks.now))) word }
 {
     let mut value = word;
     for (i, place) in places.iter().enumerate() {

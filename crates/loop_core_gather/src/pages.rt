@@ -5,7 +5,7 @@ ghost use Rattle.std.specs.List.{All};
 ghost use Rattle.std.specs.Option.{unwrap_or};
 ghost use Rattle.loop_core_model.specs.Kept.{committed_of_kept};
 ghost use Rattle.loop_core_block.specs.Shown.{shown};
-ghost use Rattle.loop_core_gather.specs.Held.{chosen, kept_of, TellsUntouched};
+ghost use Rattle.loop_core_gather.specs.Held.{chosen, kept_at, TellsUntouched};
 ghost use Rattle.loop_core_gather.specs.Pages.{IsPageOf};
 
 use crate::gathered::Gathered;
@@ -109,7 +109,7 @@ pub(crate) fn overwrite_in_turn(
     requires touched { (k : ℕ) → k < 64 → page * 64 + k < elements → TellsUntouched touched (page * 64 + k)
         (map shown blocks.now) places.now }
     ensures each { (k : ℕ) → k < 64 → page * 64 + k < elements → slice_index own.new k ≡ committed_of_kept false
-        (map (kept_of (page * 64 + k)) (chosen places.now (map shown blocks.now))) (slice_index own.old k) }
+        (map (kept_at (page * 64 + k)) (chosen places.now (map shown blocks.now))) (slice_index own.old k) }
     ensures past { (k : ℕ) → elements ≤ page * 64 + k → slice_index own.new k ≡ slice_index own.old k }
 {
     for (i, place) in places.iter().enumerate() {

@@ -13,7 +13,7 @@ use bpf_step::LoopCall;
 use bpf_verify::Verified;
 use loop_core_block::SpeculativeLoop;
 use loop_core_event::Event;
-use loop_core_gather::{GatherError, LoopOutcome, gather, settle};
+use loop_core_gather::{GatherError, LoopOutcome, commit_or_rerun, gather};
 use loop_core_model::{ReplayFault, Test, law_of_schedules};
 use loop_core_split::Split;
 use std::alloc::Global;
@@ -53,7 +53,7 @@ pub fn replay_loop(
     };
     let ran = run_events(&of, events)?;
     match gather(alloc, program, call, start, split, ran, test) {
-        Ok(gathered) => Ok(settle(alloc, program, call, start, &gathered, test)?),
+        Ok(gathered) => Ok(commit_or_rerun(alloc, program, call, start, &gathered, test)?),
         Err(GatherError::Memory) => Err(ReplayError::Memory),
         Err(GatherError::Fault(_)) => unreachable!(),
     }

@@ -9,7 +9,7 @@ use Rattle.loop_core_undo.specs.declared.undo_log.UndoLog.{UndoLog}
 use Rattle.loop_core_undo.specs.Undo.{is_written, word_before, words_before, IsEmpty}
 use Rattle.loop_core_undo.proofs.UndoLaws.{from_now}
 use Rattle.loop_core_sequential.specs.declared.watching.Watch.{Watch}
-use Rattle.loop_core_sequential.specs.declared.watching.Watch.TheVariants.{Went, Broke, Met}
+use Rattle.loop_core_sequential.specs.declared.watching.Watch.TheVariants.{Completed, Broke, Dependent}
 use Rattle.loop_core_sequential.specs.Watched.{RanAndPasses}
 use Rattle.loop_core_sequential.specs.Noting.{CanRestore, GoesWatched, WatchedTo, WatchedToEnd, answer_watched}
 use Rattle.loop_core_sequential.proofs.WatchedLaws.{begun, all_watched}
@@ -37,9 +37,9 @@ went_all program call index n start now log all is goes =
 pub to_end : (program : Program) (call : LoopCall) (n : ℕ) (start now : MapList) (log : UndoLog) (watch : Watch)
     → n ≡ call.n → WatchedTo program call n start now log watch
     → WatchedToEnd program call start now log (answer_watched watch n)
-to_end program call n start now log Went is goes = went_all program call n n start now log refl is goes
+to_end program call n start now log Completed is goes = went_all program call n n start now log refl is goes
 to_end program call n start now log (Broke answer) is passes = passes
-to_end program call n start now log Met is restores = restores
+to_end program call n start now log Dependent is restores = restores
 
 -- words that are put back are those of the start
 pub put_back : (start now new : MapList) (log : UndoLog) → CanRestore start now log

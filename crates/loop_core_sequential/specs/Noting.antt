@@ -8,7 +8,7 @@ use Rattle.bpf_step_batch.specs.Logs.{element_by}
 use Rattle.loop_core_undo.specs.declared.undo_log.UndoLog.{UndoLog}
 use Rattle.loop_core_undo.specs.Undo.{log_elements, is_written, word_before}
 use Rattle.loop_core_sequential.specs.declared.watching.Watch.{Watch}
-use Rattle.loop_core_sequential.specs.declared.watching.Watch.TheVariants.{Went, Broke, Met}
+use Rattle.loop_core_sequential.specs.declared.watching.Watch.TheVariants.{Completed, Broke, Dependent}
 use Rattle.loop_core_sequential.specs.Watched.{AreNoted, RanAndPasses, WentWatched}
 
 -- the elements of an entry's lanes are below a number
@@ -43,9 +43,9 @@ pub record GoesWatched (program : Program) (call : LoopCall) (index : ℕ) (star
 -- how iterations up to an index came out, from these start maps: they went on; or one broke off, and the loop passes;
 -- or one read what an earlier one wrote, and the start maps can be restored
 abbrev pub WatchedTo : Program → LoopCall → (index : ℕ) → (start now : MapList) → UndoLog → Watch → Type 0
-WatchedTo program call index start now log Went = GoesWatched program call index start now log
+WatchedTo program call index start now log Completed = GoesWatched program call index start now log
 WatchedTo program call index start now log (Broke answer) = RanAndPasses program call start now answer
-WatchedTo program call index start now log Met = CanRestore start now log
+WatchedTo program call index start now log Dependent = CanRestore start now log
 
 -- the loop has ended, and passes; or the start maps can be restored
 abbrev pub WatchedToEnd : Program → LoopCall → (start now : MapList) → UndoLog → Option ℕ → Type 0
@@ -54,6 +54,6 @@ WatchedToEnd program call start now log None = CanRestore start now log
 
 -- the loop's answer by how all of its n iterations came out: none where one met something
 abbrev pub answer_watched : Watch → (n : ℕ) → Option ℕ
-answer_watched Went n = Some n
+answer_watched Completed n = Some n
 answer_watched (Broke answer) n = Some answer
-answer_watched Met n = None
+answer_watched Dependent n = None

@@ -8,7 +8,7 @@ use Rattle.bpf_step_batch.specs.declared.entry.Entry.{Entry}
 use Rattle.bpf_step_batch.specs.Logs.{element_by, accesses_by, IsLogged}
 use Rattle.loop_core_batch.specs.LoopByBatch.{EndsInZero}
 use Rattle.loop_core_sequential.specs.declared.trying.Tried.{Tried}
-use Rattle.loop_core_sequential.specs.declared.trying.Tried.TheVariants.{Went, Met, Parted}
+use Rattle.loop_core_sequential.specs.declared.trying.Tried.TheVariants.{Applied, Dependent, Diverged}
 use Rattle.loop_core_sequential.specs.Rests.{RanOn}
 
 -- the lanes of a batch are the iterations from an index on, each on these words: each goes on, with the accesses that
@@ -21,15 +21,15 @@ pub record LanesAreIterations (program : Program) (call : LoopCall) (index lanes
 
 -- a batch of iterations from an index on went, or nothing was done
 abbrev pub TriedIn : Program → LoopCall → (index lanes : ℕ) → (old new : MapList) → Tried → Type 0
-TriedIn program call index lanes old new Went = RanOn program call index (index + lanes) old new
-TriedIn program call index lanes old new Met = new ≡ old
-TriedIn program call index lanes old new Parted = new ≡ old
+TriedIn program call index lanes old new Applied = RanOn program call index (index + lanes) old new
+TriedIn program call index lanes old new Dependent = new ≡ old
+TriedIn program call index lanes old new Diverged = new ≡ old
 
 -- the index after a batch that was tried: after its lanes where they went
 abbrev pub index_after : Tried → (index lanes : ℕ) → ℕ
-index_after Went index lanes = index + lanes
-index_after Met index lanes = index
-index_after Parted index lanes = index
+index_after Applied index lanes = index + lanes
+index_after Dependent index lanes = index
+index_after Diverged index lanes = index
 
 -- the elements of an entry's lanes are among the words
 abbrev pub AreWithin : (lanes : ℕ) → Entry → List ℕ → Type 0

@@ -44,15 +44,15 @@ impl Batches {
         ensures { result ≡ index_after tried index lanes }
     {
         match tried {
-            Tried::Went => {
+            Tried::Applied => {
                 self.pause = 1;
                 index + lanes
             }
-            Tried::Met => {
+            Tried::Dependent => {
                 self.lanes = (self.lanes / 2).max(LEAST);
                 index
             }
-            Tried::Parted => index,
+            Tried::Diverged => index,
         }
     }
 
@@ -106,14 +106,14 @@ impl Batches {
     {
         law_of_batches();
         if !self.ran_together(run, index, lanes, maps) {
-            return Tried::Parted;
+            return Tried::Diverged;
         }
         let tried = &*self;
         let entries = tried.batch.entries();
         if !are_in_order(entries, lanes) {
-            return Tried::Met;
+            return Tried::Dependent;
         }
         apply(entries, lanes, maps);
-        Tried::Went
+        Tried::Applied
     }
 }

@@ -4,9 +4,9 @@
 #[derive(Clone, Copy)]
 pub(crate) enum Tried {
     /// They were done.
-    Went,
+    Applied,
     /// One would have seen what an earlier one wrote, or their accesses can't be applied site by site.
-    Met,
-    /// They parted, one returned 1, or an operation isn't done for many at a time.
-    Parted,
+    Dependent,
+    /// They took several ways, one returned 1, or an operation isn't done for many at a time.
+    Diverged,
 }

@@ -63,9 +63,9 @@ fn answer(watch: Watch, n: u32) -> Option<u32>
     ensures { result ≡ answer_watched watch n }
 {
     match watch {
-        Watch::Went => Some(n),
+        Watch::Completed => Some(n),
         Watch::Broke(answer) => Some(answer),
-        Watch::Met => None,
+        Watch::Dependent => None,
     }
 }
 
@@ -88,9 +88,9 @@ fn watch_in_batches(run: &mut LoopRun<'_>, log: &mut UndoLog, maps: &mut Maps) -
         }
         let resume = batches.resume(index, n);
         match alone_watched(run, index, resume, log, maps) {
-            Watch::Went => index = resume,
+            Watch::Completed => index = resume,
             Watch::Broke(answer) => return Some(answer),
-            Watch::Met => return None,
+            Watch::Dependent => return None,
         }
     }
     Some(n)

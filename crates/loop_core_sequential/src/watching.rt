@@ -20,11 +20,11 @@ use loop_core_undo::{UndoLog, Watched, law_of_watching, law_of_words_before};
 #[derive(Clone, Copy)]
 pub(crate) enum Watch {
     /// Each returned 0.
-    Went,
+    Completed,
     /// One returned 1, after which none runs: this is the loop's answer.
     Broke(u32),
     /// One saw or reduced an element that was written before.
-    Met,
+    Dependent,
 }
 
 impl Batches {
@@ -81,16 +81,16 @@ impl Batches {
         law_of_application();
         law_of_words_before();
         if !self.ran_together(run, index, lanes, maps) {
-            return Tried::Parted;
+            return Tried::Diverged;
         }
         let tried = &*self;
         let entries = tried.batch.entries();
         if !are_in_order(entries, lanes) || !are_unread(entries, lanes, log) {
-            return Tried::Met;
+            return Tried::Dependent;
         }
         note_writes(entries, lanes, log, maps);
         apply(entries, lanes, maps);
-        Tried::Went
+        Tried::Applied
     }
 }
 
@@ -115,12 +115,12 @@ pub(crate) fn alone_watched(
 {
     for index in from..to {
         match one_watched(run, index, log, maps) {
-            Watch::Went => (),
+            Watch::Completed => (),
             Watch::Broke(answer) => return Watch::Broke(answer),
-            Watch::Met => return Watch::Met,
+            Watch::Dependent => return Watch::Dependent,
         }
     }
-    Watch::Went
+    Watch::Completed
 }
 
 /// Runs the iteration of an index on the maps, watched.
@@ -144,10 +144,10 @@ fn one_watched(run: &mut LoopRun<'_>, index: u32, log: &mut UndoLog, maps: &mut 
     let mut watched = Watched::new(maps, log);
     let done = run.callback.run(index, &mut watched);
     if watched.has_met() {
-        return Watch::Met;
+        return Watch::Dependent;
     }
     if done.ret == 1 {
         return Watch::Broke(index + 1);
     }
-    Watch::Went
+    Watch::Completed
 }

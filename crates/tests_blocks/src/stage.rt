@@ -9,7 +9,7 @@ use array_maps::Maps;
 use bpf_step::LoopCall;
 use bpf_verify::Verified;
 use loop_core_block::{Block, run_block};
-use loop_core_gather::{GatherError, Gathered, LoopOutcome, gather, settle};
+use loop_core_gather::{GatherError, Gathered, LoopOutcome, commit_or_rerun, gather};
 use loop_core_model::Test;
 use loop_core_split::{NoGate, Split};
 use std::alloc::{AllocError, Global};
@@ -102,13 +102,13 @@ pub fn gathered<'a>(
     )
 }
 
-/// What the loop comes to: its blocks are run, gathered and settled.
+/// What the loop comes to: its blocks are run and gathered, and it is committed or run in order.
 pub fn outcome_of(alloc: Global, stage: &Stage, test: Test) -> Result<LoopOutcome, GatherError>
     requires { IsStage stage.now }
 {
     let blocks = all_blocks(alloc, stage, test)?;
     let gathered = gathered(alloc, stage, blocks, test)?;
-    Ok(settle(
+    Ok(commit_or_rerun(
         alloc,
         &stage.program,
         &stage.call,

@@ -52,7 +52,8 @@ fn stage_at_last(alloc: Global, case: &Case) -> Option<Stage>
     }
 }
 
-/// Runs, gathers and settles a loop, again where memory was refused, and asserts what it comes to.
+/// Runs a loop's blocks, gathers them, and commits them or runs it in order, again where memory was refused, and asserts
+/// what it comes to.
 fn comes_to(rt: &impl Abort, alloc: Global, case: &Case, test: Test) -> Result<(), Fail> {
     let stage = stage_at_last(alloc, case).ok_or("a row has a loop")?;
     let mut told = outcome_of(alloc, &stage, test);

@@ -1,5 +1,5 @@
 use Rattle.std.proofs.Common.{◌∙◌, arith}
-use Rattle.loop_core_sequential.specs.declared.watching.Watch.TheVariants.{Went, Broke, Met}
+use Rattle.loop_core_sequential.specs.declared.watching.Watch.TheVariants.{Completed, Broke, Dependent}
 use Rattle.loop_core_sequential.proofs.RunLaws.{goes_by, rest_watched_by}
 use Rattle.loop_core_sequential.proofs.WatchedEnds.{went_all}
 use Rattle.loop_core_sequential.proofs.watched_loop.watch_in_batches.Goals as goal
@@ -25,7 +25,7 @@ loop-index-preserved c = record {
       c.go_watched-next.result c.resume-resume.result
       (omega (arith, c.if-index-next.false, c.go_watched-next.ensures.on))
       c.loop-index.maps c.go_watched-next.new.maps c.alone_watched.new.maps c.loop-index.log c.go_watched-next.new.log
-      c.alone_watched.new.log Went c.go_watched-next.ensures.goes c.in-Went.ensures.ran c.args.maps.now
+      c.alone_watched.new.log Completed c.go_watched-next.ensures.goes c.in-Completed.ensures.ran c.args.maps.now
       c.loop-index.invariant.goes;
 }
 
@@ -38,13 +38,13 @@ returns-in-Broke c =
     c.alone_watched.new.log (Broke c.in-Broke.answer) c.go_watched-next.ensures.goes c.in-Broke.ensures.ran
     c.args.maps.now c.loop-index.invariant.goes
 
-pub returns-in-Met : goal.returns-in-Met
-returns-in-Met c =
+pub returns-in-Dependent : goal.returns-in-Dependent
+returns-in-Dependent c =
     rest_watched_by c.loop-index.run c.args.run.now c.loop-index.invariant.same c.loop-index.index
     c.go_watched-next.result c.resume-resume.result
     (omega (arith, c.if-index-next.false, c.go_watched-next.ensures.on))
     c.loop-index.maps c.go_watched-next.new.maps c.alone_watched.new.maps c.loop-index.log c.go_watched-next.new.log
-    c.alone_watched.new.log Met c.go_watched-next.ensures.goes c.in-Met.ensures.ran c.args.maps.now
+    c.alone_watched.new.log Dependent c.go_watched-next.ensures.goes c.in-Dependent.ensures.ran c.args.maps.now
     c.loop-index.invariant.goes
 
 pub returns : goal.returns

@@ -1,5 +1,5 @@
 use Rattle.std.proofs.Common.{◌+◌, ◌∙◌}
-use Rattle.loop_core_sequential.specs.declared.watching.Watch.TheVariants.{Went, Broke, Met}
+use Rattle.loop_core_sequential.specs.declared.watching.Watch.TheVariants.{Completed, Broke, Dependent}
 use Rattle.loop_core_sequential.proofs.RunLaws.{watched_by}
 use Rattle.loop_core_sequential.proofs.watching.alone_watched.Goals as goal
 
@@ -9,8 +9,8 @@ loop-index-preserved c = record {
   sizes = c.one_watched.ensures.sizes ∙ c.loop-index.invariant.sizes;
   count = c.one_watched.ensures.count;
   goes = λ start goes. watched_by c.loop-index.run c.args.run.now c.loop-index.invariant.same c.loop-index.index
-      (c.loop-index.index + 1) c.loop-index.maps c.one_watched.new.maps c.loop-index.log c.one_watched.new.log Went
-      c.in-Went.ensures.ran start (c.loop-index.invariant.goes start goes);
+      (c.loop-index.index + 1) c.loop-index.maps c.one_watched.new.maps c.loop-index.log c.one_watched.new.log Completed
+      c.in-Completed.ensures.ran start (c.loop-index.invariant.goes start goes);
 }
 
 pub returns-in-Broke-clause-ran : goal.returns-in-Broke-clause-ran
@@ -19,8 +19,8 @@ returns-in-Broke-clause-ran c = λ start goes.
     (c.loop-index.index + 1) c.loop-index.maps c.one_watched.new.maps c.loop-index.log c.one_watched.new.log
     (Broke c.in-Broke.answer) c.in-Broke.ensures.ran start (c.loop-index.invariant.goes start goes)
 
-pub returns-in-Met-clause-ran : goal.returns-in-Met-clause-ran
-returns-in-Met-clause-ran c = λ start goes.
+pub returns-in-Dependent-clause-ran : goal.returns-in-Dependent-clause-ran
+returns-in-Dependent-clause-ran c = λ start goes.
     watched_by c.loop-index.run c.args.run.now c.loop-index.invariant.same c.loop-index.index
-    (c.loop-index.index + 1) c.loop-index.maps c.one_watched.new.maps c.loop-index.log c.one_watched.new.log Met
-    c.in-Met.ensures.ran start (c.loop-index.invariant.goes start goes)
+    (c.loop-index.index + 1) c.loop-index.maps c.one_watched.new.maps c.loop-index.log c.one_watched.new.log Dependent
+    c.in-Dependent.ensures.ran start (c.loop-index.invariant.goes start goes)

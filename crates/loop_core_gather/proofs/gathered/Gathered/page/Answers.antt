@@ -5,7 +5,7 @@ use Rattle.std.proofs.lemmas.Bool.{cases_lt}
 use Rattle.std.proofs.lemmas.List.{get_or_default, get_or_past}
 use Rattle.loop_core_model.specs.Kept.{committed_of_kept}
 use Rattle.loop_core_block.specs.Shown.{shown}
-use Rattle.loop_core_gather.specs.Held.{chosen, kept_of, GatheredOf}
+use Rattle.loop_core_gather.specs.Held.{chosen, kept_at, GatheredOf}
 use Rattle.loop_core_gather.proofs.HeldLaws.{held_length, starts_are, element_is, untouched_at}
 use Rattle.loop_core_gather.proofs.PageLaws.{none_reduction_only}
 use Rattle.loop_core_gather.proofs.gathered.Gathered.page.Goals as goal
@@ -42,7 +42,7 @@ returns c k below =
       | inl inside ↦
           (let unset : c.reduced_in_page.result ≡ 0 = first_of (search rules, omega arith) in
           c.overwrite_in_turn.ensures.each k below inside
-          ∙ ap (committed_of_kept false (map (kept_of e) (chosen places (map shown blocks))))
+          ∙ ap (committed_of_kept false (map (kept_at e) (chosen places (map shown blocks))))
           (c.page_of-own.ensures k below)
           ∙ element_is held.planes held.blocks.items blocks held.counting.items places held.start.now e false
           c.args.self.now

@@ -37,7 +37,7 @@ fn commit(alloc: Global, gathered: &Gathered, maps: &mut Maps) -> Result<(), All
 /// What a loop call comes to that main of this program made, and whose blocks were gathered for this test: after a
 /// pass, what the blocks tell; else the loop is run in order on a copy of the start maps, which are of the program's
 /// sizes. They don't change.
-pub fn settle(
+pub fn commit_or_rerun(
     alloc: Global,
     program: &Verified,
     call: &LoopCall,

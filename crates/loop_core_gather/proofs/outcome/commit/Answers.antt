@@ -1,7 +1,7 @@
 use Rattle.std.proofs.Common.{ℕ, List, sym, subst}
 use Rattle.loop_core_gather.specs.declared.storing.LeftPage.{LeftPage}
 use Rattle.loop_core_gather.specs.Pages.{AreLeft}
-use Rattle.loop_core_gather.proofs.settling.commit.Goals as goal
+use Rattle.loop_core_gather.proofs.outcome.commit.Goals as goal
 
 pub returns : goal.returns
 returns c =
