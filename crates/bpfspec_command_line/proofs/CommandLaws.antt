@@ -1,15 +1,27 @@
--- What clap's builders make of a command, and its getters read of an argument.
-use Rattle.std.proofs.Common.{◌≡◌, ℕ, Bool, ◌||◌, true, false, Option, Some}
-use Rattle.std.proofs.Common.{None, Result, Ok, List, codes, ap, ap₂, ◌∙◌}
-use Rattle.std.specs.Prelude.{IfSome}
+-- What clap's builders make of a command, its getters read of an argument, and the subcommands ask for.
+use Rattle.std.proofs.Common.{◌≡◌, ℕ, Bool, ◌||◌, T, ◌==◌, true, false, Option, Some, refl, sym, subst}
+use Rattle.std.proofs.Common.{None, Result, Ok, Err, List, [], ◌∷◌, length, codes, ap, ap₂, ◌∙◌}
+use Rattle.std.specs.Prelude.{Box, option_map}
+use Rattle.std.specs.Box.{box_value}
+use Rattle.std.specs.Str.{bytes_eq}
 use Rattle.std.specs.Str.Parse.{ParsesUnsigned}
-use Rattle.clap.specs.Words.{AddsArg, AddsSubcommand, App, ReadsOne, Rule, Text}
-use Rattle.clap.specs.Words.{one_text, rows_of, with_rule, with_subcommand}
+use Rattle.clap.specs.Words.{AddsArg, AddsSubcommand, App, ReadsOne, Row, Rule, Text}
+use Rattle.clap.specs.Words.{first_of, one_of, one_text, rows_of, subcommand_rows, with_rule, with_subcommand}
 use Rattle.clap.specs.declared.builder.arg.Arg.{Arg}
 use Rattle.clap.specs.declared.builder.command.Command.{Command}
+use Rattle.clap.specs.declared.parser.matches.ArgMatches.TheViews.{out-SubCommand}
 use Rattle.clap.specs.declared.parser.matches.Found.{Found}
+use Rattle.clap.specs.declared.parser.matches.SubCommand.{SubCommand}
 use Rattle.clap.proofs.WalkLemmas.{one_text-rows}
-use Rattle.bpfspec_command_line.specs.CommandLine.{IsArg, IsChosen, IsCommand, IsNumber}
+use Rattle.loop_core_model.specs.declared.loop_test.Test.{Test}
+use Rattle.loop_core_model.specs.declared.loop_test.Test.TheVariants.{Flow, Lrpd}
+use Rattle.spec_run_plan.specs.declared.plan.Plan.{Plan}
+use Rattle.bpfspec_command_line.specs.CommandLine.{AsksFor, AsksForJob, Finds, IsArg, IsArgument, IsChosen, IsCommand}
+use Rattle.bpfspec_command_line.specs.CommandLine.{IsNumber, IsNumberWithin, IsPlanOf, IsTest}
+use Rattle.bpfspec_command_line.specs.declared.job.Job.{Job}
+use Rattle.bpfspec_command_line.specs.declared.job.Job.TheVariants.{Serve, Run}
+use Rattle.bpfspec_command_line.specs.declared.job.Mode.{Mode}
+use Rattle.bpfspec_command_line.specs.declared.job.Mode.TheVariants.{Verify, Order, Replay, Asm, Disasm}
 
 -- what a flag chooses that is read as given or not
 pub chosen : {A : Type 0} (found : Found) (name : Text) (off on value : A) (given : Bool)
@@ -22,15 +34,140 @@ chosen found name off on value given none set unset is_off is_on = record {
   set = λ e. is_on (set (one_text-rows found name ∙ e));
 }
 
--- the number that an option gives, if it is one
+-- the number that an option gives, or that it gives none
+number_given : {E : Type 0} (gives : List ℕ → Result ℕ E → Type 0) (bits : ℕ) (name : Text)
+    → ((bytes : List ℕ) (r : Result ℕ E) → gives bytes r → ParsesUnsigned bits 10 bytes r) → (rows : List Row) (n : ℕ)
+    → (given : Option Text) → given ≡ one_of name rows → (given ≡ None → Some n ≡ None)
+    → ((text : Text) → given ≡ Some text → ReadsOne gives text (Some n)) → IsNumber bits name rows n
+number_given gives bits name parses rows n None is none some =
+    let other = none refl in
+    absurd cc
+number_given gives bits name parses rows n (Some text) is none some =
+    let read = parses text (Ok n) (some text refl) in
+    record { text = text; given = sym is; numeral = read.0.0; below = read.0.1; number_is = read.1 }
+
 pub number_read : {E : Type 0} (gives : List ℕ → Result ℕ E → Type 0) (bits : ℕ) (name : Text)
     → ((bytes : List ℕ) (r : Result ℕ E) → gives bytes r → ParsesUnsigned bits 10 bytes r)
-    → (found : Found) (read : Option ℕ) → ((text : Text) → one_text found name ≡ Some text → ReadsOne gives text read)
-    → IfSome read (IsNumber bits name (rows_of found))
-number_read gives bits name parses found None given = tt
-number_read gives bits name parses found (Some n) given = record {
-  given = λ text e numeral small. (parses text (Ok n) (given text (one_text-rows found name ∙ e))).1;
-}
+    → (found : Found) (read : Option ℕ) → (one_text found name ≡ None → read ≡ None)
+    → ((text : Text) → one_text found name ≡ Some text → ReadsOne gives text read)
+    → Finds (IsNumber bits name (rows_of found)) read
+number_read gives bits name parses found None none some = λ n is.
+    let read = some is.text (one_text-rows found name ∙ is.given) in
+    parses is.text (Err read.0) read.1 (is.numeral, is.below)
+number_read gives bits name parses found (Some n) none some =
+    number_given gives bits name parses (rows_of found) n (one_text found name) (one_text-rows found name) none some
+
+-- the subcommand that was used, by its name and its rows
+pub subcommand_named : {Z : Type 0} (used : Option (Box SubCommand Z)) (name : Text) (rows : List Row)
+    → option_map (λ b. (out-SubCommand (box_value b)).name.now) used ≡ Some name
+    → option_map (λ p. p.1) (subcommand_rows used) ≡ Some rows → subcommand_rows used ≡ Some (name, rows)
+subcommand_named None name rows named given = absurd cc
+subcommand_named (Some b) name rows named given = cc
+
+-- what holds of none, where there is none
+pub none_of : {A : Type 0} (Holds : A → Type 0) (value : Option A) → Finds Holds value → value ≡ None → (a : A)
+    → ¬ (Holds a)
+none_of Holds None finds is = finds
+none_of Holds (Some x) finds is = absurd cc
+
+pub finds_none : {A : Type 0} (Holds : A → Type 0) (result : Option A) → result ≡ None → ((a : A) → ¬ (Holds a))
+    → Finds Holds result
+finds_none Holds None is none = none
+finds_none Holds (Some x) is none = absurd cc
+
+-- an option that isn't there names no test
+pub no_test : (rows : List Row) (result : Option Test) → first_of (codes "test") rows ≡ None → result ≡ None
+    → Finds (IsTest rows) result
+no_test rows result absent is = finds_none (IsTest rows) result is (λ test named. absurd cc)
+
+-- a word that is neither names none
+same_word : (given : Option Text) (a b : Text) → given ≡ Some a → given ≡ Some b → a ≡ b
+same_word given a b is_a is_b = cc
+
+differs : (word other : Text) → word ≡ other → bytes_eq word other ≡ false → bytes_eq other other ≡ true → ⊥
+differs word other same unequal equal =
+    let clash = sym (ap (λ (w : Text). bytes_eq w other) same) ∙ unequal in
+    absurd cc
+
+pub other_test : (rows : List Row) (word : Text) → first_of (codes "test") rows ≡ Some word
+    → bytes_eq word (codes "flow") ≡ false → bytes_eq word (codes "lrpd") ≡ false → (test : Test) → ¬ (IsTest rows test)
+other_test rows word is flow lrpd Flow named =
+    differs word (codes "flow") (same_word (first_of (codes "test") rows) word (codes "flow") is named) flow refl
+other_test rows word is flow lrpd Lrpd named =
+    differs word (codes "lrpd") (same_word (first_of (codes "test") rows) word (codes "lrpd") is named) lrpd refl
+
+-- no number where an option gives none, and no plan where one of its numbers is missing
+pub no_number : (most : ℕ) (name : Text) (rows : List Row) → ((n : ℕ) → ¬ (IsNumber 32 name rows n)) → (n : ℕ)
+    → ¬ (IsNumberWithin most name rows n)
+no_number most name rows none n within = none n within.given
+
+pub no_workers : (rows : List Row) → ((n : ℕ) → ¬ (IsNumberWithin 16 (codes "workers") rows n)) → (plan : Plan)
+    → ¬ (IsPlanOf rows plan)
+no_workers rows none plan is = none plan.workers (record {
+  given = is.workers;
+  positive = is.within.some_worker;
+  within = is.within.few_workers;
+})
+
+pub no_blocks : (rows : List Row) → ((n : ℕ) → ¬ (IsNumberWithin 64 (codes "blocks") rows n)) → (plan : Plan)
+    → ¬ (IsPlanOf rows plan)
+no_blocks rows none plan is = none plan.blocks (record {
+  given = is.blocks;
+  positive = is.within.some_block;
+  within = is.within.few_blocks;
+})
+
+-- the first letter of a name
+abbrev initial : Text → ℕ
+initial [] = 0
+initial (letter ∷ rest) = letter
+
+same_initial : {a b : Text} (letter : ℕ) → a ≡ b → T (initial a == letter) → T (initial b == letter)
+same_initial letter same = subst (λ (name : Text). T (initial name == letter)) same
+
+-- order asks for no mode where its argument is no number
+order_for : (rows : List Row) → ((n : ℕ) → ¬ (IsArgument rows n)) → (mode : Mode)
+    → ¬ (AsksFor (Some (codes "order", rows)) mode)
+order_for rows none (Verify form) asks = same_initial 111 asks.0 tt
+order_for rows none (Order form argument) asks = none argument asks.2
+order_for rows none (Replay form argument test) asks = same_initial 111 asks.0 tt
+order_for rows none Asm asks = same_initial 111 asks tt
+order_for rows none Disasm asks = same_initial 111 asks tt
+
+pub no_order : (named : Option (Text × List Row)) (rows : List Row) → named ≡ Some (codes "order", rows)
+    → ((n : ℕ) → ¬ (IsArgument rows n)) → (mode : Mode) → ¬ (AsksFor named mode)
+no_order named rows is none = subst (λ (used : Option (Text × List Row)). (mode : Mode) → ¬ (AsksFor used mode))
+    (sym is) (order_for rows none)
+
+-- replay asks for none where its argument is no number, or its test is none
+replay_for : (rows : List Row) → ((n : ℕ) (test : Test) → IsArgument rows n → ¬ (IsTest rows test)) → (mode : Mode)
+    → ¬ (AsksFor (Some (codes "replay", rows)) mode)
+replay_for rows none (Verify form) asks = same_initial 114 asks.0 tt
+replay_for rows none (Order form argument) asks = same_initial 114 asks.0 tt
+replay_for rows none (Replay form argument test) asks = none argument test asks.2 asks.3
+replay_for rows none Asm asks = same_initial 114 asks tt
+replay_for rows none Disasm asks = same_initial 114 asks tt
+
+pub no_replay : (named : Option (Text × List Row)) (rows : List Row) → named ≡ Some (codes "replay", rows)
+    → ((n : ℕ) (test : Test) → IsArgument rows n → ¬ (IsTest rows test)) → (mode : Mode) → ¬ (AsksFor named mode)
+no_replay named rows is none = subst (λ (used : Option (Text × List Row)). (mode : Mode) → ¬ (AsksFor used mode))
+    (sym is) (replay_for rows none)
+
+-- run asks for no job where its argument is no number, or it has no plan
+run_for : (rows : List Row) → ((n : ℕ) (plan : Plan) → IsArgument rows n → ¬ (IsPlanOf rows plan)) → (job : Job)
+    → ¬ (AsksForJob (Some (codes "run", rows)) job)
+run_for rows none (Serve (Verify form)) asks = same_initial 114 asks.0 tt
+run_for rows none (Serve (Order form argument)) asks = same_initial 114 asks.0 tt
+run_for rows none (Serve (Replay form argument test)) asks =
+    subst (λ (name : Text). T (length name == 3)) asks.0 tt
+run_for rows none (Serve Asm) asks = same_initial 114 asks tt
+run_for rows none (Serve Disasm) asks = same_initial 114 asks tt
+run_for rows none (Run form argument plan) asks = none argument plan asks.2 asks.3
+
+pub no_run : (named : Option (Text × List Row)) (rows : List Row) → named ≡ Some (codes "run", rows)
+    → ((n : ℕ) (plan : Plan) → IsArgument rows n → ¬ (IsPlanOf rows plan)) → (job : Job) → ¬ (AsksForJob named job)
+no_run named rows is none = subst (λ (used : Option (Text × List Row)). (job : Job) → ¬ (AsksForJob used job))
+    (sym is) (run_for rows none)
 
 -- a command with one argument more, and with one subcommand more
 pub with_arg : {app : App} {rule : Rule} {old new : Command} (arg : Arg) → IsCommand app old → IsArg rule arg

@@ -1,2 +1,2 @@
 pub mod CommandLaws
-pub mod HelpLaws
+pub mod FaultLaws

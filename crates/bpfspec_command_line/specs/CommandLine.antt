@@ -1,8 +1,9 @@
 -- The program's command line, in clap's words, and what the words of one ask for.
-use Rattle.std.specs.Prelude.{◌≡◌, ℕ, ◌^◌, ◌<◌, List, [], ◌∷◌, Option, Some, None, codes, true, false}
+use Rattle.std.specs.Prelude.{◌≡◌, ℕ, ◌^◌, ◌<◌, ◌≤◌, List, [], ◌∷◌, Option, Some, None, MatchOption, codes, true}
+use Rattle.std.specs.Prelude.{false}
 use Rattle.std.specs.Str.Parse.{IsNumeral, digits_value, without_leading_plus}
-use Rattle.clap.specs.Words.{App, Row, Rule, Text, app_of, first_of, new_app, new_rule}
-use Rattle.clap.specs.Words.{one_of, rule_of, with_rule, with_subcommand}
+use Rattle.clap.specs.Words.{App, Row, Rule, Text, app_of, fault_of, first_of, new_app, new_rule}
+use Rattle.clap.specs.Words.{one_of, rule_of, subcommand_of, with_rule, with_subcommand}
 use Rattle.clap.specs.declared.builder.arg.Arg.{Arg}
 use Rattle.clap.specs.declared.builder.command.Command.{Command}
 use Rattle.clap.specs.declared.builder.command.Command.TheViews.{out-Command}
@@ -89,14 +90,27 @@ pub record IsChosen {A : Type 0} (name : Text) (off on : A) (rows : List Row) (v
   pub unset : one_of name rows ≡ Some (codes "false") → value ≡ off
   pub set : one_of name rows ≡ Some (codes "true") → value ≡ on
 
+-- a value of which this holds, or None, and it holds of none
+abbrev pub Finds : {A : Type 0} → (A → Type 0) → Option A → Type 0
+Finds {A} Holds result = MatchOption result ((value : A) → ¬ (Holds value)) Holds
+
 -- whether the arguments say hex: by the flag --hex
 abbrev pub IsForm : List Row → UnitForm → Type 0
 IsForm rows form = IsChosen (codes "hex") Assembler Hex rows form
 
 -- the number of this many bits that an option of this name gives
 pub record IsNumber (bits : ℕ) (name : Text) (rows : List Row) (number : ℕ) : Type 0 where
-  pub given : (text : Text) → one_of name rows ≡ Some text → IsNumeral 10 (without_leading_plus text)
-      → digits_value 10 (without_leading_plus text) < 2 ^ bits → number ≡ digits_value 10 (without_leading_plus text)
+  pub text : Text
+  pub given : one_of name rows ≡ Some text
+  pub numeral : IsNumeral 10 (without_leading_plus text)
+  pub below : digits_value 10 (without_leading_plus text) < 2 ^ bits
+  pub number_is : number ≡ digits_value 10 (without_leading_plus text)
+
+-- a number of 32 bits that an option gives, from 1 to `most`
+pub record IsNumberWithin (most : ℕ) (name : Text) (rows : List Row) (number : ℕ) : Type 0 where
+  pub given : IsNumber 32 name rows number
+  pub positive : 0 < number
+  pub within : number ≤ most
 
 -- the number of --arg
 abbrev pub IsArgument : List Row → ℕ → Type 0
@@ -142,3 +156,8 @@ AsksForRun (Some named) form argument plan =
 abbrev pub AsksForJob : Option (Text × List Row) → Job → Type 0
 AsksForJob named (Serve mode) = AsksFor named mode
 AsksForJob named (Run form argument plan) = AsksForRun named form argument plan
+
+-- a job that the words of a command line ask for: clap takes them
+pub record WordsAskFor (words : List Text) (job : Job) : Type 0 where
+  pub taken : fault_of bpfspec_app words ≡ []
+  pub asked : AsksForJob (subcommand_of bpfspec_app words) job

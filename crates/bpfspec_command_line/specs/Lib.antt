@@ -1,2 +1,2 @@
 pub mod CommandLine
-pub mod Help
+pub mod Faults

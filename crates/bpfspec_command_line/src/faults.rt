@@ -1,10 +1,10 @@
 //! Why a command line asks for no job, as it is told.
 
-ghost use Rattle.std.specs.Prelude.{◌≡◌, IsTrue, IfOk, true, false};
+ghost use Rattle.std.specs.Prelude.{◌≡◌, ◌↔◌, IsTrue, IfOk, true, false};
 ghost use Rattle.std.specs.IoError.{error_kind};
 ghost use Rattle.std.specs.declared.io.ErrorKind.TheVariants as io_errors;
 ghost use Rattle.clap.specs.Words.{kind_of};
-ghost use Rattle.bpfspec_command_line.specs.Help.{Shows, is_help};
+ghost use Rattle.bpfspec_command_line.specs.Faults.{Shows, is_help, is_usage};
 
 use crate::commands::{bpfspec_command, order_command, replay_command, run_command};
 use crate::job::LineFault;
@@ -16,15 +16,17 @@ use std::io;
 
 /// Whether an error of this kind is help or the version, which words asked for.
 fn is_asked_for(kind: ErrorKind) -> bool
-    ensures { IsTrue result → Shows kind }
+    ensures { IsTrue result ↔ Shows kind }
 {
     kind == ErrorKind::DisplayHelp || kind == ErrorKind::DisplayVersion
 }
 
-/// What clap says of words: that they are wrong, or the help or the version that they ask for.
-pub(crate) fn fault_of(alloc: Global, error: &clap::Error) -> LineFault
+/// What clap says of words: `Usage` where they are wrong, `Help` where they ask for help or the version, and `Memory`
+/// where clap ran out of it, or there is none for the text.
+pub fn fault_of(alloc: Global, error: &clap::Error) -> LineFault
     ensures memory { kind_of error.now ≡ ErrorKind.OutOfMemory → result ≡ LineFault.Memory }
     ensures help { is_help result ≡ true → Shows (kind_of error.now) }
+    ensures usage { is_usage result ≡ true → ¬ (Shows (kind_of error.now)) }
 {
     if error.kind() == ErrorKind::OutOfMemory {
         return LineFault::Memory;
@@ -36,8 +38,9 @@ pub(crate) fn fault_of(alloc: Global, error: &clap::Error) -> LineFault
     }
 }
 
-/// The fault of words that are wrong in a way that clap doesn't judge, told as clap tells its own.
-fn own_fault(alloc: Global, command: &mut Command<'_>, wrong: &str) -> LineFault
+/// The fault of words that are wrong in a way that clap doesn't judge, told as clap tells its own: `Usage` with this
+/// text and the command's usage, or `Memory`.
+pub fn own_fault(alloc: Global, command: &mut Command<'_>, wrong: &str) -> LineFault
     ensures { is_help result ≡ false }
 {
     let Ok(error) = command.error(ErrorKind::ValueValidation, wrong) else {

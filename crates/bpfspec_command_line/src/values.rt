@@ -1,8 +1,9 @@
 //! The values that the arguments of a command give.
 
-ghost use Rattle.std.specs.Prelude.{◌≡◌, ◌<◌, ◌≤◌, codes, IfSome};
+ghost use Rattle.std.specs.Prelude.{◌≡◌, codes};
 ghost use Rattle.clap.specs.Words.{found_of, rows_of};
-ghost use Rattle.bpfspec_command_line.specs.CommandLine.{IsArgument, IsChosen, IsForm, IsNumber, IsPlanOf, IsTest};
+ghost use Rattle.bpfspec_command_line.specs.CommandLine.{Finds, IsArgument, IsChosen, IsForm, IsNumber};
+ghost use Rattle.bpfspec_command_line.specs.CommandLine.{IsNumberWithin, IsPlanOf, IsTest};
 
 use crate::job::UnitForm;
 use clap::ArgMatches;
@@ -25,14 +26,14 @@ pub fn unit_form(matches: &ArgMatches<'_>) -> UnitForm
 
 /// The program's argument that the arguments give by --arg, or None where it is no number below 2^64.
 pub fn argument(matches: &ArgMatches<'_>) -> Option<u64>
-    ensures { IfSome result (IsArgument (rows_of (found_of matches.now))) }
+    ensures { Finds (IsArgument (rows_of (found_of matches.now))) result }
 {
     matches.get_one::<u64>("arg")
 }
 
 /// The test that the arguments name by --test, or None where they name another.
 pub fn loop_test(matches: &ArgMatches<'_>) -> Option<Test>
-    ensures { IfSome result (IsTest (rows_of (found_of matches.now))) }
+    ensures { Finds (IsTest (rows_of (found_of matches.now))) result }
 {
     let word = matches.get_str("test")?;
     if word == "flow" {
@@ -46,15 +47,14 @@ pub fn loop_test(matches: &ArgMatches<'_>) -> Option<Test>
 
 /// The number that an option of this name gives, or None where it is none below 2^32.
 fn number_of(matches: &ArgMatches<'_>, name: &str) -> Option<u32>
-    ensures { IfSome result (IsNumber 32 name.now (rows_of (found_of matches.now))) }
+    ensures { Finds (IsNumber 32 name.now (rows_of (found_of matches.now))) result }
 {
     matches.get_one::<u32>(name)
 }
 
 /// The same, or None where it isn't 1 to `most`.
 fn number_within(matches: &ArgMatches<'_>, name: &str, most: u32) -> Option<u32>
-    ensures number { IfSome result (IsNumber 32 name.now (rows_of (found_of matches.now))) }
-    ensures within { IfSome result (λ n. (0 < n) × (n ≤ most)) }
+    ensures { Finds (IsNumberWithin most name.now (rows_of (found_of matches.now))) result }
 {
     let number = number_of(matches, name)?;
     if number == 0 || most < number {
@@ -65,23 +65,21 @@ fn number_within(matches: &ArgMatches<'_>, name: &str, most: u32) -> Option<u32>
 
 /// How many workers the arguments give, or None where it is no number from 1 to 16.
 pub(crate) fn workers_of(matches: &ArgMatches<'_>) -> Option<u32>
-    ensures number { IfSome result (IsNumber 32 (codes "workers") (rows_of (found_of matches.now))) }
-    ensures within { IfSome result (λ n. (0 < n) × (n ≤ 16)) }
+    ensures { Finds (IsNumberWithin 16 (codes "workers") (rows_of (found_of matches.now))) result }
 {
     number_within(matches, "workers", 16)
 }
 
 /// How many blocks the arguments give, or None where it is no number from 1 to 64.
 pub(crate) fn blocks_of(matches: &ArgMatches<'_>) -> Option<u32>
-    ensures number { IfSome result (IsNumber 32 (codes "blocks") (rows_of (found_of matches.now))) }
-    ensures within { IfSome result (λ n. (0 < n) × (n ≤ 64)) }
+    ensures { Finds (IsNumberWithin 64 (codes "blocks") (rows_of (found_of matches.now))) result }
 {
     number_within(matches, "blocks", 64)
 }
 
 /// The plan that the arguments give, or None where it isn't within its limits, or they name another test.
 pub(crate) fn plan_of(matches: &ArgMatches<'_>) -> Option<Plan>
-    ensures { IfSome result (IsPlanOf (rows_of (found_of matches.now))) }
+    ensures { Finds (IsPlanOf (rows_of (found_of matches.now))) result }
 {
     Some(Plan {
         workers: workers_of(matches)?,

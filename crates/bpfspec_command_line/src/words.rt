@@ -1,9 +1,9 @@
 //! The words of a command line, as the job that they ask for.
 
-ghost use Rattle.std.specs.Prelude.{◌≡◌, ℕ, List, map, true, IfOk, IfErr, IfSome};
-ghost use Rattle.clap.specs.Words.{subcommand_of, subcommand_rows_of};
-ghost use Rattle.bpfspec_command_line.specs.CommandLine.{AsksFor, AsksForJob, bpfspec_app};
-ghost use Rattle.bpfspec_command_line.specs.Help.{AsksForHelp, is_help};
+ghost use Rattle.std.specs.Prelude.{◌≡◌, ℕ, List, map, true, IfOk, IfErr};
+ghost use Rattle.clap.specs.Words.{subcommand_rows_of};
+ghost use Rattle.bpfspec_command_line.specs.CommandLine.{AsksFor, AsksForJob, Finds, WordsAskFor, bpfspec_app};
+ghost use Rattle.bpfspec_command_line.specs.Faults.{AreNoCommand, AsksForHelp, is_help, is_usage};
 
 use crate::commands::bpfspec_command;
 use crate::faults::{fault_of, value_fault, words_fault};
@@ -18,7 +18,7 @@ use std::env::Env;
 /// The mode that the words ask for in which clap found these matches, or None where they name none of
 /// the program's subcommands, give an argument that is no number below 2^64, or name another test.
 fn mode_of(matches: &ArgMatches<'_>) -> Option<Mode>
-    ensures { IfSome result (AsksFor (subcommand_rows_of matches.now)) }
+    ensures { Finds (AsksFor (subcommand_rows_of matches.now)) result }
 {
     if let Some(verify) = matches.subcommand_matches("verify") {
         return Some(Mode::Verify {
@@ -47,7 +47,7 @@ fn mode_of(matches: &ArgMatches<'_>) -> Option<Mode>
 
 /// The job that the words ask for in which clap found these matches, or None as `mode_of` and `plan_of` say.
 fn job_of(matches: &ArgMatches<'_>) -> Option<Job>
-    ensures { IfSome result (AsksForJob (subcommand_rows_of matches.now)) }
+    ensures { Finds (AsksForJob (subcommand_rows_of matches.now)) result }
 {
     if let Some(run) = matches.subcommand_matches("run") {
         return Some(Job::Run {
@@ -67,8 +67,9 @@ fn job_of(matches: &ArgMatches<'_>) -> Option<Job>
 /// `replay [--hex] [--arg N] [--test flow|lrpd]`, N from 0 to 18446744073709551615, W from 1 to 16, B from 1 to 64,
 /// `asm` or `disasm`; and with `Memory` where there is no memory.
 pub fn read_words<S: AsStr>(alloc: Global, words: &[S]) -> Result<Job, LineFault>
-    ensures job { IfOk result (AsksForJob (subcommand_of bpfspec_app (map S.text words.now))) }
-    ensures help { IfErr result (λ fault. is_help fault ≡ true → AsksForHelp (map S.text words.now)) }
+    ensures job { IfOk result (WordsAskFor (map S.text words.now)) }
+    ensures help { IfErr result (λ fault. is_help fault ≡ true → AsksForHelp bpfspec_app (map S.text words.now)) }
+    ensures usage { IfErr result (λ fault. is_usage fault ≡ true → AreNoCommand (map S.text words.now)) }
 {
     let mut command = bpfspec_command(alloc)?;
     let matches = match command.try_get_matches_from_mut(words) {
@@ -84,8 +85,9 @@ pub fn read_words<S: AsStr>(alloc: Global, words: &[S]) -> Result<Job, LineFault
 /// Reads the words that the process was started with. It fails as `read_words` does, and with `Usage`
 /// where one of them isn't UTF-8.
 pub fn read_command_line<R: Env + AllocGlobal>(rt: &R) -> Result<Job, LineFault>
-    ensures job { IfOk result (λ job. (words : List (List ℕ)) × AsksForJob (subcommand_of bpfspec_app words) job) }
-    ensures help { IfErr result (λ fault. is_help fault ≡ true → (words : List (List ℕ)) × AsksForHelp words) }
+    ensures job { IfOk result (λ job. (words : List (List ℕ)) × WordsAskFor words job) }
+    ensures help { IfErr result (λ fault. is_help fault ≡ true
+        → (words : List (List ℕ)) × AsksForHelp bpfspec_app words) }
 {
     let alloc = rt.alloc();
     let arguments = match env::args(rt) {

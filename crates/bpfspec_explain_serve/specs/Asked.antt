@@ -1,8 +1,9 @@
 -- The command line of the program that explains, in clap's words, and what the words of one ask for.
-use Rattle.std.specs.Prelude.{Bool, List, [], Some, codes, true, false}
-use Rattle.clap.specs.Words.{App, Row, Rule, Text, matches_of, new_app, new_rule, with_rule}
+use Rattle.std.specs.Prelude.{◌≡◌, Bool, List, [], Some, codes, true, false}
+use Rattle.clap.specs.Words.{App, Row, Rule, Text, fault_of, matches_of, new_app, new_rule, with_rule}
 use Rattle.clap.specs.declared.builder.ArgAction.TheVariants.{SetTrue}
 use Rattle.bpfspec_command_line.specs.CommandLine.{IsArgument, IsChosen, IsForm, IsTest, arg_rule, hex_rule, test_rule}
+use Rattle.bpfspec_command_line.specs.Faults.{AreWrong}
 use Rattle.bpfspec_reasons.specs.declared.units.Extent.{Extent}
 use Rattle.bpfspec_reasons.specs.declared.units.Extent.TheVariants.{Refusal, States}
 use Rattle.bpfspec_explain_serve.specs.declared.ask.Ask.{Ask}
@@ -49,6 +50,11 @@ pub record AsksBy (rows : List Row) (ask : Ask) : Type 0 where
   pub all : HasFlag (codes "all") rows ask.all
   pub picture : HasFlag (codes "picture") rows ask.picture
 
--- what the words of a command line ask for
-abbrev pub Asks : List Text → Ask → Type 0
-Asks words ask = AsksBy (matches_of explain_app words) ask
+-- what the words of a command line ask for: clap takes them
+pub record Asks (words : List Text) (ask : Ask) : Type 0 where
+  pub taken : fault_of explain_app words ≡ []
+  pub asked : AsksBy (matches_of explain_app words) ask
+
+-- the words of a command line ask for nothing
+abbrev pub AskForNothing : List Text → Type 0
+AskForNothing words = AreWrong explain_app (AsksBy (matches_of explain_app words)) words

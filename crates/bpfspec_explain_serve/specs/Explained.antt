@@ -1,5 +1,6 @@
 -- How an input was explained.
 use Rattle.std.specs.Prelude.{◌≡◌, ℕ, ◌+◌, Bool, true, false, List, Option}
+use Rattle.bpfspec_command_line.specs.Faults.{AsksForHelp}
 use Rattle.bpfspec_command_line.specs.declared.job.Job.TheVariants.{Serve}
 use Rattle.bpfspec_command_line.specs.declared.job.Mode.TheVariants.{Verify}
 use Rattle.bpfspec_command_line.specs.declared.job.UnitForm.{UnitForm}
@@ -11,7 +12,7 @@ use Rattle.bpfspec_serve.specs.declared.serving.Served.TheVariants as served
 use Rattle.bpfspec_serve.specs.HowServed.{AnswersReader, HowServed, HowWritten}
 use Rattle.bpfspec_serve.specs.Output.{Answer}
 use Rattle.bpfspec_explain_serve.specs.declared.ask.Ask.{Ask}
-use Rattle.bpfspec_explain_serve.specs.Asked.{Asks}
+use Rattle.bpfspec_explain_serve.specs.Asked.{Asks, explain_app}
 
 -- an answer or a refusal was written whole
 abbrev pub is_answered : Served → Bool
@@ -63,7 +64,8 @@ pub data HowExplainRan (end : ProgramEnd) (left_before left_after : Option (List
   Explained : (words : List (List ℕ)) (ask : Ask) (result : Served) → Asks words ask → end ≡ ends.Served result
       → ExplainsInput ask result left_before left_after reads_failed failed_before failed_after before after
       → HowExplainRan end left_before left_after reads_failed failed_before failed_after before after
-  Helped : (text : List ℕ) (result : Served) → end ≡ ends.Served result
+  Helped : (words : List (List ℕ)) (text : List ℕ) (result : Served) → AsksForHelp explain_app words
+      → end ≡ ends.Served result
       → HowWritten text served.Done result (λ n. failed_after ≡ failed_before + n) before after
       → HowExplainRan end left_before left_after reads_failed failed_before failed_after before after
   No_memory : (result : Served) → end ≡ ends.Served result

@@ -1,15 +1,16 @@
 //! The words of the command line, as what they ask for.
 
-ghost use Rattle.std.specs.Prelude.{◌≡◌, ℕ, List, map, IfOk, IfSome};
+ghost use Rattle.std.specs.Prelude.{◌≡◌, ℕ, List, map, true, IfOk, IfErr};
 ghost use Rattle.clap.specs.Words.{found_of, rows_of};
-ghost use Rattle.bpfspec_command_line.specs.CommandLine.{IsArg, IsCommand};
-ghost use Rattle.bpfspec_explain_serve.specs.Asked.{Asks, AsksBy, HasFlag, IsExtent, all_rule, explain_app};
-ghost use Rattle.bpfspec_explain_serve.specs.Asked.{flag_rule, picture_rule, states_rule, bare_app};
+ghost use Rattle.bpfspec_command_line.specs.CommandLine.{Finds, IsArg, IsCommand};
+ghost use Rattle.bpfspec_command_line.specs.Faults.{AsksForHelp, is_help, is_usage};
+ghost use Rattle.bpfspec_explain_serve.specs.Asked.{AskForNothing, Asks, AsksBy, HasFlag, IsExtent, all_rule};
+ghost use Rattle.bpfspec_explain_serve.specs.Asked.{bare_app, explain_app, flag_rule, picture_rule, states_rule};
 
 use crate::ask::Ask;
-use crate::faults::{fault_of, value_fault, words_fault};
+use crate::faults::{value_fault, words_fault};
 use bpfspec_command_line::{
-    LineFault, arg_option, argument, chosen, hex_flag, loop_test, test_option, unit_form,
+    LineFault, arg_option, argument, chosen, fault_of, hex_flag, loop_test, test_option, unit_form,
 };
 use bpfspec_reasons::Extent;
 use clap::{Arg, ArgAction, ArgMatches, Command};
@@ -99,7 +100,7 @@ fn extent_of(matches: &ArgMatches<'_>) -> Extent
 
 /// What they ask for, or None as `argument` and `loop_test` say.
 fn ask_of(matches: &ArgMatches<'_>) -> Option<Ask>
-    ensures { IfSome result (AsksBy (rows_of (found_of matches.now))) }
+    ensures { Finds (AsksBy (rows_of (found_of matches.now))) result }
 {
     Some(Ask {
         form: unit_form(matches),
@@ -115,7 +116,9 @@ fn ask_of(matches: &ArgMatches<'_>) -> Option<Ask>
 /// version, with `Usage` where they aren't `[--hex] [--arg N] [--test flow|lrpd] [--states] [--all] [--picture]`, N
 /// from 0 to 18446744073709551615, and with `Memory` where there is no memory.
 pub fn read_words<S: AsStr>(alloc: Global, words: &[S]) -> Result<Ask, LineFault>
-    ensures { IfOk result (Asks (map S.text words.now)) }
+    ensures ask { IfOk result (Asks (map S.text words.now)) }
+    ensures help { IfErr result (λ fault. is_help fault ≡ true → AsksForHelp explain_app (map S.text words.now)) }
+    ensures usage { IfErr result (λ fault. is_usage fault ≡ true → AskForNothing (map S.text words.now)) }
 {
     let mut command = explain_command(alloc)?;
     let matches = match command.try_get_matches_from_mut(words) {
@@ -131,7 +134,9 @@ pub fn read_words<S: AsStr>(alloc: Global, words: &[S]) -> Result<Ask, LineFault
 /// Reads the words that the process was started with. It fails as `read_words` does, and with `Usage` where one of them
 /// isn't UTF-8.
 pub(crate) fn read_command_line<R: Env + AllocGlobal>(rt: &R) -> Result<Ask, LineFault>
-    ensures { IfOk result (λ ask. (words : List (List ℕ)) × Asks words ask) }
+    ensures ask { IfOk result (λ ask. (words : List (List ℕ)) × Asks words ask) }
+    ensures help { IfErr result (λ fault. is_help fault ≡ true
+        → (words : List (List ℕ)) × AsksForHelp explain_app words) }
 {
     let alloc = rt.alloc();
     let arguments = match env::args(rt) {

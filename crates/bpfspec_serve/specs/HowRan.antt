@@ -1,8 +1,7 @@
 -- How the program came out.
 use Rattle.std.specs.Prelude.{◌≡◌, ℕ, List, Option}
-use Rattle.clap.specs.Words.{subcommand_of}
-use Rattle.bpfspec_command_line.specs.CommandLine.{AsksForJob, bpfspec_app}
-use Rattle.bpfspec_command_line.specs.Help.{AsksForHelp}
+use Rattle.bpfspec_command_line.specs.CommandLine.{WordsAskFor, bpfspec_app}
+use Rattle.bpfspec_command_line.specs.Faults.{AsksForHelp}
 use Rattle.bpfspec_command_line.specs.declared.job.Job.{Job}
 use Rattle.bpfspec_serve.specs.declared.program_end.ProgramEnd.{ProgramEnd}
 use Rattle.bpfspec_serve.specs.declared.program_end.ProgramEnd.TheVariants as ends
@@ -16,13 +15,12 @@ use Rattle.bpfspec_output.specs.Refusals.{memory_line}
 -- written; or there is no memory for them; or they ask for nothing, and nothing is written to the output
 pub data HowRan (Is_answer : Job → Answer → Type 0) (end : ProgramEnd) (reads_failed writes_failed : ℕ → Type 0)
     (before after : Option (List ℕ)) : Type 0 where
-  Serves : (words : List (List ℕ)) (job : Job) (result : Served) → AsksForJob (subcommand_of bpfspec_app words) job
-      → end ≡ ends.Served result
+  Serves : (words : List (List ℕ)) (job : Job) (result : Served) → WordsAskFor words job → end ≡ ends.Served result
       → HowServed (Is_answer job) result reads_failed writes_failed before after
       → HowRan Is_answer end reads_failed writes_failed before after
-  Helps : (words : List (List ℕ)) (text : List ℕ) (result : Served) → AsksForHelp words → end ≡ ends.Served result
-      → HowWritten text served.Done result writes_failed before after → HowRan Is_answer end reads_failed writes_failed
-      before after
+  Helps : (words : List (List ℕ)) (text : List ℕ) (result : Served) → AsksForHelp bpfspec_app words
+      → end ≡ ends.Served result → HowWritten text served.Done result writes_failed before after
+      → HowRan Is_answer end reads_failed writes_failed before after
   No_memory : (result : Served) → end ≡ ends.Served result
       → HowWritten memory_line served.Memory result writes_failed before after
       → HowRan Is_answer end reads_failed writes_failed before after

@@ -9,4 +9,5 @@ pub returns : goal.returns
 returns c =
     number_read (λ (bytes : List ℕ) (r : Result ℕ ParseIntError). ParsesUnsigned 64 10 bytes r
     × ExplainsUnsignedError 10 bytes r × HasUnsignedDigitsIfOk bytes r)
-    64 (codes "arg") (λ bytes r parsed. parsed.0) (found_of c.args.matches.now) c.get_one.result c.get_one.ensures.value
+    64 (codes "arg") (λ bytes r parsed. parsed.0) (found_of c.args.matches.now) c.get_one.result
+    c.get_one.ensures.none c.get_one.ensures.value

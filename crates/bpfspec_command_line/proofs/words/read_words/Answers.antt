@@ -1,14 +1,44 @@
-use Rattle.std.proofs.Common.{◌≡◌, refl, subst, map, true}
-use Rattle.std.specs.Prelude.{Err}
-use Rattle.clap.specs.Words.{App, FailsBy, fault_of, is_simple_and_free}
+use Rattle.std.proofs.Common.{inl, inr, refl, subst, List, Option, map}
+use Rattle.std.specs.Prelude.{Ok, Err}
+use Rattle.clap.specs.Words.{App, HasMatchesOf, Row, Text, fault_of}
 use Rattle.clap.specs.declared.parser.matches.ArgMatches.{ArgMatches}
-use Rattle.bpfspec_command_line.specs.CommandLine.{bpfspec_app}
-use Rattle.bpfspec_command_line.proofs.HelpLaws.{asked}
+use Rattle.bpfspec_command_line.specs.CommandLine.{AsksForJob, bpfspec_app}
+use Rattle.bpfspec_command_line.proofs.FaultLaws.{asked, fails_of, wrong}
 use Rattle.bpfspec_command_line.proofs.words.read_words.Goals as goal
 
 pub returns-in-Err-clause-help : goal.returns-in-Err-clause-help
 returns-in-Err-clause-help g c = λ help.
     let words = map g.S.AsStr.text c.args.words.now in
-    let fails = subst (λ (app : App). is_simple_and_free app ≡ true → FailsBy {T = ArgMatches} (fault_of app words)
-    (Err c.in-Err.error)) c.in_ok-command.ensures.app_is c.in-Err.ensures.kinds in
-    asked (fault_of bpfspec_app words) _ (fails refl) (c.fault_of.ensures.help help)
+    asked (fault_of bpfspec_app words) _
+    (fails_of {T = ArgMatches} words (Err c.in-Err.error) c.in_ok-command.ensures.app_is refl c.in-Err.ensures.kinds)
+    (c.fault_of.ensures.help help)
+
+pub returns-in-Err-clause-usage : goal.returns-in-Err-clause-usage
+returns-in-Err-clause-usage g c = λ usage.
+    let words = map g.S.AsStr.text c.args.words.now in
+    inl (wrong (fault_of bpfspec_app words) _ c.fault_of.result
+    (fails_of {T = ArgMatches} words (Err c.in-Err.error) c.in_ok-command.ensures.app_is refl c.in-Err.ensures.kinds)
+    c.fault_of.ensures.memory usage (c.fault_of.ensures.usage usage))
+
+pub returns-in-Some-clause-job : goal.returns-in-Some-clause-job
+returns-in-Some-clause-job g c =
+    let words = map g.S.AsStr.text c.args.words.now in
+    let same = subst (λ (app : App). HasMatchesOf app words c.in-Ok.matches) c.in_ok-command.ensures.app_is
+    c.in-Ok.ensures.ok.2 in
+    record {
+      taken = fails_of {T = ArgMatches} words (Ok c.in-Ok.matches) c.in_ok-command.ensures.app_is refl
+          c.in-Ok.ensures.kinds;
+      asked = subst (λ (named : Option (Text × List Row)). AsksForJob named c.in-Some.job) (same refl).1
+          c.in-Some.ensures;
+    }
+
+pub returns-clause-usage : goal.returns-clause-usage
+returns-clause-usage g c = λ usage.
+    let words = map g.S.AsStr.text c.args.words.now in
+    let same = subst (λ (app : App). HasMatchesOf app words c.in-Ok.matches) c.in_ok-command.ensures.app_is
+    c.in-Ok.ensures.ok.2 in
+    inr (
+      fails_of {T = ArgMatches} words (Ok c.in-Ok.matches) c.in_ok-command.ensures.app_is refl c.in-Ok.ensures.kinds,
+      λ job. subst (λ (named : Option (Text × List Row)). ¬ (AsksForJob named job)) (same refl).1
+          (c.in-None.ensures job),
+    )

@@ -1,5 +1,5 @@
 use Rattle.std.proofs.Common.{ap, refl}
-use Rattle.bpfspec_command_line.specs.Help.{is_help}
+use Rattle.bpfspec_command_line.specs.Faults.{is_help}
 use Rattle.bpfspec_serve.specs.HowRan.{Serves, Helps, No_memory}
 use Rattle.bpfspec_serve.proofs.program.carry_out.Goals as goal
 
