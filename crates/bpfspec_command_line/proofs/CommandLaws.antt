@@ -16,8 +16,10 @@ use Rattle.clap.proofs.WalkLemmas.{one_text-rows}
 use Rattle.loop_core_model.specs.declared.loop_test.Test.{Test}
 use Rattle.loop_core_model.specs.declared.loop_test.Test.TheVariants.{Flow, Lrpd}
 use Rattle.spec_run_plan.specs.declared.plan.Plan.{Plan}
+use Rattle.spec_run_plan.specs.declared.plan.Policy.{Policy}
+use Rattle.spec_run_plan.specs.declared.plan.Policy.TheVariants.{Pays, Blocks}
 use Rattle.bpfspec_command_line.specs.CommandLine.{AsksFor, AsksForJob, Finds, IsArg, IsArgument, IsChosen, IsCommand}
-use Rattle.bpfspec_command_line.specs.CommandLine.{IsNumber, IsNumberWithin, IsPlanOf, IsTest}
+use Rattle.bpfspec_command_line.specs.CommandLine.{IsNumber, IsNumberWithin, IsPlanOf, IsPolicy, IsTest}
 use Rattle.bpfspec_command_line.specs.declared.job.Job.{Job}
 use Rattle.bpfspec_command_line.specs.declared.job.Job.TheVariants.{Serve, Run}
 use Rattle.bpfspec_command_line.specs.declared.job.Mode.{Mode}
@@ -95,6 +97,19 @@ other_test rows word is flow lrpd Flow named =
     differs word (codes "flow") (same_word (first_of (codes "test") rows) word (codes "flow") is named) flow refl
 other_test rows word is flow lrpd Lrpd named =
     differs word (codes "lrpd") (same_word (first_of (codes "test") rows) word (codes "lrpd") is named) lrpd refl
+
+-- an option that isn't there names no policy, and a word that is neither names none
+pub no_policy : (rows : List Row) (result : Option Policy) → first_of (codes "way") rows ≡ None → result ≡ None
+    → Finds (IsPolicy rows) result
+no_policy rows result absent is = finds_none (IsPolicy rows) result is (λ policy named. absurd cc)
+
+pub other_policy : (rows : List Row) (word : Text) → first_of (codes "way") rows ≡ Some word
+    → bytes_eq word (codes "pays") ≡ false → bytes_eq word (codes "blocks") ≡ false → (policy : Policy)
+    → ¬ (IsPolicy rows policy)
+other_policy rows word is pays blocks Pays named =
+    differs word (codes "pays") (same_word (first_of (codes "way") rows) word (codes "pays") is named) pays refl
+other_policy rows word is pays blocks Blocks named =
+    differs word (codes "blocks") (same_word (first_of (codes "way") rows) word (codes "blocks") is named) blocks refl
 
 -- no number where an option gives none, and no plan where one of its numbers is missing
 pub no_number : (most : ℕ) (name : Text) (rows : List Row) → ((n : ℕ) → ¬ (IsNumber 32 name rows n)) → (n : ℕ)

@@ -11,6 +11,8 @@ use Rattle.clap.specs.declared.builder.ArgAction.TheVariants.{Set, SetTrue}
 use Rattle.loop_core_model.specs.declared.loop_test.Test.{Test}
 use Rattle.loop_core_model.specs.declared.loop_test.Test.TheVariants.{Lrpd, Flow}
 use Rattle.spec_run_plan.specs.declared.plan.Plan.{Plan}
+use Rattle.spec_run_plan.specs.declared.plan.Policy.{Policy}
+use Rattle.spec_run_plan.specs.declared.plan.Policy.TheVariants.{Pays, Blocks}
 use Rattle.spec_run_plan.specs.Plans.{IsPlan}
 use Rattle.bpfspec_command_line.specs.declared.job.Job.{Job}
 use Rattle.bpfspec_command_line.specs.declared.job.Job.TheVariants.{Serve, Run}
@@ -32,7 +34,7 @@ valued_rule name default = record (new_rule name) {
   defaults = default ∷ [];
 }
 
--- --arg N, --test flow|lrpd, --workers N and --blocks N
+-- --arg N, --test flow|lrpd, --workers N, --blocks N and --way pays|blocks
 abbrev pub arg_rule : Rule
 arg_rule = valued_rule (codes "arg") (codes "0")
 
@@ -45,6 +47,9 @@ workers_rule = valued_rule (codes "workers") (codes "2")
 abbrev pub blocks_rule : Rule
 blocks_rule = valued_rule (codes "blocks") (codes "4")
 
+abbrev pub way_rule : Rule
+way_rule = valued_rule (codes "way") (codes "pays")
+
 -- a command that is told so, whose arguments are its own
 pub record IsCommand (app : App) (command : Command) : Type 0 where
   pub app_is : app_of command ≡ app
@@ -55,8 +60,8 @@ pub record IsArg (rule : Rule) (arg : Arg) : Type 0 where
   pub rule_is : rule_of arg ≡ rule
   pub own : arg.global ≡ false
 
--- verify [--hex], order [--hex] [--arg N], run [--hex] [--arg N] [--workers N] [--blocks N] [--test flow|lrpd], and
--- replay [--hex] [--arg N] [--test flow|lrpd]
+-- verify [--hex], order [--hex] [--arg N], run [--hex] [--arg N] [--workers N] [--blocks N] [--test flow|lrpd]
+-- [--way pays|blocks], and replay [--hex] [--arg N] [--test flow|lrpd]
 abbrev pub verify_app : App
 verify_app = with_rule (new_app (codes "verify")) hex_rule
 
@@ -64,8 +69,8 @@ abbrev pub order_app : App
 order_app = with_rule (with_rule (new_app (codes "order")) hex_rule) arg_rule
 
 abbrev pub run_app : App
-run_app = with_rule (with_rule (with_rule (with_rule (with_rule (new_app (codes "run")) hex_rule) arg_rule)
-    workers_rule) blocks_rule) test_rule
+run_app = with_rule (with_rule (with_rule (with_rule (with_rule (with_rule (new_app (codes "run")) hex_rule) arg_rule)
+    workers_rule) blocks_rule) test_rule) way_rule
 
 abbrev pub replay_app : App
 replay_app = with_rule (with_rule (with_rule (new_app (codes "replay")) hex_rule) arg_rule) test_rule
@@ -125,11 +130,21 @@ test_word Lrpd = codes "lrpd"
 abbrev pub IsTest : List Row → Test → Type 0
 IsTest rows test = first_of (codes "test") rows ≡ Some (test_word test)
 
--- the plan of --workers, --blocks and --test, within its limits
+-- the word for a policy
+abbrev pub policy_word : Policy → Text
+policy_word Pays = codes "pays"
+policy_word Blocks = codes "blocks"
+
+-- the policy that --way names
+abbrev pub IsPolicy : List Row → Policy → Type 0
+IsPolicy rows policy = first_of (codes "way") rows ≡ Some (policy_word policy)
+
+-- the plan of --workers, --blocks, --test and --way, within its limits
 pub record IsPlanOf (rows : List Row) (plan : Plan) : Type 0 where
   pub workers : IsNumber 32 (codes "workers") rows plan.workers
   pub blocks : IsNumber 32 (codes "blocks") rows plan.blocks
   pub test : IsTest rows plan.test
+  pub policy : IsPolicy rows plan.policy
   pub within : IsPlan plan
 
 -- the mode that a subcommand of this name and its arguments ask for

@@ -4,7 +4,7 @@ ghost use Rattle.std.specs.Prelude.{IfOk};
 ghost use Rattle.clap.specs.Words.{new_app};
 ghost use Rattle.bpfspec_command_line.specs.CommandLine.{IsArg, IsCommand, arg_rule, blocks_rule, bpfspec_app};
 ghost use Rattle.bpfspec_command_line.specs.CommandLine.{hex_rule, order_app, replay_app, run_app, test_rule};
-ghost use Rattle.bpfspec_command_line.specs.CommandLine.{top_app, valued_rule, verify_app, workers_rule};
+ghost use Rattle.bpfspec_command_line.specs.CommandLine.{top_app, valued_rule, verify_app, way_rule, workers_rule};
 
 use clap::{Arg, ArgAction, Command};
 use std::alloc::{AllocError, Global};
@@ -83,6 +83,19 @@ fn blocks_option<'a>(alloc: Global) -> Arg<'a>
     )
 }
 
+/// --way pays|blocks
+fn way_option<'a>(alloc: Global) -> Arg<'a>
+    ensures { IsArg way_rule result }
+{
+    valued_option(
+        alloc,
+        "way",
+        "WAY",
+        "pays",
+        "Which way a loop goes: pays, or blocks whatever they cost",
+    )
+}
+
 /// A command of this name and with this help, without arguments.
 fn new_command<'a>(alloc: Global, name: &'a str, about: &'a str) -> Command<'a>
     ensures { IsCommand (new_app name.entry.now) result }
@@ -112,7 +125,8 @@ pub(crate) fn run_command<'a>(alloc: Global) -> Result<Command<'a>, AllocError>
         .arg(arg_option(alloc))?
         .arg(workers_option(alloc))?
         .arg(blocks_option(alloc))?
-        .arg(test_option(alloc))
+        .arg(test_option(alloc))?
+        .arg(way_option(alloc))
 }
 
 pub(crate) fn replay_command<'a>(alloc: Global) -> Result<Command<'a>, AllocError>

@@ -8,7 +8,7 @@ ghost use Rattle.bpfspec_command_line.specs.Faults.{Shows, is_help, is_usage};
 
 use crate::commands::{bpfspec_command, order_command, replay_command, run_command};
 use crate::job::LineFault;
-use crate::values::{argument, blocks_of, workers_of};
+use crate::values::{argument, blocks_of, policy_of, workers_of};
 use clap::error::ErrorKind;
 use clap::{ArgMatches, Command};
 use std::alloc::{AllocError, Global};
@@ -92,6 +92,9 @@ fn wrong_plan(alloc: Global, matches: &ArgMatches<'_>) -> Result<String, AllocEr
             "--blocks <N>",
             "a number from 1 to 64",
         );
+    }
+    if policy_of(matches).is_none() {
+        return other_value(alloc, matches, "way", "--way <WAY>", "pays or blocks");
     }
     wrong_value(alloc, matches)
 }

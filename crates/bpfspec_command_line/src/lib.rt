@@ -12,6 +12,6 @@ pub use commands::{arg_option, hex_flag, test_option};
 pub use faults::{fault_of, own_fault};
 pub use job::{Job, LineFault, Mode, UnitForm};
 pub use loop_core_model::Test;
-pub use spec_run_plan::Plan;
+pub use spec_run_plan::{Plan, Policy};
 pub use values::{argument, chosen, loop_test, unit_form};
 pub use words::{read_command_line, read_words};

@@ -3,12 +3,12 @@
 ghost use Rattle.std.specs.Prelude.{◌≡◌, codes};
 ghost use Rattle.clap.specs.Words.{found_of, rows_of};
 ghost use Rattle.bpfspec_command_line.specs.CommandLine.{Finds, IsArgument, IsChosen, IsForm, IsNumber};
-ghost use Rattle.bpfspec_command_line.specs.CommandLine.{IsNumberWithin, IsPlanOf, IsTest};
+ghost use Rattle.bpfspec_command_line.specs.CommandLine.{IsNumberWithin, IsPlanOf, IsPolicy, IsTest};
 
 use crate::job::UnitForm;
 use clap::ArgMatches;
 use loop_core_model::Test;
-use spec_run_plan::Plan;
+use spec_run_plan::{Plan, Policy};
 
 /// The value that the flag of this name chooses: `off` where it isn't given, and else `on`.
 pub fn chosen<T: Copy>(matches: &ArgMatches<'_>, name: &str, off: T, on: T) -> T
@@ -40,6 +40,20 @@ pub fn loop_test(matches: &ArgMatches<'_>) -> Option<Test>
         Some(Test::Flow)
     } else if word == "lrpd" {
         Some(Test::Lrpd)
+    } else {
+        None
+    }
+}
+
+/// How the arguments choose each loop's way, by --way, or None where they name another.
+pub(crate) fn policy_of(matches: &ArgMatches<'_>) -> Option<Policy>
+    ensures { Finds (IsPolicy (rows_of (found_of matches.now))) result }
+{
+    let word = matches.get_str("way")?;
+    if word == "pays" {
+        Some(Policy::Pays)
+    } else if word == "blocks" {
+        Some(Policy::Blocks)
     } else {
         None
     }
@@ -77,7 +91,7 @@ pub(crate) fn blocks_of(matches: &ArgMatches<'_>) -> Option<u32>
     number_within(matches, "blocks", 64)
 }
 
-/// The plan that the arguments give, or None where it isn't within its limits, or they name another test.
+/// The plan that the arguments give, or None where it isn't within its limits, or they name another test or way.
 pub(crate) fn plan_of(matches: &ArgMatches<'_>) -> Option<Plan>
     ensures { Finds (IsPlanOf (rows_of (found_of matches.now))) result }
 {
@@ -85,5 +99,6 @@ pub(crate) fn plan_of(matches: &ArgMatches<'_>) -> Option<Plan>
         workers: workers_of(matches)?,
         blocks: blocks_of(matches)?,
         test: loop_test(matches)?,
+        policy: policy_of(matches)?,
     })
 }

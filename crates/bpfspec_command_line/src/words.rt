@@ -63,7 +63,7 @@ fn job_of(matches: &ArgMatches<'_>) -> Option<Job>
 ///
 /// It fails with `Help` where they ask for help or the version (`--help`, `-h`, `help`, `--version`, `-V`), and with
 /// the text that they ask for; with `Usage` where they aren't `verify [--hex]`, `order [--hex] [--arg N]`,
-/// `run [--hex] [--arg N] [--workers W] [--blocks B] [--test flow|lrpd]`,
+/// `run [--hex] [--arg N] [--workers W] [--blocks B] [--test flow|lrpd] [--way pays|blocks]`,
 /// `replay [--hex] [--arg N] [--test flow|lrpd]`, N from 0 to 18446744073709551615, W from 1 to 16, B from 1 to 64,
 /// `asm` or `disasm`; and with `Memory` where there is no memory.
 pub fn read_words<S: AsStr>(alloc: Global, words: &[S]) -> Result<Job, LineFault>

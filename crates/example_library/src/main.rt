@@ -5,7 +5,7 @@
 use array_maps::{Maps, MapsError};
 use bpf_text::{TextError, parse_maps, parse_unit, print_maps};
 use bpf_verify::{VerifyError, verify};
-use spec_run::{NoGate, Plan, Report, RunError, Test, run};
+use spec_run::{NoGate, Plan, Policy, Report, RunError, Test, run};
 use std::alloc::{AllocError, Global};
 use std::io;
 use std::thread::Threads;
@@ -66,6 +66,7 @@ fn run_unit<R: Threads + Sync>(rt: &R, alloc: Global) -> Result<Ran, Failure> {
         workers: 4,
         blocks: 16,
         test: Test::Flow,
+        policy: Policy::Pays,
     };
     let report = run(rt, alloc, &program, &mut maps, 0, &plan, &NoGate)?;
     let values = [maps.values(0).to_vec(alloc)?];

@@ -1,5 +1,4 @@
 //! Gates: what a test may put before the blocks and the iterations of a loop.
-ghost use Rattle.std.specs.Prelude.{◌≡◌, false};
 
 /// What a worker calls as it runs a loop. Each call returns, and tells the worker nothing: whatever a gate
 /// does, the loop comes to the same.
@@ -9,12 +8,6 @@ pub trait Gate: Sync {
 
     /// The iteration of this index is next.
     fn turn(&self, index: u32);
-
-    /// Whether a worker that calls it may be held for a while. Where it is `false`, `begin` and `turn` do
-    /// nothing.
-    fn may_hold(&self) -> bool {
-        true
-    }
 }
 
 /// A gate that does nothing.
@@ -25,10 +18,4 @@ impl Gate for NoGate {
     fn begin(&self, _block: u32) {}
 
     fn turn(&self, _index: u32) {}
-
-    fn may_hold(&self) -> bool
-        ensures { result ≡ false }
-    {
-        false
-    }
 }

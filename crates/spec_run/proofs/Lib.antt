@@ -1,3 +1,4 @@
 pub mod Lines
 pub mod Turns
 pub mod CallLaws
+pub mod LoopEnds

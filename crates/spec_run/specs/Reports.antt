@@ -1,13 +1,28 @@
 -- What a run gives, by the report that the definitions tell of the program.
-use Rattle.std.specs.Prelude.{◌≡◌, ℕ}
+use Rattle.std.specs.Prelude.{◌≡◌, ℕ, ◌<◌, List, Option, Some, None}
+use Rattle.std.specs.List.{AllByRecursion}
 use Rattle.array_maps.specs.MapList.{MapList}
 use Rattle.bpf_insn_types.specs.Program.{Program}
-use Rattle.bpf_step_model.specs.Run.{BoundedResult, Ended}
-use Rattle.bpf_step_model.specs.ProgramInOrder.{program_in_order}
-use Rattle.bpf_verify_sound.specs.Soundness.{ProgramEnds}
-use Rattle.bpf_step.specs.Iterations.{EachIterationEnds}
+use Rattle.bpf_step_model.specs.State.{LoopCall}
+use Rattle.bpf_step_model.specs.Run.{BoundedResult, Ended, Stuck, Unfinished}
+use Rattle.bpf_step_model.specs.Iteration.{iteration}
+use Rattle.bpf_step_model.specs.ProgramInOrder.{Finished, program_in_order}
+use Rattle.bpf_verify_sound.specs.Soundness.{AreMapWords, IterationEnds, callback_count}
 use Rattle.loop_core_model.specs.Report.{Reported}
 use Rattle.spec_run.specs.declared.report.Report.{Report}
+
+-- each iteration of a loop call, if it is valid, on any words of the maps and so a speculative one too, isn't stuck: it
+-- ends within its callback's count with 0 or 1
+abbrev pub IterationsEnd : Program → Option LoopCall → Type 0
+IterationsEnd program None = Unit {0}
+IterationsEnd program (Some call) = (index : ℕ) → index < call.n → (words : List ℕ) → AreMapWords program words →
+    IterationEnds program (callback_count program call) (iteration program 4096 call index words)
+
+-- a program in order ends, and so does each iteration of each loop call that it makes
+abbrev pub EndsWithItsLoops : Program → BoundedResult Finished → Type 0
+EndsWithItsLoops program Stuck = ⊥
+EndsWithItsLoops program Unfinished = ⊥
+EndsWithItsLoops program (Ended f) = AllByRecursion (λ made. IterationsEnd program made.call) f.loops
 
 -- what a run gives is what the program gives whose loops run in order, from the old maps: this report
 pub record IsReportOf (reported : BoundedResult Reported) (program : Program) (argument : ℕ) (old new : MapList)
@@ -17,8 +32,5 @@ pub record IsReportOf (reported : BoundedResult Reported) (program : Program) (a
   pub kept : new.sizes ≡ old.sizes
   -- the return value, each loop call's slot, answer and verdict, and the new maps' words are those reported
   pub told : reported ≡ Ended (record { ret = report.ret; loops = report.loops.items; words = new.words })
-  -- the program ends, and each valid loop call that it makes is within the abstract states
-  pub calls : ProgramEnds program (program_in_order program 4096 argument old.words)
-  -- each iteration of a call within the abstract states, on any words of the maps and so a speculative one too, isn't
-  -- stuck: it ends within its callback's count with 0 or 1
-  pub ends : EachIterationEnds program
+  -- the program ends, and so does each iteration of each valid loop call that it makes, on any words of the maps
+  pub ends : EndsWithItsLoops program (program_in_order program 4096 argument old.words)

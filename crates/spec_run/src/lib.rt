@@ -4,7 +4,7 @@
 //! ```text
 //! let program = verify(alloc, unit)?;                     // a loop of 8 iterations that adds its index
 //! let mut maps = Maps::of(alloc, &[vec![in alloc; 5]?])?;
-//! let plan = Plan { workers: 4, blocks: 16, test: Test::Flow };
+//! let plan = Plan { workers: 4, blocks: 16, test: Test::Flow, policy: Policy::Pays };
 //! let report = run(&rt, alloc, &program, &mut maps, 0, &plan, &NoGate)?;
 //! // report.ret is 8, its loop answered 8 in parallel, and maps.get(0, 0) is 5 + 0 + 1 + .. + 7
 //! ```
@@ -21,6 +21,6 @@ pub use loop_core_model::{LoopReport, Test, Verdict};
 pub use loop_core_split::{Gate, NoGate};
 pub use report::Report;
 pub use running::run_in_order;
-pub use spec_run_loop::{LoopOutcome, RunError, run_loop, work};
-pub use spec_run_plan::Plan;
+pub use spec_run_loop::{LoopOutcome, LoopRun, RunError, SpeculativeLoop, run_loop, work};
+pub use spec_run_plan::{Plan, Policy};
 pub use speculating::run;

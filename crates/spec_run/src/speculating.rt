@@ -14,14 +14,14 @@ use bpf_step::LoopCall;
 use bpf_verify::Verified;
 use loop_core_sequential::law_of_filled_calls;
 use loop_core_split::Gate;
-use spec_run_loop::{LoopAnswer, RunError, Workspace, run_loop_evenly};
+use spec_run_loop::{LoopAnswer, LoopJob, RunError, Workspace, run_by_plan};
 use spec_run_plan::Plan;
 use std::alloc::{AllocError, Global};
 use std::thread::Threads;
 
-/// Runs the program on the maps, its argument in R1. Each loop runs by the plan: workers run its blocks at once, and
-/// where the loop passes the test, what they left is committed; else it is run in order. All of it runs on a copy,
-/// which takes the maps' place at the end. It waits for its threads; where one can't be started, the others do its
+/// Runs the program on the maps, its argument in R1. Each loop goes the way that the plan chooses: as it pays, or by
+/// blocks, which its workers run at once; where the loop passes the test, what they left is committed, and else it is
+/// run in order. All of it runs on a copy, which takes the maps' place at the end. It waits for its threads; where one can't be started, the others do its
 /// share. A gate may hold them for a while, and changes nothing else. No iteration is stuck, speculative ones included,
 /// and each ends within the count that the verifier reports.
 ///
@@ -59,18 +59,13 @@ pub fn run<R: Threads + Sync, G: Gate>(
         ensures { IfOk result (λ a. IsOutcome plan.entry.now.test program.entry.now call.now maps.old a.verdict a.answer
             maps.new) }
     {
-        run_loop_evenly(
-            rt,
+        let job = LoopJob {
             alloc,
             program,
             call,
-            maps,
-            plan.blocks,
-            plan.workers,
-            workspace,
-            gate,
-            plan.test,
-        )
+            plan,
+        };
+        run_by_plan(rt, &job, maps, workspace, gate)
     };
     let report = run_main(alloc, program, &mut left, argument, &plan.test, &run_call)?;
     *maps = left;

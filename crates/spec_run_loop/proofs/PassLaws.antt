@@ -1,15 +1,22 @@
 -- Loops that pass.
 use Rattle.std.proofs.Common.{◌≡◌, ℕ, List, subst, sym, ◌∙◌, ap}
+use Rattle.array_maps.specs.MapList.{MapList}
 use Rattle.bpf_insn_types.specs.Program.{Program}
 use Rattle.bpf_step_model.specs.State.{LoopCall}
-use Rattle.bpf_step_model.specs.Run.{Ended}
+use Rattle.bpf_step_model.specs.Run.{BoundedResult, Ended, followed}
+use Rattle.bpf_step_model.specs.LoopInOrder.{Looped}
 use Rattle.loop_core_model.specs.declared.loop_test.Test.{Test}
+use Rattle.loop_core_model.specs.declared.loop_test.Test.TheVariants.{Flow}
 use Rattle.loop_core_model.specs.declared.verdict.Verdict.{Verdict}
 use Rattle.loop_core_model.specs.declared.verdict.Verdict.TheVariants.{Parallel}
+use Rattle.loop_core_model.specs.Report.{verdict}
+use Rattle.loop_core_model.specs.Outcome.{judged_as}
+use Rattle.loop_core_sequential.specs.Watched.{RanAndPasses}
 use Rattle.loop_core_gather.specs.declared.storing.LeftPage.{LeftPage}
-use Rattle.loop_core_gather.specs.Gathered.{HasOutcome}
+use Rattle.loop_core_gather.specs.Gathered.{HasOutcome, IsOutcome}
 use Rattle.loop_core_gather.specs.Held.{GatheredOf}
 use Rattle.loop_core_gather.specs.Pages.{AreLeft}
+use Rattle.spec_run_loop.specs.declared.decision.LoopAnswer.{LoopAnswer}
 use Rattle.spec_run_loop.specs.Decisions.{Passes}
 
 -- gathered blocks that pass leave these pages
@@ -23,3 +30,15 @@ passes_so test program call words g answer pages has passed same left = record {
       ∙ ap (λ (n : ℕ). Ended (record { verdict = Parallel; answer = n; words = g.words })) (sym same);
   pages_are = subst (λ (start : List ℕ). AreLeft start g.words pages) has.starts left;
 }
+
+-- a loop that ran in order and passes by the flow test has this outcome
+pub passed_in_order : (program : Program) (call : LoopCall) (start left : MapList) (answer : ℕ) (told : LoopAnswer)
+    → told ≡ record { verdict = Parallel; answer = answer } → RanAndPasses program call start left answer
+    → IsOutcome Flow program call start told.verdict told.answer left
+passed_in_order program call start left answer told told_is is =
+    let looped : Looped = record { answer = answer; words = left.words } in
+    subst (λ (a : LoopAnswer). IsOutcome Flow program call start a.verdict a.answer left) (sym told_is) (record {
+      outcome_is = ap (followed (judged_as (verdict Flow program 4096 call start.words))) is.ran.told
+          ∙ ap (λ (v : BoundedResult Verdict). judged_as v looped) is.passes;
+      sizes = is.ran.kept;
+    })

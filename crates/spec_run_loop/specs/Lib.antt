@@ -1,2 +1,4 @@
 pub mod Plans
+pub mod Jobs
+pub mod Ways
 pub mod Decisions

@@ -1,7 +1,6 @@
 //! Loops that add up, by several workers.
 
-ghost use Rattle.std.specs.Prelude.{◌≡◌, ◌<◌, ◌≤◌, ℕ, None, All, length, slice_index_or, IfOk, IfSome, OnErr};
-ghost use Rattle.bpf_verify_sound.specs.Soundness.{OverApproximatesCall};
+ghost use Rattle.std.specs.Prelude.{◌≡◌, ◌<◌, ◌≤◌, ℕ, None, All, length, slice_index_or, IfOk, OnErr};
 ghost use Rattle.loop_core_model.specs.declared.loop_test.Test.{Test};
 ghost use Rattle.loop_core_model.specs.Split.{split_fault};
 ghost use Rattle.loop_core_model.specs.Intervals.{blocks_of, start_of, end_of};
@@ -12,30 +11,12 @@ ghost use Rattle.loop_core_gather.specs.Gathered.{IsOutcome};
 use crate::decision::LoopAnswer;
 use crate::paying::worthwhile_shares;
 use array_maps::Maps;
-use bpf_step::LoopCall;
-use bpf_verify::Verified;
 use loop_core_sequential::in_order;
-use loop_core_split::{Gate, Split};
+use loop_core_split::Split;
 use loop_core_sums::{PartialSum, SumLoop};
 use std::alloc::{AllocError, Global};
 use std::thread;
 use std::thread::Threads;
-
-/// The loop of a call as one that adds up, where it does, and the gate holds nobody.
-pub(crate) fn sum_loop<'l, G: Gate>(
-    program: &'l Verified,
-    call: &'l LoopCall,
-    gate: &G,
-) -> Option<SumLoop<'l>>
-    requires known { OverApproximatesCall program.now call.now }
-    ensures program { IfSome result (λ l. l.program ≡ program.now) }
-    ensures call { IfSome result (λ l. l.call ≡ call.now) }
-{
-    if gate.may_hold() {
-        return None;
-    }
-    SumLoop::of(program, call)
-}
 
 /// Runs a loop call that adds up by 1 to 16 workers: on these maps, which are of the program's sizes, and change only
 /// where it gives an answer. One worker runs it in order; several add up an even share of its iterations each, where

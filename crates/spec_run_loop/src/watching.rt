@@ -1,32 +1,26 @@
 //! Loops that are run in order, watched.
 
 ghost use Rattle.std.specs.Prelude.{◌≡◌, IfSome, IfNone, IfOk, OnErr};
-ghost use Rattle.bpf_verify_sound.specs.Soundness.{OverApproximatesCall};
 ghost use Rattle.loop_core_model.specs.declared.loop_test.Test.TheVariants as tests;
 ghost use Rattle.loop_core_gather.specs.Gathered.{IsOutcome};
 
 use crate::decision::LoopAnswer;
+use crate::job::LoopJob;
 use crate::paying::elements_of;
 use array_maps::Maps;
-use bpf_step::LoopCall;
-use bpf_verify::Verified;
 use loop_core_sequential::in_order_watched;
 use spec_run_workers::Workspace;
-use std::alloc::{AllocError, Global};
+use std::alloc::AllocError;
 
-/// Runs a loop call that main of this program made in order on these maps, which are of the program's sizes, and
-/// watches it: where no iteration reads what an earlier one wrote, it passes by the flow test, and is done. Else the
-/// maps are as before.
+/// Runs a loop call in order on these maps, which are of the program's sizes, and watches it: where no iteration reads
+/// what an earlier one wrote, it passes by the flow test, and is done. Else the maps are as before.
 pub(crate) fn run_watched(
-    alloc: Global,
-    program: &Verified,
-    call: &LoopCall,
+    job: &LoopJob,
     maps: &mut Maps,
     workspace: &mut Workspace,
 ) -> Result<Option<LoopAnswer>, AllocError>
-    requires known { OverApproximatesCall program.now call.now }
-    requires sizes { maps.old.sizes ≡ program.now.sizes }
-    ensures outcome { IfOk result (λ done. IfSome done (λ a. IsOutcome tests.Flow program.now call.now maps.old
+    requires sizes { maps.old.sizes ≡ job.now.program.sizes }
+    ensures outcome { IfOk result (λ done. IfSome done (λ a. IsOutcome tests.Flow job.now.program job.now.call maps.old
         a.verdict a.answer maps.new)) }
     ensures undone { IfOk result (λ done. IfNone done (maps.new ≡ maps.old)) }
     ensures kept { OnErr result (maps.new ≡ maps.old) }
@@ -34,8 +28,8 @@ pub(crate) fn run_watched(
     // These tell the proof how many words the maps have, and that they are below 2^64.
     let _sizes = maps.sizes();
     let _words = maps.words();
-    let mut log = workspace.take_log(alloc, elements_of(maps))?;
-    let answer = in_order_watched(program, call, &mut log, maps);
+    let mut log = workspace.take_log(job.alloc, elements_of(maps))?;
+    let answer = in_order_watched(job.program, job.call, &mut log, maps);
     workspace.keep_log(log);
     match answer {
         Some(answer) => Ok(Some(LoopAnswer::passed(answer))),

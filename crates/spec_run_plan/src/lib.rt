@@ -3,4 +3,4 @@
 
 mod plan;
 
-pub use plan::Plan;
+pub use plan::{Plan, Policy};

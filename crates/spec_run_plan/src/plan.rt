@@ -6,6 +6,16 @@ ghost use Rattle.spec_run_plan.specs.Plans.{IsPlan};
 use loop_core_event::{MAX_BLOCKS, MAX_WORKERS};
 use loop_core_model::Test;
 
+/// How a run chooses the way that each of its loops goes.
+#[derive(Clone, Copy, Debug)]
+pub enum Policy {
+    /// The way that pays, by an estimate of the loop's work: no more workers and blocks than are worth it.
+    Pays,
+    /// By blocks: on private copies, over all blocks and by all workers of the plan, each in a thread of its own,
+    /// whatever it costs.
+    Blocks,
+}
+
 /// How the loops of a program are run.
 #[derive(Clone, Copy, Debug)]
 pub struct Plan {
@@ -15,6 +25,8 @@ pub struct Plan {
     pub blocks: u32,
     /// The test by which a loop passes.
     pub test: Test,
+    /// How the way of each loop is chosen.
+    pub policy: Policy,
 }
 
 impl Plan {

@@ -36,9 +36,7 @@ fn one_worker<'a, G: Gate>(
     ensures { IfOk result (λ w. IsWorkerAt of.now board.now (board_worker w)) }
 {
     let mut seat = seat;
-    let blocks = work(
-        of.alloc, of.program, of.call, of.start, of.split, board, &mut seat, gate, of.test,
-    )?;
+    let blocks = work(of, board, &mut seat, gate)?;
     Ok(Worker { seat, blocks })
 }
 

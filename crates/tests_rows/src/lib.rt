@@ -4,5 +4,5 @@
 mod meeting;
 mod rows;
 
-pub use meeting::{Holds, Meeting, MeetingGate, OpenGate};
+pub use meeting::{Holds, Meeting, MeetingGate};
 pub use rows::{FirstLoop, Row, first_call, first_loop, read_row, spelled_out};

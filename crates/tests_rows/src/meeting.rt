@@ -104,13 +104,3 @@ impl Gate for MeetingGate {
         self.turns.come(index);
     }
 }
-
-/// A gate that holds nobody, but might: a loop before it is run on threads.
-#[derive(Clone, Copy)]
-pub struct OpenGate;
-
-impl Gate for OpenGate {
-    fn begin(&self, _block: u32) {}
-
-    fn turn(&self, _index: u32) {}
-}

@@ -7,7 +7,7 @@ ghost use Rattle.tests_blocks.specs.Stages.{IsStage, IsRunOn};
 
 use crate::stage::{Stage, gathered, stage_of};
 use loop_board::{Board, BoardSeat};
-use loop_core_block::Block;
+use loop_core_block::{Block, SpeculativeLoop};
 use loop_core_model::{Test, Verdict};
 use loop_core_split::Gate;
 use spec_run_loop::work;
@@ -30,18 +30,16 @@ fn one_worker<'a, G: Gate>(
     requires blocks { board.now.blocks ≡ blocks_of stage.now.split }
     ensures { IfOk result (λ blocks. All (IsRunOn Flow stage.now) blocks.items) }
 {
-    let mut seat = seat;
-    work(
+    let of = SpeculativeLoop {
         alloc,
-        &stage.program,
-        &stage.call,
-        &stage.maps,
-        &stage.split,
-        board,
-        &mut seat,
-        gate,
-        Test::Flow,
-    )
+        program: &stage.program,
+        call: &stage.call,
+        start: &stage.maps,
+        split: &stage.split,
+        test: Test::Flow,
+    };
+    let mut seat = seat;
+    work(&of, board, &mut seat, gate)
 }
 
 /// The blocks of all workers, together.

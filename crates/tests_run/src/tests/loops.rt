@@ -94,6 +94,10 @@ const LINES: &str = "
     run --workers 16 --blocks 64 --test lrpd
     run --workers 3 --blocks 5 --test lrpd
     run --workers 16 --blocks 1 --test flow
+    run --way pays
+    run --way blocks
+    run --way blocks --workers 1 --blocks 1
+    run --way blocks --workers 3 --blocks 64 --test lrpd
 ";
 
 #[test]

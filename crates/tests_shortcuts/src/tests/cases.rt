@@ -2,7 +2,7 @@
 
 use loop_core_model::{LoopReport, Test, Verdict};
 use loop_core_split::NoGate;
-use spec_run::{Plan, run};
+use spec_run::{Plan, Policy, run};
 use std::alloc::Global;
 use std::process::Abort;
 use std::test::Fail;
@@ -46,6 +46,7 @@ fn is_run_by<R: Threads + Sync + Abort>(
         workers,
         blocks: 64,
         test: Test::Flow,
+        policy: Policy::Pays,
     };
     let report = run(rt, alloc, &program, &mut maps, 0, &plan, &NoGate)?;
     let told = LoopReport {

@@ -1,6 +1,6 @@
 //! The example at the head of `spec_run`.
 
-use spec_run::{NoGate, Plan, Test, run};
+use spec_run::{NoGate, Plan, Policy, Test, run};
 use std::test::Fail;
 use tests_rows::{Row, read_row};
 
@@ -16,6 +16,7 @@ fn a_program_is_run(rt: HostRuntime) -> Result<(), Fail> {
         workers: 4,
         blocks: 16,
         test: Test::Flow,
+        policy: Policy::Pays,
     };
     let report = run(&rt, alloc, &program, &mut maps, 0, &plan, &NoGate)?;
     assert_eq!(rt; report.ret, 8);

@@ -3,7 +3,7 @@
 
 use crate::tests::reports::{loop_report, report, served};
 use loop_core_model::Test;
-use spec_run::Plan;
+use spec_run::{Plan, Policy};
 use std::alloc::Global;
 use std::process::Abort;
 use std::test::Fail;
@@ -75,6 +75,7 @@ fn plan_of(held: &Held) -> Plan {
         workers: held.workers,
         blocks: held.blocks,
         test: Test::Flow,
+        policy: Policy::Blocks,
     }
 }
 
@@ -142,6 +143,32 @@ fn workers_of_an_input_meet(rt: HostRuntime) -> Result<(), Fail> {
         input_passes(&rt, rt.alloc(), held)?;
     }
     Ok(())
+}
+
+/// As many iterations as are worth two threads, each of which writes an element.
+const WORTH_THREADS: Held = Held {
+    row: "maps 1 | mov64 r1, 2000000 | LOOP | ldmapval r3, 0, 0 | st64 [r3+0], 7 | END",
+    workers: 2,
+    blocks: 2,
+    holds: Holds {
+        blocks: &[(0, 1)],
+        turns: &[],
+    },
+    report: "return 2000000 | loop 0 at 5: answer 2000000, parallel | map 0: 7",
+};
+
+/// A loop of enough work is run by several threads where a plan asks for what pays.
+#[test]
+fn workers_of_a_loop_that_pays_meet(rt: HostRuntime) -> Result<(), Fail> {
+    let gate = MeetingGate::new(WORTH_THREADS.holds);
+    let row = read_row(rt.alloc(), WORTH_THREADS.row).ok_or("a row has a program")?;
+    let plan = Plan {
+        test: Test::Lrpd,
+        policy: Policy::Pays,
+        ..plan_of(&WORTH_THREADS)
+    };
+    let told = report(&rt, rt.alloc(), &row, &plan, &gate)?;
+    has_passed(&rt, rt.alloc(), &told, WORTH_THREADS.report, &gate)
 }
 
 /// A bit for each of the numbers 0 to 3.

@@ -3,12 +3,12 @@
 
 use array_maps::Maps;
 use loop_core_model::{LoopReport, Test, Verdict};
-use spec_run::{Gate, Plan, Report, RunError, run, run_in_order};
+use spec_run::{Gate, NoGate, Plan, Policy, Report, RunError, run, run_in_order};
 use std::alloc::Global;
 use std::process::Abort;
 use std::test::Fail;
 use std::thread::Threads;
-use tests_rows::{Holds, MeetingGate, OpenGate, Row, read_row};
+use tests_rows::{Holds, MeetingGate, Row, read_row};
 
 /// A row with the words of its maps, and what comes of it: its return value, its loops, and the words after it.
 #[derive(Clone, Copy)]
@@ -85,6 +85,7 @@ const PLAN: Plan = Plan {
     workers: 2,
     blocks: 4,
     test: Test::Flow,
+    policy: Policy::Blocks,
 };
 
 /// A row, by a second try where there was no memory at the first.
@@ -114,7 +115,7 @@ fn is_run(rt: &impl Abort, case: &Case, report: &Report, maps: &Maps) {
     assert_eq!(rt; maps.words(), case.left);
 }
 
-/// Runs a case by workers that pass a gate, again where memory was refused.
+/// Runs a case by workers in threads, again where memory was refused.
 fn runs_at_last<R: Threads + Sync + Abort, G: Gate>(
     rt: &R,
     alloc: Global,
@@ -132,22 +133,22 @@ fn runs_at_last<R: Threads + Sync + Abort, G: Gate>(
 
 #[test]
 fn maps_stay_where_a_loop_is_refused(rt: HostRuntime) -> Result<(), Fail> {
-    runs_at_last(&rt, rt.alloc(), &BREAKS_AT_5, &OpenGate)
+    runs_at_last(&rt, rt.alloc(), &BREAKS_AT_5, &NoGate)
 }
 
 #[test]
 fn maps_stay_where_a_second_loop_is_refused(rt: HostRuntime) -> Result<(), Fail> {
-    runs_at_last(&rt, rt.alloc(), &TWO_LOOPS, &OpenGate)
+    runs_at_last(&rt, rt.alloc(), &TWO_LOOPS, &NoGate)
 }
 
 #[test]
 fn maps_stay_where_a_discarded_loop_is_refused(rt: HostRuntime) -> Result<(), Fail> {
-    runs_at_last(&rt, rt.alloc(), &COPIES_ON, &OpenGate)
+    runs_at_last(&rt, rt.alloc(), &COPIES_ON, &NoGate)
 }
 
 #[test]
 fn maps_stay_where_halves_are_refused(rt: HostRuntime) -> Result<(), Fail> {
-    runs_at_last(&rt, rt.alloc(), &ADDS_TO_HALVES, &OpenGate)
+    runs_at_last(&rt, rt.alloc(), &ADDS_TO_HALVES, &NoGate)
 }
 
 /// The block that breaks waits until the last one has begun.

@@ -7,12 +7,12 @@ ghost use Rattle.bpf_verify_sound.specs.Soundness.{OverApproximatesCall};
 use crate::tests::reports::{loop_report, report};
 use loop_core_model::Test;
 use loop_core_split::NoGate;
-use spec_run::Plan;
+use spec_run::{Plan, Policy};
 use std::alloc::Global;
 use std::process::Abort;
 use std::test::Fail;
 use std::thread::Threads;
-use tests_rows::{FirstLoop, OpenGate, Row, first_loop, read_row};
+use tests_rows::{FirstLoop, Row, first_loop, read_row};
 
 /// By how many workers and blocks a row is run.
 const WAYS: [(u32, u32); 9] = [
@@ -27,17 +27,10 @@ const WAYS: [(u32, u32); 9] = [
     (16, 64),
 ];
 
-/// The plan of a way.
-fn plan_of(workers: u32, blocks: u32, test: Test) -> Plan {
-    Plan {
-        workers,
-        blocks,
-        test,
-    }
-}
+/// By which policies: as it pays, so in the calling thread where a loop is short, and by all blocks, on threads.
+const POLICIES: [Policy; 2] = [Policy::Pays, Policy::Blocks];
 
-/// Asserts what is told of a program in each way: without a gate, so in the calling thread where a loop is short, and
-/// with one, so on threads by the plan as it is.
+/// Asserts what is told of a program in each way, by each policy.
 fn program_is_told<R: Threads + Sync + Abort>(
     rt: &R,
     alloc: Global,
@@ -46,11 +39,16 @@ fn program_is_told<R: Threads + Sync + Abort>(
     wanted: &str,
 ) -> Result<(), Fail> {
     for (workers, blocks) in WAYS {
-        let plan = plan_of(workers, blocks, test);
-        let told = report(rt, alloc, row, &plan, &NoGate)?;
-        assert_eq!(rt; told.trim_end(), wanted, "{plan:?}");
-        let told = report(rt, alloc, row, &plan, &OpenGate)?;
-        assert_eq!(rt; told.trim_end(), wanted, "{plan:?} with a gate");
+        for policy in POLICIES {
+            let plan = Plan {
+                workers,
+                blocks,
+                test,
+                policy,
+            };
+            let told = report(rt, alloc, row, &plan, &NoGate)?;
+            assert_eq!(rt; told.trim_end(), wanted, "{plan:?}");
+        }
     }
     Ok(())
 }
@@ -67,11 +65,14 @@ fn loop_is_told<R: Threads + Sync + Abort>(
     requires { OverApproximatesCall row.now.program first.now.call }
 {
     for (workers, blocks) in WAYS {
-        let plan = plan_of(workers, blocks, test);
+        let plan = Plan {
+            workers,
+            blocks,
+            test,
+            policy: Policy::Blocks,
+        };
         let told = loop_report(rt, alloc, row, first, &plan, &NoGate)?;
         assert_eq!(rt; told.trim_end(), wanted, "{plan:?}");
-        let told = loop_report(rt, alloc, row, first, &plan, &OpenGate)?;
-        assert_eq!(rt; told.trim_end(), wanted, "{plan:?} with a gate");
     }
     Ok(())
 }
@@ -236,7 +237,7 @@ fn many_elements_are_committed(rt: HostRuntime) -> Result<(), Fail> {
     programs_are_told(&rt, rt.alloc(), Test::Flow, &row)
 }
 
-/// As many iterations as a call may ask for: worth threads without a gate.
+/// As many iterations as a call may ask for: worth threads where they pay.
 const MANY_ITERATIONS: &str = "
     maps 1 | mov64 r1, 8388608 | LOOP | END \
         => return 8388608 | loop 0 at 5: answer 8388608, parallel | map 0: 0

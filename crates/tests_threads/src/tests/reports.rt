@@ -7,7 +7,7 @@ use bpfspec_serve::{Counted, UnitForm, serve_run};
 use loop_core_model::LoopReport;
 use loop_core_split::{Gate, Split};
 use spec_run::{Plan, run};
-use spec_run_loop::run_loop;
+use spec_run_loop::{LoopRun, run_loop};
 use std::alloc::Global;
 use std::test::Fail;
 use std::thread::Threads;
@@ -25,17 +25,16 @@ pub(crate) fn loop_report<R: Threads + Sync, G: Gate>(
     requires { OverApproximatesCall row.now.program first.now.call }
 {
     let split = Split::even(first.call.n(), plan.blocks)?;
-    let outcome = run_loop(
-        rt,
+    let by = LoopRun {
         alloc,
-        &row.program,
-        &first.call,
-        &first.maps,
-        &split,
-        plan.workers,
-        gate,
-        plan.test,
-    )?;
+        program: &row.program,
+        call: &first.call,
+        start: &first.maps,
+        split: &split,
+        workers: plan.workers,
+        test: plan.test,
+    };
+    let outcome = run_loop(rt, &by, gate)?;
     let told = LoopReport {
         slot: first.call.slot(),
         answer: i64::from(outcome.answer),

@@ -1,7 +1,9 @@
 use Rattle.std.proofs.Common.{rules, w64, ◌∙◌, IfOk, refl, subst}
 use Rattle.std.proofs.lemmas.Int.{to_z-of_z}
+use Rattle.bpf_step_model.specs.ProgramInOrder.{program_in_order}
 use Rattle.bpf_step.proofs.Limits.{iterations_end}
 use Rattle.spec_run.specs.Calls.{RanCall}
+use Rattle.spec_run.proofs.LoopEnds.{ends_with_its_loops}
 use Rattle.spec_run.proofs.Turns.{Laws, program_ends, starts, few_left, exits, refuses}
 use Rattle.spec_run.proofs.Turns.{refusal_lessens, call_sizes, loops, loop_lessens}
 use Rattle.spec_run.proofs.driver.run_main.Goals as goal
@@ -60,8 +62,10 @@ returns-in-Exit g c =
       sizes = end.sizes;
       kept = end.kept;
       told = end.told;
-      calls = program_ends laws c.args.argument (search rules) c.args.maps.now c.requires.sizes
+      ends = ends_with_its_loops c.args.program.now
+          (iterations_end laws.loops laws.counts c.args.program.now laws.sound)
+          (program_in_order c.args.program.now 4096 c.args.argument c.args.maps.now.words)
+          (program_ends laws c.args.argument (search rules) c.args.maps.now c.requires.sizes
           c.sizes-sizes.ensures.words
-          c.words_fit.ensures;
-      ends = iterations_end laws.loops laws.counts c.args.program.now laws.sound;
+          c.words_fit.ensures);
     }

@@ -2,9 +2,11 @@ use Rattle.std.proofs.Common.{rules, w64, [], ◌∷◌, ◌++◌, ap, refl, sym
 use Rattle.std.proofs.lemmas.Int.{to_z-of_z}
 use Rattle.array_maps.specs.MapList.{MapList}
 use Rattle.bpf_verify_sound.specs.Soundness.{IsSoundProgram}
+use Rattle.bpf_step_model.specs.ProgramInOrder.{program_in_order}
 use Rattle.bpf_step.proofs.Limits.{iterations_end}
 use Rattle.loop_core_model.specs.declared.verdict.LoopReport.{LoopReport}
 use Rattle.loop_core_model.specs.Report.{loop_report}
+use Rattle.spec_run.proofs.LoopEnds.{ends_with_its_loops}
 use Rattle.spec_run.proofs.Turns.{Laws, program_ends, starts, few_left, exits, refuses, call_sizes, loops}
 use Rattle.spec_run_explain.specs.Causes.{IsExplained, report_lines}
 use Rattle.spec_run_explain.proofs.CallsTold.{none_told, call_told, refusal_told, all_told}
@@ -93,9 +95,11 @@ returns-in-Exit c =
         sizes = end.sizes;
         kept = end.kept;
         told = end.told;
-        calls = program_ends laws c.args.argument (search rules) c.args.maps.now c.requires.sizes
-            c.sizes-sizes.ensures.words c.words_fit.ensures;
-        ends = iterations_end laws.loops laws.counts c.args.program.now laws.sound;
+        ends = ends_with_its_loops c.args.program.now
+            (iterations_end laws.loops laws.counts c.args.program.now laws.sound)
+            (program_in_order c.args.program.now 4096 c.args.argument c.args.maps.now.words)
+            (program_ends laws c.args.argument (search rules) c.args.maps.now c.requires.sizes
+            c.sizes-sizes.ensures.words c.words_fit.ensures);
       };
       lines = c.loop-call.invariant.lines;
       explained = all_told c.loop-call.invariant.explained (c.next.ensures.program ∙ still.same) c.in-Exit.ensures.ran;

@@ -2,7 +2,7 @@ use Rattle.std.proofs.Common.{◌<◌, List, [], ◌∷◌, ◌++◌, length, Op
 use Rattle.std.specs.Option.{option_to_list}
 use Rattle.std.proofs.lemmas.List.{map-append}
 use Rattle.loop_core_block.specs.declared.block.Block.{Block}
-use Rattle.loop_core_block.specs.Ran.{RecordsRun}
+use Rattle.loop_core_block.specs.LoopBlocks.{RecordsRunOf}
 use Rattle.loop_core_block.specs.Shown.{shown}
 use Rattle.spec_run_workers.specs.Worked.{WorkerStopped}
 use Rattle.spec_run_workers.proofs.StillWorks.{on_err, less_left, all_images, begins, drew_one, stops_behind, goes_on}
@@ -10,7 +10,7 @@ use Rattle.spec_run_workers.proofs.working.work.Goals as goal
 
 pub loop-number-init : goal.loop-number-init
 loop-number-init g c =
-    begins c.args.test c.args.program.now c.args.call.now c.args.start.now.words c.args.split.now c.args.seat.now
+    begins c.args.of.now.test c.args.of.now.program c.args.of.now.call c.args.of.now.start.words c.args.of.now.bounds c.args.seat.now
     (map shown c.new-blocks.result.items)
     (ap (λ (bs : List Block). map shown bs) c.new-blocks.ensures.items)
 
@@ -18,14 +18,14 @@ pub loop-number-smaller-in-Continue-branch-2 : goal.loop-number-smaller-in-Conti
 loop-number-smaller-in-Continue-branch-2 g c =
     less_left c.args.board.now.blocks c.in-Some.number c.loop-number.seat.history.draws c.take.new.seat.history.draws
     c.in-Some.ensures.above c.in-Some.ensures.below
-    (drew_one c.args.test c.args.program.now c.args.call.now c.args.start.now.words c.args.split.now c.args.seat.now
+    (drew_one c.args.of.now.test c.args.of.now.program c.args.of.now.call c.args.of.now.start.words c.args.of.now.bounds c.args.seat.now
     c.loop-number.seat c.claim.new.seat c.take.new.seat
     (map shown c.loop-number.blocks.items) c.in-Some.number c.loop-number.invariant c.in-Some.ensures.drawn
     (map shown (option_to_list c.in_ok-taken.taken)) c.in_ok-taken.ensures.took)
 
 pub loop-number-preserved-in-Continue-branch-2 : goal.loop-number-preserved-in-Continue-branch-2
 loop-number-preserved-in-Continue-branch-2 g c =
-    goes_on c.args.test c.args.program.now c.args.call.now c.args.start.now.words c.args.split.now c.args.seat.now
+    goes_on c.args.of.now.test c.args.of.now.program c.args.of.now.call c.args.of.now.start.words c.args.of.now.bounds c.args.seat.now
     c.loop-number.seat c.claim.new.seat c.take.new.seat
     (map shown c.loop-number.blocks.items) c.in-Some.number c.loop-number.invariant c.in-Some.ensures.drawn
     (map shown (option_to_list c.in_ok-taken.taken)) c.in_ok-taken.ensures.took
@@ -39,14 +39,14 @@ pub loop-number-smaller : goal.loop-number-smaller
 loop-number-smaller g c =
     less_left c.args.board.now.blocks c.in-Some.number c.loop-number.seat.history.draws c.take.new.seat.history.draws
     c.in-Some.ensures.above c.in-Some.ensures.below
-    (drew_one c.args.test c.args.program.now c.args.call.now c.args.start.now.words c.args.split.now c.args.seat.now
+    (drew_one c.args.of.now.test c.args.of.now.program c.args.of.now.call c.args.of.now.start.words c.args.of.now.bounds c.args.seat.now
     c.loop-number.seat c.claim.new.seat c.take.new.seat
     (map shown c.loop-number.blocks.items) c.in-Some.number c.loop-number.invariant c.in-Some.ensures.drawn
     (map shown (option_to_list c.in_ok-taken.taken)) c.in_ok-taken.ensures.took)
 
 pub loop-number-preserved : goal.loop-number-preserved
 loop-number-preserved g c =
-    goes_on c.args.test c.args.program.now c.args.call.now c.args.start.now.words c.args.split.now c.args.seat.now
+    goes_on c.args.of.now.test c.args.of.now.program c.args.of.now.call c.args.of.now.start.words c.args.of.now.bounds c.args.seat.now
     c.loop-number.seat c.claim.new.seat c.take.new.seat
     (map shown c.loop-number.blocks.items) c.in-Some.number c.loop-number.invariant c.in-Some.ensures.drawn
     (map shown (option_to_list c.in_ok-taken.taken)) c.in_ok-taken.ensures.took
@@ -57,14 +57,14 @@ loop-number-preserved g c =
 
 pub returns-clause-ran : goal.returns-clause-ran
 returns-clause-ran g c =
-    all_images (RecordsRun c.args.test c.args.program.now c.args.call.now c.args.start.now.words) shown
+    all_images (RecordsRunOf c.args.of.now) shown
     c.loop-number.blocks.items c.loop-number.invariant.ran
 
 pub returns-in_err-push-clause-stopped : goal.returns-in_err-push-clause-stopped
 returns-in_err-push-clause-stopped g c =
-    on_err (WorkerStopped c.args.test c.args.program.now c.args.call.now c.args.start.now.words c.args.split.now
+    on_err (WorkerStopped c.args.of.now.test c.args.of.now.program c.args.of.now.call c.args.of.now.start.words c.args.of.now.bounds
     c.args.seat.now c.take.new.seat) c.from_residual-in_err-push.result
-    (stops_behind c.args.test c.args.program.now c.args.call.now c.args.start.now.words c.args.split.now c.args.seat.now
+    (stops_behind c.args.of.now.test c.args.of.now.program c.args.of.now.call c.args.of.now.start.words c.args.of.now.bounds c.args.seat.now
     c.loop-number.seat c.claim.new.seat c.take.new.seat
     (map shown c.loop-number.blocks.items) c.in-Some.number c.loop-number.invariant c.in-Some.ensures.drawn
     (map shown (option_to_list c.in_ok-taken.taken)) c.in_ok-taken.ensures.took

@@ -6,7 +6,7 @@ use Rattle.loop_core_block.specs.LoopBlocks.{RecordsRunOf}
 use Rattle.loop_core_block.specs.Shown.{shown}
 use Rattle.spec_run_workers.proofs.StillWorks.{all_images}
 use Rattle.spec_run_workers.proofs.WorkerLaws.{boards, ran, complete}
-use Rattle.spec_run_loop.proofs.looping.speculate_by_workers.Goals as goal
+use Rattle.spec_run_loop.proofs.by_blocks.speculate_by_workers.Goals as goal
 
 pub run_workers-requires-clause-blocks : goal.run_workers-requires-clause-blocks
 run_workers-requires-clause-blocks g c κs outlives =

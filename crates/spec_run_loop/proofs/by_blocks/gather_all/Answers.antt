@@ -7,7 +7,7 @@ use Rattle.loop_core_block.specs.Shown.{shown}
 use Rattle.loop_core_gather.specs.Gathered.{all_gathered}
 use Rattle.spec_run_workers.specs.Workers.{AreFaultless}
 use Rattle.spec_run_workers.proofs.WorkerLaws.{not_both}
-use Rattle.spec_run_loop.proofs.looping.gather_all.Goals as goal
+use Rattle.spec_run_loop.proofs.by_blocks.gather_all.Goals as goal
 
 pub gather-requires-clause-ran : goal.gather-requires-clause-ran
 gather-requires-clause-ran c =
