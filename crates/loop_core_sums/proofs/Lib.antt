@@ -1,7 +1,9 @@
+pub mod Clearing
 pub mod Reduces
 pub mod Combining
 pub mod Ranges
 pub mod Passing
 pub mod Callbacks
-pub mod BlockByBlock
+pub mod RangeByRange
+pub mod RoundLaws
 pub mod FunctionEnds

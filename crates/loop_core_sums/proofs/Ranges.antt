@@ -6,7 +6,6 @@ use Rattle.std.specs.List.{sum}
 use Rattle.std.proofs.lemmas.List.{length-replicate, get_or-replicate}
 use Rattle.array_maps.specs.Accesses.{Access, words_after_all}
 use Rattle.array_maps.specs.MapList.{MapList, AreWords}
-use Rattle.array_maps.proofs.ElementLaws.{length-words_after_all}
 use Rattle.bpf_insn_types.specs.Program.{Program}
 use Rattle.bpf_step_model.specs.State.{LoopCall}
 use Rattle.bpf_step_model.specs.Run.{BoundedResult, Ended, Stuck, Unfinished, followed}
@@ -22,7 +21,7 @@ use Rattle.loop_core_sequential.specs.Rests.{rest_to, RanTo}
 use Rattle.bpf_step_sums.specs.SumLaw.{AllReduce}
 use Rattle.loop_core_sums.specs.declared.partial_sum.PartialSum.{PartialSum}
 use Rattle.loop_core_sums.specs.SumLoops.{SumLoopOf, IsSumLoop}
-use Rattle.loop_core_sums.specs.Sums.{identity_of, identity_maps, combined_words, IsNewSum, IsSumOf}
+use Rattle.loop_core_sums.specs.Sums.{identity_of, identity_maps, combined_words, IsSumOf}
 use Rattle.loop_core_sums.proofs.Reduces.{all_both, saw_nothing}
 use Rattle.loop_core_sums.proofs.Combining.{sums_combine}
 
@@ -110,6 +109,11 @@ module _ (program : Program) (call : LoopCall) where
   on_of : (from to : ℕ) (old new : MapList) (broke : Option ℕ) → RanTo program call from to old new broke → from ≤ to
   on_of from to old new (Some answer) ran = ran.on
   on_of from to old new None ran = ran.on
+
+  pub sizes_of : (from to : ℕ) (old new : MapList) (broke : Option ℕ) → RanTo program call from to old new broke
+      → new.sizes ≡ old.sizes
+  sizes_of from to old new (Some answer) ran = ran.sizes
+  sizes_of from to old new None ran = ran.sizes
 
   as_ran : (from to : ℕ) (old new : MapList) (broke : Option ℕ) → from ≤ to → to ≤ call.n → new.sizes ≡ old.sizes
       → ((past : ℕ) → to ≤ past → rest_to program call past from old.words ≡ goes program call to past broke new.words)
@@ -229,9 +233,9 @@ module _ (l : SumLoopOf) (is : IsSumLoop l) (each : EachIterationEnds l.program)
       ∙ get_or-replicate (sum l.program.sizes) e (identity_of l.op) 0 (omega (arith, h, count))
 
   pub carried : OperatorsAssociate → base ≡ (identity_maps l.op l.program.sizes).words → (from to : ℕ)
-      → to ≤ l.call.n → (old : MapList) → old.words ≡ base → (s : PartialSum)
+      → to ≤ l.call.n → (old : MapList) → old.words ≡ base → old.sizes ≡ l.program.sizes → (s : PartialSum)
       → RanTo l.program l.call from to old s.maps s.broke → IsSumOf l from to s
-  carried laws base_is from to within old old_is s ran =
+  carried laws base_is from to within old old_is sizes s ran =
       let on = on_of l.program l.call from to old s.maps s.broke ran in
       let r = range to (to - from) from within (omega (arith, on)) in
       let same = same_end l.program l.call to r.broke s.broke (words_after_all r.made base) s.maps.words
@@ -239,7 +243,7 @@ module _ (l : SumLoopOf) (is : IsSumLoop l) (each : EachIterationEnds l.program)
       ∙ sym (ap (rest_to l.program l.call past from) old_is)
       ∙ rest_of l.program l.call from to old s.maps s.broke ran past over) in
       record {
-        count = ap length (sym same.1) ∙ length-words_after_all r.made base ∙ base_fits.count;
+        fits = sizes_of l.program l.call from to old s.maps s.broke ran ∙ sizes;
         adds = λ maps fit. as_ran l.program l.call from to maps
             (record { sizes = maps.sizes; words = combined_words l.op maps.words s.maps.words }) s.broke on within refl
             (λ past over.
@@ -252,15 +256,14 @@ module _ (l : SumLoopOf) (is : IsSumLoop l) (each : EachIterationEnds l.program)
             ∙ ap (λ (ws : List ℕ). goes l.program l.call to past s.broke (combined_words l.op maps.words ws)) same.1);
       }
 
--- so of a sum of no iteration, which a range of iterations ran on
-pub ran_sum : (l : SumLoopOf) → IsSumLoop l → EachIterationEnds l.program → OperatorsAssociate → (old s : PartialSum)
-    → IsNewSum l old → AreWords old.maps.words → (from to : ℕ) → to ≤ l.call.n
-    → RanTo l.program l.call from to old.maps s.maps s.broke → IsSumOf l from to s
-ran_sum l is each laws old s new fit from to within ran =
-    let words : old.maps.words ≡ (identity_maps l.op l.program.sizes).words =
-    ap (λ (maps : MapList). maps.words) new.maps_are in
-    carried l is each old.maps.words
+-- so of what a range of iterations ran on that is such words
+pub ran_sum : (l : SumLoopOf) → IsSumLoop l → EachIterationEnds l.program → OperatorsAssociate → (old : MapList)
+    (s : PartialSum) → old ≡ identity_maps l.op l.program.sizes → AreWords old.words → (from to : ℕ) → to ≤ l.call.n
+    → RanTo l.program l.call from to old s.maps s.broke → IsSumOf l from to s
+ran_sum l is each laws old s cleared fit from to within ran =
+    let words : old.words ≡ (identity_maps l.op l.program.sizes).words = ap (λ (maps : MapList). maps.words) cleared in
+    carried l is each old.words
     (record {
       count = ap length words ∙ length-replicate (sum l.program.sizes) (identity_of l.op);
       fit = fit;
-    }) laws words from to within old.maps refl s ran
+    }) laws words from to within old refl (ap (λ (maps : MapList). maps.sizes) cleared) s ran

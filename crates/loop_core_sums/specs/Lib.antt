@@ -1,2 +1,3 @@
 pub mod SumLoops
+pub mod Rounds
 pub mod Sums

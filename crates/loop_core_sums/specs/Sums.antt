@@ -1,13 +1,11 @@
 -- What iterations add up to.
-use Rattle.std.specs.Prelude.{◌≡◌, ℕ, ◌<◌, List, map, length, replicate, slice_index, slice_index_or, None}
+use Rattle.std.specs.Prelude.{◌≡◌, ℕ, ◌+◌, ◌<◌, ◌≤◌, List, map, length, replicate, slice_index, slice_index_or}
 use Rattle.std.specs.List.{range_with_len, sum}
 use Rattle.array_maps.specs.declared.access.Op.{Op}
 use Rattle.array_maps.specs.declared.access.Op.TheVariants.{Add, Or, And, Xor, AddH}
 use Rattle.array_maps.specs.Accesses.{combined}
 use Rattle.array_maps.specs.MapList.{MapList}
 use Rattle.bpf_verify_sound.specs.Soundness.{AreMapWords}
-use Rattle.loop_core_model.specs.Split.{split_fault}
-use Rattle.loop_core_model.specs.Intervals.{blocks_of, start_of, end_of}
 use Rattle.loop_core_sequential.specs.Rests.{RanTo}
 use Rattle.loop_core_sums.specs.declared.partial_sum.PartialSum.{PartialSum}
 use Rattle.loop_core_sums.specs.SumLoops.{SumLoopOf}
@@ -29,22 +27,24 @@ abbrev pub combined_words : Op → (words operands : List ℕ) → List ℕ
 combined_words op words operands = map (λ e. combined op (slice_index words e) (slice_index operands e))
     (range_with_len 0 (length words))
 
--- no iteration was added up yet
-pub record IsNewSum (l : SumLoopOf) (s : PartialSum) : Type 0 where
-  pub maps_are : s.maps ≡ identity_maps l.op l.program.sizes
-  pub going : s.broke ≡ None
+-- it is for ranges of the loop's iterations: of the program's sizes
+abbrev pub IsSumFor : SumLoopOf → PartialSum → Type 0
+IsSumFor l s = s.maps.sizes ≡ l.program.sizes
 
 -- the iterations from one index up to another add up to this: on any maps of the program they break off with this
 -- answer, or go on, and leave the words that were there combined with these
 pub record IsSumOf (l : SumLoopOf) (from to : ℕ) (s : PartialSum) : Type 0 where
-  pub count : length s.maps.words ≡ sum l.program.sizes
+  pub fits : IsSumFor l s
   pub adds : (maps : MapList) → AreMapWords l.program maps.words → RanTo l.program l.call from to maps
       (record { sizes = maps.sizes; words = combined_words l.op maps.words s.maps.words }) s.broke
 
--- there is a sum for each block of a split of the loop's iterations, in order
-pub record AreSumsOf (l : SumLoopOf) (sums : List PartialSum) : Type 0 where
-  pub bounds : List ℕ
-  pub split : split_fault bounds l.call.n ≡ None
-  pub count : length sums ≡ blocks_of bounds
-  pub each : (block : ℕ) (s : PartialSum) → block < length sums
-      → IsSumOf l (start_of bounds block) (end_of bounds block) (slice_index_or sums block s)
+-- they are of ranges of the loop's iterations that follow one another, from one index up to another: the first range
+-- begins at start 0, and each ends where the next one begins
+pub record AreSumsOf (l : SumLoopOf) (from to : ℕ) (sums : List PartialSum) : Type 0 where
+  pub start : ℕ → ℕ
+  pub first : start 0 ≡ from
+  pub last : start (length sums) ≡ to
+  pub before : (share : ℕ) → share ≤ length sums → start share ≤ to
+  pub within : to ≤ l.call.n
+  pub each : (share : ℕ) (s : PartialSum) → share < length sums
+      → IsSumOf l (start share) (start (share + 1)) (slice_index_or sums share s)

@@ -1,8 +1,8 @@
 //! Sums, combined with the maps.
 
-ghost use Rattle.std.specs.Prelude.{◌≡◌, length};
-ghost use Rattle.loop_core_sequential.specs.Loops.{RanLoopInOrder};
-ghost use Rattle.loop_core_sums.specs.Sums.{AreSumsOf, combined_words};
+ghost use Rattle.std.specs.Prelude.{◌≡◌, ℕ, length, All};
+ghost use Rattle.loop_core_sequential.specs.Rests.{RanTo};
+ghost use Rattle.loop_core_sums.specs.Sums.{AreSumsOf, IsSumFor, combined_words};
 
 use crate::partial_sum::PartialSum;
 use crate::sum_loop::SumLoop;
@@ -20,22 +20,25 @@ fn combine_with(maps: &mut Maps, op: Op, others: &Maps)
 }
 
 impl<'l> SumLoop<'l> {
-    /// Combines the maps with sums of all the loop's iterations, block after block, up to the first that broke off:
-    /// the maps are as the loop leaves them in order. Gives the loop's answer. The maps are of the program's sizes.
-    pub fn add_up(&self, sums: &[PartialSum], maps: &mut Maps) -> u32
-        requires sums { AreSumsOf self.now sums.now }
+    /// Combines the maps with sums of ranges of iterations that follow one another, range after range, up to the first
+    /// that broke off: the maps are as these iterations leave them in order. Gives the loop's answer where one broke
+    /// off. The maps are of the program's sizes.
+    pub fn add_up(&self, sums: &[PartialSum], maps: &mut Maps) -> Option<u32>
+        requires fit { All (IsSumFor self.now) sums.now }
         requires sizes { maps.old.sizes ≡ self.now.program.sizes }
-        ensures { RanLoopInOrder self.now.program self.now.call maps.old maps.new result }
+        ensures { (from to : ℕ) → AreSumsOf self.now from to sums.now
+            → RanTo self.now.program self.now.call from to maps.old maps.new result }
     {
         for sum in sums {
             // These tell the proof that words are below 2^64, and how many there are.
             let _words = maps.words();
             let _sizes = maps.sizes();
+            let _others = sum.maps.sizes();
             combine_with(maps, self.op, &sum.maps);
             if let Some(answer) = sum.broke {
-                return answer;
+                return Some(answer);
             }
         }
-        self.call.n()
+        None
     }
 }

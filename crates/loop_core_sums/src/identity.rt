@@ -1,32 +1,33 @@
 //! Words that an operator leaves any word as it was with.
 
-ghost use Rattle.std.specs.Prelude.{◌≡◌, IfOk};
-ghost use Rattle.bpf_insn_types.specs.Limits.{AreSizes};
-ghost use Rattle.loop_core_sums.specs.Sums.{identity_maps};
+ghost use Rattle.std.specs.Prelude.{◌≡◌};
+ghost use Rattle.loop_core_sums.specs.Sums.{identity_maps, identity_of};
 
-use array_maps::{Maps, Op};
-use std::alloc::{AllocError, Global};
+use array_maps::{Maps, Op, Store};
 
-/// Maps of these sizes, all of whose words are such.
+/// The operand with which an operator leaves each word as it was.
 #[tactic(auto, unfolding(crate::specs::Sums::identity_of))]
-pub(crate) fn identity_maps(alloc: Global, sizes: &[u32], op: Op) -> Result<Maps, AllocError>
-    requires { AreSizes sizes.now }
-    ensures { IfOk result (λ maps. maps ≡ identity_maps op sizes.now) }
+fn identity_of(op: Op) -> u64
+    ensures { result ≡ identity_of op }
 {
-    let Ok(mut maps) = Maps::new(alloc, sizes) else {
-        return Err(AllocError);
-    };
     match op {
-        Op::Add => (),
-        Op::Or => (),
-        Op::Xor => (),
-        Op::AddH => (),
-        Op::And => {
-            // It tells the proof how many words the maps have.
-            let _sizes = maps.sizes();
-            let ones = vec![in alloc; u64::MAX; maps.words().len()]?;
-            maps.set_words(ones);
-        }
+        Op::Add => 0,
+        Op::Or => 0,
+        Op::And => u64::MAX,
+        Op::Xor => 0,
+        Op::AddH => 0,
     }
-    Ok(maps)
+}
+
+/// Makes each word of maps such an operand.
+pub(crate) fn clear(maps: &mut Maps, op: Op)
+    ensures { maps.new ≡ identity_maps op maps.old.sizes }
+{
+    let identity = identity_of(op);
+    // It tells the proof how many words there are.
+    let _sizes = maps.sizes();
+    let elements = maps.words().len() as u32;
+    for e in 0..elements {
+        maps.store(e, identity);
+    }
 }

@@ -6,18 +6,23 @@
 //! ```text
 //! let of = SumLoop::of(program, call)?;                  // each access is `lock add64 [..], ..`
 //! let mut sums = of.try_new_sums(alloc, 2)?;
-//! of.run(&mut sums[0], 0, 500);                          // by one thread
-//! of.run(&mut sums[1], 500, 1000);                       // by another
-//! of.add_up(&sums, maps)                                 // as the loop of 1000 iterations in order
+//! let round = Round { from: 0, to: 1000, shares: 2 };
+//! of.run_share(&mut sums[0], &round, 0);                 // iterations 0 to 499, by one thread
+//! of.run_share(&mut sums[1], &round, 1);                 // 500 to 999, by another
+//! of.add_up(&sums, maps)                                 // as these 1000 iterations in order
 //! ```
+//!
+//! A loop that may break off early is added up round by round: nothing of a round runs after one that broke off.
 #![tactic(auto)]
 
 mod adding;
 mod function_end;
 mod identity;
 mod partial_sum;
+mod round;
 mod running;
 mod sum_loop;
 
 pub use partial_sum::PartialSum;
+pub use round::Round;
 pub use sum_loop::SumLoop;

@@ -1,21 +1,24 @@
 //! Iterations of a loop that add up.
 
-ghost use Rattle.std.specs.Prelude.{◌≡◌, ◌≤◌, length, All, IfOk};
-ghost use Rattle.loop_core_sums.specs.Sums.{IsNewSum, IsSumOf};
+ghost use Rattle.std.specs.Prelude.{◌≡◌, ◌+◌, ◌<◌, ◌≤◌, length, All, IfOk};
+ghost use Rattle.loop_core_sums.specs.Rounds.{share_start};
+ghost use Rattle.loop_core_sums.specs.Sums.{IsSumFor, IsSumOf};
 
-use crate::identity::identity_maps;
+use crate::identity::clear;
 use crate::partial_sum::PartialSum;
+use crate::round::Round;
 use crate::sum_loop::SumLoop;
+use array_maps::Maps;
 use bpf_verify_sound::{law_of_accepted_programs, law_of_accepted_runs};
 use loop_core_model::law_of_operators;
 use loop_core_sequential::range_in_order;
 use std::alloc::{AllocError, Global};
 
 impl<'l> SumLoop<'l> {
-    /// So many sums of no iteration.
+    /// So many sums, for any ranges of iterations.
     pub fn try_new_sums(&self, alloc: Global, count: u32) -> Result<Vec<PartialSum>, AllocError>
         ensures count { IfOk result (λ sums. length sums.items ≡ count) }
-        ensures new { IfOk result (λ sums. All (IsNewSum self.now) sums.items) }
+        ensures fit { IfOk result (λ sums. All (IsSumFor self.now) sums.items) }
     {
         let mut sums = Vec::new(alloc);
         for _ in 0..count {
@@ -24,18 +27,20 @@ impl<'l> SumLoop<'l> {
         Ok(sums)
     }
 
-    /// A sum of no iteration.
+    /// A sum, for any range of iterations.
     fn try_new_sum(&self, alloc: Global) -> Result<PartialSum, AllocError>
-        ensures { IfOk result (IsNewSum self.now) }
+        ensures { IfOk result (IsSumFor self.now) }
     {
-        let maps = identity_maps(alloc, self.program.sizes(), self.op)?;
+        let Ok(maps) = Maps::new(alloc, self.program.sizes()) else {
+            return Err(AllocError);
+        };
         Ok(PartialSum { maps, broke: None })
     }
 
-    /// Adds up the iterations from an index up to, and not with, another, or up to the first that returns 1, in a sum
-    /// of no iteration.
+    /// Adds up the iterations from an index up to, and not with, another, or up to the first that returns 1, in place
+    /// of what was added up before.
     pub fn run(&self, sum: &mut PartialSum, from: u32, to: u32)
-        requires new { IsNewSum self.now sum.old }
+        requires fit { IsSumFor self.now sum.old }
         requires in_order { from ≤ to }
         requires within { to ≤ self.now.call.n }
         ensures { IsSumOf self.now from to sum.new }
@@ -45,7 +50,18 @@ impl<'l> SumLoop<'l> {
         law_of_accepted_programs();
         // These tell the proof that the program is accepted, and of how many words its maps are.
         let _unit = self.program.unit();
+        clear(&mut sum.maps, self.op);
         let _words = sum.maps.words();
         sum.broke = range_in_order(self.program, self.call, from, to, &mut sum.maps);
+    }
+
+    /// Adds up the iterations of a share of a round in the same way.
+    pub fn run_share(&self, sum: &mut PartialSum, round: &Round, share: u32)
+        requires fit { IsSumFor self.now sum.old }
+        requires within { round.now.to ≤ self.now.call.n }
+        requires share { share < round.now.shares }
+        ensures { IsSumOf self.now (share_start round.now share) (share_start round.now (share + 1)) sum.new }
+    {
+        self.run(sum, round.start(share), round.start(share + 1));
     }
 }

@@ -1,6 +1,5 @@
 -- Loops that add up.
-use Rattle.std.proofs.Common.{◌≡◌, ℕ, ◌<◌, List, length, None, Result, Ok, Err, IfOk, sym, ◌∙◌, ap, subst}
-use Rattle.std.specs.Prelude.{slice_index_or}
+use Rattle.std.proofs.Common.{◌≡◌, ℕ, length, Result, Ok, Err, IfOk, sym, ◌∙◌, ap, subst}
 use Rattle.std.specs.List.{sum}
 use Rattle.array_maps.specs.MapList.{MapList, AreWords}
 use Rattle.bpf_insn_types.specs.Program.{Program}
@@ -13,12 +12,8 @@ use Rattle.loop_core_model.specs.declared.verdict.Verdict.{Verdict}
 use Rattle.loop_core_model.specs.declared.verdict.Verdict.TheVariants.{Parallel}
 use Rattle.loop_core_model.specs.Report.{verdict}
 use Rattle.loop_core_model.specs.Outcome.{judged_as}
-use Rattle.loop_core_model.specs.Split.{split_fault}
-use Rattle.loop_core_model.specs.Intervals.{blocks_of, start_of, end_of}
 use Rattle.loop_core_sequential.specs.Loops.{RanLoopInOrder}
-use Rattle.loop_core_sums.specs.declared.partial_sum.PartialSum.{PartialSum}
 use Rattle.loop_core_sums.specs.SumLoops.{SumLoopOf, AlwaysPasses}
-use Rattle.loop_core_sums.specs.Sums.{IsSumOf, AreSumsOf}
 use Rattle.loop_core_gather.specs.Gathered.{IsOutcome}
 use Rattle.spec_run_loop.specs.declared.decision.LoopAnswer.{LoopAnswer}
 
@@ -36,18 +31,6 @@ passed_so l start left answer told passes count sizes fit told_is ran test =
           ∙ ap (λ (v : BoundedResult Verdict). judged_as v looped) judged;
       sizes = ran.kept;
     })
-
--- sums of all blocks of a split are those of its loop
-pub sums_of_blocks : (l : SumLoopOf) (bounds : List ℕ) (n : ℕ) (sums : List PartialSum) → n ≡ l.call.n
-    → split_fault bounds n ≡ None → length sums ≡ blocks_of bounds
-    → ((block : ℕ) (s : PartialSum) → block < length sums → IsSumOf l (start_of bounds block) (end_of bounds block)
-    (slice_index_or sums block s)) → AreSumsOf l sums
-sums_of_blocks l bounds n sums n_is split count each = record {
-  bounds = bounds;
-  split = subst (λ (m : ℕ). split_fault bounds m ≡ None) n_is split;
-  count = count;
-  each = each;
-}
 
 -- its outcome by any test is the call's by one of them
 pub of_call : (l : SumLoopOf) (program : Program) (call : LoopCall) (start left : MapList) (told : Verdict)

@@ -102,8 +102,12 @@ fn run_on_copy<R: Threads + Sync, G: Gate>(
     let crew = Crew::Workers(run.workers);
     let decision = decided(rt, &of, crew, &mut Workspace::new(), gate)?;
     let mut maps = run.start.try_copy(run.alloc)?;
-    let LoopAnswer { verdict, answer } =
-        decision.carry_out(run.program, run.call, &mut maps, run.test);
+    let LoopAnswer { verdict, answer } = decision.carry_out(
+        run.program,
+        run.call,
+        &mut maps,
+        run.test,
+    );
     Ok(LoopOutcome {
         verdict,
         answer,

@@ -1,26 +1,34 @@
 //! Loops that add up, by several workers.
 
-ghost use Rattle.std.specs.Prelude.{◌≡◌, ◌<◌, ◌≤◌, ℕ, None, All, length, slice_index_or, IfOk, OnErr};
+ghost use Rattle.std.specs.Prelude.{◌≡◌, ◌+◌, ◌<◌, ◌≤◌, All, length, IfOk, OnErr};
 ghost use Rattle.loop_core_model.specs.declared.loop_test.Test.{Test};
-ghost use Rattle.loop_core_model.specs.Split.{split_fault};
-ghost use Rattle.loop_core_model.specs.Intervals.{blocks_of, start_of, end_of};
-ghost use Rattle.loop_core_sums.specs.declared.partial_sum.PartialSum.{PartialSum as SumOf};
-ghost use Rattle.loop_core_sums.specs.Sums.{IsNewSum, IsSumOf, AreSumsOf};
+ghost use Rattle.loop_core_sequential.specs.Loops.{RanLoopInOrder};
+ghost use Rattle.loop_core_sums.specs.Rounds.{share_start};
+ghost use Rattle.loop_core_sums.specs.Sums.{IsSumFor, IsSumOf, AreSumsOf};
 ghost use Rattle.loop_core_gather.specs.Gathered.{IsOutcome};
 
 use crate::decision::LoopAnswer;
-use crate::paying::worthwhile_shares;
+use crate::paying::{elements_of, worthwhile_shares};
 use array_maps::Maps;
+use loop_core_block::most_instructions;
 use loop_core_sequential::in_order;
-use loop_core_split::Split;
-use loop_core_sums::{PartialSum, SumLoop};
+use loop_core_sums::{PartialSum, Round, SumLoop};
 use std::alloc::{AllocError, Global};
 use std::thread;
 use std::thread::Threads;
 
+/// How many instructions a share of the first round has, by its iterations' most: they are worth a thread.
+const ROUND_SHARE: u32 = 2_000_000;
+
+/// How many more it has for each element: each round makes a word for it, and combines it with the maps.
+const ROUND_ELEMENT: u32 = 128;
+
+/// How many iterations it has at least: they go in batches.
+const ROUND_ITERATIONS: u32 = 2_048;
+
 /// Runs a loop call that adds up by 1 to 16 workers: on these maps, which are of the program's sizes, and change only
-/// where it gives an answer. One worker runs it in order; several add up an even share of its iterations each, where
-/// that pays.
+/// where it gives an answer. One worker runs it in order; several add up an even share of each round each, where that
+/// pays.
 pub(crate) fn run_sums<R: Threads + Sync>(
     rt: &R,
     alloc: Global,
@@ -43,54 +51,90 @@ pub(crate) fn run_sums<R: Threads + Sync>(
     if shares == 1 {
         return Ok(LoopAnswer::passed(in_order(of.program, of.call, maps)));
     }
-    let sums = sums_of_shares(rt, alloc, of, shares)?;
-    Ok(LoopAnswer::passed(of.add_up(&sums, maps)))
+    let mut sums = of.try_new_sums(alloc, shares)?;
+    let first = first_round(of, shares, elements_of(maps));
+    let answer = in_rounds(rt, of, first, sums.as_mut_slice(), maps);
+    Ok(LoopAnswer::passed(answer))
 }
 
-/// What each of some even shares of a loop's iterations adds up to.
-#[tactic(auto, using(crate::proofs::EvenLaws::even_is))]
-fn sums_of_shares<R: Threads + Sync>(
-    rt: &R,
-    alloc: Global,
-    of: &SumLoop,
-    shares: u32,
-) -> Result<Vec<PartialSum>, AllocError>
+/// How many iterations the first round of a loop has, over this many elements, at most 65,536, in so many shares. It is
+/// little work, for the loop may break off at once.
+fn first_round(of: &SumLoop, shares: u32, elements: u32) -> u32
     requires some { 0 < shares }
     requires few { shares ≤ 16 }
-    ensures { IfOk result (λ sums. AreSumsOf of.now sums.items) }
+    requires elements { elements ≤ 65536 }
+    ensures { 0 < result }
 {
-    let split = match Split::even(of.call.n(), shares) {
-        Ok(split) => split,
-        Err(_) => unreachable!(),
-    };
-    let mut sums = of.try_new_sums(alloc, split.blocks())?;
-    run_blocks(rt, of, &split, sums.as_mut_slice());
-    Ok(sums)
+    let most = most_instructions(of.program, of.call.callback()).max(1);
+    let instructions = ROUND_SHARE + ROUND_ELEMENT * elements;
+    shares * (instructions / most).max(ROUND_ITERATIONS)
 }
 
-/// Adds up the iterations of each block of a split, in a sum of no iteration, in a thread of its own where one can be
-/// started.
-fn run_blocks<R: Threads + Sync>(rt: &R, of: &SumLoop, split: &Split, sums: &mut [PartialSum])
-    requires split { split_fault split.now of.now.call.n ≡ None }
-    requires count { length sums.old ≡ blocks_of split.now }
-    requires new { All (IsNewSum of.now) sums.old }
-    ensures { (block : ℕ) (s : SumOf) → block < length sums.old → IsSumOf of.now (start_of split.now block)
-        (end_of split.now block) (slice_index_or sums.new block s) }
+/// Runs the loop round by round, each round over even shares of its iterations, up to the round in which one breaks
+/// off. Each round but the last has twice as many iterations as the one before: so little is run in vain. The maps
+/// are of the program's sizes.
+fn in_rounds<R: Threads + Sync>(
+    rt: &R,
+    of: &SumLoop,
+    first: u32,
+    sums: &mut [PartialSum],
+    maps: &mut Maps,
+) -> u32
+    requires first { 0 < first }
+    requires some { 0 < length sums.old }
+    requires few { length sums.old ≤ 16 }
+    requires fit { All (IsSumFor of.now) sums.old }
+    requires sizes { maps.old.sizes ≡ of.now.program.sizes }
+    ensures { RanLoopInOrder of.now.program of.now.call maps.old maps.new result }
 {
-    let one = |block: usize, sum: &mut PartialSum|
-        requires { (split_fault split.now of.now.call.n ≡ None) × (block < blocks_of split.now)
-            × IsNewSum of.now sum.now }
-        ensures { IsSumOf of.entry.now (start_of split.entry.now block) (end_of split.entry.now block) sum.exit.now }
-    { run_block(of, split, block as u32, sum) };
-    thread::for_each_mut(rt, sums, split.blocks() as usize, &one);
+    let n = of.call.n();
+    let mut from = 0;
+    let mut step = first;
+    while from < n {
+        let to = round_end(from, step, n);
+        let round = Round {
+            from,
+            to,
+            shares: sums.len() as u32,
+        };
+        run_shares(rt, of, &round, sums);
+        if let Some(answer) = of.add_up(sums, maps) {
+            return answer;
+        }
+        from = to;
+        step = step.saturating_mul(2);
+    }
+    n
 }
 
-/// Adds up the iterations of a block, in a sum of no iteration.
-fn run_block(of: &SumLoop, split: &Split, block: u32, sum: &mut PartialSum)
-    requires split { split_fault split.now of.now.call.n ≡ None }
-    requires within { block < blocks_of split.now }
-    requires new { IsNewSum of.now sum.old }
-    ensures { IsSumOf of.now (start_of split.now block) (end_of split.now block) sum.new }
+/// Where a round of so many iterations ends: with the loop, where what is left after it is no more than it has.
+fn round_end(from: u32, step: u32, n: u32) -> u32
+    requires from { from < n }
+    requires step { 0 < step }
+    ensures on { from < result }
+    ensures within { result ≤ n }
 {
-    of.run(sum, split.start(block), split.end(block));
+    if n - from <= step.saturating_mul(2) {
+        n
+    } else {
+        from + step
+    }
+}
+
+/// Adds up the iterations of each share of a round, in a thread of its own where one can be started.
+fn run_shares<R: Threads + Sync>(rt: &R, of: &SumLoop, round: &Round, sums: &mut [PartialSum])
+    requires within { round.now.to ≤ of.now.call.n }
+    requires few { round.now.shares ≤ 16 }
+    requires count { length sums.old ≡ round.now.shares }
+    requires fit { All (IsSumFor of.now) sums.old }
+    ensures sums { AreSumsOf of.now round.now.from round.now.to sums.new }
+    ensures fit { All (IsSumFor of.now) sums.new }
+{
+    let one = |share: usize, sum: &mut PartialSum|
+        requires { (round.now.to ≤ of.now.call.n) × (round.now.shares ≤ 16) × (share < round.now.shares)
+            × IsSumFor of.now sum.now }
+        ensures { IsSumOf of.entry.now (share_start round.entry.now share) (share_start round.entry.now (share + 1))
+            sum.exit.now }
+    { of.run_share(sum, round, share as u32) };
+    thread::for_each_mut(rt, sums, round.shares as usize, &one);
 }

@@ -19,6 +19,7 @@ returns-then-shares-eq1-clause-outcome g c =
 
 pub returns-clause-outcome : goal.returns-clause-outcome
 returns-clause-outcome g c =
-    passed_so c.args.of.now c.args.maps.now c.add_up.new.maps c.add_up.result c.passed-2.result
+    passed_so c.args.of.now c.args.maps.now c.in_rounds-answer.new.maps c.in_rounds-answer.result c.passed-2.result
     c.law_of_passing.ensures c.sizes-sizes.ensures.words c.requires.sizes
-    (subst AreWords c.words-words.ensures.words c.words-words.ensures.fit) c.passed-2.ensures c.add_up.ensures
+    (subst AreWords c.words-words.ensures.words c.words-words.ensures.fit) c.passed-2.ensures
+    c.in_rounds-answer.ensures

@@ -1,9 +1,9 @@
-use Rattle.std.proofs.Common.{◌≤◌, sym, ap, ◌∙◌, subst}
+use Rattle.std.proofs.Common.{◌≤◌, List, ℕ, sym, ap, ◌∙◌, subst}
 use Rattle.array_maps.specs.MapList.{MapList, AreWords}
 use Rattle.bpf_step.proofs.Limits.{iterations_end}
 use Rattle.loop_core_sums.specs.declared.partial_sum.PartialSum.{PartialSum}
 use Rattle.loop_core_sums.specs.SumLoops.{SumLoopOf}
-use Rattle.loop_core_sums.specs.Sums.{IsNewSum, IsSumOf}
+use Rattle.loop_core_sums.specs.Sums.{identity_maps, IsSumOf}
 use Rattle.loop_core_sums.proofs.Ranges.{ran_sum}
 use Rattle.loop_core_sums.proofs.sum_loop.SumLoop.run.Goals as goal
 
@@ -13,7 +13,7 @@ range_in_order-sum-requires-clause-within c =
 
 pub range_in_order-sum-requires-clause-sizes : goal.range_in_order-sum-requires-clause-sizes
 range_in_order-sum-requires-clause-sizes c =
-    ap (λ (maps : MapList). maps.sizes) c.requires.new.maps_are
+    ap (λ (maps : MapList). maps.sizes) c.clear.ensures ∙ c.requires.fit
     ∙ ap (λ (l : SumLoopOf). l.program.sizes) (sym c.self.view_is)
 
 pub returns : goal.returns
@@ -24,8 +24,9 @@ returns c =
     (ran_sum (record { program = of.program.now; call = of.call.now; op = of.op }) c.self.invariant
     (iterations_end c.law_of_accepted_programs.ensures c.law_of_accepted_runs.ensures.counts of.program.now
     (record { accepted = c.unit-unit.ensures.accepted; fits = c.unit-unit.ensures.fit }))
-    c.law_of_operators.ensures c.args.sum.now ran
-    (subst (λ (l : SumLoopOf). IsNewSum l c.args.sum.now) (sym c.self.view_is) c.requires.new)
+    c.law_of_operators.ensures c.clear.new.maps ran
+    (c.clear.ensures ∙ ap (λ (sizes : List ℕ). identity_maps of.op sizes)
+    (c.requires.fit ∙ ap (λ (l : SumLoopOf). l.program.sizes) (sym c.self.view_is)))
     (subst AreWords c.words-words.ensures.words c.words-words.ensures.fit) c.args.from c.args.to
     (subst (λ (l : SumLoopOf). c.args.to ≤ l.call.n) (sym c.self.view_is) c.requires.within)
     c.range_in_order-sum.ensures)

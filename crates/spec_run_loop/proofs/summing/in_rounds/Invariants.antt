@@ -1,0 +1,15 @@
+use Rattle.std.proofs.Common.{◌-◌, ◌<◌}
+use Rattle.std.specs.Prelude.{All}
+use Rattle.loop_core_sequential.specs.Rests.{RanOn}
+use Rattle.loop_core_sums.specs.Sums.{IsSumFor}
+use Rattle.spec_run_loop.proofs.summing.in_rounds.Given as goal
+
+abbrev pub invariant-loop-from : goal.invariant-loop-from
+invariant-loop-from g l = record {
+  step : 0 < l.step;
+  fit : All (IsSumFor l.of) l.sums;
+  ran : RanOn l.of.program l.of.call 0 l.from l.fn.maps l.maps;
+}
+
+abbrev pub decreases-loop-from : goal.decreases-loop-from
+decreases-loop-from g l = l.n - l.from
