@@ -16,6 +16,8 @@ HEADER = struct.Struct("<HBxIIIII")  # magic, version, header's size, types' and
 TYPE = struct.Struct("<III")  # name; kind and number of entries; size or another type
 KIND_SHIFT, KIND_MASK = 24, 31
 ENTRIES_MASK = 0xFFFF
+FLAG_SHIFT = 31
+PLACE_MASK, WIDTH_SHIFT = 0xFFFFFF, 24  # of a member, where the flag says that it has a width
 ARRAY = struct.Struct("<III")  # type of an element, type of the index, length
 MEMBER = struct.Struct("<III")  # name, type, offset
 VARIABLE = struct.Struct("<III")  # type, offset, size: a variable of a section
@@ -78,6 +80,17 @@ class Type:
     kind: Kind
     size_or_type: int
     behind: memoryview
+    has_bits: bool = False  # members have a width beside their place
+
+
+@dataclass(frozen=True)
+class Field:
+    """A member of a structure or a union: where it begins, and its width where it is a bit-field."""
+
+    name: str
+    bit: int
+    bits: int
+    type: Type
 
 
 @dataclass(frozen=True)
@@ -118,6 +131,17 @@ class Btf:
             if pointer.kind != Kind.PTR:
                 raise Refused(f"has {self.strings.at(name)}, which is no pointer")
             yield self.strings.at(name), self._plain(pointer.size_or_type)
+
+    def fields(self, structure: Type) -> Iterator[Field]:
+        """The members of a structure or a union, as C lays them out."""
+        for name, member_type, place in MEMBER.iter_unpack(structure.behind):
+            bit, bits = (place & PLACE_MASK, place >> WIDTH_SHIFT) if structure.has_bits else (place, 0)
+            yield Field(self.strings.at(name), bit, bits, self._plain(member_type))
+
+    def element(self, array: Type) -> tuple[Type, int]:
+        """The type of an array's elements, and how many there are."""
+        element, _, count = ARRAY.unpack(array.behind)
+        return self._plain(element), count
 
     def array_length(self, array: Type) -> int:
         """The length of an array, which is how `__uint` has a number."""
@@ -162,7 +186,8 @@ class Btf:
             if kind is None:
                 raise Refused(f"kind {info >> KIND_SHIFT & KIND_MASK} of types in .BTF isn't known here")
             size = BEHIND.get(kind, 0) + BEHIND_EACH.get(kind, 0) * (info & ENTRIES_MASK)
-            yield Type(self.strings.at(name), kind, size_or_type, _part(data, offset + TYPE.size, size))
+            behind = _part(data, offset + TYPE.size, size)
+            yield Type(self.strings.at(name), kind, size_or_type, behind, bool(info >> FLAG_SHIFT))
             offset += TYPE.size + size
 
 

@@ -41,6 +41,7 @@ SYMBOL_TYPE_MASK = 15
 # Elf64_Rel: offset; the type in the low and the symbol in the high half.
 RELOCATION = struct.Struct("<QII")
 R_BPF_64_64 = 1  # an address in a load of two slots
+R_BPF_64_ABS64 = 2  # an address in a section of data
 R_BPF_64_32 = 10  # a call
 
 
@@ -90,6 +91,7 @@ class Symbol:
     type: int
     section: int
     value: int
+    size: int = 0
 
     @property
     def name(self) -> str:
@@ -194,8 +196,8 @@ class Object:
             raise Refused("the symbols have no table of names")
         strings = Strings(self.sections[link].data)
         return [
-            Symbol(strings, name, info & SYMBOL_TYPE_MASK, section, value)
-            for name, info, section, value, _ in _entries(SYMBOL, tables[0])
+            Symbol(strings, name, info & SYMBOL_TYPE_MASK, section, value, size)
+            for name, info, section, value, size in _entries(SYMBOL, tables[0])
         ]
 
 

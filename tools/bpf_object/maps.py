@@ -34,7 +34,18 @@ OTHER_MAP_TYPES = {
     23: "a stack",
     27: "a ring buffer",
 }
-MEMBERS = {"type", "max_entries", "key", "key_size", "value", "value_size"}
+MEMBERS = {"type", "max_entries", "key", "key_size", "value", "value_size", "map_flags", "pinning"}
+
+
+@dataclass(frozen=True)
+class Declared:
+    """A map of `.maps`, with values of any size."""
+
+    name: str
+    offset: int
+    entries: int
+    value_size: int
+    type: Type | None
 
 
 @dataclass(frozen=True)
@@ -68,7 +79,8 @@ def maps_of(obj: Object, btf: Btf | None) -> list[ArrayMap]:
     return maps
 
 
-def _declared_maps(obj: Object, btf: Btf | None) -> list[ArrayMap]:
+def declared_maps(obj: Object, btf: Btf | None) -> list[Declared]:
+    """The maps of `.maps` in the order of their places."""
     section = obj.section(DECLARED)
     if section is None:
         return []
@@ -76,21 +88,30 @@ def _declared_maps(obj: Object, btf: Btf | None) -> list[ArrayMap]:
         raise Refused("the object has maps, and no .BTF that says of what size: compile it with -g")
     offsets = {symbol.name: symbol.value for symbol in obj.symbols_in(section, STT_OBJECT)}
     variables = [*btf.variables(DECLARED)]
-    _test_number(len(variables))
     maps = []
     for name, structure in variables:
         if name not in offsets:
             raise Refused(f"map {name} has no place in {DECLARED}")
         try:
-            elements = _declared_elements(btf, structure)
+            maps.append(_declared(btf, name, offsets[name], structure))
         except Refused as reason:
             raise Refused(f"map {name}: {reason}") from None
-        maps.append(ArrayMap(name, section, offsets[name], elements))
-    return sorted(maps, key=lambda array: array.offset)
+    return sorted(maps, key=lambda declared: declared.offset)
 
 
-def _declared_elements(btf: Btf, structure: Type) -> int:
-    """How many elements a declared map has, which has to be an array of 8-byte values."""
+def _declared_maps(obj: Object, btf: Btf | None) -> list[ArrayMap]:
+    maps = declared_maps(obj, btf)
+    _test_number(len(maps))
+    section = obj.section(DECLARED)
+    for declared in maps:
+        if declared.value_size != ELEMENT_BYTES:
+            size = declared.value_size
+            raise Refused(f"map {declared.name}: has values of {size} bytes, and only those of 8 are taken")
+    return [ArrayMap(m.name, section, m.offset, m.entries) for m in maps] if section else []
+
+
+def _declared(btf: Btf, name: str, offset: int, structure: Type) -> Declared:
+    """A declared map, which has to be an array."""
     if structure.kind != Kind.STRUCT:
         raise Refused("isn't declared as a structure")
     members = dict(btf.members(structure))
@@ -99,11 +120,14 @@ def _declared_elements(btf: Btf, structure: Type) -> int:
         raise Refused(f"is {OTHER_MAP_TYPES.get(map_type, f'a map of type {map_type}')}, and only arrays are taken")
     if unknown := members.keys() - MEMBERS:
         raise Refused(f"has {min(unknown)}, which isn't taken")
-    for part, taken in ("key", KEY_BYTES), ("value", ELEMENT_BYTES):
-        size = _part_size(btf, members, part)
-        if size != taken:
-            raise Refused(f"has {part}s of {size} bytes, and only those of {taken} are taken")
-    return _tested_elements(btf.array_length(_member(members, "max_entries")))
+    key_size = _part_size(btf, members, "key")
+    if key_size != KEY_BYTES:
+        raise Refused(f"has keys of {key_size} bytes, and only those of {KEY_BYTES} are taken")
+    entries = _tested_elements(btf.array_length(_member(members, "max_entries")))
+    value_size = _part_size(btf, members, "value")
+    if value_size <= 0:
+        raise Refused("has values without a size")
+    return Declared(name, offset, entries, value_size, members.get("value"))
 
 
 def _part_size(btf: Btf, members: dict[str, Type], part: str) -> int:

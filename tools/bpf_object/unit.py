@@ -19,15 +19,21 @@ COMMENT_LIMIT = 100  # characters of a source line
 VARIABLES_LIMIT = 64  # that are listed of a map
 LABEL = re.compile(r"(?!at_)[A-Za-z_][A-Za-z0-9_]{0,31}")
 TEXT = ".text"
+LOOP_HELPER = 181
 
 
 def unit_of(obj: Object) -> str:
     """The unit's text, with its maps' values where any isn't 0."""
-    btf_section = obj.section(".BTF")
-    btf = Btf(btf_section.data) if btf_section else None
+    btf = types_of(obj)
     maps = maps_of(obj, btf)
-    lines = [*_map_lines(obj, maps), *Program(obj, btf, maps).lines(), *_value_lines(maps)]
+    lines = [*map_lines(obj, maps), *Program(obj, btf, maps).lines(), *_value_lines(maps)]
     return "".join(f"{line}\n" for line in lines)
+
+
+def types_of(obj: Object) -> Btf | None:
+    """The types of an object, where it was compiled with them."""
+    section = obj.section(".BTF")
+    return Btf(section.data) if section else None
 
 
 class Program:
@@ -38,10 +44,10 @@ class Program:
         self._maps = maps
         self._starts: dict[int, int] = {}  # the first slot of each section, by the section's number
         self._insns: dict[int, Insn] = {}  # by their slots
-        self._sections = [*_code_sections(obj)]
+        self._sections = [*code_sections(obj)]
         for section in self._sections:
             self._place(section)
-        self._sources = self._source_lines(btf)
+        self.sources = self._source_lines(btf)
         for section in self._sections:
             self._relocate(section)
         self._labels = self._label_slots()
@@ -52,12 +58,20 @@ class Program:
         for slot, insn in self._insns.items():
             if slot in self._labels:
                 yield f"{self._labels[slot]}:"
-            source = self._sources.get(slot)
+            source = self.sources.get(slot)
             if source and (source.file, source.number) != shown:
                 shown = source.file, source.number
-                yield f"    ; slot {slot}, {_printable(f'{source.file}:{source.number}: {source.text}')}"
+                yield f"    ; slot {slot}, {printable(f'{source.file}:{source.number}: {source.text}')}"
             with self._at(slot):
                 yield f"    {line_of(insn, self._target(insn, slot))}"
+
+    def loops(self) -> dict[int, SourceLine | None]:
+        """The slot of each call of `bpf_loop`, and the source line that it is part of."""
+        calls = (s for s, insn in self._insns.items() if (insn.opcode, insn.imm) == (CALL_OPCODE, LOOP_HELPER))
+        return {slot: self._source_at(slot) for slot in calls}
+
+    def _source_at(self, slot: int) -> SourceLine | None:
+        return next((self.sources[s] for s in range(slot, -1, -1) if s in self.sources), None)
 
     def _place(self, section: Section) -> None:
         first = sum(insn.slots for insn in self._insns.values())
@@ -87,7 +101,7 @@ class Program:
         try:
             yield
         except Refused as reason:
-            source = next((self._sources[s] for s in range(slot, -1, -1) if s in self._sources), None)
+            source = self._source_at(slot)
             place = f"slot {slot}, {source.file}:{source.number}" if source else f"slot {slot}"
             raise Refused(f"{place}: {reason}") from None
 
@@ -154,7 +168,8 @@ class Program:
         return self._labels.get(slot + 1 + distance, f"{distance:+d}")
 
 
-def _code_sections(obj: Object) -> Iterator[Section]:
+def code_sections(obj: Object) -> Iterator[Section]:
+    """The sections of main and of its callbacks."""
     mains = [section for section in obj.sections if section.is_code and section.name != TEXT]
     if not mains:
         raise Refused('no section of a main function: write SEC("xdp") in front of it')
@@ -169,12 +184,13 @@ def _code_sections(obj: Object) -> Iterator[Section]:
         yield callbacks
 
 
-def _map_lines(obj: Object, maps: list[ArrayMap]) -> Iterator[str]:
+def map_lines(obj: Object, maps: list[ArrayMap]) -> Iterator[str]:
+    """The lines of a unit's maps, and comments that name them."""
     for number, array in enumerate(maps):
-        yield f"; map {number}: {_printable(array.name)}"
+        yield f"; map {number}: {printable(array.name)}"
         if not array.is_declared:
             for symbol in obj.symbols_in(array.section, STT_OBJECT)[:VARIABLES_LIMIT]:
-                yield f";   {_printable(symbol.name)} from {_place(symbol.value)}"
+                yield f";   {printable(symbol.name)} from {_place(symbol.value)}"
     if not maps:
         yield "; the program has no map, and a unit has at least one"
     sizes = [array.elements for array in maps] or [1]
@@ -193,6 +209,6 @@ def _value_lines(maps: list[ArrayMap]) -> Iterator[str]:
             yield f"map {number}: {' '.join(map(str, array.values))}"
 
 
-def _printable(text: str) -> str:
+def printable(text: str) -> str:
     """A text in one line: blanks as single spaces, no other character that isn't printed."""
     return "".join(c if c.isprintable() else "?" for c in " ".join(text.split()))[:COMMENT_LIMIT]

@@ -1,0 +1,87 @@
+"""What a program does with the addresses of things, which decides how they are laid out. Facts only grow."""
+
+from __future__ import annotations
+
+from collections.abc import Iterable
+from dataclasses import dataclass, field
+
+from .values import VAGUE, Things
+
+
+@dataclass
+class Facts:
+    """What is met of the things of a program in all its paths."""
+
+    escaped: set[int] = field(default_factory=set)  # whose address is stored somewhere
+    moved: set[int] = field(default_factory=set)  # frames that have to lie in the map
+    taken: dict[int, int] = field(default_factory=dict)  # of a frame the lowest byte whose address leads further
+    used: set[int] = field(default_factory=set)
+    sizes: dict[int, set[int]] = field(default_factory=dict)  # of the accesses of a thing
+    uneven: set[int] = field(default_factory=set)  # things with an access that isn't at a multiple of its size
+    varied: set[int] = field(default_factory=set)  # things with an access at an address that isn't one alone
+    cells: dict[int, set[tuple[int, int]]] = field(default_factory=dict)  # the other accesses: their bytes and sizes
+    hidden: set[int] = field(default_factory=set)  # callbacks that are given several ctx
+    undefined: set[tuple[int, int]] = field(default_factory=set)  # a function, and a register that is read unwritten
+    unwritten: set[tuple[int, int]] = field(default_factory=set)  # a function, and 8 bytes of its frame likewise
+    _groups: dict[int, int] = field(default_factory=dict)
+    version: int = 0  # rises with each new fact
+
+    def escape(self, things: Things) -> None:
+        """An address in these things is stored where it isn't followed."""
+        self._add(self.escaped, things - VAGUE)
+
+    def move(self, frame: int) -> None:
+        """A frame is needed in the map."""
+        self._add(self.moved, (frame,))
+
+    def use(self, things: Iterable[int]) -> None:
+        """Things that have to have a place."""
+        self._add(self.used, things)
+
+    def take(self, frame: int, byte: int) -> None:
+        """The address of a byte of a frame leads where it isn't followed."""
+        byte = max(0, byte) // 8 * 8
+        if byte < self.taken.get(frame, 1 << 30):
+            self.taken[frame] = byte
+            self.version += 1
+
+    def access(self, things: Iterable[int], size: int, is_even: bool, byte: int | None) -> None:
+        """An access of some bytes, at a byte where that is known."""
+        for thing in things:
+            self._add(self.sizes.setdefault(thing, set()), (size,))
+            if not is_even:
+                self._add(self.uneven, (thing,))
+            if byte is None:
+                self._add(self.varied, (thing,))
+            else:
+                self._add(self.cells.setdefault(thing, set()), ((byte, size),))
+
+    def hide(self, callback: int) -> None:
+        """A callback is given several ctx."""
+        self._add(self.hidden, (callback,))
+
+    def leave_undefined(self, function: int, register: int) -> None:
+        """A register is read before it is written."""
+        self._add(self.undefined, ((function, register),))
+
+    def leave_unwritten(self, function: int, byte: int) -> None:
+        """A byte of a frame is read before it is written."""
+        self._add(self.unwritten, ((function, byte // 8 * 8),))
+
+    def together(self, things: Iterable[int]) -> None:
+        """One instruction may be led to any of these things, or compares their addresses."""
+        roots = sorted({self.group(thing) for thing in things})
+        for root in roots[1:]:
+            self._groups[root] = roots[0]
+            self.version += 1
+
+    def group(self, thing: int) -> int:
+        """A thing that stands for all of its group."""
+        while thing in self._groups:
+            thing = self._groups[thing]
+        return thing
+
+    def _add(self, known: set, new: Iterable) -> None:
+        before = len(known)
+        known.update(new)
+        self.version += len(known) - before

@@ -1,0 +1,128 @@
+"""Finds how many rounds of its loops a program has room for."""
+
+from __future__ import annotations
+
+from collections.abc import Iterable
+from typing import Callable, Dict, List, Optional, Set, Tuple
+
+from .code import Function
+from .emit import Emitted, emit
+from .memory import Memory
+from .mend import Mender, Rewritten
+from .outline import outline
+from .refusal import Refused
+from .unit import SLOTS_LIMIT
+from .unroll import Loop, TooMany
+
+BUDGET = 8000  # instructions that are copied at most, before those that nothing reads are left out
+FIRST_ROUNDS = 2
+ENOUGH = 0.9  # of the slots, where no more rounds are tried
+TRIES = 8
+
+Try = Callable[[Dict[Loop, int]], Tuple[Rewritten, Emitted]]
+
+
+class TooLong(Refused):
+    """The code takes more slots than there are."""
+
+
+def fit(memory: Memory, functions: Dict[int, Function], choices: Iterable[Set[int]]) -> Emitted:
+    """The unit by the first of some choices of what is spread that has room for its loops, or for the most of them."""
+    first: Optional[TooLong] = None
+    best: Optional[Tuple[int, Emitted]] = None
+    for sizes in choices:
+        try:
+            done, emitted = _Fit(memory, functions, sizes).run()
+        except TooLong as reason:
+            first = first or reason
+            continue
+        if not done.cut:
+            return emitted
+        rounds = min(done.copied[loop] for loop in done.cut)
+        if best is None or rounds > best[0]:
+            best = rounds, emitted
+    if best is None:
+        raise first or TooLong("the code is too long")
+    return best[1]
+
+
+class _Fit:
+    """Finds which loops are copied, and which are callbacks, by what there is room for."""
+
+    def __init__(self, memory: Memory, functions: Dict[int, Function], sizes: Set[int]) -> None:
+        self._memory = memory
+        self._functions = functions
+        self._sizes = sizes
+        self._mender = Mender(memory, functions, sizes)
+
+    def _attempt(self, rounds: Dict[Loop, int]) -> Tuple[Rewritten, Emitted]:
+        done = self._mender.run(BUDGET, rounds)
+        return done, emit(self._memory, done)
+
+    def run(self) -> Tuple[Rewritten, Emitted]:
+        """The unit with all rounds of all loops, or else with as many as there is room for of those that go on."""
+        limited: Set[Loop] = set()
+        while True:
+            try:
+                done, emitted = self._attempt(dict.fromkeys(limited, FIRST_ROUNDS))
+            except TooMany as reason:
+                self._limit(reason.loop, limited, f"the code takes more than {SLOTS_LIMIT} slots")
+                continue
+            if emitted.slots <= SLOTS_LIMIT:
+                break
+            counts = [(n, loop) for loop, n in done.copied.items() if loop not in limited and n >= FIRST_ROUNDS]
+            of_main = [one for one in counts if not one[1][0] and emitted.callback_slots < ENOUGH * SLOTS_LIMIT]
+            longest = max(of_main or counts, default=(0, None))[1]
+            self._limit(longest, limited, f"the code takes {emitted.slots} slots, of at most {SLOTS_LIMIT}")
+        best = _most_rounds(self._attempt, limited, done, emitted) if done.cut else (done, emitted)
+        if best[0].endless is not None:
+            raise TooLong(best[0].endless)
+        return best
+
+    def _limit(self, loop: Optional[Loop], limited: Set[Loop], reason: str) -> None:
+        """A loop is made a callback, where it is main's, or else fewer rounds of it are copied."""
+        if loop is None:
+            raise TooLong(reason)
+        outlined = None if loop[0] else outline(self._functions, loop[1])
+        if outlined is None:
+            limited.add(loop)
+            return
+        self._functions = outlined
+        self._mender = Mender(self._memory, outlined, self._sizes)
+        limited.clear()
+
+
+def _most_rounds(attempt: Try, limited: Set[Loop], done: Rewritten, emitted: Emitted) -> Tuple[Rewritten, Emitted]:
+    """The unit with the most rounds that are found to fit, by secants between one that fits and one that doesn't."""
+    known: List[Tuple[int, int]] = [(FIRST_ROUNDS, emitted.slots)]
+    over: Optional[int] = None
+    best = done, emitted
+    for _ in range(TRIES):
+        rounds = _guess(known, over)
+        if rounds <= known[-1][0]:
+            break
+        try:
+            done, found = attempt(dict.fromkeys(limited, rounds))
+        except TooMany:
+            over = rounds
+            continue
+        if found.slots > SLOTS_LIMIT:
+            over = rounds
+            continue
+        known.append((rounds, found.slots))
+        best = done, found
+        if not done.cut or found.slots > ENOUGH * SLOTS_LIMIT:
+            break
+    return best
+
+
+def _guess(known: List[Tuple[int, int]], over: Optional[int]) -> int:
+    """The next number of rounds to try."""
+    rounds, slots = known[-1]
+    if len(known) == 1:
+        guess = rounds * 2
+    else:
+        before, fewer = known[-2]
+        each = max(1.0, (slots - fewer) / (rounds - before))
+        guess = rounds + max(1, int((0.97 * SLOTS_LIMIT - slots) / each))
+    return min(guess, (rounds + over) // 2) if over is not None else guess

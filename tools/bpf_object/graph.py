@@ -1,0 +1,70 @@
+"""The loops of a function's blocks."""
+
+from __future__ import annotations
+
+from collections.abc import Iterable
+from typing import Dict, FrozenSet, List, Optional, Tuple
+
+from .code import Function, successors
+
+
+class Graph:
+    """The blocks of a function, parted into loops and single blocks."""
+
+    def __init__(self, function: Function) -> None:
+        self._next = {label: successors(block.end) for label, block in function.blocks.items()}
+        self._parts: Dict[Tuple[FrozenSet[int], Optional[int]], List[List[int]]] = {}
+
+    def parts(self, labels: FrozenSet[int], header: int | None) -> List[List[int]]:
+        """The loops and single blocks of some labels, in an order that the edges among them follow.
+
+        Edges that lead to the header are left out.
+        """
+        key = (labels, header)
+        if key not in self._parts:
+            self._parts[key] = self._find(labels, header)
+        return self._parts[key]
+
+    def is_loop(self, part: List[int], header: int | None) -> bool:
+        """Whether a part leads to itself."""
+        return len(part) > 1 or (part[0] in self._next[part[0]] and part[0] != header)
+
+    def _find(self, labels: FrozenSet[int], header: int | None) -> List[List[int]]:
+        """Tarjan's algorithm, without recursion."""
+        index: Dict[int, int] = {}
+        low: Dict[int, int] = {}
+        open_labels: List[int] = []
+        is_open: set[int] = set()
+        parts: List[List[int]] = []
+
+        def following(label: int) -> Iterable[int]:
+            return [n for n in self._next[label] if n in labels and n != header]
+
+        for root in sorted(labels):
+            if root in index:
+                continue
+            work = [(root, iter(following(root)))]
+            index[root] = low[root] = len(index)
+            open_labels.append(root)
+            is_open.add(root)
+            while work:
+                label, rest = work[-1]
+                for other in rest:
+                    if other not in index:
+                        index[other] = low[other] = len(index)
+                        open_labels.append(other)
+                        is_open.add(other)
+                        work.append((other, iter(following(other))))
+                        break
+                    if other in is_open:
+                        low[label] = min(low[label], index[other])
+                else:
+                    work.pop()
+                    if work:
+                        low[work[-1][0]] = min(low[work[-1][0]], low[label])
+                    if low[label] == index[label]:
+                        part = open_labels[open_labels.index(label) :]
+                        del open_labels[-len(part) :]
+                        is_open.difference_update(part)
+                        parts.append(part)
+        return parts[::-1]

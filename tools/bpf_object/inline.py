@@ -1,0 +1,267 @@
+"""Puts functions in at their calls, and loops of callbacks in at theirs, so that main and its callbacks are left.
+
+A function that is put in has the bytes of the frame below those of its caller. Of the registers that it has to leave as
+they were, it is given those that its caller doesn't need there; others are kept in the frame meanwhile.
+"""
+
+from __future__ import annotations
+
+from typing import Dict, List, Optional, Set
+
+from .btf import SourceLine
+from .code import (
+    FRAME,
+    FRAME_BYTES,
+    LOOP,
+    RESULT,
+    SAVED,
+    Alu,
+    Atomic,
+    Block,
+    Branch,
+    Call,
+    CallLocal,
+    CodeOf,
+    Exit,
+    Function,
+    Goto,
+    Load,
+    Store,
+    line_text,
+    order_of,
+    reads,
+    renamed,
+    successors,
+    writes,
+)
+from .refusal import Refused
+
+SIZE_LIMIT = 20000  # instructions of a function, with all that is put in
+COUNT_LIMIT = 1 << 23  # iterations of a loop call
+TOO_BIG, INVALID = -7, -22  # answers of a loop call that isn't done
+
+
+def inline(functions: Dict[int, Function]) -> Dict[int, Function]:
+    """Main and its callbacks, without calls among them."""
+    inliner = _Inliner(functions)
+    done = {0: inliner.whole(0, False)}
+    waiting = _callbacks(done[0])
+    while waiting:
+        number = waiting.pop(0)
+        if number not in done:
+            done[number] = inliner.whole(number, True)
+            waiting += _callbacks(done[number])
+    return done
+
+
+def inline_callback(functions: Dict[int, Function], number: int) -> Function:
+    """A callback of functions whose own calls were put in, with its loop calls put in."""
+    return _Inliner(functions).whole(number, True)
+
+
+def _callbacks(function: Function) -> List[int]:
+    return [insn.function for block in function.blocks.values() for insn in block.insns if isinstance(insn, CodeOf)]
+
+
+class _Inliner:
+    def __init__(self, functions: Dict[int, Function]) -> None:
+        self._functions = functions
+        self._open: List[int] = []  # those that are being put in
+
+    def whole(self, number: int, is_callback: bool) -> Function:
+        """A function with all that it calls; a callback's own loop calls too."""
+        source = self._functions[number]
+        if number in self._open:
+            raise Refused(f"{line_text(source.line)}{source.name} calls itself")
+        self._open.append(number)
+        function = Function(source.name, source.entry, dict(source.blocks), source.line, source.frame_of)
+        calls = True
+        while calls:
+            calls = False
+            for label in order_of(function):
+                at = _call_at(function.blocks[label], is_callback)
+                if at is not None:
+                    self._put_in(function, label, at, is_callback)
+                    calls = True
+                    break
+            if function.size > SIZE_LIMIT:
+                raise Refused(f"{line_text(source.line)}{source.name} is too long with all that it calls")
+        self._open.pop()
+        return function
+
+    def _put_in(self, function: Function, label: int, at: int, is_callback: bool) -> None:
+        block = function.blocks[label]
+        insn = block.insns[at]
+        if isinstance(insn, CallLocal):
+            called = insn.function
+        else:
+            called = _loop_callback(block, at)
+        body = self.whole(called, is_callback)
+        _Site(function, label, at, body).put_in(isinstance(insn, Call))
+
+
+def _call_at(block: Block, is_callback: bool) -> Optional[int]:
+    for at, insn in enumerate(block.insns):
+        if isinstance(insn, CallLocal) or (is_callback and isinstance(insn, Call) and insn.helper == LOOP):
+            return at
+    return None
+
+
+def _loop_callback(block: Block, at: int) -> int:
+    """The function that a loop call in a callback names, right in front of it."""
+    for insn in reversed(block.insns[:at]):
+        if isinstance(insn, CodeOf) and insn.dst == 2:
+            return insn.function
+        if 2 in writes(insn):
+            break
+    line = block.insns[at].line
+    raise Refused(f"{line_text(line)}a callback calls bpf_loop with a callback that isn't named there")
+
+
+class _Site:
+    """A call, and the function that is put in for it."""
+
+    def __init__(self, function: Function, label: int, at: int, body: Function) -> None:
+        self._function = function
+        self._block = function.blocks[label]
+        self._label = label
+        self._at = at
+        self._body = body
+        self._line: Optional[SourceLine] = self._block.insns[at].line
+        self._next = max(function.blocks) + 1
+        live = _live_before(function, label, at + 1, live_in_of(function))
+        targets = sorted(SAVED, key=lambda register: live >> register & 1)  # those that hold nothing first
+        self._registers = {register: register for register in range(11)}
+        self._registers.update(zip(sorted(_saved_used(body)), targets))
+        self._kept = [target for target in targets[: len(_saved_used(body))] if live >> target & 1]
+        self._lowest = lowest_byte(function)
+
+    def put_in(self, is_loop: bool) -> None:
+        """Parts the block at the call, and puts the body between."""
+        rest = self._new_label()
+        words = len(self._kept) + (3 if is_loop else 0)
+        bottom = self._lowest - 8 * words
+        shares = self._body.frame_of is not None and self._body.frame_of == self._function.frame_of
+        under = FRAME_BYTES if shares else bottom  # where the body's frame ends
+        if min(bottom, under - (FRAME_BYTES - lowest_byte(self._body))) < 0:
+            name = self._function.name
+            raise Refused(f"{line_text(self._line)}the frames of {name} and what it calls pass 512 bytes")
+        places = [self._lowest - 8 * (n + 1) - FRAME_BYTES for n in range(words)]
+        keep = [Store(8, FRAME, place, register, 0, self._line) for register, place in zip(self._kept, places)]
+        restore = [Load(8, False, register, FRAME, place, self._line) for register, place in zip(self._kept, places)]
+        self._function.blocks[rest] = Block([*restore, *self._block.insns[self._at + 1 :]], self._block.end)
+        front = [*self._block.insns[: self._at], *keep]
+        if is_loop:
+            end = self._loop(rest, places[len(self._kept) :], under, front)
+        else:
+            end = Goto(self._copy(rest, under), self._line)
+        self._function.blocks[self._label] = Block(front, end)
+
+    def _new_label(self) -> int:
+        self._next += 1
+        self._function.blocks[self._next] = Block([], Exit())
+        return self._next
+
+    def _copy(self, rest: int, bottom: int) -> int:
+        """Copies the body, with its frame below a byte; each end leads on. Gives the first block."""
+        labels = {label: self._new_label() for label in self._body.blocks}
+        for label, block in self._body.blocks.items():
+            insns: List = []
+            for insn in block.insns:
+                insns += self._moved(insn, bottom - FRAME_BYTES)
+            end = Goto(rest, block.end.line) if isinstance(block.end, Exit) else renamed(block.end, labels)
+            if isinstance(end, Branch):
+                src = None if end.src is None else self._registers[end.src]
+                end = end._replace(dst=self._registers[end.dst], src=src)
+            self._function.blocks[labels[label]] = Block(insns, end)
+        return labels[self._body.entry]
+
+    def _moved(self, insn, shift: int) -> List:
+        names = self._registers
+        if isinstance(insn, (Load, Store, Atomic)):
+            offset = insn.offset + (shift if insn.base == FRAME else 0)
+            insn = insn._replace(base=names[insn.base], offset=offset)
+        fields = {field: names[getattr(insn, field)] for field in ("dst", "src") if _is_register(insn, field)}
+        found = insn._replace(**fields) if fields else insn
+        if isinstance(insn, Alu) and insn.src == FRAME:
+            if insn.op != "mov" or insn.width != 64:
+                raise Refused(f"{line_text(insn.line)}an address of a frame is used in another way than clang does")
+            return [found, Alu("add", 64, found.dst, None, shift, insn.line)]
+        return [found]
+
+    def _loop(self, rest: int, places: List[int], bottom: int, front: List) -> Branch:
+        """The callback's rounds, with the count, the round and ctx in the frame."""
+        line = self._line
+        count, at, context = places
+        front += [Store(8, FRAME, context, 3, 0, line), Alu("mov", 32, 1, 1, 0, line)]
+        front += [Store(8, FRAME, count, 1, 0, line), Store(8, FRAME, at, None, 0, line)]
+        valid, test, more, behind, done = (self._new_label() for _ in range(5))
+        invalid, too_big = self._answer(INVALID, rest), self._answer(TOO_BIG, rest)
+        blocks = self._function.blocks
+        blocks[valid] = Block([], Branch("jgt", 64, 1, None, COUNT_LIMIT, too_big, test, line))
+        head = [Load(8, False, 1, FRAME, at, line), Load(8, False, 2, FRAME, count, line)]
+        blocks[test] = Block(head, Branch("jge", 64, 1, 2, 0, done, more, line))
+        first = self._copy(behind, bottom)
+        blocks[more] = Block([Load(8, False, 2, FRAME, context, line)], Goto(first, line))
+        step = [Load(8, False, 1, FRAME, at, line), Alu("add", 64, 1, None, 1, line), Store(8, FRAME, at, 1, 0, line)]
+        blocks[behind] = Block(step, Branch("jeq", 64, RESULT, None, 0, test, done, line))
+        blocks[done] = Block([Load(8, False, RESULT, FRAME, at, line)], Goto(rest, line))
+        return Branch("jeq", 64, 4, None, 0, valid, invalid, line)
+
+    def _answer(self, number: int, rest: int) -> int:
+        label = self._new_label()
+        self._function.blocks[label] = Block([Alu("mov", 64, RESULT, None, number, self._line)], Goto(rest, self._line))
+        return label
+
+
+def _is_register(insn, field: str) -> bool:
+    return hasattr(insn, field) and getattr(insn, field) is not None
+
+
+def _saved_used(function: Function) -> Set[int]:
+    insns = [insn for block in function.blocks.values() for insn in block.insns]
+    return {register for insn in insns for register in writes(insn) if register in SAVED}
+
+
+def live_in_of(function: Function) -> Dict[int, int]:
+    """The registers that are read from each block on, before they are written."""
+    live_in: Dict[int, int] = dict.fromkeys(function.blocks, 0)
+    order = order_of(function)[::-1]
+    is_changed = True
+    while is_changed:
+        is_changed = False
+        for block in order:
+            live = _live_before(function, block, 0, live_in)
+            if live != live_in[block]:
+                live_in[block] = live
+                is_changed = True
+    return live_in
+
+
+def _live_before(function: Function, label: int, at: int, live_in: Dict[int, int]) -> int:
+    block = function.blocks[label]
+    live = 0
+    for following in successors(block.end):
+        live |= live_in[following]
+    for insn in [block.end, *reversed(block.insns[at:])]:
+        for register in writes(insn):
+            live &= ~(1 << register)
+        for register in reads(insn):
+            live |= 1 << register
+    return live
+
+
+def lowest_byte(function: Function) -> int:
+    """The lowest byte of the frame that a function names by a constant, at a multiple of 8."""
+    lowest = FRAME_BYTES
+    for block in function.blocks.values():
+        copies: Set[int] = set()
+        for insn in block.insns:
+            if isinstance(insn, (Load, Store, Atomic)) and insn.base == FRAME:
+                lowest = min(lowest, FRAME_BYTES + insn.offset)
+            elif isinstance(insn, Alu) and insn.op == "mov" and insn.src == FRAME:
+                copies.add(insn.dst)
+            elif isinstance(insn, Alu) and insn.op == "add" and insn.src is None and insn.dst in copies:
+                lowest = min(lowest, FRAME_BYTES + insn.imm)
+                copies.discard(insn.dst)
+    return max(lowest // 8 * 8, 0)

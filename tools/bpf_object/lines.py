@@ -1,0 +1,95 @@
+"""Lines of assembler text, with the slots that they take and the source lines that they come from."""
+
+from __future__ import annotations
+
+from typing import Dict, List, NamedTuple, Optional
+
+from .btf import SourceLine
+from .code import Alu
+from .ranges import signed
+
+LINES_OF_TWO_SLOTS = ("lddw", "ldmapval", "ldcode")
+BYTE_ORDERS = ("le", "be", "swap")
+
+
+class Line(NamedTuple):
+    """An instruction, or a label where the text ends with a colon."""
+
+    text: str
+    line: Optional[SourceLine]
+
+    @property
+    def is_label(self) -> bool:
+        return self.text.endswith(":")
+
+    @property
+    def slots(self) -> int:
+        if self.is_label:
+            return 0
+        return 2 if self.text.startswith(LINES_OF_TWO_SLOTS) else 1
+
+
+def alu_text(insn: Alu) -> str:
+    """The line of an arithmetic instruction."""
+    if insn.op == "neg":
+        return f"neg{insn.width} r{insn.dst}"
+    if insn.op.startswith(BYTE_ORDERS):
+        return f"{insn.op} r{insn.dst}"
+    name = f"mov{insn.width}{insn.op[3:]}" if insn.op.startswith("movs") else f"{insn.op}{insn.width}"
+    return f"{name} r{insn.dst}, {insn.imm if insn.src is None else f'r{insn.src}'}"
+
+
+class Writer:
+    """Collects the lines of one function."""
+
+    def __init__(self, name: str) -> None:
+        self.name = name
+        self.lines: List[Line] = []
+        self.line: Optional[SourceLine] = None
+        self._stubs: Dict[tuple, str] = {}
+
+    def add(self, text: str) -> None:
+        """An instruction."""
+        self.lines.append(Line(text, self.line))
+
+    def constant(self, register: int, number: int) -> None:
+        """A number in a register."""
+        if signed(number, 64) == signed(number, 32):
+            self.add(f"mov64 r{register}, {signed(number, 32)}")
+        else:
+            self.add(f"lddw r{register}, {number}")
+
+    def label(self, name: str) -> None:
+        """A label of the instruction that follows."""
+        self.lines.append(Line(f"{name}:", None))
+
+    def block(self, label: int) -> str:
+        """The label of a block."""
+        return f"{self.name}_{label}"
+
+    def trap(self, number: int, register: Optional[int]) -> str:
+        """The label of the code that takes a trap, with the register that was tested."""
+        return self._stubs.setdefault((number, register), f"{self.name}_trap_{len(self._stubs)}")
+
+    @property
+    def can_trap(self) -> bool:
+        """Whether a trap is taken anywhere."""
+        return bool(self._stubs)
+
+    def finish(self, result: int) -> None:
+        """Writes the code of the traps, behind all else."""
+        self.line = None
+        last = list(self._stubs.items())[-1:]
+        for (number, register), label in self._stubs.items():
+            self.label(label)
+            self.add("mov64 r2, 0" if register is None else f"mov64 r2, r{register}")
+            self.add(f"mov64 r1, {number}")
+            if last and label != last[0][1]:
+                self.add(f"ja {self.name}_trapped")
+        if self._stubs:
+            self.label(f"{self.name}_trapped")
+            self.add("ldmapval r3, 0, 0")
+            self.add("stx64 [r3+0], r1")
+            self.add("stx64 [r3+8], r2")
+            self.add(f"mov64 r0, {result}")
+            self.add("exit")

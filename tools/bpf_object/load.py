@@ -1,0 +1,91 @@
+"""Loads an object of clang: as it is where the verifier takes it so, and else rewritten until it does."""
+
+from __future__ import annotations
+
+import struct
+from dataclasses import replace
+from typing import Dict, Optional
+
+from .as_is import load_as_is, main_functions
+from .code import Function, line_text
+from .elf import Object
+from .fit import fit
+from .inline import inline
+from .loaded import Loaded, Trap
+from .memory import Memory
+from .plain import plain
+from .program import Fault, Verify
+from .program import verify as ask
+from .read import Reader
+from .refusal import Refused
+from .unit import types_of
+from .variables import Variable
+
+__all__ = ["Loaded", "Refused", "Trap", "Variable", "load"]
+
+# What no object should lead to, since all is tested before it is used; still no object gets a trace.
+UNFORESEEN = (struct.error, ArithmeticError, LookupError, RecursionError, TypeError, ValueError, AttributeError)
+SPREAD_SIZES = ({1, 2, 4}, set())  # of values that have an element each: that takes more slots
+
+
+def load(data: bytes, main: str | None = None, as_is: bool = False, verify: Verify | None = None) -> Loaded:
+    """The unit of an object, by the main function of a name where there are several."""
+    obj = Object(data)
+    programs = main_functions(obj)
+    if as_is:
+        return load_as_is(obj, programs)
+    judge = verify or ask
+    name = _chosen(programs, main)
+    try:
+        return _as_it_is(obj, programs, judge) or _rewritten(obj, name, programs, judge)
+    except UNFORESEEN as reason:
+        raise Refused(f"no object of clang: {type(reason).__name__}: {reason}") from None
+
+
+def _chosen(programs: list[str], main: str | None) -> str:
+    if not programs:
+        raise Refused('no section of a main function: write SEC("xdp") in front of it')
+    if main is not None and main not in programs:
+        raise Refused(f"no main function {main}; there are {', '.join(programs)}")
+    if main is None and len(programs) > 1:
+        raise Refused(f"several main functions: name one of {', '.join(programs)} by --main")
+    return main or programs[0]
+
+
+def _as_it_is(obj: Object, programs: list[str], judge: Verify) -> Optional[Loaded]:
+    try:
+        loaded = load_as_is(obj, programs)
+    except Refused:
+        return None
+    return loaded if judge(loaded.unit) is None else None
+
+
+def _rewritten(obj: Object, main: str, programs: list[str], judge: Verify) -> Loaded:
+    """The unit of a program in another order, or else one whose accesses are planned anew."""
+    memory = Memory(obj, types_of(obj))
+    functions = inline(Reader(obj, memory, main).functions)
+    return _in_order(obj, memory, functions, programs, judge) or _planned(memory, functions, programs, judge)
+
+
+def _in_order(
+    obj: Object, memory: Memory, functions: Dict[int, Function], programs: list[str], judge: Verify
+) -> Optional[Loaded]:
+    try:
+        loaded = plain(obj, memory, functions, programs)
+    except Refused:
+        return None
+    rewrites = ["blocks are put in an order without jumps backwards, and functions at their calls"]
+    return replace(loaded, rewrites=rewrites) if judge(loaded.unit) is None else None
+
+
+def _planned(memory: Memory, functions: Dict[int, Function], programs: list[str], judge: Verify) -> Loaded:
+    loaded = fit(memory, functions, SPREAD_SIZES).loaded(programs)
+    fault = judge(loaded.unit)
+    if fault is not None:
+        raise Refused(_told(fault, loaded))
+    return loaded
+
+
+def _told(fault: Fault, loaded: Loaded) -> str:
+    line = next((loaded.lines[slot] for slot in range(fault.slot, -1, -1) if slot in loaded.lines), None)
+    return f"{line_text(line)}refused {fault.rule} at slot {fault.slot} of the rewritten program"

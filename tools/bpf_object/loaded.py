@@ -1,0 +1,72 @@
+"""What a loader gives: a unit, and all that its numbers mean in C."""
+
+from __future__ import annotations
+
+from collections.abc import Sequence
+from dataclasses import dataclass, field
+
+from .btf import Btf, SourceLine
+from .variables import ELEMENT_BYTES, Variable
+
+
+@dataclass(frozen=True)
+class Trap:
+    """A test that the loader put in front of an access, and what it means that it was taken."""
+
+    line: SourceLine | None
+    text: str
+    name: str = ""  # the array that the index is outside of, where that is known
+    start: int = 0  # the address that its element 0 would have in the tested register
+    size: int = 0  # bytes from one element to the next
+    count: int = 0
+
+    def told_text(self) -> str:
+        """The trap in words, without what was tested."""
+        return (f"{self.line.file}:{self.line.number}: " if self.line else "") + self.text
+
+    def told(self, address: int) -> str:
+        """The trap in words, with the index where the tested address tells it."""
+        if not self.size:
+            return self.told_text()
+        place = f"{self.line.file}:{self.line.number}: " if self.line else ""
+        number = (address - self.start + (1 << 63)) % (1 << 64) - (1 << 63)
+        return f"{place}index {number // self.size} of {self.name}[{self.count}]"
+
+
+@dataclass(frozen=True)
+class Loaded:
+    """A unit that was made of an object."""
+
+    unit: str  # assembler text with comments, without the maps' values
+    sizes: tuple[int, ...]
+    initial: list[list[int]]
+    variables: list[Variable]
+    lines: dict[int, SourceLine]
+    loops: dict[int, SourceLine | None]
+    traps: list[Trap] = field(default_factory=list)
+    trap_element: int | None = None
+    rewrites: list[str] = field(default_factory=list)
+    programs: list[str] = field(default_factory=list)
+    btf: Btf | None = None
+
+    @property
+    def text(self) -> str:
+        """The unit with its maps' values where any isn't 0."""
+        if not any(any(words) for words in self.initial):
+            return self.unit
+        lines = [f"map {number}: {' '.join(map(str, words))}" for number, words in enumerate(self.initial)]
+        return "".join([self.unit, "%%\n", *(f"{line}\n" for line in lines)])
+
+    def trap_in(self, words: Sequence[int]) -> str | None:
+        """The trap that was taken, in words, by all elements after a run; nothing where none was."""
+        if self.trap_element is None or not words[self.trap_element]:
+            return None
+        number = words[self.trap_element]
+        if number > len(self.traps):
+            return f"trap {number}"
+        return self.traps[number - 1].told(words[self.trap_element + 1])
+
+
+def bytes_of_words(words: Sequence[int]) -> bytes:
+    """The bytes of elements, in the order of C."""
+    return b"".join(word.to_bytes(ELEMENT_BYTES, "little") for word in words)

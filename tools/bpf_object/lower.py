@@ -1,0 +1,158 @@
+"""Writes planned instructions as lines of assembler text."""
+
+from __future__ import annotations
+
+from typing import Dict, List, Optional, Tuple
+
+from .access_lines import AccessLines, Scratch
+from .code import Address, Alu, Branch, Exit, Goto, Number, Stop, successors
+from .loaded import Trap
+from .lines import Line, Writer, alu_text
+from .live import without_dead, writes_of
+from .mend import Rewritten
+from .plans import LoopCall, Moved, Touch
+from .ranges import OPPOSITE
+
+INVERTED = {op: OPPOSITE[op] for op in OPPOSITE if not op.endswith("set")}
+
+
+class Lowering:
+    """One function of a rewritten program."""
+
+    def __init__(self, rewritten: Rewritten, number: int, name: str, labels: Dict[int, str]) -> None:
+        self._rewritten = rewritten
+        self._number = number
+        self._function = rewritten.functions[number]
+        self._lives, self._entry_live = without_dead(self._function)
+        self._labels = labels  # of the callbacks
+        self._can_trap: Dict[int, bool] = {}
+        self._out = Writer(name)
+        impossible = rewritten.traps.number(Trap(None, "a number changed in the frame"))
+        self._kept: Dict[int, List[Optional[Tuple[int, int]]]] = {}
+        self._accesses = AccessLines(self._out, Scratch(self._function), impossible)
+
+    def lines(self, can_trap: Dict[int, bool]) -> List[Line]:
+        """The function's lines; which callbacks can take a trap is known."""
+        self._can_trap = can_trap
+        self._out.label(self._out.name)
+        self._begin()
+        order = list(self._function.blocks)
+        for label, following in zip(order, [*order[1:], None]):
+            self._out.label(self._out.block(label))
+            self._accesses.kept = self._kept_before(label)
+            block = self._function.blocks[label]
+            for insn, live in zip(block.insns, self._lives[label]):
+                self._insn(insn, live)
+            for leading_to in successors(block.end):
+                self._kept.setdefault(leading_to, []).append(self._accesses.kept)
+            self._end(block.end, following)
+        tests_traps = any(line.text.endswith(f"{self._out.name}_ended") for line in self._out.lines)
+        self._out.finish(1 if self._number else 0)
+        if tests_traps:
+            self._out.label(f"{self._out.name}_ended")
+            self._out.add("mov64 r0, 0")
+            self._out.add("exit")
+        can_trap[self._number] = self._out.can_trap
+        return self._out.lines
+
+    def _kept_before(self, label: int) -> Optional[Tuple[int, int]]:
+        """The register with an address, where all blocks that lead to one have left it so."""
+        kept = self._kept.get(label, [None])
+        return kept[0] if all(one == kept[0] for one in kept) else None
+
+    def _begin(self) -> None:
+        rewritten, number, out = self._rewritten, self._number, self._out
+        out.line = self._function.line
+        frame = rewritten.layout.spots[rewritten.frames[number].number]
+        if number and frame.low < frame.size:
+            out.add(f"ldmapval r0, 0, {frame.element * 8}")
+            for byte in range(0, frame.size - frame.low, 8):
+                out.add(f"st64 [r0+{byte}], 0")
+        live = self._entry_live
+        if number and live >> 2 & 1:
+            self._context()
+        for function, register in sorted(rewritten.facts.undefined):
+            if function == number and live >> register & 1:
+                out.add(f"mov64 r{register}, 0")
+        for function, byte in sorted(rewritten.facts.unwritten):
+            if function == number:
+                out.add(f"st64 [r10{byte - 512:+d}], 0")
+
+    def _context(self) -> None:
+        entry = self._rewritten.entries[self._number]
+        if self._number in self._rewritten.facts.hidden:
+            spot = self._rewritten.layout.spots[self._rewritten.contexts[self._number].number]
+            self._out.add(f"ldmapval r2, 0, {spot.element * 8}")
+            self._out.add("ldx64 r2, [r2+0]")
+        else:
+            self._out.constant(2, entry.context.range.lo)
+
+    def _insn(self, insn: object, live: int) -> None:
+        out = self._out
+        out.line = getattr(insn, "line", None)
+        if isinstance(insn, Touch):
+            self._accesses.write(insn, live)
+            return
+        self._accesses.forget(writes_of(insn))
+        if isinstance(insn, Alu):
+            out.add(alu_text(insn))
+        elif isinstance(insn, Number):
+            out.add(f"lddw r{insn.dst}, {insn.value}")
+        elif isinstance(insn, Moved):
+            if insn.is_native or insn.number is None:
+                out.add(alu_text(insn.insn))
+            else:
+                out.constant(insn.insn.dst, insn.number)
+        elif isinstance(insn, Address):
+            if insn.is_native:
+                spot = self._rewritten.layout.spots[insn.thing]
+                out.add(f"ldmapval r{insn.dst}, 0, {spot.element * 8 + insn.offset - spot.low}")
+            else:
+                out.constant(insn.dst, insn.number or 0)
+        elif isinstance(insn, LoopCall):
+            self._loop(insn)
+
+    def _loop(self, insn: LoopCall) -> None:
+        out = self._out
+        if not insn.is_zero:
+            spot = self._rewritten.layout.spots[self._rewritten.contexts[insn.function].number]
+            out.add(f"ldmapval r2, 0, {spot.element * 8}")
+            out.add("stx64 [r2+0], r3")
+        out.add(f"ldcode r2, {self._labels[insn.function]}")
+        out.add("mov64 r3, 0")
+        out.add("call 181")
+        if self._can_trap.get(insn.function):
+            out.add("ldmapval r1, 0, 0")
+            out.add("ldx64 r1, [r1+0]")
+            out.add(f"jne64 r1, 0, {out.name}_ended")
+
+    def _end(self, end: object, following: Optional[int]) -> None:
+        out = self._out
+        out.line = getattr(end, "line", None)
+        if isinstance(end, Goto):
+            if end.target != following:
+                out.add(f"ja {out.block(end.target)}")
+        elif isinstance(end, Branch):
+            write_branch(out, end, following)
+        elif isinstance(end, Exit):
+            out.add("exit")
+        elif isinstance(end, Stop):
+            out.add(f"ja {out.trap(end.trap, end.register)}")
+
+
+def write_branch(out: Writer, end: Branch, following: Optional[int]) -> None:
+    """The end of a block that has two successors, of which one may follow."""
+    op, taken, other = end.op, end.taken, end.other
+    if taken == following and op in INVERTED:
+        op, taken, other = INVERTED[op], other, taken
+    operand = end.imm if end.src is None else f"r{end.src}"
+    out.add(f"{op}{end.width} r{end.dst}, {operand}, {out.block(taken)}")
+    if other != following:
+        out.add(f"ja {out.block(other)}")
+
+
+def callback_order(rewritten: Rewritten) -> List[int]:
+    """The functions with main last, since it has to know which callbacks can take a trap."""
+    return [*(number for number in rewritten.functions if number), 0]
+
+

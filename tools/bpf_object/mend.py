@@ -1,0 +1,113 @@
+"""Rewrites a program until what is known of it, and how its things are laid out, agree."""
+
+from __future__ import annotations
+
+from dataclasses import dataclass
+from typing import Dict, List, Optional, Set
+
+from .access import Planner, Traps
+from .analysis import Analysis, Entry
+from .code import FRAME_BYTES, Function
+from .facts import Facts
+from .layout import Layout, spread_groups
+from .memory import ARGUMENT, Kind, Memory, Thing
+from .ranges import TOP, exact
+from .refusal import Refused
+from .unroll import Limits, Loop, Unroller
+from .values import State, Value, entry_state
+
+TRIES = 64  # more than facts ever take
+TRIAL_BUDGET = 1 << 16  # instructions
+
+
+@dataclass
+class Rewritten:
+    """A program whose instructions have plans, and what they were planned by."""
+
+    functions: Dict[int, Function]
+    entries: Dict[int, Entry]
+    frames: Dict[int, Thing]
+    contexts: Dict[int, Thing]
+    layout: Layout
+    facts: Facts
+    traps: Traps
+    cut: Set[Loop]
+    copied: Dict[Loop, int]
+    sources: Dict[int, Function]
+    endless: Optional[str] = None
+
+
+class Mender:
+    """Plans a program again and again, with all that was met before."""
+
+    def __init__(self, memory: Memory, functions: Dict[int, Function], sizes: Set[int]) -> None:
+        self._memory = memory
+        self._sizes = sizes  # of values that may have an element each
+        self._functions = functions
+        self._frames = {n: memory.add(Kind.FRAME, f.name, FRAME_BYTES, n) for n, f in functions.items()}
+        self._contexts = {n: memory.add(Kind.HIDDEN, f"ctx of {f.name}", 8, n) for n, f in functions.items()}
+        for number, thing in self._frames.items():
+            thing.line = functions[number].line
+        self.facts = Facts()
+        for thing in memory.things:
+            for target, _ in thing.pointers.values():
+                self.facts.use((target,))
+                self.facts.escape(frozenset((target,)))
+        self._spread: set[int] = set()
+
+    def run(self, budget: int, rounds: Dict[Loop, int]) -> Rewritten:
+        """The program with plans that agree with its layout, by few rounds of its loops first."""
+        self._settle(TRIAL_BUDGET, {}, True)
+        return self._settle(budget, rounds, False)
+
+    def _settle(self, budget: int, rounds: Dict[Loop, int], is_trial: bool) -> Rewritten:
+        for _ in range(TRIES):
+            version = self.facts.version
+            layout = Layout(self._memory, self.facts, self._spread)
+            done = self._round(layout, Limits(budget, rounds, is_trial))
+            if self.facts.version == version:
+                spread = spread_groups(self._memory, self.facts, self._sizes)
+                if spread == self._spread:
+                    return done
+                self._spread = spread
+        raise Refused("the program's variables have no layout that all its accesses agree with")
+
+    def _round(self, layout: Layout, limits: Limits) -> Rewritten:
+        traps = Traps()
+        planner = Planner(self._memory, layout, self.facts, traps)
+        done = Rewritten({}, {}, self._frames, self._contexts, layout, self.facts, traps, set(), {}, self._functions)
+        waiting: List[int] = [0]
+        while waiting:
+            number = waiting.pop(0)
+            analysis = Analysis(planner, number, self._functions[number], self._frames[number])
+            unroller = Unroller(analysis, planner, self._functions[number], limits)
+            done.functions[number] = unroller.run(self._entry(number, layout, done.entries))
+            done.cut |= unroller.cut
+            done.copied.update(unroller.copied)
+            done.endless = done.endless or unroller.endless
+            for callback, entry in analysis.entries.items():
+                done.entries[callback] = entry
+                waiting.append(callback)
+        return done
+
+    def _entry(self, number: int, layout: Layout, entries: Dict[int, Entry]) -> State:
+        frame_of = self._functions[number].frame_of
+        frame = self._frames[number if frame_of is None else frame_of]
+        top_of_frame = Value(exact(layout.spots[frame.number].address + FRAME_BYTES), frozenset((frame.number,)))
+        argument, context = Value(TOP, frozenset((ARGUMENT,))), None
+        if number:
+            entry = entries[number]
+            argument, context = Value(entry.count), entry.context
+            if not context.is_exact:
+                self.facts.hide(number)
+                self.facts.use((self._contexts[number].number,))
+                context = Value(TOP, context.things)
+        state = entry_state(argument, context, 0, top_of_frame)
+        for function, register in self.facts.undefined:
+            if function == number:
+                state.regs[register] = Value(exact(0))
+        for function, byte in self.facts.unwritten:
+            if function == number:
+                state.store(byte, 8, Value(exact(0)))
+        return state
+

@@ -1,0 +1,164 @@
+"""Makes a callback of a loop in main, for the loops that there is no room to copy.
+
+The callback does one round. What registers hold from one round to the next lies in main's frame meanwhile, which the
+callback reaches, so that it has to be in the map.
+"""
+
+from __future__ import annotations
+
+from typing import Dict, List, Optional, Set
+
+from .btf import SourceLine
+from .code import (
+    FRAME,
+    FRAME_BYTES,
+    LOOP,
+    REGISTERS,
+    RESULT,
+    Alu,
+    Block,
+    Branch,
+    Call,
+    CodeOf,
+    End,
+    Exit,
+    Function,
+    Goto,
+    Load,
+    Stop,
+    Store,
+    order_of,
+    renamed,
+    successors,
+    writes,
+)
+from .inline import inline_callback, live_in_of, lowest_byte
+
+ROUNDS = 1 << 23  # that a loop call does at most
+
+
+def outline(functions: Dict[int, Function], header: int) -> Optional[Dict[int, Function]]:
+    """The functions with one more, or nothing where the loop can't be made one."""
+    main = functions[0]
+    labels = _loop(main, header)
+    order = order_of(main)
+    enters = [label for label in order if label not in labels and set(successors(main.blocks[label].end)) & labels]
+    if any(set(successors(main.blocks[label].end)) & (labels - {header}) for label in enters):
+        return None
+    named = [insn.function for label in labels for insn in main.blocks[label].insns if isinstance(insn, CodeOf)]
+    if any(functions[callback].frame_of is None for callback in named):
+        return None  # the user's own loop calls stay main's
+    site = _Site(main, header, labels)
+    if site.bottom < 0:
+        return None
+    number = max(functions) + 1
+    done = dict(functions)
+    done[number] = site.body()
+    done[0] = site.main(number, enters)
+    done[number] = inline_callback(done, number)
+    return done
+
+
+def _loop(function: Function, header: int) -> Set[int]:
+    """The blocks of the loop that begins at one."""
+    place = {label: at for at, label in enumerate(order_of(function))}
+    leads: Dict[int, List[int]] = {}
+    for label in place:
+        for following in successors(function.blocks[label].end):
+            leads.setdefault(following, []).append(label)
+    labels = {header}
+    waiting = [label for label in leads.get(header, []) if place[label] >= place[header]]
+    while waiting:
+        label = waiting.pop()
+        if label not in labels:
+            labels.add(label)
+            waiting += leads.get(label, [])
+    return labels
+
+
+class _Site:
+    def __init__(self, main: Function, header: int, labels: Set[int]) -> None:
+        self._main = main
+        self._header = header
+        self._labels = labels
+        self._live = live_in_of(main)
+        self._next = max(main.blocks) + 1
+        block = main.blocks[header]
+        self._line: Optional[SourceLine] = block.insns[0].line if block.insns else block.end.line
+        edges = [(label, to) for label in sorted(labels) for to in successors(main.blocks[label].end)]
+        self._exits = sorted({to for _, to in edges if to not in labels})
+        self._written = {r for label in labels for insn in main.blocks[label].insns for r in writes(insn)}
+        self._lowest = lowest_byte(main)
+        self.bottom = self._lowest - 8 * (len(REGISTERS) + 1)
+
+    def _place(self, register: int) -> int:
+        return self._lowest - 8 * (register + 2) - FRAME_BYTES
+
+    @property
+    def _way(self) -> int:
+        """The place of the number of the exit that was taken."""
+        return self._lowest - 8 - FRAME_BYTES
+
+    def _registers(self, label: int) -> List[int]:
+        return [register for register in REGISTERS if self._live[label] >> register & 1]
+
+    def _load(self, register: int) -> Load:
+        return Load(8, False, register, FRAME, self._place(register), self._line)
+
+    def _store(self, register: int) -> Store:
+        return Store(8, FRAME, self._place(register), register, 0, self._line)
+
+    def _number(self, register: int, number: int) -> Alu:
+        return Alu("mov", 64, register, None, number, self._line)
+
+    def body(self) -> Function:
+        """One round."""
+        name = f"{self._main.name}_round"
+        entry, again = self._next, self._next + 1
+        function = Function(name, entry, {}, self._line, 0)
+        blocks = function.blocks
+        registers = self._registers(self._header)
+        blocks[entry] = Block([self._load(register) for register in registers], Goto(self._header, self._line))
+        kept = [self._store(register) for register in registers if register in self._written]
+        blocks[again] = Block([*kept, self._number(RESULT, 0)], Exit(self._line))
+        leading = {label: label for label in self._labels}
+        leading[self._header] = again
+        for number, label in enumerate(self._exits, 1):
+            out = leading[label] = again + number
+            kept = [self._store(register) for register in self._registers(label) if register in self._written]
+            kept.append(Store(8, FRAME, self._way, None, number, self._line))
+            blocks[out] = Block([*kept, self._number(RESULT, 1)], Exit(self._line))
+        for label in self._labels:
+            block = self._main.blocks[label]
+            blocks[label] = Block(block.insns, renamed(block.end, leading))
+        return function
+
+    def main(self, number: int, enters: List[int]) -> Function:
+        """Main with a loop call in place of the loop."""
+        main = self._main
+        blocks = {label: block for label, block in main.blocks.items() if label not in self._labels}
+        call, self._next = self._next, self._next + 1
+        for label in enters:
+            blocks[label] = Block(blocks[label].insns, _led(blocks[label].end, self._header, call))
+        insns: List = [self._store(register) for register in self._registers(self._header)]
+        insns.append(Store(8, FRAME, self._way, None, 0, self._line))
+        insns += [self._number(1, ROUNDS), CodeOf(2, number, self._line), self._number(3, 0), self._number(4, 0)]
+        insns += [Call(LOOP, self._line), Load(8, False, 1, FRAME, self._way, self._line)]
+        blocks[call] = Block(insns, Goto(call, self._line))
+        last = call
+        for way, label in enumerate(self._exits, 1):
+            found, following = self._next, self._next + 1
+            self._next += 2
+            blocks[found] = Block([self._load(r) for r in self._registers(label)], Goto(label, self._line))
+            blocks[last].end = Branch("jeq", 64, 1, None, way, found, following, self._line)
+            blocks[following] = Block([], Stop(0, None, self._line))
+            last = following
+        if last == call:
+            blocks[call].end = Stop(0, None, self._line)
+        entry = call if main.entry == self._header else main.entry
+        return Function(main.name, entry, blocks, main.line)
+
+
+def _led(end: End, label: int, instead: int) -> End:
+    return renamed(end, {to: instead if to == label else to for to in successors(end)})
+

@@ -1,0 +1,116 @@
+"""A unit of a program whose blocks are only put in another order, or whose functions are only put in at their calls.
+
+Its maps are those of the object, and so are its addresses. The verifier may still refuse it.
+"""
+
+from __future__ import annotations
+
+from dataclasses import dataclass
+from typing import Dict, List
+
+from .as_is import variables_of
+from .code import (
+    Address,
+    Alu,
+    Atomic,
+    Branch,
+    Call,
+    CodeOf,
+    Exit,
+    Function,
+    Goto,
+    Load,
+    MapOf,
+    Number,
+    Store,
+    backward,
+    order_of,
+)
+from .elf import Object
+from .emit import label_names, text_of
+from .lines import Line, Writer, alu_text
+from .loaded import Loaded
+from .lower import write_branch
+from .maps import ArrayMap, maps_of
+from .memory import Kind, Memory
+from .refusal import Refused
+from .unit import map_lines
+
+
+def plain(obj: Object, memory: Memory, functions: Dict[int, Function], programs: List[str]) -> Loaded:
+    """The unit, or a refusal where that can't be enough."""
+    maps = maps_of(obj, memory.btf)
+    names = label_names(functions)
+    lines: List[Line] = []
+    for number in sorted(functions):
+        if next(backward(functions[number]), None) is not None:
+            raise Refused("a jump leads backwards")
+        lines += _Plain(memory, maps, names).lines(functions[number], names[number])
+    text, slots = text_of(lines)
+    return Loaded(
+        unit="".join(f"{line}\n" for line in [*map_lines(obj, maps), *text]),
+        sizes=tuple(array.elements for array in maps) or (1,),
+        initial=[array.values for array in maps] or [[0]],
+        variables=variables_of(obj, memory.btf, maps),
+        lines=slots.lines,
+        loops=slots.loops,
+        programs=programs,
+        btf=memory.btf,
+    )
+
+
+@dataclass
+class _Plain:
+    memory: Memory
+    maps: List[ArrayMap]
+    names: Dict[int, str]
+
+    def lines(self, function: Function, name: str) -> List[Line]:
+        """The lines of a function."""
+        out = Writer(name)
+        out.label(name)
+        order = order_of(function)
+        for label, following in zip(order, [*order[1:], None]):
+            out.label(out.block(label))
+            block = function.blocks[label]
+            for insn in block.insns:
+                out.line = insn.line
+                out.add(self._text(insn))
+            out.line = block.end.line
+            if isinstance(block.end, Exit):
+                out.add("exit")
+            elif isinstance(block.end, Goto) and block.end.target != following:
+                out.add(f"ja {out.block(block.end.target)}")
+            elif isinstance(block.end, Branch):
+                write_branch(out, block.end, following)
+        return out.lines
+
+    def _text(self, insn) -> str:
+        if isinstance(insn, Alu):
+            return alu_text(insn)
+        if isinstance(insn, Number):
+            return f"lddw r{insn.dst}, {insn.value}"
+        if isinstance(insn, CodeOf):
+            return f"ldcode r{insn.dst}, {self.names[insn.function]}"
+        if isinstance(insn, (MapOf, Address)):
+            return self._address(insn)
+        if isinstance(insn, Call):
+            return f"call {insn.helper}"
+        place, size = f"[r{insn.base}{insn.offset:+d}]", insn.size * 8
+        if isinstance(insn, Load):
+            return f"ldx{'s' if insn.signed else ''}{size} r{insn.dst}, {place}"
+        if isinstance(insn, Atomic):
+            return f"atomic{size} {insn.op} {place}, r{insn.src}"
+        if isinstance(insn, Store):
+            return f"st{size} {place}, {insn.imm}" if insn.src is None else f"stx{size} {place}, r{insn.src}"
+        raise Refused("a call of a function")
+
+    def _address(self, insn: MapOf | Address) -> str:
+        thing = self.memory.things[insn.thing]
+        for number, array in enumerate(self.maps):
+            if array.section.name == thing.section and (not array.is_declared or array.offset == thing.offset):
+                if thing.kind == Kind.MAP:
+                    return f"ldmap r{insn.dst}, {number}"
+                if isinstance(insn, Address) and 0 <= thing.offset + insn.offset < array.section.size:
+                    return f"ldmapval r{insn.dst}, {number}, {thing.offset + insn.offset}"
+        raise Refused(f"the address of {thing.name}, which is in no map")

@@ -1,0 +1,52 @@
+"""The program `bpfspec`, which judges units: it is found, and asked."""
+
+from __future__ import annotations
+
+import os
+import re
+import subprocess
+from collections.abc import Callable
+from dataclasses import dataclass
+from pathlib import Path
+from typing import Optional
+
+from .refusal import Refused
+
+TIME_LIMIT = 600  # seconds; the first call may build the program
+REFUSAL = re.compile(r"refused (V\d+) at slot (\d+)")
+
+
+@dataclass(frozen=True)
+class Fault:
+    """What `bpfspec verify` refuses: a rule, and the slot that breaks it."""
+
+    rule: str
+    slot: int
+
+
+Verify = Callable[[str], Optional[Fault]]
+
+
+def find_program() -> str:
+    """The path of the program: what $BPFSPEC names, else the repository's own."""
+    return os.environ.get("BPFSPEC") or str(Path(__file__).resolve().parents[2] / "bpfspec")
+
+
+def verify(unit: str) -> Fault | None:
+    """Asks the program whether it takes a unit."""
+    program = find_program()
+    try:
+        done = subprocess.run(
+            [program, "verify"], input=unit.encode(), stdout=subprocess.PIPE, timeout=TIME_LIMIT, check=False
+        )
+    except OSError as reason:
+        raise Refused(f"{program} can't be run: {reason.strerror}") from None
+    except subprocess.TimeoutExpired:
+        raise Refused(f"{program} took more than {TIME_LIMIT} seconds to verify a unit") from None
+    answer = done.stdout.decode(errors="replace").strip()
+    if done.returncode == 0 and answer.startswith("accepted"):
+        return None
+    found = REFUSAL.fullmatch(answer)
+    if found is None:
+        raise Refused(f"{program} doesn't verify the unit: {answer or f'status {done.returncode}'}")
+    return Fault(found[1], int(found[2]))

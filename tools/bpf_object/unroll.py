@@ -1,0 +1,264 @@
+"""Copies a function's blocks along all its paths, so that no jump leads backwards, and plans each instruction.
+
+A loop is copied round by round until nothing leads to another one, by what is known of the numbers that it counts.
+Where a round limit is given, what would lead further is a trap. A lookup becomes a comparison and an address.
+"""
+
+from __future__ import annotations
+
+from typing import Dict, FrozenSet, List, Optional, Tuple
+
+from .access import Planner
+from .analysis import LOOP_LIMIT, Analysis, constant
+from .code import LOOKUP, RESULT, Alu, Block, Branch, Call, End, Exit, Function, Goto, Load, Stop, line_text
+from .graph import Graph
+from .loaded import Trap
+from .ranges import exact
+from .refusal import Refused
+from .values import EXACT_ZERO, Handle, Held, State, Value, join_states
+
+TRIAL_ROUNDS = 2
+Edge = Tuple[int, str]  # a block, and the field of its end that has a label
+Arrival = Tuple[Edge, State]
+Exits = List[Tuple[int, Edge, State]]
+
+
+Loop = Tuple[int, int]  # a function's number, and the label of a loop's first block
+
+
+class TooMany(Exception):
+    """More instructions are copied than there is room for, and the loop that went on."""
+
+    def __init__(self, loop: Loop | None) -> None:
+        super().__init__("too many instructions")
+        self.loop = loop
+
+
+class Limits:
+    """How much is copied at most."""
+
+    def __init__(self, budget: int, rounds: Dict[Loop, int], is_trial: bool = False) -> None:
+        self.budget = budget  # instructions of the whole program
+        self.rounds = rounds  # of a loop; one that isn't here has all of its rounds copied
+        self.is_trial = is_trial  # all loops have few rounds, and nothing is refused
+
+
+class Unroller:
+    """One function."""
+
+    def __init__(self, analysis: Analysis, planner: Planner, function: Function, limits: Limits) -> None:
+        self._analysis = analysis
+        self._planner = planner
+        self._source = function
+        self._graph = Graph(function)
+        self._limits = limits
+        self._open: List[List] = []  # the loops that are being copied, and their rounds
+        self.cut: set[Loop] = set()
+        self.endless: Optional[str] = None  # why a loop never comes to its end
+        self.copied: Dict[Loop, int] = {}  # the most rounds of each loop
+        self.result = Function(function.name, 0, {}, function.line)
+
+    def run(self, entry: State) -> Function:
+        """The copy, whose entry is its first block."""
+        self.result.blocks[0] = Block([], Goto(-1, None))
+        self.result.entry = 0
+        labels = frozenset(self._source.blocks)
+        self._region(labels, {self._source.entry: [((0, "target"), entry)]}, None)
+        return self.result
+
+    def _region(self, labels: FrozenSet[int], incoming: Dict[int, List[Arrival]], header: int | None) -> Exits:
+        """Copies what the incoming edges lead to, and gives the edges that leave, or lead to the header."""
+        exits: Exits = []
+        for part in self._graph.parts(labels, header):
+            if self._graph.is_loop(part, header):
+                entries = {label: incoming.pop(label) for label in part if label in incoming}
+                if not entries:
+                    continue
+                leaving = self._loop(frozenset(part), entries)
+            elif part[0] in incoming:
+                leaving = self._copy(part[0], incoming.pop(part[0]))
+            else:
+                continue
+            for target, edge, state in leaving:
+                if target in labels and target != header:
+                    incoming.setdefault(target, []).append((edge, state))
+                else:
+                    exits.append((target, edge, state))
+        return exits
+
+    def _loop(self, labels: FrozenSet[int], incoming: Dict[int, List[Arrival]]) -> Exits:
+        header = min(incoming)
+        loop = (self._analysis.number, header)
+        limit = TRIAL_ROUNDS if self._limits.is_trial else self._limits.rounds.get(loop)
+        exits: Exits = []
+        self._open.append([loop, 0])
+        while incoming:
+            if limit is not None and self._open[-1][1] >= limit:
+                self._cut(header, incoming, limit, not exits)
+                break
+            again: List[Arrival] = []
+            for target, edge, state in self._region(labels, incoming, header):
+                if target == header:
+                    again.append((edge, state))
+                else:
+                    exits.append((target, edge, state))
+            incoming = {header: again} if again else {}
+            self._open[-1][1] += 1
+        self.copied[loop] = max(self.copied.get(loop, 0), self._open.pop()[1])
+        return exits
+
+    def _cut(self, header: int, incoming: Dict[int, List[Arrival]], rounds: int, is_always: bool) -> None:
+        insns = self._source.blocks[header].insns
+        line = insns[0].line if insns else self._source.blocks[header].end.line
+        if is_always:
+            text = "a loop takes more rounds than 4096 slots have room for: make it a function that bpf_loop calls"
+            self.endless = f"{line_text(line)}{text}"
+        self.cut.add((self._analysis.number, header))
+        trap = self._planner.traps.number(Trap(line, f"the loop goes on after {rounds} rounds"))
+        label = self._new(Stop(trap, None, line))
+        for arrivals in incoming.values():
+            for edge, _ in arrivals:
+                self._lead(edge, label)
+
+    def _new(self, end: End) -> int:
+        label = len(self.result.blocks)
+        self.result.blocks[label] = Block([], end)
+        return label
+
+    def _lead(self, edge: Edge, label: int) -> None:
+        block = self.result.blocks[edge[0]]
+        block.end = block.end._replace(**{edge[1]: label})
+
+    def _copy(self, label: int, arrivals: List[Arrival]) -> Exits:
+        """Copies one block; each lookup in it parts the rest of the block into two copies."""
+        first = self._new(Exit())
+        for edge, _ in arrivals:
+            self._lead(edge, first)
+        self._take_differences([state for _, state in arrivals])
+        exits: Exits = []
+        work = [(first, 0, join_states([state for _, state in arrivals]))]
+        while work:
+            target, index, state = work.pop()
+            work += self._copy_rest(label, target, index, state, exits)
+        return exits
+
+    def _take_differences(self, states: List[State]) -> None:
+        """Addresses in frames that aren't the same on all paths aren't followed further."""
+        if len(states) < 2:
+            return
+        for at in range(10):
+            self._take_where_different([state.regs[at] for state in states])
+        for byte in {byte for state in states for byte in state.slots}:
+            self._take_where_different([state.slots[byte][1] if byte in state.slots else None for state in states])
+
+    def _take_where_different(self, held: List[Held]) -> None:
+        if all(value is held[0] or value == held[0] for value in held):
+            return
+        for value in held:
+            if isinstance(value, Value) and value.is_exact:
+                for thing in value.real:
+                    self._analysis.take(thing, value.range.lo)
+
+    def _copy_rest(
+        self, label: int, target: int, index: int, state: State, exits: Exits
+    ) -> List[Tuple[int, int, State]]:
+        source = self._source.blocks[label]
+        block = self.result.blocks[target]
+        for at in range(index, len(source.insns)):
+            insn = source.insns[at]
+            if isinstance(insn, Call) and insn.helper == LOOKUP:
+                return self._lookup(insn, target, at + 1, state)
+            done = self._analysis.step(insn, state)
+            if done and isinstance(done[-1], Stop):
+                block.insns += done[:-1]
+                block.end = done[-1]
+                return []
+            block.insns += done
+        self._count(len(block.insns))
+        self._end(source.end, target, state, exits)
+        return []
+
+    def _count(self, insns: int) -> None:
+        self._limits.budget -= insns + 1
+        if self._limits.budget < 0:
+            unlimited = [(rounds, loop) for loop, rounds in self._open if loop not in self._limits.rounds]
+            raise TooMany(max(unlimited)[1] if unlimited else None)
+
+    def _end(self, end: End, target: int, state: State, exits: Exits) -> None:
+        block = self.result.blocks[target]
+        if isinstance(end, Goto):
+            block.end = end
+            exits.append((end.target, (target, "target"), state))
+        elif isinstance(end, Exit):
+            self._exit(end, block, state)
+        elif isinstance(end, Stop):
+            trap = self._planner.traps.number(Trap(end.line, f"the loop goes on after {LOOP_LIMIT} rounds"))
+            block.end = end._replace(trap=trap)
+        elif isinstance(end, Branch):
+            taken, other = self._analysis.compare(end, state)
+            if taken is None or other is None or end.taken == end.other:
+                following = end.other if taken is None else end.taken
+                block.end = Goto(following, end.line)
+                exits.append((following, (target, "target"), taken or other or state))
+            else:
+                block.end = end
+                exits.append((end.taken, (target, "taken"), taken))
+                exits.append((end.other, (target, "other"), other))
+
+    def _exit(self, end: Exit, block: Block, state: State) -> None:
+        """A callback ends with 0 or 1, where all but 0 ends the loop."""
+        value = self._analysis.value(RESULT, state, end)
+        block.end = end
+        if self._analysis.number and value.range.hi > 1:
+            done, stopped = self._new(end), self._new(end)
+            self.result.blocks[done].insns.append(constant(RESULT, 0, end.line))
+            self.result.blocks[stopped].insns.append(constant(RESULT, 1, end.line))
+            block.end = Branch("jeq", 64, RESULT, None, 0, done, stopped, end.line)
+
+    def _lookup(self, insn: Call, target: int, index: int, state: State) -> List[Tuple[int, int, State]]:
+        held = state.regs[1]
+        if not isinstance(held, Handle) or not held.is_map:
+            raise Refused(f"{line_text(insn.line)}a lookup of a map that isn't one alone")
+        thing = self._planner.memory.things[held.number]
+        spot = self._planner.layout.spots[held.number]
+        self._planner.facts.use((held.number,))
+        block = self.result.blocks[target]
+        done = self._analysis.step(Load(4, False, RESULT, 2, 0, insn.line), state)
+        block.insns += done
+        self._count(len(block.insns))
+        if done and isinstance(done[-1], Stop):
+            block.insns.pop()
+            block.end = done[-1]
+            return []
+        state.regs[1:6] = [None] * 5
+        key = self._analysis.value(RESULT, state, insn)
+        if key.range.hi < thing.entries:
+            return [self._found(insn, target, index, state, spot.stride, spot.address, held.number)]
+        missing = self._new(Goto(-1))
+        self.result.blocks[missing].insns.append(constant(RESULT, 0, insn.line))
+        absent = state.copy()
+        absent.regs[RESULT] = EXACT_ZERO
+        if key.range.lo >= thing.entries:
+            block.end = Goto(missing, insn.line)
+            return [(missing, index, absent)]
+        found = self._new(Goto(-1))
+        test = Branch("jge", 64, RESULT, None, thing.entries, missing, found, insn.line)
+        block.end = test
+        inside = self._analysis.compare(test, state)[1] or state
+        step = self._found(insn, found, index, inside, spot.stride, spot.address, held.number)
+        return [(missing, index, absent), step]
+
+    def _found(
+        self, insn: Call, target: int, index: int, state: State, stride: int, address: int, thing: int
+    ) -> Tuple[int, int, State]:
+        """The address of a value, from the key that r0 has."""
+        log = stride.bit_length() - 1
+        times = Alu("lsh", 64, RESULT, None, log, insn.line) if stride == 1 << log else None
+        steps = [times or Alu("mul", 64, RESULT, None, stride, insn.line)]
+        steps.append(Alu("add", 64, RESULT, None, address, insn.line))
+        block = self.result.blocks[target]
+        for step in steps:
+            block.insns += self._analysis.step(step, state)
+        held = state.regs[RESULT]
+        state.regs[RESULT] = Value(held.range if isinstance(held, Value) else exact(0), frozenset((thing,)))
+        return target, index, state

@@ -1,0 +1,146 @@
+"""Finds the addresses that can stay what the verifier calls addresses, and need not become numbers.
+
+A web is what definitions and uses of a register have in common: those that reach one use, and those that an address is
+copied or moved between. It stays native where each of its definitions is an address of the map or made of one, and each
+use an access that needs no test.
+"""
+
+from __future__ import annotations
+
+from typing import Dict, FrozenSet, List, Tuple
+
+from .code import Address, Alu, Branch, Exit, Function, order_of, reads, successors
+from .live import bits, reads_of, writes_of
+from .plans import Moved, Touch, Where
+
+Defs = FrozenSet[int]
+ENTRY = 0  # stands for what a register has where the function begins
+REGISTERS = 11
+
+
+class Webs:
+    """The webs of one function."""
+
+    def __init__(self, function: Function) -> None:
+        self._function = function
+        self._parent: List[int] = [ENTRY]
+        self._bad: List[bool] = [True]
+        self._defs: Dict[Tuple[int, int], int] = {}  # of a block and a place in it
+        self._bases: Dict[Tuple[int, int], int] = {}
+        self._held: Dict[Tuple[int, int], List[Defs]] = {}
+        self._follow()
+
+    def apply(self) -> None:
+        """Marks the instructions of the webs that stay native."""
+        for label, block in self._function.blocks.items():
+            for at, insn in enumerate(block.insns):
+                web = self._defs.get((label, at))
+                if isinstance(insn, (Address, Moved)) and web is not None and self._is_native(web):
+                    block.insns[at] = insn._replace(is_native=True)
+                if isinstance(insn, Touch):
+                    base = self._bases.get((label, at))
+                    is_native = base is not None and self._is_native(base)
+                    block.insns[at] = insn._replace(is_native=is_native, natives=self._natives(label, at))
+
+    def _natives(self, label: int, at: int) -> int:
+        """The registers that have native addresses at an access."""
+        regs = self._held[label, at]
+        return sum(1 << register for register in range(REGISTERS) if any(map(self._is_native, regs[register])))
+
+    def _is_native(self, web: int) -> bool:
+        return not self._bad[self._find(web)]
+
+    def _find(self, web: int) -> int:
+        while self._parent[web] != web:
+            self._parent[web] = self._parent[self._parent[web]]
+            web = self._parent[web]
+        return web
+
+    def _join(self, webs: Defs) -> int:
+        roots = [self._find(web) for web in webs]
+        for root in roots[1:]:
+            if root != roots[0]:
+                self._parent[root] = roots[0]
+                self._bad[roots[0]] |= self._bad[root]
+        return roots[0]
+
+    def _spoil(self, webs: Defs) -> None:
+        self._bad[self._join(webs)] = True
+
+    def _new(self, is_bad: bool) -> int:
+        self._parent.append(len(self._parent))
+        self._bad.append(is_bad)
+        return len(self._parent) - 1
+
+    def _follow(self) -> None:
+        arriving: Dict[int, List[List[Defs]]] = {}
+        start: List[Defs] = [frozenset((ENTRY,))] * REGISTERS
+        for label in order_of(self._function):
+            block = self._function.blocks[label]
+            states = arriving.pop(label, [start])
+            regs = [states[0][at].union(*(state[at] for state in states[1:])) for at in range(REGISTERS)]
+            for at, insn in enumerate(block.insns):
+                self._insn(label, at, insn, regs)
+            end = block.end
+            if isinstance(end, (Branch, Exit)):
+                for register in reads(end):
+                    self._spoil(regs[register])
+            for following in successors(end):
+                arriving.setdefault(following, []).append(regs)
+
+    def _insn(self, label: int, at: int, insn: object, regs: List[Defs]) -> None:
+        if isinstance(insn, Touch):
+            self._touch(label, at, insn, regs)
+        elif isinstance(insn, Address):
+            regs[insn.dst] = frozenset((self._define(label, at, False),))
+        elif isinstance(insn, Moved):
+            if insn.insn.src is not None:
+                self._spoil(regs[insn.insn.src])
+            web = self._define(label, at, False)
+            self._join(regs[insn.insn.dst] | {web})
+            regs[insn.insn.dst] = frozenset((web,))
+        elif isinstance(insn, Alu) and insn.op == "mov" and insn.width == 64 and insn.src is not None:
+            web = self._define(label, at, False)
+            self._join(regs[insn.src] | {web})
+            regs[insn.dst] = frozenset((web,))
+        else:
+            for register in range(REGISTERS):
+                if reads_of(insn) >> register & 1:
+                    self._spoil(regs[register])
+            self._overwrite(label, at, writes_of(insn), regs)
+
+    def _define(self, label: int, at: int, is_bad: bool) -> int:
+        web = self._new(is_bad)
+        self._defs[label, at] = web
+        return web
+
+    def _overwrite(self, label: int, at: int, written: int, regs: List[Defs]) -> None:
+        for register in range(REGISTERS):
+            if written >> register & 1:
+                regs[register] = frozenset((self._define(label, at, True),))
+
+    def _touch(self, label: int, at: int, touch: Touch, regs: List[Defs]) -> None:
+        self._held[label, at] = regs[:]
+        base = touch.insn.base
+        others = reads_of(touch._replace(is_native=True)) & ~(1 << base)
+        if bits(reads(touch.insn)[1:]) >> base & 1:
+            others |= 1 << base  # it is stored too
+        for register in range(REGISTERS):
+            if others >> register & 1:
+                self._spoil(regs[register])
+        if touch.plan.where is not Where.FRAME:
+            if is_plain(touch):
+                self._bases[label, at] = self._join(regs[base])
+            elif touch.plan.where is Where.FLAT:
+                self._spoil(regs[base])
+        self._overwrite(label, at, writes_of(touch), regs)
+
+
+def is_plain(touch: Touch) -> bool:
+    """Whether an access can be done as it stands, where its base is an address in the map."""
+    plan = touch.plan
+    if touch.insn.size < 4 or plan.scale or plan.is_alone or getattr(touch.insn, "signed", False):
+        return False
+    if plan.where is Where.EXACT:
+        return plan.at % touch.insn.size == 0
+    return plan.low is None and plan.high is None and not plan.align and not plan.is_moved and not plan.is_uneven

@@ -1,0 +1,208 @@
+#!/usr/bin/env python3
+"""Tests each step of the loader, by running a program's form before and after it. It needs no clang and no bpfspec."""
+
+from __future__ import annotations
+
+import random
+import sys
+import unittest
+from pathlib import Path
+
+sys.path[:0] = [str(Path(__file__).resolve().parents[1]), str(Path(__file__).resolve().parent)]
+
+from bpf_object.code import (  # noqa: E402
+    LOOP,
+    Address,
+    Alu,
+    Atomic,
+    Block,
+    Branch,
+    Call,
+    CallLocal,
+    CodeOf,
+    Exit,
+    Function,
+    Goto,
+    Load,
+    Store,
+    backward,
+)
+from bpf_object.emit import emit  # noqa: E402
+from bpf_object.fit import fit  # noqa: E402
+from bpf_object.inline import inline  # noqa: E402
+from bpf_object.memory import Kind, Memory  # noqa: E402
+from bpf_object.mend import Mender  # noqa: E402
+from bpf_object.outline import outline  # noqa: E402
+from bpf_object.ranges import ALL, HOLDS, NUMBERS, Range, alu, compute, exact, norm, refine  # noqa: E402
+from loader.forms import After, Before  # noqa: E402
+
+SEED = 7
+TRIES = 3000
+
+
+def mov(dst: int, number: int) -> Alu:
+    return Alu("mov", 64, dst, None, number)
+
+
+def copy(dst: int, src: int) -> Alu:
+    return Alu("mov", 64, dst, src, 0)
+
+
+def op(name: str, dst: int, src: int) -> Alu:
+    return Alu(name, 64, dst, src, 0)
+
+
+def imm(name: str, dst: int, number: int) -> Alu:
+    return Alu(name, 64, dst, None, number)
+
+
+class NoObject:
+    """An object without sections."""
+
+    sections: list = []
+
+    def section(self, name: str) -> None:
+        return None
+
+
+def memory_of(**sizes: int) -> Memory:
+    """Global variables of some sizes, from thing 3 on."""
+    memory = Memory(NoObject(), None)  # type: ignore[arg-type]
+    for name, size in sizes.items():
+        memory.add(Kind.GLOBAL, name, size).data = bytes((7 * at + 3) % 251 for at in range(size))
+    return memory
+
+
+class Same(unittest.TestCase):
+    """A program's answer and variables are the same in both forms."""
+
+    def compare(self, memory: Memory, functions: dict, argument: int = 5) -> str:
+        before = Before(memory, functions)
+        answer = before.run(0, [argument])
+        loaded = fit(memory, inline(functions), ({1, 2, 4}, set())).loaded(["main"])
+        after = After(loaded.unit, loaded.initial[0])
+        self.assertEqual(after.run(0, [argument]), answer)
+        for variable, thing in zip(loaded.variables, memory.things[3:]):
+            found = bytes(before.read(before.address(thing.number) + at, 1) for at in range(thing.size))
+            self.assertEqual(variable.bytes_in(after.words), found, variable.name)
+            words = list(after.words)
+            variable.put(words, found)
+            self.assertEqual(variable.bytes_in(words), found)
+        return loaded.unit
+
+
+class Ranges(unittest.TestCase):
+    """Ranges have all numbers that an operation gives."""
+
+    def setUp(self) -> None:
+        self.random = random.Random(SEED)
+
+    def number_in(self, r: Range) -> int:
+        return r.lo if r.lo == r.hi else self.random.randrange(r.lo, r.hi + 1) >> r.z << r.z
+
+    def range(self) -> Range:
+        bits = self.random.choice((3, 8, 16, 32, 40, 64))
+        lo, hi = sorted(self.random.randrange(1 << bits) for _ in range(2))
+        return norm(lo, hi, self.random.choice((0, 0, 1, 3)))
+
+    def test_arithmetic(self) -> None:
+        for _ in range(TRIES):
+            name, width = self.random.choice([*NUMBERS]), self.random.choice((32, 64))
+            a, b = self.range(), self.random.choice((self.range(), exact(self.random.randrange(70))))
+            x, y = self.number_in(a), self.number_in(b)
+            found, got = alu(name, width, a, b), compute(name, width, x, y)
+            self.assertTrue(found.lo <= got <= found.hi and (got >> found.z << found.z == got or found.z == 64), name)
+
+    def test_comparisons(self) -> None:
+        for _ in range(TRIES):
+            name, a, b = self.random.choice([*HOLDS]), self.range(), self.range()
+            x, y = self.number_in(a), self.number_in(b)
+            if HOLDS[name](x, y, 64):
+                found = refine(name, 64, a, b)
+                self.assertIsNotNone(found, name)
+                for r, number in zip(found or (), (x, y)):
+                    self.assertTrue(r.lo <= number <= r.hi, name)
+
+
+class Steps(Same):
+    """Each step keeps what a program does."""
+
+    def test_sizes_and_places(self) -> None:
+        for size in (1, 2, 4, 8):
+            for other in (size, 8):
+                with self.subTest(size=size, other=other):
+                    insns = [Address(6, 3, 0), copy(7, 1), imm("and", 7, 3), imm("mul", 7, size), op("add", 6, 7)]
+                    insns += [Load(size, False, 8, 6, size), imm("add", 8, 1), Store(size, 6, 0, 8, 0)]
+                    insns += [Address(5, 3, 8), Store(other, 5, 8, None, -2), Load(other, False, 0, 5, 0)]
+                    self.compare(memory_of(a=64), {0: Function("main", 0, {0: Block(insns, Exit())})})
+
+    def test_uneven(self) -> None:
+        for at in range(1, 16):
+            for size in (2, 4, 8):
+                with self.subTest(at=at, size=size):
+                    insns = [Address(6, 3, at), Load(size, False, 0, 6, 0), copy(2, 0), imm("xor", 2, -1)]
+                    insns += [Store(size, 6, 1, 2, 0), Store(size, 6, 9, None, -7)]
+                    self.compare(memory_of(a=40), {0: Function("main", 0, {0: Block(insns, Exit())})})
+
+    def test_function_put_in(self) -> None:
+        called = [copy(6, 2), copy(7, 2), Store(8, 10, -8, 6, 0), Load(8, False, 8, 1, 0), copy(9, 8)]
+        called += [op("add", 6, 7), op("mul", 9, 6), copy(0, 9), Store(8, 1, 8, 7, 0)]
+        insns = [copy(6, 1), mov(7, 11), mov(8, 13), copy(9, 10), imm("add", 9, -16), Store(8, 10, -16, 8, 0)]
+        insns += [copy(1, 9), copy(2, 6), CallLocal(1), op("add", 7, 0), copy(1, 9), mov(2, 3), CallLocal(1)]
+        insns += [op("add", 0, 6), op("add", 0, 7), op("add", 0, 8), Load(8, False, 3, 9, 8), op("add", 0, 3)]
+        functions = {0: Function("main", 0, {0: Block(insns, Exit())}), 1: Function("f", 0, {0: Block(called, Exit())})}
+        self.compare(memory_of(a=8), functions)
+
+    def loop(self, rounds: int) -> Function:
+        """Adds and stores bytes in a loop of some rounds."""
+        start = Block([mov(6, 0), mov(0, 0), Address(7, 3, 0)], Goto(1))
+        body = [Load(1, False, 2, 7, 0), op("add", 0, 2), op("xor", 2, 6), Store(1, 7, 0, 2, 0), imm("add", 7, 1)]
+        round_ = Block([*body, imm("add", 6, 1)], Branch("jlt", 64, 6, None, rounds, 1, 2))
+        return Function("main", 0, {0: start, 1: round_, 2: Block([], Exit())})
+
+    def test_loop_is_copied(self) -> None:
+        memory = memory_of(a=40)
+        self.compare(memory, {0: self.loop(40)})
+        done = Mender(memory, {0: self.loop(40)}, {1}).run(8000, {})
+        self.assertEqual([*backward(done.functions[0])], [])
+        self.assertEqual(done.copied, {(0, 1): 40})
+
+    def test_loop_is_a_callback(self) -> None:
+        functions = outline({0: self.loop(40)}, 1)
+        assert functions
+        self.assertEqual([*functions], [0, 1])
+        self.compare(memory_of(a=40), {0: self.loop(40)})
+        unit = self.compare(memory_of(a=2000), {0: self.loop(2000)})
+        self.assertIn("call 181", unit)
+
+    def sums(self, rest: list) -> str:
+        insns = [Load(8, False, 3, 2, 0), op("add", 3, 1), Store(8, 2, 0, 3, 0), *rest, mov(0, 0)]
+        main = [Store(8, 10, -8, None, 3), mov(1, 9), CodeOf(2, 1), copy(3, 10), imm("add", 3, -8), mov(4, 0)]
+        main += [Call(LOOP), Load(8, False, 3, 10, -8), op("add", 0, 3)]
+        functions = {0: Function("main", 0, {0: Block(main, Exit())}), 1: Function("f", 0, {0: Block(insns, Exit())})}
+        return self.compare(memory_of(a=8), functions)
+
+    def test_sum_is_atomic(self) -> None:
+        self.assertIn("atomic64 add", self.sums([]))
+        used = [Load(8, False, 4, 2, 0), Address(5, 3, 0), Store(8, 5, 0, 4, 0)]
+        self.assertNotIn("atomic64 add", self.sums(used))
+
+    def test_dead_fetch_is_plain(self) -> None:
+        insns = [Address(6, 3, 0), mov(2, 5), Atomic(8, "add_fetch", 6, 0, 2), mov(0, 1)]
+        unit = self.compare(memory_of(a=8), {0: Function("main", 0, {0: Block(insns, Exit())})})
+        self.assertIn("atomic64 add ", unit)
+
+    def test_trap(self) -> None:
+        insns = [Address(6, 3, 0), imm("lsh", 1, 3), op("add", 6, 1), Load(8, False, 0, 6, 0)]
+        memory = memory_of(a=64)
+        functions = {0: Function("main", 0, {0: Block(insns, Exit())})}
+        self.compare(memory, functions, 7)
+        loaded = emit(memory, Mender(memory, functions, set()).run(100, {})).loaded(["main"])
+        for argument in (8, 1 << 40, ALL):
+            after = After(loaded.unit, loaded.initial[0])
+            after.run(0, [argument])
+            self.assertIn("a", loaded.trap_in(after.words) or "")
+
+
+if __name__ == "__main__":
+    unittest.main()
