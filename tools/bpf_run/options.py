@@ -1,0 +1,157 @@
+"""The command line of bpfrun."""
+
+from __future__ import annotations
+
+import argparse
+from collections.abc import Callable, Iterator
+from dataclasses import dataclass
+from typing import NoReturn, Optional
+
+ABOUT = """Runs a program in C by the names of C: compiles it, loads it, has it verified, and runs it by the proved
+program bpfspec. docs/FROM_C.md says what is taken."""
+COMMANDS = {
+    "run": "runs it, and prints its answer, its loops and its variables",
+    "verify": "tells whether it is accepted, and the most instructions that a run takes",
+    "explain": "tells why it is refused, or by which accesses its loops conflict, and what the loader rewrote",
+    "unit": "prints the unit with its values, for bpfspec",
+}
+ARGUMENT_LEAST, ARGUMENT_END = -(1 << 63), 1 << 64
+WORKERS, BLOCKS = 16, 64
+USAGE_STATUS = 3
+
+
+@dataclass(frozen=True)
+class Options:
+    """What was asked for."""
+
+    command: str
+    file: str
+    main: Optional[str]
+    as_is: bool
+    arguments: tuple[int, ...]
+    only: tuple[str, ...]
+    load: Optional[str]
+    save: Optional[str]
+    workers: Optional[int]
+    blocks: Optional[int]
+    test: Optional[str]
+    limit: Optional[int]
+    page: Optional[str]
+    json: bool
+    dry_run: bool
+    states: bool
+    all: bool
+
+    def words(self, argument: int) -> list[str]:
+        """The words of `bpfspec run` for a run with an argument."""
+        words = _argument_words(argument)
+        for name, value in ("workers", self.workers), ("blocks", self.blocks), ("test", self.test):
+            words += [f"--{name}", str(value)] if value is not None else []
+        return words
+
+    def explain_words(self, argument: int) -> list[str]:
+        """The words of `bpfspec explain` for the same run."""
+        words = _argument_words(argument)
+        return words + (["--test", self.test] if self.test is not None else [])
+
+
+def _argument_words(argument: int) -> list[str]:
+    return ["--arg", str(argument % ARGUMENT_END)] if argument else []
+
+
+def read_options(words: list[str]) -> Options:
+    """The options that words are; argparse tells what is wrong with them."""
+    found = vars(_parser().parse_args([*_joined(words)]))
+    found["arguments"] = tuple(found.pop("arg", None) or [0])
+    found["only"] = tuple(found.get("only") or ())
+    names = Options.__dataclass_fields__
+    return Options(**{name: found.get(name) for name in names})
+
+
+class _Parser(argparse.ArgumentParser):
+    """A parser that ends with the status of the program's own usage errors."""
+
+    def error(self, message: str) -> NoReturn:
+        self.exit(USAGE_STATUS, f"{self.format_usage()}{self.prog}: {message}\n")
+
+
+def _joined(words: list[str]) -> Iterator[str]:
+    """The words with `--arg` and its number in one, so that -0x10 isn't taken for an option."""
+    rest = iter(words)
+    for word in rest:
+        number = next(rest, None) if word == "--arg" else None
+        yield word if number is None else f"{word}={number}"
+
+
+def _parser() -> argparse.ArgumentParser:
+    parser = _Parser(prog="bpfrun", description=ABOUT, allow_abbrev=False)
+    commands = parser.add_subparsers(dest="command", metavar="COMMAND", required=True, parser_class=_Parser)
+    for name, about in COMMANDS.items():
+        command = commands.add_parser(name, help=about, description=about.capitalize() + ".", allow_abbrev=False)
+        command.add_argument("file", metavar="FILE", help="a source in C, or an object of clang")
+        command.add_argument("--main", metavar="NAME", help="the main function, where the object has several")
+        command.add_argument("--as-is", action="store_true", help="nothing is rewritten by the loader")
+        _add_options(command, name)
+    return parser
+
+
+def _add_options(command: argparse.ArgumentParser, name: str) -> None:
+    if name in ("run", "explain", "unit"):
+        command.add_argument("--load", metavar="FILE", help="the variables' values, as --save wrote them")
+    if name in ("run", "explain"):
+        repeated = {"run": " (several times: the state goes on from one run to the next)"}.get(name, "")
+        action = "append" if name == "run" else _Last
+        command.add_argument(
+            "--arg", metavar="N", type=_argument, action=action, help=f"main's argument, also -1 or 0x10{repeated}"
+        )
+        command.add_argument("--test", choices=("flow", "lrpd"), help="by which test a loop conflicts")
+    if name == "run":
+        command.add_argument("--save", metavar="FILE", help="writes the variables' values, as JSON")
+        command.add_argument("--only", metavar="NAME", action="append", help="prints this variable (several times)")
+        command.add_argument("--workers", metavar="N", type=_range(1, WORKERS), help="1 to 16 workers")
+        command.add_argument("--blocks", metavar="N", type=_range(1, BLOCKS), help="1 to 64 blocks of a loop")
+    if name in ("run", "verify"):
+        command.add_argument("--limit", metavar="N", type=_limit, help="refuses more than N instructions of a run")
+    if name in ("run", "verify", "explain"):
+        command.add_argument("--json", action="store_true", help="prints JSON")
+        command.add_argument("--page", metavar="FILE", help="writes a page, in HTML, that shows it all")
+        command.add_argument("--dry-run", action="store_true", help="prints the shell lines that do it")
+    if name == "explain":
+        command.add_argument("--states", action="store_true", help="each instruction, and what is known there")
+        command.add_argument("--all", action="store_true", help="up to 64 elements of each loop that conflicts")
+
+
+class _Last(argparse.Action):
+    def __call__(self, parser, space, value, option=None):  # type: ignore[no-untyped-def]
+        setattr(space, self.dest, [value])
+
+
+def _argument(word: str) -> int:
+    number = _number(word)
+    if not ARGUMENT_LEAST <= number < ARGUMENT_END:
+        raise argparse.ArgumentTypeError(f"{word} doesn't fit 64 bits")
+    return number
+
+
+def _number(word: str) -> int:
+    try:
+        return int(word, 0)
+    except ValueError:
+        raise argparse.ArgumentTypeError(f"{word!r} is no number") from None
+
+
+def _limit(word: str) -> int:
+    number = _number(word)
+    if number < 0:
+        raise argparse.ArgumentTypeError(f"{word} is below 0")
+    return number
+
+
+def _range(least: int, most: int) -> Callable[[str], int]:
+    def read(word: str) -> int:
+        number = _number(word)
+        if not least <= number <= most:
+            raise argparse.ArgumentTypeError(f"{word} isn't {least} to {most}")
+        return number
+
+    return read

@@ -1,0 +1,151 @@
+"""The programs that do the work: where they are, and how one is run so that it tells of the time and ends with us."""
+
+from __future__ import annotations
+
+import os
+import shlex
+import shutil
+import signal
+import subprocess
+import sys
+import time
+from dataclasses import dataclass
+from pathlib import Path
+from types import FrameType
+from typing import IO
+
+from bpf_object.refusal import Refused
+
+TOOLS = Path(__file__).resolve().parent.parent
+TICK = 0.2  # seconds from one look at the clock to the next
+GRACE = 2.0  # seconds that a program has to end
+ENDING = (signal.SIGTERM, signal.SIGHUP, signal.SIGINT)
+
+# The program's exit status, as docs/FORMATS.md has it.
+DONE, REFUSED, NO_TEXT, NO_COMMAND, NO_MEMORY, NO_STREAM = range(6)
+
+
+class Interrupted(Exception):
+    """A signal asked for the end."""
+
+
+@dataclass(frozen=True)
+class Answer:
+    """What a program printed on standard output, and its status."""
+
+    output: str
+    status: int
+
+
+@dataclass(frozen=True)
+class Programs:
+    """The words that run the program, and the one that explains."""
+
+    bpfspec: tuple[str, ...]
+    explain: tuple[str, ...]
+
+
+def find_programs() -> Programs:
+    """Those of $BPFSPEC and $BPFSPEC_EXPLAIN, else of this repository or installation, else `bpfspec` on the path."""
+    launcher = _launcher()
+    bpfspec = _named("BPFSPEC") or launcher
+    explain = _named("BPFSPEC_EXPLAIN") or (*launcher, "explain")
+    if not bpfspec or explain == ("explain",):
+        raise Refused("there is no program bpfspec: $BPFSPEC and $BPFSPEC_EXPLAIN name it")
+    return Programs(bpfspec, explain)
+
+
+def _named(variable: str) -> tuple[str, ...]:
+    """The program that a variable of the environment names: a file, or words."""
+    value = os.environ.get(variable, "")
+    return (value,) if os.path.isfile(value) else tuple(shlex.split(value))
+
+
+def _launcher() -> tuple[str, ...]:
+    for place in (TOOLS.parent / "bpfspec", TOOLS.parent.parent / "bin" / "bpfspec"):
+        if place.is_file() and os.access(place, os.X_OK):
+            return (str(place),)
+    found = shutil.which("bpfspec")
+    return (found,) if found else ()
+
+
+def catch_signals() -> None:
+    """Lets the signals that end a program end what it runs first; SIGHUP that is ignored, as by nohup, stays so."""
+    for number in ENDING:
+        if number != signal.SIGHUP or signal.getsignal(number) != signal.SIG_IGN:
+            signal.signal(number, _interrupt)
+
+
+def _interrupt(number: int, _: FrameType | None) -> None:
+    for other in ENDING:
+        signal.signal(other, signal.SIG_IGN)
+    raise Interrupted(signal.Signals(number).name)
+
+
+class Clock:
+    """Tells each second on standard error how long it has taken."""
+
+    def __init__(self) -> None:
+        self._start = time.monotonic()
+        self._is_terminal = sys.stderr.isatty()
+        self._told = 0
+
+    @property
+    def seconds(self) -> int:
+        return int(time.monotonic() - self._start)
+
+    def tell(self) -> None:
+        """Tells a second that has passed."""
+        if self.seconds > self._told:
+            self._told = self.seconds
+            end = "\r" if self._is_terminal else "\n"
+            print(f"{self._told} s", end=end, file=sys.stderr, flush=True)
+
+    def clear(self) -> None:
+        """Takes what was told from a terminal's line."""
+        if self._told and self._is_terminal:
+            print("\x1b[K", end="", file=sys.stderr, flush=True)
+
+
+def run(
+    words: tuple[str, ...], text: str, clock: Clock, seconds: float | None = None, errors: IO[bytes] | None = None
+) -> Answer | None:
+    """Runs a program on a text; None where it takes longer than that. Its errors go to ours, or to a file."""
+    pipe = subprocess.PIPE
+    try:
+        child = subprocess.Popen(words, stdin=pipe, stdout=pipe, stderr=errors, start_new_session=True)
+    except OSError as reason:
+        raise Refused(f"{words[0]}: {reason.strerror}") from None
+    try:
+        output = _communicate(child, text.encode(), clock, seconds)
+    except subprocess.TimeoutExpired:
+        return None
+    finally:
+        _end(child)
+        clock.clear()
+    return Answer(output.decode(errors="replace"), child.returncode)
+
+
+def _communicate(child: subprocess.Popen[bytes], text: bytes, clock: Clock, seconds: float | None) -> bytes:
+    until = None if seconds is None else time.monotonic() + seconds
+    given: bytes | None = text
+    while True:
+        try:
+            return child.communicate(given, timeout=TICK)[0]
+        except subprocess.TimeoutExpired:
+            given = None
+            clock.tell()
+            if until is not None and time.monotonic() > until:
+                raise
+
+
+def _end(child: subprocess.Popen[bytes]) -> None:
+    """Ends a program that hasn't, with all that it runs, which is its process group."""
+    if child.poll() is not None:
+        return
+    os.killpg(child.pid, signal.SIGTERM)
+    try:
+        child.wait(GRACE)
+    except subprocess.TimeoutExpired:
+        os.killpg(child.pid, signal.SIGKILL)
+        child.wait()

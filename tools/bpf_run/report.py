@@ -1,0 +1,171 @@
+"""What came of a program, by the names of C: the one thing that text, JSON and the page are made of."""
+
+from __future__ import annotations
+
+from bisect import bisect_right
+from collections.abc import Sequence
+from dataclasses import dataclass, field
+from functools import cached_property
+from typing import Optional
+
+from bpf_object.btf import SourceLine
+from bpf_object.load import Loaded, Variable
+
+from .c_types import CType, Form, Number, type_of, type_of_variable
+from .c_values import Value, decoded
+from .most import Most
+from .reports import Refusal
+from .unit_text import UnitText, read_unit
+
+ANSWER_BYTES = 8
+
+
+@dataclass(frozen=True)
+class Program:
+    """A program that was loaded."""
+
+    file: str
+    name: str  # of the main function
+    loaded: Loaded
+    unit: UnitText
+
+    @cached_property
+    def types(self) -> dict[str, CType]:
+        return {name: type_of_variable(variable) for name, variable in self.variables.items()}
+
+    @cached_property
+    def variables(self) -> dict[str, Variable]:
+        """The variables by their names; of equal names the later ones have their sections' names behind theirs."""
+        named: dict[str, Variable] = {}
+        for variable in self.loaded.variables:
+            if self.loaded.btf is not None and variable.type is None:
+                continue  # the compiler made it
+            name = variable.name if variable.name not in named else f"{variable.name}@{variable.section}"
+            named.setdefault(name, variable)
+        return named
+
+    @cached_property
+    def _line_slots(self) -> list[int]:
+        return sorted(self.loaded.lines)
+
+    @cached_property
+    def initial(self) -> list[int]:
+        """The words over all maps that the object has."""
+        return [word for words in self.loaded.initial for word in words]
+
+    def line_at(self, slot: int) -> SourceLine | None:
+        """The line of C of an instruction."""
+        known = self._line_slots
+        at = bisect_right(known, slot)
+        return self.loaded.lines[known[at - 1]] if at else None
+
+    def place_at(self, slot: int) -> str:
+        """The line of C of an instruction as `file:line`, or its slot where none is known."""
+        return place(self.line_at(slot)) or f"slot {slot}"
+
+    def name_of(self, element: int) -> str:
+        """What C calls the values of an element."""
+        names = (variable.name_of(element) for variable in self.loaded.variables)
+        # Of what is rewritten, main's frame alone is in elements that no variable has and several iterations access.
+        other = f"element {element}" if not self.loaded.rewrites else f"main's frame, element {element}"
+        return next((name for name in names if name), other)
+
+    def values(self, words: Sequence[int]) -> dict[str, Value]:
+        """The variables' values."""
+        return {
+            name: decoded(variable.bytes_in(words), self.types[name]) for name, variable in self.variables.items()
+        }
+
+    def returned(self, number: int) -> Value:
+        """What main returned, as the number that C says it is; a signed one of 64 bits where C says nothing."""
+        result_of = getattr(self.loaded.btf, "result_of", None)
+        kind = type_of(self.loaded.btf, result_of(self.name)) if result_of else None
+        if not isinstance(kind, Number):
+            kind = Number(ANSWER_BYTES, Form.SIGNED)
+        return decoded(number.to_bytes(ANSWER_BYTES, "little"), kind)
+
+
+@dataclass(frozen=True)
+class FunctionReport:
+    """A function, and the most instructions that it takes."""
+
+    name: str
+    line: Optional[SourceLine]
+    slot: int
+    count: int
+
+
+@dataclass(frozen=True)
+class AccessReport:
+    """What an iteration does with an element."""
+
+    iteration: int
+    action: str
+    place: str
+    slot: int
+
+
+@dataclass(frozen=True)
+class ConflictReport:
+    """An element that conflicts: what C calls it, and two accesses that show it."""
+
+    name: str
+    element: int
+    accesses: list[AccessReport]
+
+    @property
+    def places(self) -> str:
+        """The lines of the accesses, in brackets."""
+        known = [*dict.fromkeys(access.place for access in self.accesses)]
+        return f" ({' and '.join(known)})" if known else ""
+
+
+@dataclass(frozen=True)
+class LoopReport:
+    """A loop call as it came out."""
+
+    place: str
+    slot: int
+    answer: int
+    verdict: str
+    conflicts: int = 0
+    shown: list[ConflictReport] = field(default_factory=list)
+
+
+@dataclass(frozen=True)
+class RunReport:
+    """A run: main's argument, what it returned, its loops, and the words over all maps before and after it."""
+
+    argument: int
+    value: int
+    loops: list[LoopReport]
+    before: list[int]
+    after: list[int]
+    trap: Optional[str] = None
+
+
+@dataclass
+class Report:
+    """All that came of it. Where a run isn't possible the refusal says why."""
+
+    program: Program
+    functions: list[FunctionReport] = field(default_factory=list)
+    most: Optional[Most] = None
+    refusal: Optional[Refusal] = None
+    refused_lines: list[str] = field(default_factory=list)
+    above_limit: Optional[int] = None
+    runs: list[RunReport] = field(default_factory=list)
+    explained: list[str] = field(default_factory=list)
+    loops: list[LoopReport] = field(default_factory=list)
+    states: dict[int, str] = field(default_factory=dict)
+    pictures: list[str] = field(default_factory=list)
+
+
+def make_program(file: str, main: str | None, loaded: Loaded) -> Program:
+    """A program of what the loader gave."""
+    return Program(file, main or loaded.programs[0], loaded, read_unit(loaded.unit))
+
+
+def place(line: SourceLine | None) -> str | None:
+    """A line as `file:line`."""
+    return f"{line.file}:{line.number}" if line else None

@@ -1,0 +1,104 @@
+#!/usr/bin/env python3
+"""Runs ./bpfspec in a small repository, with a stand-in for rt that builds at once.
+
+    python3 tools/tests/test_launcher.py
+"""
+
+from __future__ import annotations
+
+import os
+import shutil
+import subprocess
+import tempfile
+import unittest
+from pathlib import Path
+
+TOP = Path(__file__).resolve().parents[2]
+PROGRAMS = ("bpfspec", "bpfspec_explain")
+# Tells each build, and makes programs that print their words, and whether they hold the launcher's lock.
+RT = """#!/bin/bash
+echo built >>"$BUILDS"
+for crate in crates/*; do
+    mkdir -p "$crate/out"
+    name=${crate##*/}
+    printf '#!/bin/bash\\necho %s "$@" $([[ -e /proc/$$/fd/9 ]] && echo holds a lock)\\n' "$name" >"$crate/out/$name"
+    chmod +x "$crate/out/$name"
+done
+"""
+
+
+class Launcher(unittest.TestCase):
+    def setUp(self) -> None:
+        self.folder = Path(tempfile.mkdtemp())
+        self.addCleanup(shutil.rmtree, self.folder)
+        self.top = self.folder / "top"
+        self.builds = self.folder / "builds"
+        self.builds.touch()
+        for crate in (*PROGRAMS, "other"):
+            (self.top / "crates" / crate / "src").mkdir(parents=True)
+            (self.top / "crates" / crate / "src" / "main.rt").write_text("fn main() {}\n")
+        (self.top / "crates.txt").write_text("bpfspec:\nbpfspec_explain: bpfspec\nother:\n")
+        (self.top / "HANDLES").touch()
+        shutil.copy(TOP / "bpfspec", self.top)
+        words = self.folder / "words"
+        words.mkdir()
+        (words / "rt").write_text(RT)
+        (words / "rt").chmod(0o755)
+        self.environment = {
+            **os.environ,
+            "PATH": f"{words}:{os.environ['PATH']}",
+            "XDG_CACHE_HOME": str(self.folder / "cache"),
+            "BUILDS": str(self.builds),
+        }
+
+    def printed(self, *words: str, by: str | None = None, folder: Path | None = None) -> str:
+        """What ./bpfspec prints for these words."""
+        command = [by or str(self.top / "bpfspec"), *words]
+        done = subprocess.run(command, env=self.environment, cwd=folder or self.folder, capture_output=True, text=True)
+        self.assertEqual(done.returncode, 0, done)
+        return done.stdout
+
+    def number_of_builds(self) -> int:
+        """How often the programs were built."""
+        return len(self.builds.read_text().splitlines())
+
+    def test_it_builds_once_and_after_an_edit(self) -> None:
+        self.assertEqual(self.printed("run", "--arg", "1"), "bpfspec run --arg 1\n")
+        self.assertEqual(self.printed("explain", "--all"), "bpfspec_explain --all\n")
+        self.assertEqual(self.number_of_builds(), 1)
+        (self.top / "crates" / "other" / "src" / "main.rt").write_text("fn main() { 1 }\n")
+        self.assertEqual(self.printed("verify"), "bpfspec verify\n")
+        self.assertEqual(self.number_of_builds(), 1)  # neither program needs that crate
+        with open(self.top / "crates" / "bpfspec" / "src" / "main.rt", "a") as file:
+            file.write("// in place\n")
+        self.assertEqual(self.printed("verify"), "bpfspec verify\n")
+        self.assertEqual(self.number_of_builds(), 2)
+        (self.top / "crates" / "bpfspec_explain" / "src" / "more.rt").write_text("")
+        (self.top / "crates.txt").write_text("bpfspec:\nbpfspec_explain: bpfspec\nother: bpfspec\n")
+        self.printed("explain")
+        self.assertEqual(self.number_of_builds(), 3)
+        (self.top / "crates" / "bpfspec_explain" / "src" / "more.rt").unlink()
+        self.printed("explain")
+        self.assertEqual(self.number_of_builds(), 4)
+        self.printed("explain")
+        self.assertEqual(self.number_of_builds(), 4)
+
+    def test_it_is_found_through_links(self) -> None:
+        self.printed("verify")
+        link = self.folder / "link"
+        link.symlink_to(self.top / "bpfspec")
+        (self.folder / "again").symlink_to("link")
+        for path in str(link), str(self.folder / "again"), "./bpfspec":
+            self.assertEqual(self.printed("verify", by=path, folder=self.top), "bpfspec verify\n")
+        self.assertEqual(self.number_of_builds(), 1)
+
+    def test_help_names_what_the_launcher_has(self) -> None:
+        for word in "help", "--help":
+            lines = self.printed(word).splitlines()
+            self.assertEqual(lines[0], f"bpfspec {word}")
+            self.assertTrue(any(line.startswith("  explain ") for line in lines))
+        self.assertEqual(self.printed("explain", "--help"), "bpfspec_explain --help\n")
+
+
+if __name__ == "__main__":
+    unittest.main()
