@@ -1,0 +1,66 @@
+"""Objects for BPF of a program in C, by clang with several levels and instruction sets."""
+
+from __future__ import annotations
+
+import functools
+import shutil
+import subprocess
+from collections.abc import Iterator
+from dataclasses import dataclass
+from pathlib import Path
+
+TESTS = Path(__file__).resolve().parents[1]
+REPOSITORY = TESTS.parents[1]
+HEADERS = (TESTS / "include", REPOSITORY / "examples" / "from_c")
+LEVELS = ("-O1", "-O2", "-Os")
+QUICK_LEVELS = ("-O2",)
+CPUS = ("v2", "v3", "v4")
+QUICK_CPUS = ("v2", "v3")
+CLANG_SECONDS = 60
+
+
+class ClangFailed(Exception):
+    """Clang makes no object of a program; the text is the first line that it says."""
+
+
+@dataclass(frozen=True)
+class Build:
+    """How clang compiles."""
+
+    level: str
+    cpu: str
+
+    def __str__(self) -> str:
+        return f"{self.level} -mcpu={self.cpu}"
+
+    def compile(self, source: Path, target: Path) -> bytes:
+        """The object that clang makes of a source file, which it leaves at the target."""
+        words = ["clang", self.level, "-g", "-target", "bpf", f"-mcpu={self.cpu}", "-w"]
+        words += [f"-I{folder}" for folder in HEADERS]
+        words += ["-c", str(source), "-o", str(target)]
+        done = subprocess.run(words, capture_output=True, text=True, errors="replace", timeout=CLANG_SECONDS)
+        if done.returncode:
+            raise ClangFailed(next(iter(done.stderr.splitlines()), f"clang ended with {done.returncode}"))
+        return target.read_bytes()
+
+
+def has_clang() -> bool:
+    """Whether there is a clang here that knows BPF."""
+    return bool(_known_cpus())
+
+
+def builds(is_quick: bool) -> Iterator[Build]:
+    """The builds that are tried, of those that this clang knows."""
+    for level in QUICK_LEVELS if is_quick else LEVELS:
+        for cpu in QUICK_CPUS if is_quick else CPUS:
+            if cpu in _known_cpus():
+                yield Build(level, cpu)
+
+
+@functools.lru_cache(maxsize=None)
+def _known_cpus() -> frozenset[str]:
+    if not shutil.which("clang"):
+        return frozenset()
+    words = ["clang", "-target", "bpf", "--print-supported-cpus"]
+    done = subprocess.run(words, capture_output=True, text=True, errors="replace", timeout=CLANG_SECONDS)
+    return frozenset(word for line in (done.stdout + done.stderr).splitlines() for word in line.split() if word in CPUS)
