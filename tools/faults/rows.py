@@ -7,6 +7,7 @@ from dataclasses import dataclass
 
 WORKERS = 1, 2, 4, 16
 BLOCKS = 1, 4, 64
+BY_BLOCKS = (1, 1), (2, 4), (16, 64)  # workers and blocks of a plan that asks for blocks
 
 CALL_LOOP = "ldcode r2, callback", "mov64 r3, 0", "mov64 r4, 0", "call 181"
 ELEMENT = "mov64 r2, r1", "lsh64 r2, 3", "ldmapval r3, 0, 0", "add64 r3, r2"  # r3 becomes the address of element r1
@@ -48,7 +49,10 @@ def commands() -> Iterator[tuple[str, ...]]:
     """The command lines that every row is an input of. `disasm` takes what `asm` prints of it."""
     for workers in WORKERS:
         yield from (("run", "--workers", str(workers), "--blocks", str(blocks)) for blocks in BLOCKS)
-    yield from (("run", "--test", "lrpd"), ("replay",), ("replay", "--test", "lrpd"))
+    for workers, blocks in BY_BLOCKS:
+        yield ("run", "--way", "blocks", "--workers", str(workers), "--blocks", str(blocks))
+    yield from (("run", "--test", "lrpd"), ("run", "--test", "lrpd", "--way", "blocks"))
+    yield from (("replay",), ("replay", "--test", "lrpd"))
     yield from (("verify",), ("order",), ("asm",), ("disasm",))
 
 

@@ -1,0 +1,1 @@
+"""Which definitions stand under a contract: read from the names that it cites, and theirs in turn."""

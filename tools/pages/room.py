@@ -1,0 +1,70 @@
+"""The folder in which commands of pages run: the repository, with built programs in place of its own script."""
+
+from __future__ import annotations
+
+import os
+import re
+import shlex
+import shutil
+import subprocess
+from pathlib import Path
+
+from .shown import Source
+
+LIMIT = 120  # seconds of a command
+COPIED = ("tools", "examples", "docs")  # what finds other files by its own place; of the rest there are links
+LEFT_OUT = (".git", "bpfspec")
+PROGRESS = re.compile(r"^\d+ s\n", re.MULTILINE)
+PROGRAM_VARIABLES = ("BPFSPEC", "BPFSPEC_EXPLAIN")  # that name other programs
+ENDED = 124  # the status of one that is ended then, as of timeout(1)
+SCRIPT = """#!/usr/bin/env bash
+if [[ ${{1-}} == explain ]]; then shift && exec {explain} "$@"; fi
+exec {program} "$@"
+"""
+
+
+class Room:
+    """A folder that looks like the repository. Files that a page has in /tmp are in it too."""
+
+    def __init__(self, folder: Path, top: Path, program: Path, explain: Path) -> None:
+        self.folder = folder
+        for entry in top.iterdir():
+            if entry.name in COPIED:
+                shutil.copytree(entry, folder / entry.name, ignore=shutil.ignore_patterns("__pycache__"))
+            elif entry.name not in LEFT_OUT:
+                (folder / entry.name).symlink_to(entry)
+        words = {"program": shlex.quote(str(program)), "explain": shlex.quote(str(explain))}
+        script = folder / "bpfspec"
+        script.write_text(SCRIPT.format(**words), encoding="utf-8")
+        script.chmod(0o755)
+
+    def run(self, command: str) -> tuple[str, int]:
+        """What a command writes to both its outputs, without lines that tell how long it has taken, and its status."""
+        words = ["bash", "-o", "pipefail", "-c", self.inside(command)]
+        environment = {name: value for name, value in os.environ.items() if name not in PROGRAM_VARIABLES}
+        environment["LC_ALL"] = "C.UTF-8"
+        try:
+            done = subprocess.run(
+                words,
+                stdin=subprocess.DEVNULL,
+                stdout=subprocess.PIPE,
+                stderr=subprocess.STDOUT,
+                cwd=self.folder,
+                env=environment,
+                timeout=LIMIT,
+            )
+        except subprocess.TimeoutExpired:
+            return "", ENDED
+        return PROGRESS.sub("", done.stdout.decode(errors="backslashreplace")), done.returncode
+
+    def inside(self, words: str) -> str:
+        """The same with its paths of /tmp in this folder."""
+        return words.replace("/tmp/", f"{self.folder}/")
+
+    def store(self, source: Source) -> None:
+        """Stores a file that a page shows."""
+        (self.folder / source.name).write_text(source.text, encoding="utf-8")
+
+    def take(self, path: Path, name: str) -> None:
+        """Copies a file of the repository to a name that a page has."""
+        shutil.copy(path, self.folder / self.inside(name))
