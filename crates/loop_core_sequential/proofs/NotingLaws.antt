@@ -1,19 +1,22 @@
 -- What is noted of batches.
-use Rattle.std.proofs.Common.{◌≡◌, ℕ, ◌+◌, ◌<◌, ◌≤◌, Bool, true, false, ◌||◌, ◌&&◌, ◌==◌, All, List, length, take}
-use Rattle.std.proofs.Common.{slice_index, slice_index_or, inl, inr, refl, sym, ◌∙◌, ap, subst, arith}
+use Rattle.std.proofs.Common.{◌≡◌, ℕ, ◌+◌, ◌-◌, ◌<◌, ◌≤◌, Bool, true, false, ◌||◌, ◌&&◌, ◌==◌, ◌⊎◌, All, List, length}
+use Rattle.std.proofs.Common.{take, slice_index, slice_index_or, inl, inr, refl, sym, ◌∙◌, ap, subst, arith}
 use Rattle.std.specs.Prelude.{nat_le, nat_lt}
-use Rattle.std.proofs.lemmas.Bool.{cases_eq, both_ways, or_parts, or_left, or_right, and_from, eq-eqb, le-leb, lt-ltb}
+use Rattle.std.proofs.lemmas.Bool.{cases_eq, both_ways, or_parts, or_cases, or_left, or_right, and_from, and_parts}
+use Rattle.std.proofs.lemmas.Bool.{eq-eqb, eqb-true, le-leb, leb-true, lt-ltb, ltb-true}
 use Rattle.std.proofs.lemmas.List.Elements.{All-more, recursion_from_All}
-use Rattle.std.proofs.lemmas.List.{take_all}
+use Rattle.std.proofs.lemmas.List.{take_all, get_or_default}
 use Rattle.loop_core_model.specs.declared.access.Access.{Access as Kind}
 use Rattle.loop_core_model.specs.declared.access.Access.TheVariants.{Write}
-use Rattle.loop_core_batch.specs.Sites.{kind_sees}
+use Rattle.loop_core_batch.specs.declared.elements.Elements.{Elements}
+use Rattle.loop_core_batch.specs.declared.elements.Elements.TheVariants.{One, Run, Between}
+use Rattle.loop_core_batch.specs.Sites.{kind_sees, kind_leaves}
 use Rattle.bpf_step_batch.specs.declared.entry.Entry.{Entry}
 use Rattle.bpf_step_batch.specs.Logs.{element_by}
 use Rattle.loop_core_undo.specs.declared.undo_log.UndoLog.{UndoLog}
 use Rattle.loop_core_undo.specs.Undo.{log_elements, is_written, MarksMore}
 use Rattle.loop_core_sequential.specs.Watched.{is_reduce, IsUnread, IsNoted, AreNoted}
-use Rattle.loop_core_sequential.specs.Noting.{AreBelow, Grows, NotesWrites}
+use Rattle.loop_core_sequential.specs.Noting.{AreBelow, Grows, HasElement, IsInRow, IsLeft, NotesWrites}
 
 -- whether any element of a row is told written, one lane more
 pub row_more : (written : ℕ → Bool) (row : List ℕ) (lane : ℕ) (any here : Bool) → here ≡ written (slice_index row lane)
@@ -90,6 +93,90 @@ row_told words row lane old new marks within so_far k under = elim (cases_eq k l
       (so_far k (omega (arith, under, other)))
 ]
 
+-- what is told written then, was before, or is an element of the row
+pub row_only : (words : List ℕ) (row : List ℕ) (lane : ℕ) (first old new : UndoLog)
+    → MarksMore (λ other. slice_index row lane == other) words old new → log_elements old ≡ log_elements first
+    → ((e : ℕ) → e < log_elements first → is_written old e ≡ true
+    → (is_written first e ≡ true) ⊎ IsInRow lane row e)
+    → (e : ℕ) → e < log_elements first → is_written new e ≡ true
+    → (is_written first e ≡ true) ⊎ IsInRow (lane + 1) row e
+row_only words row lane first old new marks same so_far e inside told =
+    by_mark (or_cases (is_written old e) (slice_index row lane == e)
+    (sym (marks.written e (omega (arith, inside, same))) ∙ told))
+  where
+    wider : (is_written first e ≡ true) ⊎ IsInRow lane row e → (is_written first e ≡ true) ⊎ IsInRow (lane + 1) row e
+    wider (inl was) = inl was
+    wider (inr in_row) =
+        let low = in_row.below in
+        inr (record { lane = in_row.lane; below = omega (arith, low); at = in_row.at })
+
+    by_mark : (is_written old e ≡ true) ⊎ ((slice_index row lane == e) ≡ true)
+        → (is_written first e ≡ true) ⊎ IsInRow (lane + 1) row e
+    by_mark (inl was) = wider (so_far e inside was)
+    by_mark (inr here) = inr (record {
+      lane = lane;
+      below = omega arith;
+      at = eqb-true (slice_index row lane) e here;
+    })
+
+-- so of what is marked at one element, at a run of them, and at a row
+pub one_only : (words : List ℕ) (lanes : ℕ) (entry : Entry) (only : ℕ) (old new : UndoLog) → 0 < lanes
+    → entry.site.elements ≡ One only → MarksMore (λ other. only == other) words old new
+    → (e : ℕ) → e < log_elements old → is_written new e ≡ true
+    → (is_written old e ≡ true) ⊎ HasElement lanes entry e
+one_only words lanes entry only old new some is marks e inside told =
+    by_mark (or_cases (is_written old e) (only == e) (sym (marks.written e inside) ∙ told))
+  where
+    by_mark : (is_written old e ≡ true) ⊎ ((only == e) ≡ true) → (is_written old e ≡ true) ⊎ HasElement lanes entry e
+    by_mark (inl was) = inl was
+    by_mark (inr here) = inr (record {
+      lane = 0;
+      below = some;
+      at = ap (λ (elements : Elements). element_by elements entry.elements 0) is ∙ eqb-true only e here;
+    })
+
+pub run_only : (words : List ℕ) (lanes : ℕ) (entry : Entry) (first : ℕ) (old new : UndoLog)
+    → entry.site.elements ≡ Run first
+    → MarksMore (λ other. nat_le first other && nat_lt other (first + lanes)) words old new
+    → (e : ℕ) → e < log_elements old → is_written new e ≡ true
+    → (is_written old e ≡ true) ⊎ HasElement lanes entry e
+run_only words lanes entry first old new is marks e inside told =
+    by_mark (or_cases (is_written old e) (nat_le first e && nat_lt e (first + lanes))
+    (sym (marks.written e inside) ∙ told))
+  where
+    by_mark : (is_written old e ≡ true) ⊎ ((nat_le first e && nat_lt e (first + lanes)) ≡ true)
+        → (is_written old e ≡ true) ⊎ HasElement lanes entry e
+    by_mark (inl was) = inl was
+    by_mark (inr here) =
+        let parts = and_parts (nat_le first e) (nat_lt e (first + lanes)) here in
+        let low : first ≤ e = leb-true first e parts.0 in
+        let high : e < first + lanes = ltb-true e (first + lanes) parts.1 in
+        let at : first + (e - first) ≡ e = omega (arith, low) in
+        inr (record {
+          lane = e - first;
+          below = omega (arith, low, high);
+          at = ap (λ (elements : Elements). element_by elements entry.elements (e - first)) is ∙ at;
+        })
+
+pub row_has : (lanes : ℕ) (entry : Entry) (low high : ℕ) (old : UndoLog) → entry.site.elements ≡ Between low high
+    → (e : ℕ) → (is_written old e ≡ true) ⊎ IsInRow lanes entry.elements e
+    → (is_written old e ≡ true) ⊎ HasElement lanes entry e
+row_has lanes entry low high old is e (inl was) = inl was
+row_has lanes entry low high old is e (inr in_row) = inr (record {
+  lane = in_row.lane;
+  below = in_row.below;
+  at = ap (λ (elements : Elements). element_by elements entry.elements in_row.lane) is ∙ in_row.at;
+})
+
+-- an entry that leaves words has an element for one of its lanes
+abbrev pub LeavesAt : (lanes : ℕ) → Entry → (element : ℕ) → Type 0
+LeavesAt lanes entry element = (kind_leaves entry.site.kind ≡ true) × HasElement lanes entry element
+
+pub left_here : (lanes : ℕ) (entry : Entry) (old : UndoLog) (e : ℕ) → kind_leaves entry.site.kind ≡ true
+    → (is_written old e ≡ true) ⊎ HasElement lanes entry e → (is_written old e ≡ true) ⊎ LeavesAt lanes entry e
+left_here lanes entry old e leaves (inl was) = inl was
+left_here lanes entry old e leaves (inr has) = inr (leaves, has)
+
 -- an entry whose elements are in range, and told written where it leaves words
 abbrev pub IsNotedWithin : (elements lanes : ℕ) → UndoLog → Entry → Type 0
 IsNotedWithin elements lanes log entry = AreBelow elements lanes entry × IsNoted (is_written log) lanes entry
@@ -119,18 +206,36 @@ pub record NotedUpTo (words : List ℕ) (first : UndoLog) (lanes : ℕ) (entries
     : Type 0 where
   pub grows : Grows words first log
   pub noted : All (IsNotedWithin (log_elements first) lanes log) (take k entries)
+  pub only : (e : ℕ) → e < log_elements first → is_written log e ≡ true
+      → (is_written first e ≡ true) ⊎ IsLeft lanes entries e
 
 pub noted_more : (words : List ℕ) (first log new : UndoLog) (lanes : ℕ) (entries : List Entry) (k : ℕ) (d : Entry)
     → k < length entries → NotedUpTo words first lanes entries k log
     → All (AreBelow (log_elements first) lanes) entries → Grows words log new
-    → IsNoted (is_written new) lanes (slice_index_or entries k d) → NotedUpTo words first lanes entries (k + 1) new
-noted_more words first log new lanes entries k d inside so_far within grows noted = record {
+    → IsNoted (is_written new) lanes (slice_index_or entries k d)
+    → ((e : ℕ) → e < log_elements log → is_written new e ≡ true
+    → (is_written log e ≡ true) ⊎ LeavesAt lanes (slice_index_or entries k d) e)
+    → NotedUpTo words first lanes entries (k + 1) new
+noted_more words first log new lanes entries k d inside so_far within grows noted only = record {
   grows = grows_more words first log new so_far.grows grows;
   noted = All-more (IsNotedWithin (log_elements first) lanes new) entries k d inside
       (noted_grown words (log_elements first) lanes log new (take k entries) (sym so_far.grows.count) grows
       so_far.noted)
       (within k d inside, noted);
+  only = λ e under told. by_entry e under (only e (let same = so_far.grows.count in omega (arith, under, same)) told);
 }
+  where
+    by_entry : (e : ℕ) → e < log_elements first
+        → (is_written log e ≡ true) ⊎ LeavesAt lanes (slice_index_or entries k d) e
+        → (is_written first e ≡ true) ⊎ IsLeft lanes entries e
+    by_entry e under (inl was) = so_far.only e under was
+    by_entry e under (inr left) = inr (record {
+      k = k;
+      below = inside;
+      leaves = λ d'. subst (λ (entry : Entry). kind_leaves entry.site.kind ≡ true)
+          (get_or_default entries k d d' inside) left.0;
+      has = λ d'. subst (λ (entry : Entry). HasElement lanes entry e) (get_or_default entries k d d' inside) left.1;
+    })
 
 pub all_marked : (words : List ℕ) (first log : UndoLog) (lanes : ℕ) (entries : List Entry) (k : ℕ)
     → length entries ≤ k → NotedUpTo words first lanes entries k log → NotesWrites lanes entries words first log
@@ -138,4 +243,5 @@ all_marked words first log lanes entries k past so_far = record {
   grows = so_far.grows;
   noted = all_noted (log_elements first) lanes log entries
       (all_taken (IsNotedWithin (log_elements first) lanes log) entries k past so_far.noted);
+  only = so_far.only;
 }

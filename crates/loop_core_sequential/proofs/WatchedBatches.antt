@@ -1,6 +1,6 @@
 -- A batch of a watched loop.
 use Rattle.std.proofs.Common.{◌≡◌, ℕ, ◌+◌, ◌<◌, ◌≤◌, Bool, true, List, length, map}
-use Rattle.std.proofs.Common.{false, inl, inr, sym, slice_index, ap, ◌∙◌, arith}
+use Rattle.std.proofs.Common.{◌⊎◌, false, inl, inr, sym, slice_index, ap, ◌∙◌, arith}
 use Rattle.std.specs.List.{AllByRecursion}
 use Rattle.std.proofs.lemmas.Bool.{cases_lt}
 use Rattle.std.proofs.lemmas.List.{get_or_past}
@@ -20,8 +20,9 @@ use Rattle.bpf_step_batch.proofs.LogLaws.{log_of_sites}
 use Rattle.loop_core_sequential.specs.Tries.{LanesAreIterations}
 use Rattle.loop_core_sequential.specs.Watched.{IsUnread, AreNoted, WentWatched}
 use Rattle.loop_core_sequential.proofs.Together.{lanes_went}
-use Rattle.loop_core_sequential.proofs.WatchedLaws.{lanes_watched, not_so, after_lanes}
-use Rattle.loop_core_sequential.proofs.WatchedEntries.{entries_unreduced, entries_unread, entries_noted}
+use Rattle.loop_core_sequential.specs.Noting.{IsLeft}
+use Rattle.loop_core_sequential.proofs.WatchedLaws.{WritesAt, lanes_watched, not_so, after_lanes}
+use Rattle.loop_core_sequential.proofs.WatchedEntries.{entries_unreduced, entries_unread, entries_noted, entries_left}
 
 -- a batch more, where its entries read nothing that is told written, and what they write is told written then
 pub batch_watched : LoopBySites → SitesTell → SitesApply → (program : Program) (call : LoopCall) (start now : MapList)
@@ -31,9 +32,11 @@ pub batch_watched : LoopBySites → SitesTell → SitesApply → (program : Prog
     → AllByRecursion (IsUnread written lanes) entries → (new : MapList)
     → new ≡ record { sizes = now.sizes; words = words_after_sites (log_by now.words entries) lanes now.words }
     → (written' : ℕ → Bool) → ((e : ℕ) → e < length start.words → written e ≡ true → written' e ≡ true)
-    → AreNoted written' lanes entries → WentWatched program call (first + lanes) start new written'
+    → AreNoted written' lanes entries
+    → ((e : ℕ) → e < length start.words → written' e ≡ true → (written e ≡ true) ⊎ IsLeft lanes entries e)
+    → WentWatched program call (first + lanes) start new written'
 batch_watched by_sites tell apply program call start now first lanes within entries are unseen commute written w unread
-    new applied written' grows noted =
+    new applied written' grows noted only =
     let log : Log = log_by now.words entries in
     let logged : IsLogOf lanes (map site_of entries) log = log_of_sites lanes now.words entries are.logged in
     lanes_watched program call first start now written w lanes within (of_lane log) are.each
@@ -46,6 +49,12 @@ batch_watched by_sites tell apply program call start now first lanes within entr
     ∙ apply lanes (map site_of entries) log logged commute now.words)
     written' grows
     (entries_noted written' lanes entries noted now.words start)
+    (λ e inside told. by_entry e (only e inside told))
+  where
+    by_entry : (e : ℕ) → (written e ≡ true) ⊎ IsLeft lanes entries e
+        → (written e ≡ true) ⊎ WritesAt lanes (of_lane (log_by now.words entries)) e
+    by_entry e (inl was) = inl was
+    by_entry e (inr left) = inr (entries_left lanes entries now.words e left)
 
 -- what a batch leaves whose accesses were applied site by site
 module _ (apply : SitesApply) (lanes : ℕ) (entries : List Entry) (now new : MapList)

@@ -10,7 +10,7 @@ use Rattle.loop_core_undo.specs.Undo.{is_written, word_before, words_before, IsE
 use Rattle.loop_core_undo.proofs.UndoLaws.{from_now}
 use Rattle.loop_core_sequential.specs.declared.watching.Watch.{Watch}
 use Rattle.loop_core_sequential.specs.declared.watching.Watch.TheVariants.{Completed, Broke, Dependent}
-use Rattle.loop_core_sequential.specs.Watched.{RanAndPasses}
+use Rattle.loop_core_sequential.specs.Watched.{RanAndPasses, ReachesWritten}
 use Rattle.loop_core_sequential.specs.Noting.{CanRestore, GoesWatched, WatchedTo, WatchedToEnd, answer_watched}
 use Rattle.loop_core_sequential.proofs.WatchedLaws.{begun, all_watched}
 
@@ -18,7 +18,7 @@ use Rattle.loop_core_sequential.proofs.WatchedLaws.{begun, all_watched}
 pub begins : (program : Program) (call : LoopCall) (start : MapList) (log : UndoLog) → IsEmpty (length start.words) log
     → GoesWatched program call 0 start start log
 begins program call start log empty = record {
-  watched = begun program call start (is_written log);
+  watched = begun program call start (is_written log) empty.unwritten;
   restores = record {
     sizes = refl;
     count = refl;
@@ -61,4 +61,10 @@ pub put_back_if_none : (program : Program) (call : LoopCall) (start now new : Ma
     (answer : Option ℕ) → WatchedToEnd program call start now log answer
     → new ≡ record { sizes = now.sizes; words = words_before log now.words } → IfNone answer (new ≡ start)
 put_back_if_none program call start now new log (Some answer) passes back = tt
-put_back_if_none program call start now new log None restores back = put_back start now new log restores back
+put_back_if_none program call start now new log None met back = put_back start now new log met.0 back
+
+-- where it has no answer, an iteration met something
+pub reaches_if_none : (program : Program) (call : LoopCall) (start now : MapList) (log : UndoLog) (answer : Option ℕ)
+    → WatchedToEnd program call start now log answer → IfNone answer (ReachesWritten program call start)
+reaches_if_none program call start now log (Some answer) passes = tt
+reaches_if_none program call start now log None met = met.1

@@ -1,18 +1,22 @@
 -- What the entries of a batch tell of its lanes, where the loop is watched.
-use Rattle.std.proofs.Common.{◌≡◌, ℕ, ◌<◌, ◌==◌, if◌then◌else◌, Bool, true, false, List, []}
-use Rattle.std.proofs.Common.{◌∷◌, length, slice_index, refl, sym, ap, ◌∙◌, eqb-true}
+use Rattle.std.proofs.Common.{◌≡◌, ℕ, zero, suc, ◌<◌, ◌==◌, if◌then◌else◌, Bool, true, false, List, []}
+use Rattle.std.proofs.Common.{◌∷◌, length, slice_index, slice_index_or, refl, sym, ap, subst, ◌∙◌, eqb-true, arith}
+use Rattle.std.proofs.lemmas.Bool.{eq-eqb, or_right}
+use Rattle.std.proofs.lemmas.List.{get_or_default}
 use Rattle.std.specs.List.{AllByRecursion}
 use Rattle.array_maps.specs.Accesses.{Action, actions_at}
 use Rattle.array_maps.specs.MapList.{MapList}
 use Rattle.loop_core_model.specs.declared.access.Access.{Access as Kind}
 use Rattle.loop_core_model.specs.declared.access.Access.TheVariants.{Read as Reads, Write as Writes}
 use Rattle.loop_core_model.specs.declared.access.Access.TheVariants.{Both, Reduce as Reduces}
-use Rattle.loop_core_model.specs.Actions.{writes, exposed}
+use Rattle.loop_core_model.specs.Actions.{is_write, writes, exposed}
 use Rattle.loop_core_batch.specs.Lanes.{sees}
 use Rattle.loop_core_batch.specs.Sites.{of_lane, kind_sees, kind_leaves}
 use Rattle.bpf_step_batch.specs.declared.entry.Entry.{Entry}
 use Rattle.bpf_step_batch.specs.Logs.{element_by, action_by, log_by}
 use Rattle.loop_core_sequential.specs.Watched.{is_reduce, IsUnread, AreNoted}
+use Rattle.loop_core_sequential.specs.Noting.{HasElement, IsLeft}
+use Rattle.loop_core_sequential.proofs.WatchedLaws.{WritesAt}
 
 -- what doesn't reduce is exposed where it sees the word alone
 kind_unreduced : (here : Bool) (kind : Kind) (saw value : ℕ) (rest : List Action) → is_reduce kind ≡ false
@@ -85,3 +89,56 @@ entries_noted written lanes (entry ∷ entries) all words start lane e inside th
     (slice_index entry.values lane) (actions_at e (of_lane (log_by words entries) lane)) refl
     (λ left. all.0 left lane inside)
     (entries_noted written lanes entries all.1 words start lane e inside there) h
+
+-- an entry that leaves a word at an element is a write there
+kind_left : (element e : ℕ) (kind : Kind) (saw value : ℕ) (rest : List Action) (here : Bool) → (element == e) ≡ here
+    → here ≡ true → kind_leaves kind ≡ true
+    → writes (if here then action_by kind saw value ∷ rest else rest) ≡ true
+kind_left element e kind saw value rest false at yes_here leaves = absurd (cc)
+kind_left element e Reads saw value rest true at yes_here leaves = absurd (cc)
+kind_left element e Writes saw value rest true at yes_here leaves = refl
+kind_left element e Both saw value rest true at yes_here leaves = refl
+kind_left element e (Reduces op) saw value rest true at yes_here leaves = refl
+
+-- and so is one behind another
+kind_later : (kind : Kind) (saw value : ℕ) (rest : List Action) (here : Bool) → writes rest ≡ true
+    → writes (if here then action_by kind saw value ∷ rest else rest) ≡ true
+kind_later kind saw value rest false wrote = wrote
+kind_later kind saw value rest true wrote =
+    or_right (is_write (action_by kind saw value)) (writes rest) wrote
+
+left_by_lane : (lanes : ℕ) (entries : List Entry) (words : List ℕ) (e k lane : ℕ) → k < length entries
+    → ((d : Entry) → kind_leaves (slice_index_or entries k d).site.kind ≡ true)
+    → ((d : Entry) → element_by (slice_index_or entries k d).site.elements (slice_index_or entries k d).elements lane ≡ e)
+    → writes (actions_at e (of_lane (log_by words entries) lane)) ≡ true
+left_by_lane lanes [] words e k lane inside leaves at = absurd (omega arith)
+left_by_lane lanes (entry ∷ entries) words e zero lane inside leaves at =
+    let element : ℕ = element_by entry.site.elements entry.elements lane in
+    kind_left element e entry.site.kind (slice_index words element) (slice_index entry.values lane)
+    (actions_at e (of_lane (log_by words entries) lane)) (element == e) refl (eq-eqb element e (at entry))
+    (leaves entry)
+left_by_lane lanes (entry ∷ entries) words e (suc k) lane inside leaves at =
+    let element : ℕ = element_by entry.site.elements entry.elements lane in
+    kind_later entry.site.kind (slice_index words element) (slice_index entry.values lane)
+    (actions_at e (of_lane (log_by words entries) lane)) (element == e)
+    (left_by_lane lanes entries words e k lane (omega arith) leaves at)
+
+-- what an entry leaves, one of its lanes writes
+pub entries_left : (lanes : ℕ) (entries : List Entry) (words : List ℕ) (e : ℕ) → IsLeft lanes entries e
+    → WritesAt lanes (of_lane (log_by words entries)) e
+entries_left lanes entries words e left = of_first (first entries left.k left.below)
+  where
+    first : (entries : List Entry) (k : ℕ) → k < length entries → Entry
+    first [] k inside = absurd (omega arith)
+    first (entry ∷ rest) k inside = entry
+
+    of_first : Entry → WritesAt lanes (of_lane (log_by words entries)) e
+    of_first d =
+        let lane : ℕ = (left.has d).lane in
+        record {
+          lane = lane;
+          below = (left.has d).below;
+          wrote = left_by_lane lanes entries words e left.k lane left.below left.leaves (λ d'.
+              subst (λ (entry : Entry). element_by entry.site.elements entry.elements lane ≡ e)
+              (get_or_default entries left.k d d' left.below) (left.has d).at);
+        }

@@ -1,6 +1,7 @@
 -- Loops that are watched while they run in order.
 use Rattle.std.proofs.Common.{◌≡◌, ℕ, zero, suc, ◌+◌, ◌-◌, ◌<◌, ◌≤◌, ◌==◌, if◌then◌else◌, Bool, true, false, leb, ◌⊎◌}
 use Rattle.std.proofs.Common.{inl, inr, List, length, slice_index, Some, None, refl, sym, ap, subst, ◌∙◌, arith}
+use Rattle.std.proofs.lemmas.Bool.{both_ways}
 use Rattle.std.proofs.lemmas.Bool.Decides.{leb_tells}
 use Rattle.array_maps.specs.Accesses.{Access, SawEach, actions_at, words_after_all}
 use Rattle.array_maps.specs.MapList.{MapList}
@@ -20,7 +21,7 @@ use Rattle.loop_core_batch.specs.LoopByBatch.{EndsInZero}
 use Rattle.loop_core_batch.proofs.BatchLaws.{length-before}
 use Rattle.loop_core_sequential.specs.Rests.{rest_to, RanOn, BrokeOff}
 use Rattle.loop_core_sequential.specs.Watched.{RanAndPasses, accesses_if_ended, accesses_at}
-use Rattle.loop_core_sequential.specs.Watched.{NoneReadsWritten, WentWatched}
+use Rattle.loop_core_sequential.specs.Watched.{NoneReadsWritten, IsWrittenBelow, WentWatched}
 use Rattle.loop_core_sequential.proofs.InOrder.{stayed, went_both, ran_all}
 use Rattle.loop_core_sequential.proofs.WatchedFlow.{Scanned, renamed, none_scanned, last_scanned}
 use Rattle.loop_core_sequential.proofs.WatchedFlow.{scanned_from, passes_flow}
@@ -29,6 +30,12 @@ use Rattle.loop_core_sequential.proofs.WatchedFlow.{scanned_from, passes_flow}
 pub not_so : (a b : Bool) → (a ≡ true → b ≡ true) → b ≡ false → a ≡ false
 not_so false b makes off = refl
 not_so true b makes off = sym (makes refl) ∙ off
+
+-- one of so many lanes writes an element
+pub record WritesAt (lanes : ℕ) (accesses : ℕ → List Access) (e : ℕ) : Type 0 where
+  pub lane : ℕ
+  pub below : lane < lanes
+  pub wrote : writes (actions_at e (accesses lane)) ≡ true
 
 -- an index is below a first one, or that of a lane
 abbrev IsPlaced : (index lanes i : ℕ) → Type 0
@@ -167,6 +174,27 @@ module _ (program : Program) (call : LoopCall) (start now : MapList) (index : �
             (subst (λ (i : ℕ). EndsInZero program 4096 call i start.words (accesses new.0)) (sym new.2)
             (on new.0 new.1))
 
+    -- what is told written, they or those before them write
+    only_more : (written' : ℕ → Bool) → ((e : ℕ) → e < length start.words → written' e ≡ true
+        → (written e ≡ true) ⊎ WritesAt lanes accesses e)
+        → (e : ℕ) → e < length start.words → written' e ≡ true
+        → IsWrittenBelow program call start.words (index + lanes) e
+    only_more written' told_by e inside now_told = go (told_by e inside now_told)
+      where
+        go : (written e ≡ true) ⊎ WritesAt lanes accesses e → IsWrittenBelow program call start.words (index + lanes) e
+        go (inl old) =
+            let before = w.only e inside old in
+            let low = before.below in
+            record { earlier = before.earlier; below = omega (arith, low); wrote = before.wrote }
+        go (inr new) =
+            let low = new.below in
+            record {
+              earlier = index + new.lane;
+              below = omega (arith, low);
+              wrote = subst (λ (made : List Access). writes (actions_at e made) ≡ true)
+                  (sym (told new.lane new.below)) new.wrote;
+            }
+
   -- several iterations more
   more_watched : (lanes : ℕ) (accesses : ℕ → List Access)
       → ((lane : ℕ) → lane < lanes → EndsInZero program 4096 call (index + lane) start.words (accesses lane))
@@ -180,8 +208,9 @@ module _ (program : Program) (call : LoopCall) (start now : MapList) (index : �
       → (written' : ℕ → Bool) → ((e : ℕ) → e < length start.words → written e ≡ true → written' e ≡ true)
       → ((lane e : ℕ) → lane < lanes → e < length start.words → writes (actions_at e (accesses lane)) ≡ true
       → written' e ≡ true)
+      → ((e : ℕ) → e < length start.words → written' e ≡ true → (written e ≡ true) ⊎ WritesAt lanes accesses e)
       → WentWatched program call (index + lanes) start new written'
-  more_watched lanes accesses on among unread new went many stays written' grows notes =
+  more_watched lanes accesses on among unread new went many stays written' grows notes told_by =
       let told : (lane : ℕ) → lane < lanes → accesses_at program call start.words (index + lane) ≡ accesses lane =
       λ lane inside. ap accesses_if_ended (on lane inside).ended ∙ (on lane inside).made in
       record {
@@ -190,6 +219,7 @@ module _ (program : Program) (call : LoopCall) (start now : MapList) (index : �
         each = each_more lanes accesses told on;
         unread = unread_more lanes accesses told among unread;
         marked = marked_more lanes accesses told written' grows notes;
+        only = only_more lanes accesses told written' told_by;
         kept = λ e inside off.
             stays e (subst (λ (n : ℕ). e < n) (sym w.count) inside)
             (λ lane below. not_so (writes (actions_at e (accesses lane))) (written' e) (notes lane e below inside) off)
@@ -248,13 +278,14 @@ module _ (program : Program) (call : LoopCall) (start now : MapList) (index : �
 
 -- before the first iteration
 pub begun : (program : Program) (call : LoopCall) (start : MapList) (written : ℕ → Bool)
-    → WentWatched program call 0 start start written
-begun program call start written = record {
+    → ((e : ℕ) → written e ≡ false) → WentWatched program call 0 start start written
+begun program call start written none = record {
   went = stayed program call 0 start (omega arith);
   count = refl;
   each = λ earlier below. absurd (omega (arith, below));
   unread = λ e earlier later inside in_order below wrote. absurd (omega (arith, below));
   marked = λ e earlier inside below wrote. absurd (omega (arith, below));
+  only = λ e inside told. absurd (both_ways (written e) (none e) told);
   kept = λ e inside off. refl;
 }
 
@@ -266,8 +297,10 @@ pub one_watched : (program : Program) (call : LoopCall) (index : ℕ) (start now
     → ((e : ℕ) → e < length start.words → written e ≡ true → exposed (actions_at e it.accesses) ≡ false)
     → ((e : ℕ) → e < length start.words → written e ≡ true → written' e ≡ true)
     → ((e : ℕ) → e < length start.words → writes (actions_at e it.accesses) ≡ true → written' e ≡ true)
+    → ((e : ℕ) → e < length start.words → written' e ≡ true
+    → (written e ≡ true) ⊎ (writes (actions_at e it.accesses) ≡ true))
     → WentWatched program call (index + 1) start new written'
-one_watched program call index start now written w below it told nought new is sizes written' unread grows notes =
+one_watched program call index start now written w below it told nought new is sizes written' unread grows notes only =
     let left : new.words ≡ words_after_all it.accesses now.words =
     is ∙ it_leaves program call index now.words it told in
     let here : EndsInZero program 4096 call index start.words it.accesses =
@@ -284,7 +317,13 @@ one_watched program call index start now written w below it told nought new is s
     ∙ element_after_all it.accesses now.words e inside
     ∙ unwritten_left (actions_at e it.accesses) (slice_index now.words e) (unwritten 0 (omega arith)))
     written' grows (λ lane e only inside wrote. notes e inside wrote)
+    (λ e inside now_told. by_one e (only e inside now_told))
   where
+    by_one : (e : ℕ) → (written e ≡ true) ⊎ (writes (actions_at e it.accesses) ≡ true)
+        → (written e ≡ true) ⊎ WritesAt 1 (λ lane. it.accesses) e
+    by_one e (inl old) = inl old
+    by_one e (inr wrote) = inr (record { lane = 0; below = omega arith; wrote = wrote })
+
     at_first : (lane : ℕ) → lane < 1 → EndsInZero program 4096 call index start.words it.accesses
         → EndsInZero program 4096 call (index + lane) start.words it.accesses
     at_first lane inside here =
@@ -352,9 +391,10 @@ pub lanes_watched : (program : Program) (call : LoopCall) (index : ℕ) (start n
     → ((e : ℕ) → e < length start.words → written e ≡ true → written' e ≡ true)
     → ((lane e : ℕ) → lane < lanes → e < length start.words → writes (actions_at e (accesses lane)) ≡ true
     → written' e ≡ true)
+    → ((e : ℕ) → e < length start.words → written' e ≡ true → (written e ≡ true) ⊎ WritesAt lanes accesses e)
     → WentWatched program call (index + lanes) start new written'
 lanes_watched program call index start now written w lanes within accesses on none unreduced unread new went is written'
-    grows notes =
+    grows notes only =
     more_watched program call start now index written w lanes accesses
     (λ lane inside. on_start program call start now index written w (index + lane) (accesses lane) (on lane inside)
     (λ e there wrote. unread lane e inside there wrote))
@@ -364,4 +404,4 @@ lanes_watched program call index start now written w lanes within accesses on no
     unread new went (ap length is ∙ length-before accesses now.words lanes)
     (λ e inside unwritten.
     ap (λ (words : List ℕ). slice_index words e) is ∙ after_lanes accesses now.words lanes e inside unwritten)
-    written' grows notes
+    written' grows notes only

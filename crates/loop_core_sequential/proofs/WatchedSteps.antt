@@ -1,6 +1,8 @@
 -- An iteration of a watched loop that goes alone.
-use Rattle.std.proofs.Common.{◌≡◌, ℕ, ◌+◌, ◌<◌, false, true, length, sym, ◌∙◌, ap, subst, arith}
-use Rattle.std.proofs.lemmas.Bool.{or_left, or_right}
+use Rattle.std.proofs.Common.{◌≡◌, ℕ, ◌+◌, ◌<◌, ◌≤◌, Bool, false, true, ◌||◌, ◌⊎◌, inl, inr, length, sym, ◌∙◌, ap}
+use Rattle.std.proofs.Common.{subst, arith}
+use Rattle.std.proofs.lemmas.Bool.{cases_lt, both_ways, or_left, or_right, or_cases}
+use Rattle.std.proofs.lemmas.List.{get_or_past}
 use Rattle.array_maps.specs.Accesses.{actions_at}
 use Rattle.array_maps.specs.MapList.{MapList}
 use Rattle.array_maps.proofs.ElementLaws.{length-words_after_all}
@@ -13,8 +15,8 @@ use Rattle.loop_core_model.specs.Actions.{writes, exposed}
 use Rattle.loop_core_undo.specs.declared.undo_log.UndoLog.{UndoLog}
 use Rattle.loop_core_undo.specs.declared.watched.Watched.{Watched}
 use Rattle.loop_core_undo.specs.Undo.{log_elements, is_written, word_before}
-use Rattle.loop_core_undo.specs.Watching.{IsWatched, WatchedAll, AccessesAreWatched}
-use Rattle.loop_core_sequential.specs.Watched.{RanAndPasses}
+use Rattle.loop_core_undo.specs.Watching.{IsWatched, MeetsWritten, WatchedAll, AccessesAreWatched}
+use Rattle.loop_core_sequential.specs.Watched.{RanAndPasses, IsWrittenBelow, ReachesWritten}
 use Rattle.loop_core_sequential.specs.Noting.{CanRestore, GoesWatched}
 use Rattle.loop_core_sequential.proofs.WatchedLaws.{one_watched, break_watched}
 
@@ -77,9 +79,60 @@ module _ (law : AccessesAreWatched) (program : Program) (call : LoopCall) (callb
             ∙ or_left (is_written old.log.now e) (writes (actions_at e it.accesses))
             (ap (λ (l : UndoLog). is_written l e) is_log ∙ wrote))
             (λ e inside wrote. all.written e (omega (arith, inside, many))
-            ∙ or_right (is_written old.log.now e) (writes (actions_at e it.accesses)) wrote);
+            ∙ or_right (is_written old.log.now e) (writes (actions_at e it.accesses)) wrote)
+            (λ e inside now_told. was_or_writes e
+            (or_cases (is_written old.log.now e) (writes (actions_at e it.accesses))
+            (sym (all.written e (omega (arith, inside, many))) ∙ now_told)));
         restores = still_restores;
       }
+    where
+      was_or_writes : (e : ℕ) → (is_written old.log.now e ≡ true) ⊎ (writes (actions_at e it.accesses) ≡ true)
+          → (is_written log e ≡ true) ⊎ (writes (actions_at e it.accesses) ≡ true)
+      was_or_writes e (inl was) = inl (sym (ap (λ (l : UndoLog). is_written l e) is_log) ∙ was)
+      was_or_writes e (inr wrote) = inr wrote
+
+  -- an element that was written when it began was written by an earlier iteration
+  written_below : (e : ℕ) → is_written old.log.now e ≡ true → IsWrittenBelow program call start.words index e
+  written_below e was = elim (cases_lt e (length start.words)) [
+    | inl inside ↦
+        goes.watched.only e inside (sym (ap (λ (l : UndoLog). is_written l e) is_log) ∙ was)
+    | inr past ↦
+        absurd (both_ways (is_written old.log.now e)
+        (get_or_past old.log.now.written.items e false (omega (arith, past, many))) was)
+  ]
+
+  -- where it met something, it reached an element that was written
+  pub reached : old.met ≡ false → new.met ≡ true → ReachesWritten program call start
+  reached before met = of_meeting (all.met before met)
+    where
+      of_meeting : MeetsWritten (is_written old.log.now) it.accesses → ReachesWritten program call start
+      of_meeting meets = record {
+        index = index;
+        below = below;
+        now = now;
+        reached = goes.watched.went;
+        it = it;
+        ended = told;
+        front = meets.front;
+        access = meets.access;
+        back = meets.back;
+        are = meets.are;
+        sees = meets.sees;
+        was = by (or_cases (is_written old.log.now meets.access.element)
+            (writes (actions_at meets.access.element meets.front)) meets.was);
+      }
+        where
+          by : (is_written old.log.now meets.access.element ≡ true)
+              ⊎ (writes (actions_at meets.access.element meets.front) ≡ true)
+              → IsWrittenBelow program call start.words index meets.access.element
+              ⊎ (writes (actions_at meets.access.element meets.front) ≡ true)
+          by (inl was) = inl (written_below meets.access.element was)
+          by (inr wrote) = inr wrote
+
+  -- and the start maps can be restored
+  pub met_alone : old.met ≡ false → new.met ≡ true
+      → CanRestore start new.maps.now new.log.now × ReachesWritten program call start
+  met_alone before met = (still_restores, reached before met)
 
 -- the same of maps and a log that are these
 pub broke_as : (program : Program) (call : LoopCall) (start new last : MapList) (answer : ℕ) → last ≡ new
@@ -93,3 +146,12 @@ pub goes_as : (program : Program) (call : LoopCall) (index : ℕ) (start new las
 goes_as program call index start new last log ended same same_log goes =
     subst (λ (maps : MapList). GoesWatched program call index start maps ended) (sym same)
     (subst (GoesWatched program call index start new) (sym same_log) goes)
+
+pub met_as : (program : Program) (call : LoopCall) (start new last : MapList) (log ended : UndoLog)
+    → last ≡ new → ended ≡ log → CanRestore start new log × ReachesWritten program call start
+    → CanRestore start last ended × ReachesWritten program call start
+met_as program call start new last log ended same same_log met = (
+  subst (λ (maps : MapList). CanRestore start maps ended) (sym same)
+      (subst (CanRestore start new) (sym same_log) met.0),
+  met.1,
+)

@@ -1,15 +1,16 @@
 -- What an undo log has of a loop that is watched.
-use Rattle.std.specs.Prelude.{◌≡◌, ℕ, ◌<◌, true, List, length, slice_index, Option, Some, None}
+use Rattle.std.specs.Prelude.{◌≡◌, ℕ, ◌<◌, true, ◌⊎◌, List, length, slice_index, slice_index_or, Option, Some, None}
 use Rattle.array_maps.specs.MapList.{MapList}
 use Rattle.bpf_insn_types.specs.Program.{Program}
 use Rattle.bpf_step_model.specs.State.{LoopCall}
 use Rattle.bpf_step_batch.specs.declared.entry.Entry.{Entry}
+use Rattle.loop_core_batch.specs.Sites.{kind_leaves}
 use Rattle.bpf_step_batch.specs.Logs.{element_by}
 use Rattle.loop_core_undo.specs.declared.undo_log.UndoLog.{UndoLog}
 use Rattle.loop_core_undo.specs.Undo.{log_elements, is_written, word_before}
 use Rattle.loop_core_sequential.specs.declared.watching.Watch.{Watch}
 use Rattle.loop_core_sequential.specs.declared.watching.Watch.TheVariants.{Completed, Broke, Dependent}
-use Rattle.loop_core_sequential.specs.Watched.{AreNoted, RanAndPasses, WentWatched}
+use Rattle.loop_core_sequential.specs.Watched.{AreNoted, RanAndPasses, ReachesWritten, WentWatched}
 
 -- the elements of an entry's lanes are below a number
 abbrev pub AreBelow : (elements lanes : ℕ) → Entry → Type 0
@@ -22,10 +23,31 @@ pub record Grows (words : List ℕ) (old new : UndoLog) : Type 0 where
   pub written : (e : ℕ) → e < log_elements old → is_written old e ≡ true → is_written new e ≡ true
   pub before : (e : ℕ) → e < log_elements old → word_before new words e ≡ word_before old words e
 
+-- an entry has an element for one of its lanes
+pub record HasElement (lanes : ℕ) (entry : Entry) (element : ℕ) : Type 0 where
+  pub lane : ℕ
+  pub below : lane < lanes
+  pub at : element_by entry.site.elements entry.elements lane ≡ element
+
+-- a row has an element for one of so many lanes
+pub record IsInRow (lanes : ℕ) (row : List ℕ) (element : ℕ) : Type 0 where
+  pub lane : ℕ
+  pub below : lane < lanes
+  pub at : slice_index row lane ≡ element
+
+-- one of the entries leaves a word at an element, by one of its lanes
+pub record IsLeft (lanes : ℕ) (entries : List Entry) (element : ℕ) : Type 0 where
+  pub k : ℕ
+  pub below : k < length entries
+  pub leaves : (d : Entry) → kind_leaves (slice_index_or entries k d).site.kind ≡ true
+  pub has : (d : Entry) → HasElement lanes (slice_index_or entries k d) element
+
 -- it grew by what the lanes of a batch write
 pub record NotesWrites (lanes : ℕ) (entries : List Entry) (words : List ℕ) (old new : UndoLog) : Type 0 where
   pub grows : Grows words old new
   pub noted : AreNoted (is_written new) lanes entries
+  pub only : (e : ℕ) → e < log_elements old → is_written new e ≡ true
+      → (is_written old e ≡ true) ⊎ IsLeft lanes entries e
 
 -- the start maps can be restored
 pub record CanRestore (start now : MapList) (log : UndoLog) : Type 0 where
@@ -41,16 +63,17 @@ pub record GoesWatched (program : Program) (call : LoopCall) (index : ℕ) (star
     pub restores : CanRestore start now log
 
 -- how iterations up to an index came out, from these start maps: they went on; or one broke off, and the loop passes;
--- or one read what an earlier one wrote, and the start maps can be restored
+-- or one saw or reduced an element that was written, and the start maps can be restored
 abbrev pub WatchedTo : Program → LoopCall → (index : ℕ) → (start now : MapList) → UndoLog → Watch → Type 0
 WatchedTo program call index start now log Completed = GoesWatched program call index start now log
 WatchedTo program call index start now log (Broke answer) = RanAndPasses program call start now answer
-WatchedTo program call index start now log Dependent = CanRestore start now log
+WatchedTo program call index start now log Dependent = CanRestore start now log × ReachesWritten program call start
 
--- the loop has ended, and passes; or the start maps can be restored
+-- the loop has ended, and passes; or an iteration saw or reduced an element that was written, and the start maps can be
+-- restored
 abbrev pub WatchedToEnd : Program → LoopCall → (start now : MapList) → UndoLog → Option ℕ → Type 0
 WatchedToEnd program call start now log (Some answer) = RanAndPasses program call start now answer
-WatchedToEnd program call start now log None = CanRestore start now log
+WatchedToEnd program call start now log None = CanRestore start now log × ReachesWritten program call start
 
 -- the loop's answer by how all of its n iterations came out: none where one met something
 abbrev pub answer_watched : Watch → (n : ℕ) → Option ℕ

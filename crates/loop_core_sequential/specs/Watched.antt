@@ -1,5 +1,5 @@
 -- Loops that run in order and are watched: no iteration reads an element that an earlier one wrote.
-use Rattle.std.specs.Prelude.{◌≡◌, ℕ, ◌<◌, Bool, true, false, List, [], length, slice_index}
+use Rattle.std.specs.Prelude.{◌≡◌, ℕ, ◌<◌, Bool, true, false, ◌⊎◌, List, [], ◌∷◌, ◌++◌, length, slice_index}
 use Rattle.std.specs.List.{AllByRecursion}
 use Rattle.array_maps.specs.Accesses.{Access, actions_at}
 use Rattle.array_maps.specs.MapList.{MapList}
@@ -11,7 +11,7 @@ use Rattle.loop_core_model.specs.declared.access.Access.{Access as Kind}
 use Rattle.loop_core_model.specs.declared.access.Access.TheVariants.{Read, Write, Both, Reduce}
 use Rattle.loop_core_model.specs.declared.loop_test.Test.TheVariants.{Flow}
 use Rattle.loop_core_model.specs.declared.verdict.Verdict.TheVariants.{Parallel}
-use Rattle.loop_core_model.specs.Actions.{writes, exposed}
+use Rattle.loop_core_model.specs.Actions.{is_plain_write, writes, exposed}
 use Rattle.loop_core_model.specs.Report.{verdict}
 use Rattle.loop_core_batch.specs.LoopByBatch.{EndsInZero}
 use Rattle.loop_core_batch.specs.Sites.{kind_sees, kind_leaves}
@@ -42,9 +42,34 @@ NoneReadsWritten program call words index = (element earlier later : ℕ) → el
     → later < index → writes (actions_at element (accesses_at program call words earlier)) ≡ true
     → exposed (actions_at element (accesses_at program call words later)) ≡ false
 
+-- one of the iterations below an index, each on these words, writes an element
+pub record IsWrittenBelow (program : Program) (call : LoopCall) (words : List ℕ) (index element : ℕ) : Type 0 where
+  pub earlier : ℕ
+  pub below : earlier < index
+  pub wrote : writes (actions_at element (accesses_at program call words earlier)) ≡ true
+
+-- the loop in order reaches an iteration that sees or reduces an element that was written: by an earlier iteration, or
+-- by itself before that
+pub record ReachesWritten (program : Program) (call : LoopCall) (start : MapList) : Type 0 where
+  pub index : ℕ
+  pub below : index < call.n
+  -- the maps are these when it begins
+  pub now : MapList
+  pub reached : RanOn program call 0 index start now
+  pub it : Iterated
+  pub ended : iteration program 4096 call index now.words ≡ Ended it
+  -- one of its accesses isn't a plain write
+  pub front : List Access
+  pub access : Access
+  pub back : List Access
+  pub are : it.accesses ≡ front ++ access ∷ back
+  pub sees : is_plain_write access.action ≡ false
+  pub was : IsWrittenBelow program call start.words index access.element
+      ⊎ (writes (actions_at access.element front) ≡ true)
+
 -- up to an index the loop went on in order from its start maps, and each iteration goes on from the start words too;
--- none reads what an earlier one writes; the elements that they write are among those that are told written, and the
--- others are as at the start
+-- none reads what an earlier one writes; the elements that they write are those that are told written, and the others
+-- are as at the start
 pub record WentWatched (program : Program) (call : LoopCall) (index : ℕ) (start now : MapList) (written : ℕ → Bool)
     : Type 0 where
   pub went : RanOn program call 0 index start now
@@ -54,6 +79,8 @@ pub record WentWatched (program : Program) (call : LoopCall) (index : ℕ) (star
   pub unread : NoneReadsWritten program call start.words index
   pub marked : (element earlier : ℕ) → element < length start.words → earlier < index
       → writes (actions_at element (accesses_at program call start.words earlier)) ≡ true → written element ≡ true
+  pub only : (element : ℕ) → element < length start.words → written element ≡ true
+      → IsWrittenBelow program call start.words index element
   pub kept : (element : ℕ) → element < length start.words → written element ≡ false
       → slice_index now.words element ≡ slice_index start.words element
 

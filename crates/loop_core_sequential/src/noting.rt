@@ -1,10 +1,10 @@
 //! What the lanes of a batch read and write, by an undo log.
 
-ghost use Rattle.std.specs.Prelude.{◌≡◌, ℕ, ◌<◌, ◌≤◌, true, false, length, slice_index, All};
+ghost use Rattle.std.specs.Prelude.{◌≡◌, ℕ, ◌<◌, ◌≤◌, true, false, ◌⊎◌, length, slice_index, All};
 ghost use Rattle.bpf_step_batch.specs.Logs.{element_by};
 ghost use Rattle.loop_core_undo.specs.Undo.{log_elements, is_written};
 ghost use Rattle.loop_core_sequential.specs.Watched.{IsUnread};
-ghost use Rattle.loop_core_sequential.specs.Noting.{AreBelow, Grows, NotesWrites};
+ghost use Rattle.loop_core_sequential.specs.Noting.{AreBelow, Grows, HasElement, IsInRow, NotesWrites};
 
 use array_maps::Maps;
 use bpf_step_batch::Entry;
@@ -94,6 +94,8 @@ fn note_elements(entry: &Entry, lanes: u32, log: &mut UndoLog, maps: &Maps)
     ensures grows { Grows maps.now.words log.old log.new }
     ensures noted { (lane : ℕ) → lane < lanes
         → is_written log.new (element_by entry.now.site.elements entry.now.elements lane) ≡ true }
+    ensures only { (e : ℕ) → e < log_elements log.old → is_written log.new e ≡ true
+        → (is_written log.old e ≡ true) ⊎ HasElement lanes entry.now e }
 {
     match entry.site.elements {
         Elements::One(only) => log.mark(only, maps),
@@ -109,6 +111,8 @@ fn note_row(row: &[u32; 128], lanes: u32, log: &mut UndoLog, maps: &Maps)
     requires count { length maps.now.words ≡ log_elements log.old }
     ensures grows { Grows maps.now.words log.old log.new }
     ensures noted { (lane : ℕ) → lane < lanes → is_written log.new (slice_index row.now lane) ≡ true }
+    ensures only { (e : ℕ) → e < log_elements log.old → is_written log.new e ≡ true
+        → (is_written log.old e ≡ true) ⊎ IsInRow lanes row.now e }
 {
     for lane in 0..lanes {
         log.mark(row[lane as usize], maps);

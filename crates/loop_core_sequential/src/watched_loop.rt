@@ -4,7 +4,7 @@ ghost use Rattle.std.specs.Prelude.{◌≡◌, length, IfSome, IfNone};
 ghost use Rattle.bpf_verify_sound.specs.Soundness.{OverApproximatesCall};
 ghost use Rattle.loop_core_undo.specs.Undo.{log_elements, IsEmpty};
 ghost use Rattle.loop_core_sequential.specs.LoopRuns.{IsLoopRun};
-ghost use Rattle.loop_core_sequential.specs.Watched.{RanAndPasses};
+ghost use Rattle.loop_core_sequential.specs.Watched.{RanAndPasses, ReachesWritten};
 ghost use Rattle.loop_core_sequential.specs.Noting.{WatchedToEnd, answer_watched};
 
 use crate::batches::Batches;
@@ -18,9 +18,9 @@ use loop_core_undo::UndoLog;
 
 /// Runs the iterations of a loop call that main of this program made as `in_order` does, and watches them: where none
 /// has an exposed read of an element that an earlier one wrote, the loop passes by the flow test, and its answer is
-/// given. Else the maps are as before, from the log, and it is `None`; so it may be too where an iteration is run alone
-/// that reads an element after it wrote it itself. The maps are of the program's sizes, and the log is for as many
-/// elements.
+/// given. Else the maps are as before, from the log, and it is `None`: only where the loop in order reaches an iteration
+/// that sees or reduces an element that an earlier one wrote, or that it wrote itself before that. The maps are of the
+/// program's sizes, and the log is for as many elements.
 pub fn in_order_watched(
     program: &Verified,
     call: &LoopCall,
@@ -32,6 +32,7 @@ pub fn in_order_watched(
     requires count { log_elements log.old ≡ length maps.old.words }
     ensures passes { IfSome result (RanAndPasses program.now call.now maps.old maps.new) }
     ensures kept { IfNone result (maps.new ≡ maps.old) }
+    ensures dependent { IfNone result (ReachesWritten program.now call.now maps.old) }
 {
     log.clear();
     let answer = watch(program, call, log, maps);

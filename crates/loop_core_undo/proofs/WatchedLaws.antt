@@ -1,6 +1,6 @@
 -- What accesses do to watched maps, one after another.
-use Rattle.std.proofs.Common.{◌≡◌, ℕ, ◌<◌, Bool, true, false, ◌||◌, ◌&&◌, ◌==◌, not, cond, List, [], ◌∷◌, length}
-use Rattle.std.proofs.Common.{get_or, set, inl, inr, refl, sym, ◌∙◌, ap, subst, arith, get_or-set_other}
+use Rattle.std.proofs.Common.{◌≡◌, ℕ, ◌<◌, Bool, true, false, ◌||◌, ◌&&◌, ◌==◌, not, cond, if◌then◌else◌, List, [], ◌∷◌}
+use Rattle.std.proofs.Common.{◌++◌, length, get_or, set, inl, inr, refl, sym, ◌∙◌, ap, subst, arith, get_or-set_other}
 use Rattle.std.proofs.lemmas.Bool.{cases_eq, cases_lt, cases_Bool, both_ways, or_parts, or_left, eq-eqb, ne_eqb}
 use Rattle.std.proofs.lemmas.List.{get_or_past, set-get_or}
 use Rattle.array_maps.specs.Accesses.{Access, Action, Read, Write, ReadWrite, Reduce, actions_at}
@@ -10,7 +10,7 @@ use Rattle.array_maps.specs.Store.{Effects}
 use Rattle.loop_core_model.specs.Actions.{is_write, is_plain_write, writes, exposed}
 use Rattle.loop_core_undo.specs.declared.watched.Watched.{Watched}
 use Rattle.loop_core_undo.specs.Undo.{log_elements, is_written}
-use Rattle.loop_core_undo.specs.Watching.{IsWatched, WatchedAll}
+use Rattle.loop_core_undo.specs.Watching.{IsWatched, MeetsWritten, WatchedAll}
 
 -- an action that leaves no word
 leaves_word : (action : Action) (word : ℕ) → is_write action ≡ false → left_by action word ≡ word
@@ -55,6 +55,74 @@ in_range flags e set_there = elim (cases_lt e (length flags)) [
   | inr past ↦ absurd (both_ways (get_or flags e false) (get_or_past flags e false past) set_there)
 ]
 
+or_right : (a b : Bool) → b ≡ true → (a || b) ≡ true
+or_right true b h = refl
+or_right false b h = h
+
+-- one access met something
+met_here : (old between : Watched) (access : Access) (accesses : List Access) → IsWatched old access between
+    → old.met ≡ false → between.met ≡ true → MeetsWritten (is_written old.log.now) (access ∷ accesses)
+met_here old between access accesses one before met =
+    by_kind (is_plain_write access.action) refl
+  where
+    here : (plain : Bool) → is_plain_write access.action ≡ plain
+        → (if plain then old.met else (old.met || is_written old.log.now access.element)) ≡ true
+    here plain is =
+        ap (λ (b : Bool). if b then old.met else (old.met || is_written old.log.now access.element)) (sym is)
+        ∙ sym one.met ∙ met
+
+    by_kind : (plain : Bool) → is_plain_write access.action ≡ plain
+        → MeetsWritten (is_written old.log.now) (access ∷ accesses)
+    by_kind true is = absurd (both_ways old.met before (here true is))
+    by_kind false is = record {
+      front = [];
+      access = access;
+      back = accesses;
+      are = refl;
+      sees = is;
+      was = or_left (is_written old.log.now access.element) false
+          (sym (ap (λ (b : Bool). b || is_written old.log.now access.element) before) ∙ here false is);
+    }
+
+-- an element that was written after one access was written before it, or by it
+was_before : (old between : Watched) (access : Access) → IsWatched old access between → (e : ℕ) (front : List Access)
+    → (is_written between.log.now e || writes (actions_at e front)) ≡ true
+    → (is_written old.log.now e || writes (actions_at e (access ∷ front))) ≡ true
+was_before old between access one e front was = elim (cases_lt e (log_elements old.log.now)) [
+  | inl inside ↦
+      sym (ap (λ (b : Bool). b || writes (actions_at e front)) (one.written e inside)
+      ∙ told_more (is_written old.log.now e) (access.element == e) (is_write access.action)
+      (writes (actions_at e front))
+      ∙ ap (λ (wrote : Bool). is_written old.log.now e || wrote)
+      (writes_more (access.element == e) access.action (actions_at e front)))
+      ∙ was
+  | inr past ↦
+      let count = one.count in
+      let none : is_written between.log.now e ≡ false =
+      get_or_past between.log.now.written.items e false (omega (arith, past, count)) in
+      let wrote : writes (actions_at e front) ≡ true =
+      sym (ap (λ (b : Bool). b || writes (actions_at e front)) none) ∙ was in
+      or_right (is_written old.log.now e) (writes (actions_at e (access ∷ front)))
+      (sym (writes_more (access.element == e) access.action (actions_at e front))
+      ∙ later (access.element == e) (is_write access.action) (writes (actions_at e front)) wrote)
+]
+  where
+    later : (at wrote rest : Bool) → rest ≡ true → cond at (wrote || rest) rest ≡ true
+    later true wrote rest h = or_right wrote rest h
+    later false wrote rest h = h
+
+-- a later one did
+met_later : (old between : Watched) (access : Access) (accesses : List Access) → IsWatched old access between
+    → MeetsWritten (is_written between.log.now) accesses → MeetsWritten (is_written old.log.now) (access ∷ accesses)
+met_later old between access accesses one later = record {
+  front = access ∷ later.front;
+  access = later.access;
+  back = later.back;
+  are = ap (λ (rest : List Access). access ∷ rest) later.are;
+  sees = later.sees;
+  was = was_before old between access one later.access.element later.front later.was;
+}
+
 pub none_watched : (old : Watched) → WatchedAll old [] old
 none_watched old = record {
   same_maps = refl;
@@ -65,6 +133,7 @@ none_watched old = record {
   written = λ e inside. sym (or_none (is_written old.log.now e));
   before = λ e inside. refl;
   unwritten = λ e inside untold. refl;
+  met = λ before met. absurd (both_ways old.met before met);
   first = λ unmet. unmet;
   unmet = λ unmet e told. refl;
 }
@@ -99,6 +168,10 @@ more_watched old between new access accesses one all =
           (sym (one.written e inside) ∙ still)).1 in
           all.unwritten e (omega (arith, inside, count)) untold
           ∙ ap (λ (maps : MapList). get_or maps.words e 0) one.maps ∙ same_word access old.maps.now.words e silent;
+      met = λ before met. elim (cases_Bool between.met) [
+        | inl here ↦ met_here old between access accesses one before here
+        | inr not_yet ↦ met_later old between access accesses one (all.met not_yet met)
+      ];
       first = λ unmet. one.first (all.first unmet);
       unmet = λ unmet e was. elim (cases_eq e access.element) [
         | inl same ↦

@@ -1,5 +1,6 @@
 -- What accesses do to maps that are watched.
-use Rattle.std.specs.Prelude.{◌≡◌, ℕ, ◌<◌, true, false, ◌||◌, ◌&&◌, ◌==◌, List, slice_index}
+use Rattle.std.specs.Prelude.{◌≡◌, ℕ, ◌<◌, Bool, true, false, ◌||◌, ◌&&◌, ◌==◌, if◌then◌else◌, List, ◌∷◌, ◌++◌}
+use Rattle.std.specs.Prelude.{slice_index}
 use Rattle.array_maps.specs.Accesses.{Access, words_after, words_after_all, actions_at}
 use Rattle.array_maps.specs.Store.{Effects}
 use Rattle.loop_core_model.specs.Actions.{is_write, is_plain_write, writes, exposed}
@@ -7,8 +8,8 @@ use Rattle.loop_core_undo.specs.declared.watched.Watched.{Watched}
 use Rattle.loop_core_undo.specs.Undo.{log_elements, is_written, word_before}
 
 -- the maps after an access; its element is told written where it leaves a word there, and the words from when the log
--- was empty are the same; and where it met nothing, nothing was met before, and it is a plain write, or its element
--- wasn't written
+-- was empty are the same; a plain write meets nothing, and any other access does where its element was written; so
+-- where nothing was met, nothing was met before, and it is a plain write, or its element wasn't written
 pub record IsWatched (old : Watched) (access : Access) (new : Watched) : Type 0 where
   pub maps : new.maps.now ≡ record { sizes = old.maps.now.sizes; words = words_after access old.maps.now.words }
   pub same_maps : new.maps.ghost_name ≡ old.maps.ghost_name
@@ -18,8 +19,20 @@ pub record IsWatched (old : Watched) (access : Access) (new : Watched) : Type 0 
       ≡ (is_written old.log.now e || (access.element == e && is_write access.action))
   pub before : (e : ℕ) → e < log_elements old.log.now → word_before new.log.now new.maps.now.words e
       ≡ word_before old.log.now old.maps.now.words e
+  pub met : new.met
+      ≡ (if is_plain_write access.action then old.met else (old.met || is_written old.log.now access.element))
   pub first : new.met ≡ false → old.met ≡ false
   pub unmet : new.met ≡ false → is_plain_write access.action ≡ false → is_written old.log.now access.element ≡ false
+
+-- one of a list of accesses isn't a plain write, and is of an element that was written: before them all, by what is
+-- told written, or by those before it
+pub record MeetsWritten (written : ℕ → Bool) (accesses : List Access) : Type 0 where
+  pub front : List Access
+  pub access : Access
+  pub back : List Access
+  pub are : accesses ≡ front ++ access ∷ back
+  pub sees : is_plain_write access.action ≡ false
+  pub was : (written access.element || writes (actions_at access.element front)) ≡ true
 
 -- what a list of accesses does to maps that are watched, element by element
 pub record WatchedAll (old : Watched) (accesses : List Access) (new : Watched) : Type 0 where
@@ -39,6 +52,8 @@ pub record WatchedAll (old : Watched) (accesses : List Access) (new : Watched) :
   -- so are the words from when the log was empty
   pub before : (e : ℕ) → e < log_elements old.log.now → word_before new.log.now new.maps.now.words e
       ≡ word_before old.log.now old.maps.now.words e
+  -- where they met something, and nothing was met before, one of them sees or reduces an element that was written
+  pub met : old.met ≡ false → new.met ≡ true → MeetsWritten (is_written old.log.now) accesses
   -- where they met nothing, nothing was met before
   pub first : new.met ≡ false → old.met ≡ false
   -- and they have no exposed read of an element that was written before them

@@ -34,7 +34,8 @@ returns-clause-goes c = λ start goes.
           (recursion_from_All (IsUnread (is_written c.args.log.now) c.args.lanes) c.entries-entries.result.now
           (c.are_unread.ensures c.if-not-are_unread.false))
           c.apply.new.maps c.apply.ensures (is_written c.note_writes.new.log)
-          (λ e inside told. grows.written e (omega (arith, inside, many)) told) c.note_writes.ensures.noted;
+          (λ e inside told. grows.written e (omega (arith, inside, many)) told) c.note_writes.ensures.noted
+          (λ e inside told. c.note_writes.ensures.only e (omega (arith, inside, many)) told);
       restores = record {
         sizes = ap (λ (maps : MapList). maps.sizes) c.apply.ensures ∙ goes.restores.sizes;
         count = batch_counts c.law_of_application.ensures c.args.lanes c.entries-entries.result.now
