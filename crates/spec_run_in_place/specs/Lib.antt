@@ -1,0 +1,2 @@
+pub mod RanCalls
+pub mod InPlace
