@@ -1,0 +1,35 @@
+-- The elements of a machine's maps.
+use Rattle.std.specs.Prelude.{◌≡◌, ℕ, ◌+◌, nat_lt, Bool, false, if◌then◌else◌, List, slice_get, slice_set, slice_index}
+use Rattle.std.specs.Prelude.{Option, Some, None}
+use Rattle.array_maps.specs.MapList.{MapList, base_of}
+use Rattle.bpfspec_machine.specs.Machines.{MachineState}
+
+-- an index is below a map's size, where there is the map
+abbrev pub is_below : Option ℕ → (index : ℕ) → Bool
+is_below None index = false
+is_below (Some size) index = nat_lt index size
+
+-- there is this element
+abbrev pub has_element : List ℕ → (map index : ℕ) → Bool
+has_element sizes map index = is_below (slice_get sizes map) index
+
+-- its value, where there is one
+abbrev pub element_of : MapList → (map index : ℕ) → Option ℕ
+element_of maps map index =
+    if has_element maps.sizes map index then Some (slice_index maps.words (base_of maps.sizes map + index)) else None
+
+-- a machine with another value there
+abbrev pub with_element : MachineState → (map index value : ℕ) → MachineState
+with_element machine map index value = record {
+  program = machine.program;
+  maps = record {
+    sizes = machine.maps.sizes;
+    words = slice_set machine.maps.words (base_of machine.maps.sizes map + index) value;
+  };
+  loops = machine.loops;
+}
+
+-- a machine with another value there, where there is the element
+abbrev pub with_element_if : Bool → MachineState → (map index value : ℕ) → MachineState
+with_element_if there machine map index value =
+    if there then with_element machine map index value else machine

@@ -1,0 +1,28 @@
+-- A program with its maps, which runs many times.
+use Rattle.std.specs.Prelude.{◌≡◌, ◌≤◌, ℕ, List, [], length, take}
+use Rattle.array_maps.specs.MapList.{MapList, zero_maps}
+use Rattle.bpf_insn_types.specs.Program.{Program}
+use Rattle.bpf_verify_sound.specs.Soundness.{most_from}
+use Rattle.loop_core_model.specs.declared.verdict.LoopReport.{LoopReport}
+use Rattle.spec_run_in_place.specs.InPlace.{RanInOrder}
+
+-- a program, its maps, and the lines of the loop calls of its last run
+pub record MachineState : Type 0 where
+  pub program : Program
+  pub maps : MapList
+  pub loops : List LoopReport
+
+-- as it is loaded: all words of its maps are 0, and it hasn't run
+abbrev pub new_machine : Program → MachineState
+new_machine program = record { program = program; maps = zero_maps program.sizes; loops = [] }
+
+-- the maps are of the program's sizes, and there is a line for each loop call that it can make
+pub record IsMachine (program : Program) (maps : MapList) (lines : List LoopReport) : Type 0 where
+  pub sizes : maps.sizes ≡ program.sizes
+  pub room : most_from program 0 ≤ length lines
+
+-- a run of a machine, its argument in R1, gave this answer and this machine: the program in order, from the words of its
+-- maps, which it leaves to the next run
+pub record MachineRan (argument : ℕ) (old new : MachineState) (answer : ℕ) : Type 0 where
+  pub program : new.program ≡ old.program
+  pub ran : RanInOrder old.program argument old.maps new.maps answer new.loops
