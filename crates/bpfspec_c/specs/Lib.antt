@@ -1,0 +1,4 @@
+pub mod Holding
+pub mod Statuses
+pub mod Refusals
+pub mod Calls

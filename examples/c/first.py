@@ -1,0 +1,19 @@
+"""Loads a program, runs it a hundred times, and prints what it left in its map."""
+
+from bpfspec import Machine, Refused
+
+PROGRAM = """
+maps 1
+ldmapval r2, 0, 0
+atomic64 add [r2+0], r1
+mov64 r0, r1
+exit
+"""
+
+with Machine(PROGRAM) as machine:
+    answers = [machine.run(number) for number in range(1, 101)]
+    print(sum(answers), machine.get(0, 0))
+try:
+    Machine("maps 1\nexit\n")
+except Refused as refused:
+    print(refused)
