@@ -3,6 +3,8 @@
 ghost use Rattle.std.specs.Prelude.{◌≡◌, ◌+◌, ◌<◌, ◌≤◌, ℕ, false, length, List, [], None, IfOk, OnOk};
 ghost use Rattle.std.specs.List.{AllByRecursion};
 ghost use Rattle.bpf_step_model.specs.Iteration.{Iterated};
+ghost use Rattle.bpf_insn_types.specs.Program.{callback_starts};
+ghost use Rattle.bpf_verify_model.specs.Count.{count_of, function_start};
 ghost use Rattle.bpf_verify_sound.specs.Soundness.{most_from};
 ghost use Rattle.shadow_marks.specs.Standing.{test_of};
 ghost use Rattle.bpf_step_batch.specs.Logs.{IsLogged};
@@ -46,8 +48,10 @@ pub(crate) struct Runner<'c, 'a> {
     pub(crate) planes: Planes,
 }
 
-/// The most instructions of the callback that starts at a slot; 4,096 where none does.
+/// The most instructions of the callback that starts at a slot: its count; 4,096 where none does.
 pub fn most_instructions(program: &Verified, slot: u32) -> u32
+    ensures count { (function : ℕ) → 0 < function → function ≤ length (callback_starts program.now.insns)
+        → function_start program.now.insns function ≡ slot → result ≡ count_of program.now.insns function }
     ensures enough { most_from program.now slot ≤ result }
     ensures few { result ≤ 4096 }
 {
