@@ -85,7 +85,8 @@ module _ (r : Runner) (entries : List Entry) (index lanes : ℕ)
       }
 
 -- what a copy keeps, after the pages of n lanes were placed, n iterations counted, and their accesses noted
-module _ (old placed passed new : PrivateCopy) (entries : List Entry) (lanes : ℕ) (may : MayFold lanes entries)
+module _ (old placed passed new : PrivateCopy) (entries : List Entry) (lanes : ℕ)
+    (logged : AllByRecursion (IsLogged lanes old.start) entries) (may : MayFold lanes entries)
     (places : PlacesLanes old placed entries lanes) (passes : HavePassed placed lanes passed)
     (folds : CopyFolds passed new entries lanes) where
   passed_start : passed.start ≡ old.start
@@ -105,9 +106,9 @@ module _ (old placed passed new : PrivateCopy) (entries : List Entry) (lanes : �
       ∙ ap (λ (words : List ℕ). by_site (λ (site : ℕ → Access). last_by_lane site words e) (log_by words entries) lanes
       (passed.last e)) passed_start
       ∙ ap (by_site step (log_by old.start entries) lanes) (passes.last e ∙ places.last e ∙ was)
-      ∙ either_order step (log_by old.start entries) (all_swap lanes old.start e entries may).0 lanes
+      ∙ either_order step lanes (log_by old.start entries) (all_swap lanes old.start e entries may logged).0
       (last_value (at_element e runs) (slice_index old.start e))
-      ∙ last_lanes lanes old.start entries may runs e lanes
+      ∙ last_lanes lanes old.start entries may logged runs e lanes (omega arith)
 
   reduction_is : (runs : List (List Access)) (e : ℕ) → old.reduction e ≡ reduction_of (at_element e runs)
       → new.reduction e ≡ reduction_of (at_element e (runs ++ runs_of old.start entries lanes))
@@ -116,7 +117,7 @@ module _ (old placed passed new : PrivateCopy) (entries : List Entry) (lanes : �
       folds.reduction e
       ∙ ap (λ (words : List ℕ). by_site step (log_by words entries) lanes (passed.reduction e)) passed_start
       ∙ ap (by_site step (log_by old.start entries) lanes) (passes.reduction e ∙ places.reduction e ∙ was)
-      ∙ either_order step (log_by old.start entries) (all_swap lanes old.start e entries may).1 lanes
+      ∙ either_order step lanes (log_by old.start entries) (all_swap lanes old.start e entries may logged).1
       (reduction_of (at_element e runs))
       ∙ reduction_lanes old.start entries runs e lanes
 
@@ -152,8 +153,8 @@ module _ (old new : Runner) (placed passed : Private) (entries : List Entry) (in
   all_lanes = ran_lanes old entries index lanes are lanes (omega arith)
 
   start : start_words new ≡ start_words old
-  start = same_start (copy_of old.copy) (copy_of placed) (copy_of passed) (copy_of new.copy) entries lanes may places
-      passes folds
+  start = same_start (copy_of old.copy) (copy_of placed) (copy_of passed) (copy_of new.copy) entries lanes logged may
+      places passes folds
 
   both_accesses : (before : List Iterated) → accesses_of_each (before ++ all_lanes.ran) ≡ accesses_of_each before
       ++ runs_of (start_words old) entries lanes
@@ -170,8 +171,8 @@ module _ (old new : Runner) (placed passed : Private) (entries : List Entry) (in
         let same = ends.shape.elements in
         let marks : Marks = marks_of (visits_of first runs e) in
         subst (λ (m : Marks). StandAt new.planes e m)
-        (either_order (marks_by_lead index e) (leads_of [] entries) (leads_swap index e (leads_of [] entries)) lanes
-        marks
+        (either_order (marks_by_lead index e) lanes (leads_of [] entries)
+        (leads_swap index e lanes (leads_of [] entries)) marks
         ∙ marks_lanes lanes (start_words old) entries may logged first index e runs at lanes (omega arith))
         (ends.marks e marks (stand.marks e (omega (arith, inside, same))));
   }
@@ -188,15 +189,15 @@ module _ (old new : Runner) (placed passed : Private) (entries : List Entry) (in
         let reached = has.reached in
         let was = has.begun in
         let both = length-append before all_lanes.ran in
-        let begun = more_begun (copy_of old.copy) (copy_of placed) (copy_of passed) (copy_of new.copy) entries lanes may
-        places passes folds in
+        let begun = more_begun (copy_of old.copy) (copy_of placed) (copy_of passed) (copy_of new.copy) entries lanes logged
+        may places passes folds in
         let many = length-map before (λ (it : Iterated). it.accesses) in
         record {
           reached = omega (arith, reached, both);
           begun = omega (arith, begun, was, both, long);
           copy = subst (λ (l : List (List Access)). CopyRecords (copy_of new.copy) l) (sym (both_accesses before))
-              (more_recorded (copy_of old.copy) (copy_of placed) (copy_of passed) (copy_of new.copy) entries lanes may
-              places passes folds (accesses_of_each before) has.copy);
+              (more_recorded (copy_of old.copy) (copy_of placed) (copy_of passed) (copy_of new.copy) entries lanes
+              logged may places passes folds (accesses_of_each before) has.copy);
           elements = ends.shape.elements ∙ has.elements ∙ ap length (sym start);
           planes = subst (λ (l : List (List Access)). StandFor new.planes (visits_of first l))
               (sym (both_accesses before))

@@ -51,16 +51,17 @@ flags_swap (Some a) None f g index e m n x = refl
 flags_swap (Some a) (Some b) f g index e m n x =
     marks_swap (eqb (f n) e) (eqb (g m) e) x (marks_of_one (index + n) a) (marks_of_one (index + m) b)
 
-with_each : (index e : ℕ) (lead : Lead) (leads : List Lead) → AllByRecursion (Swap (marks_by_lead index e) lead) leads
-with_each index e lead [] = tt
-with_each index e lead (other ∷ leads) = (
-  λ m n x. flags_swap lead.flags other.flags lead.element other.element index e m n x,
-  with_each index e lead leads,
+with_each : (index e lanes : ℕ) (lead : Lead) (leads : List Lead)
+    → AllByRecursion (Swap (marks_by_lead index e) lanes lead) leads
+with_each index e lanes lead [] = tt
+with_each index e lanes lead (other ∷ leads) = (
+  λ m n _ _ x. flags_swap lead.flags other.flags lead.element other.element index e m n x,
+  with_each index e lanes lead leads,
 )
 
-pub leads_swap : (index e : ℕ) (leads : List Lead) → AllSwap (marks_by_lead index e) leads
-leads_swap index e [] = tt
-leads_swap index e (lead ∷ leads) = (with_each index e lead leads, leads_swap index e leads)
+pub leads_swap : (index e lanes : ℕ) (leads : List Lead) → AllSwap (marks_by_lead index e) lanes leads
+leads_swap index e lanes [] = tt
+leads_swap index e lanes (lead ∷ leads) = (with_each index e lanes lead leads, leads_swap index e lanes leads)
 
 -- a lane's element
 abbrev pub element_at : (lane : ℕ) → Entry → ℕ

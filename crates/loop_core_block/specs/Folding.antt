@@ -16,7 +16,7 @@ use Rattle.shadow_marks.specs.Lanes.{over_lanes, marks_by, FoldsLanes}
 use Rattle.private_copy.specs.Copies.{PrivateCopy}
 use Rattle.private_copy.specs.Noting.{last_by_lane, reduction_by_lane}
 use Rattle.bpf_step_batch.specs.declared.entry.Entry.{Entry}
-use Rattle.bpf_step_batch.specs.Own.{AreApart}
+use Rattle.bpf_step_batch.specs.Own.{AreApart, AreDisjoint}
 use Rattle.bpf_step_batch.specs.Logs.{element_by, site_of, log_by}
 
 -- what sites make of a value, each of them for all of n lanes before the next
@@ -35,9 +35,10 @@ are_same (One only) (One other) = only == other
 are_same (Run first) (Run other) = first == other
 are_same _ _ = false
 
--- of two sites one at most writes; and each lane accesses one element by both, or each lane two
+-- of two sites one at most writes, or no lane accesses by one what any lane accesses by the other; and each lane
+-- accesses one element by both, or each lane two
 pub record FoldBoth (lanes : ℕ) (a b : Site) : Type 0 where
-  pub one_writes : kind_leaves a.kind ≡ true → kind_leaves b.kind ≡ false
+  pub writes : kind_leaves a.kind ≡ true → kind_leaves b.kind ≡ true → AreDisjoint lanes a.elements b.elements
   pub elements : are_same a.elements b.elements ≡ false → AreApart lanes a.elements b.elements
 
 -- so all of them may be folded
