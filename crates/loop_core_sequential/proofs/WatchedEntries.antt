@@ -15,7 +15,7 @@ use Rattle.loop_core_batch.specs.Sites.{of_lane, kind_sees, kind_leaves}
 use Rattle.bpf_step_batch.specs.declared.entry.Entry.{Entry}
 use Rattle.bpf_step_batch.specs.Logs.{element_by, action_by, log_by}
 use Rattle.loop_core_sequential.specs.Watched.{is_reduce, IsUnread, AreNoted}
-use Rattle.loop_core_sequential.specs.Noting.{HasElement, IsLeft}
+use Rattle.loop_core_sequential.specs.Noting.{IsLeft}
 use Rattle.loop_core_sequential.proofs.WatchedLaws.{WritesAt}
 
 -- what doesn't reduce is exposed where it sees the word alone

@@ -7,18 +7,12 @@ ghost use Rattle.loop_core_sequential.specs.Rests.{RanOn};
 ghost use Rattle.loop_core_sequential.specs.Tries.{LanesAreIterations, TriedIn, index_after};
 
 use crate::applying::{apply, are_in_order};
-use crate::batches::{Batches, MOST};
+use crate::batches::Batches;
 use crate::running::LoopRun;
 use crate::trying::Tried;
 use array_maps::Maps;
 use bpf_step_ir_sound::law_of_plain_iterations;
 use loop_core_batch::law_of_batches;
-
-/// The least number to which they are halved.
-const LEAST: u32 = 32;
-
-/// The longest pause, in batches of the most iterations.
-const LONGEST_PAUSE: u32 = 1024;
 
 impl Batches {
     /// Does iterations from an index on together, no more than up to another, where they are the loop in order so.
@@ -35,37 +29,6 @@ impl Batches {
         let lanes = self.lanes.min(to - index);
         let tried = self.tried(run, index, lanes, maps);
         self.paced(tried, index, lanes)
-    }
-
-    /// The index after a batch of lanes that was tried from an index on: after them, where they went. Notes how many
-    /// are tried the next time.
-    pub(crate) fn paced(&mut self, tried: Tried, index: u32, lanes: u32) -> u32
-        requires { index + lanes ≤ 4294967295 }
-        ensures { result ≡ index_after tried index lanes }
-    {
-        match tried {
-            Tried::Applied => {
-                self.pause = 1;
-                index + lanes
-            }
-            Tried::Dependent => {
-                self.lanes = (self.lanes / 2).max(LEAST);
-                index
-            }
-            Tried::Diverged => index,
-        }
-    }
-
-    /// The index at which a batch is tried again, after one at an index below another was given up: up to it
-    /// iterations go alone. Pauses grow fourfold.
-    pub(crate) fn resume(&mut self, index: u32, to: u32) -> u32
-        requires { index < to }
-        ensures on { index < result }
-        ensures within { result ≤ to }
-    {
-        let alone = MOST * self.pause;
-        self.pause = (4 * self.pause).min(LONGEST_PAUSE);
-        index.saturating_add(alone).min(to)
     }
 
     /// Runs so many iterations from an index on together, each on the words of the maps, which stay as they are. Tells
