@@ -12,14 +12,19 @@
  *         bpfspec_free(&machine);
  *     }
  *
- * Each call that may fail gives a status: 0, or less where it wasn't done. What a caller owes:
- *   - no pointer is NULL, also where a count is 0, and what it points to is there in full and overlaps nothing else that
- *     the call gets;
+ * Each call that may fail gives a status: 0 (DONE), or less where it wasn't done. Under each call are the statuses that it
+ * may give. EMPTY and HELD come before all others. What a call gives is written at DONE alone, the refusal at MALFORMED
+ * and REFUSED alone; else it keeps what stood there.
+ *
+ * What a caller owes:
+ *   - no pointer is NULL, also where a count is 0; it is aligned for its type, what it points to is there in full, and it
+ *     overlaps nothing else that the call gets;
  *   - a handle is zeroes, or as the last call left it: its fields are never written, and it is moved but not copied;
  *   - one call at a time has a handle; machines have nothing in common, so each thread may have its own, and one that is
  *     handed over by a lock, or by starting or joining a thread, may be used there;
  *   - no call is made from a signal handler, or from the child of a process with threads after fork;
- *   - malloc, realloc and free are of one allocator.
+ *   - malloc, realloc and free are of one allocator;
+ *   - each machine is freed by bpfspec_free, else its memory is lost.
  */
 #ifndef BPFSPEC_H
 #define BPFSPEC_H
@@ -51,7 +56,7 @@ enum bpfspec_status {
     BPFSPEC_REFUSED = -13,  /* the program breaks a rule of the verifier: the refusal has it */
     BPFSPEC_HELD = -16,     /* misuse: the handle holds a machine already, and keeps it */
     BPFSPEC_MALFORMED = -22,/* the text or the instructions are none of their form: the refusal has why */
-    BPFSPEC_RANGE = -34     /* there is no such element, map, loop call or function, or a count differs */
+    BPFSPEC_RANGE = -34     /* there is no such element, map, function or loop call, or a count differs; nothing changed */
 };
 
 /* A machine, or none: 16 bytes, which the library alone reads and writes. */
@@ -67,13 +72,19 @@ struct bpfspec_refusal {
     uint64_t place;  /* of 'A' the line, from 1, or 0 for all of the text; else the slot, from 0 */
 };
 
+/* A loop call of the last run. */
+struct bpfspec_loop {
+    uint64_t slot;  /* the slot of the call */
+    int64_t answer; /* how many iterations ran; or -22 or -7 where the call was refused, as bpf_loop does */
+};
+
 /* The number of the interface that the library has. */
 uint32_t bpfspec_version(void);
 
 /*
- * Loads an assembler text of `length` bytes into an empty handle: its maps are all zero. The text is verified, so a
- * program that runs is one that the verifier accepts.
- * DONE; HELD; MALFORMED or REFUSED, and then the refusal is written; MEMORY. The handle stays as it was but at DONE.
+ * Loads an assembler text of `length` bytes into an empty handle; no NUL ends it. The program is verified, so one that
+ * runs is one that the verifier accepts, and its maps are all zero.
+ * DONE; HELD; MALFORMED; REFUSED; MEMORY. The handle stays as it was but at DONE.
  */
 BPFSPEC_CHECKED int bpfspec_load(struct bpfspec_machine *machine, const char *text, size_t length,
                                  struct bpfspec_refusal *refusal);
@@ -81,6 +92,13 @@ BPFSPEC_CHECKED int bpfspec_load(struct bpfspec_machine *machine, const char *te
 /* The same of a text in hex form. */
 BPFSPEC_CHECKED int bpfspec_load_hex(struct bpfspec_machine *machine, const char *text, size_t length,
                                      struct bpfspec_refusal *refusal);
+
+/*
+ * The same of `maps` sizes of maps, in elements of 8 bytes, and `length` bytes of instructions, 8 for each slot, as RFC
+ * 9669 encodes them.
+ */
+BPFSPEC_CHECKED int bpfspec_load_insns(struct bpfspec_machine *machine, const uint32_t *sizes, size_t maps,
+                                       const unsigned char *insns, size_t length, struct bpfspec_refusal *refusal);
 
 /* Frees the machine, and leaves the handle empty. An empty one stays so. */
 BPFSPEC_NONNULL void bpfspec_free(struct bpfspec_machine *machine);
@@ -92,11 +110,49 @@ BPFSPEC_NONNULL void bpfspec_free(struct bpfspec_machine *machine);
  */
 BPFSPEC_NONNULL int bpfspec_run(struct bpfspec_machine *machine, uint64_t argument, uint64_t *answer);
 
-/* Writes the value of an element of a map. DONE; EMPTY; RANGE. */
+/*
+ * Runs the program once for each of `count` arguments, in order, each from the maps that the run before left, and writes
+ * as many return values. `room` is how many there is room for: RANGE where it isn't `count`, and then nothing runs.
+ * DONE; EMPTY; RANGE.
+ */
+BPFSPEC_NONNULL int bpfspec_run_each(struct bpfspec_machine *machine, const uint64_t *arguments, size_t count,
+                                     uint64_t *answers, size_t room);
+
+/* Writes the value of an element of a map: maps and elements are numbered from 0. DONE; EMPTY; RANGE. */
 BPFSPEC_NONNULL int bpfspec_get(struct bpfspec_machine *machine, uint32_t map, uint32_t index, uint64_t *value);
 
 /* Sets the value of an element of a map. DONE; EMPTY; RANGE. */
 BPFSPEC_NONNULL int bpfspec_set(struct bpfspec_machine *machine, uint32_t map, uint32_t index, uint64_t value);
+
+/* Writes how many elements a map has. DONE; EMPTY; RANGE. */
+BPFSPEC_NONNULL int bpfspec_size(struct bpfspec_machine *machine, uint32_t map, uint32_t *size);
+
+/*
+ * Writes the values of all elements of a map, `count` of them: RANGE where the map hasn't as many.
+ * DONE; EMPTY; RANGE.
+ */
+BPFSPEC_NONNULL int bpfspec_words(struct bpfspec_machine *machine, uint32_t map, uint64_t *words, size_t count);
+
+/*
+ * Sets the values of all elements of a map, `count` of them: RANGE where the map hasn't as many.
+ * DONE; EMPTY; RANGE.
+ */
+BPFSPEC_NONNULL int bpfspec_set_words(struct bpfspec_machine *machine, uint32_t map, const uint64_t *words,
+                                      size_t count);
+
+/*
+ * Writes the most instructions that a call of a function takes. Function 0 is main, in whose count a loop call is one
+ * instruction; the callbacks follow, in the order of their slots.
+ * DONE; EMPTY; RANGE.
+ */
+BPFSPEC_NONNULL int bpfspec_count(struct bpfspec_machine *machine, uint32_t function, uint32_t *count);
+
+/*
+ * Writes a loop call of the last run, by its number from 0, refused ones included. RANGE where that run made fewer, and
+ * where there was none.
+ * DONE; EMPTY; RANGE.
+ */
+BPFSPEC_NONNULL int bpfspec_report(struct bpfspec_machine *machine, size_t number, struct bpfspec_loop *loop);
 
 #ifdef __cplusplus
 }

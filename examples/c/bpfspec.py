@@ -15,7 +15,7 @@ import ctypes
 import os
 from pathlib import Path
 from types import TracebackType
-from typing import Optional, Type, Union
+from typing import Iterable, Optional, Sequence, Type, Union
 
 VERSION = 1
 DONE, EMPTY, MEMORY, REFUSED, HELD, MALFORMED, RANGE = 0, -9, -12, -13, -16, -22, -34
@@ -41,6 +41,10 @@ class _Refusal(ctypes.Structure):
     _fields_ = [("kind", ctypes.c_uint32), ("number", ctypes.c_uint32), ("place", ctypes.c_uint64)]
 
 
+class _Loop(ctypes.Structure):
+    _fields_ = [("slot", ctypes.c_uint64), ("answer", ctypes.c_int64)]
+
+
 def _folders() -> list[str]:
     folders = [os.environ.get("BPFSPEC_LIBRARY", ""), str(Path(__file__).resolve().parent)]
     return [folder for folder in folders if folder]
@@ -56,17 +60,24 @@ def _open() -> ctypes.CDLL:
 
 def _declared(library: ctypes.CDLL) -> ctypes.CDLL:
     handle, refusal = ctypes.POINTER(_Handle), ctypes.POINTER(_Refusal)
-    text = [ctypes.c_char_p, ctypes.c_size_t]
-    word, number = ctypes.c_uint64, ctypes.c_uint32
+    word, number, count = ctypes.c_uint64, ctypes.c_uint32, ctypes.c_size_t
+    text, words = [ctypes.c_char_p, count], [ctypes.POINTER(word), count]
     library.bpfspec_version.argtypes = []
     library.bpfspec_version.restype = number
     library.bpfspec_load.argtypes = [handle, *text, refusal]
     library.bpfspec_load_hex.argtypes = [handle, *text, refusal]
+    library.bpfspec_load_insns.argtypes = [handle, ctypes.POINTER(number), count, *text, refusal]
     library.bpfspec_free.argtypes = [handle]
     library.bpfspec_free.restype = None
     library.bpfspec_run.argtypes = [handle, word, ctypes.POINTER(word)]
+    library.bpfspec_run_each.argtypes = [handle, *words, *words]
     library.bpfspec_get.argtypes = [handle, number, number, ctypes.POINTER(word)]
     library.bpfspec_set.argtypes = [handle, number, number, word]
+    library.bpfspec_size.argtypes = [handle, number, ctypes.POINTER(number)]
+    library.bpfspec_words.argtypes = [handle, number, *words]
+    library.bpfspec_set_words.argtypes = [handle, number, *words]
+    library.bpfspec_count.argtypes = [handle, number, ctypes.POINTER(number)]
+    library.bpfspec_report.argtypes = [handle, count, ctypes.POINTER(_Loop)]
     if library.bpfspec_version() != VERSION:
         raise ImportError(f"libbpfspec.so has interface {library.bpfspec_version()}, not {VERSION}")
     return library
@@ -79,7 +90,7 @@ def _check(status: int) -> None:
     if status == DONE:
         return
     if status == RANGE:
-        raise IndexError("there is no such element")
+        raise IndexError("there is no such element, map or function, or a map has another size")
     if status == MEMORY:
         raise MemoryError("there was no memory")
     raise ValueError("the machine is closed" if status == EMPTY else f"status {status}")
@@ -98,18 +109,39 @@ class Machine:
         """Loads an assembler text, or one in hex form. Raises Refused, or MemoryError."""
         self._handle = _Handle()
         data = text.encode() if isinstance(text, str) else text
-        refusal = _Refusal()
         load = _library.bpfspec_load_hex if hexadecimal else _library.bpfspec_load
-        status = load(self._handle, data, len(data), refusal)
+        refusal = _Refusal()
+        self._loaded(load(self._handle, data, len(data), refusal), refusal)
+
+    @classmethod
+    def of_insns(cls, sizes: Sequence[int], insns: bytes) -> Machine:
+        """Loads a program by the sizes of its maps and the bytes of its instructions. Raises Refused, or MemoryError."""
+        machine = cls.__new__(cls)
+        machine._handle = _Handle()
+        each = (ctypes.c_uint32 * len(sizes))(*(_fits(size, 2**32, "size") for size in sizes))
+        refusal = _Refusal()
+        status = _library.bpfspec_load_insns(machine._handle, each, len(sizes), insns, len(insns), refusal)
+        machine._loaded(status, refusal)
+        return machine
+
+    def _loaded(self, status: int, refusal: _Refusal) -> None:
         if status in (MALFORMED, REFUSED):
             raise Refused(chr(refusal.kind), refusal.number, refusal.place)
         _check(status)
         self._answer = ctypes.c_uint64()
+        self._number = ctypes.c_uint32()
 
     def run(self, argument: int = 0) -> int:
         """Runs the program, its argument in R1, and gives its return value. What it leaves in the maps stays there."""
         _check(_library.bpfspec_run(self._handle, _fits(argument, WORD, "argument"), self._answer))
         return self._answer.value
+
+    def run_each(self, arguments: Iterable[int]) -> list[int]:
+        """Runs the program once for each argument, in order, and gives the return values."""
+        given = _words(arguments)
+        answers = (ctypes.c_uint64 * len(given))()
+        _check(_library.bpfspec_run_each(self._handle, given, len(given), answers, len(answers)))
+        return list(answers)
 
     def get(self, map_number: int, index: int) -> int:
         """The value of an element of a map. Raises IndexError where there is none."""
@@ -120,6 +152,37 @@ class Machine:
         """Sets the value of an element of a map. Raises IndexError where there is none."""
         value = _fits(value, WORD, "value")
         _check(_library.bpfspec_set(self._handle, _place(map_number), _place(index), value))
+
+    def size(self, map_number: int) -> int:
+        """How many elements a map has. Raises IndexError where there is no such map."""
+        _check(_library.bpfspec_size(self._handle, _place(map_number), self._number))
+        return self._number.value
+
+    def words(self, map_number: int) -> list[int]:
+        """The values of all elements of a map. Raises IndexError where there is no such map."""
+        found = (ctypes.c_uint64 * self.size(map_number))()
+        _check(_library.bpfspec_words(self._handle, map_number, found, len(found)))
+        return list(found)
+
+    def set_words(self, map_number: int, values: Iterable[int]) -> None:
+        """Sets the values of all elements of a map. Raises IndexError where there isn't a map of as many."""
+        given = _words(values)
+        _check(_library.bpfspec_set_words(self._handle, _place(map_number), given, len(given)))
+
+    def count(self, function: int) -> int:
+        """The most instructions that a call of a function takes: 0 is main. Raises IndexError where there is none."""
+        _check(_library.bpfspec_count(self._handle, _place(function), self._number))
+        return self._number.value
+
+    def loops(self) -> list[tuple[int, int]]:
+        """The slot and the answer of each loop call of the last run."""
+        found, line = [], _Loop()
+        while True:
+            status = _library.bpfspec_report(self._handle, len(found), line)
+            if status == RANGE:
+                return found
+            _check(status)
+            found.append((line.slot, line.answer))
 
     def close(self) -> None:
         """Frees the machine. A closed one can't be used."""
@@ -134,6 +197,11 @@ class Machine:
 
     def __del__(self) -> None:
         self.close()
+
+
+def _words(numbers: Iterable[int]) -> ctypes.Array[ctypes.c_uint64]:
+    each = [_fits(number, WORD, "number") for number in numbers]
+    return (ctypes.c_uint64 * len(each))(*each)
 
 
 def _place(number: int) -> int:

@@ -13,6 +13,8 @@ exit
 with Machine(PROGRAM) as machine:
     answers = [machine.run(number) for number in range(1, 101)]
     print(sum(answers), machine.get(0, 0))
+    machine.set_words(0, [7])
+    print(machine.run_each([1, 2, 3]), machine.words(0), machine.count(0), machine.loops())
 try:
     Machine("maps 1\nexit\n")
 except Refused as refused:

@@ -29,7 +29,7 @@ _bpfspec() {
     COMPREPLY=()
     _bpfspec_value "${COMP_WORDS[COMP_CWORD - 1]}" && return
     if ((COMP_CWORD == 1)); then
-        _bpfspec_words "verify order run replay asm disasm explain install help"
+        _bpfspec_words "verify order run replay asm disasm explain install library help"
         return
     fi
     case $command in
@@ -38,7 +38,7 @@ _bpfspec() {
     run) _bpfspec_words "--hex --arg --workers --blocks --test" ;;
     replay) _bpfspec_words "--hex --arg --test" ;;
     explain) _bpfspec_words "--hex --arg --test --states --all --picture" ;;
-    install) _bpfspec_files "!*/" ;;
+    install | library) _bpfspec_files "!*/" ;;
     esac
 }
 

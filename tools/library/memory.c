@@ -59,38 +59,72 @@ static int fails(const char *what, long at)
     return 1;
 }
 
-int main(void)
+/* A load in each of its forms. */
+static int load(int form, struct bpfspec_machine *machine, struct bpfspec_refusal *refusal)
 {
-    struct bpfspec_machine machine = {0};
-    struct bpfspec_refusal refusal;
-    long at;
-    int status;
+    static const unsigned char insns[] = {0xbf, 0x10, 0, 0, 0, 0, 0, 0, 0x95, 0, 0, 0, 0, 0, 0, 0};
+    static const char hex[] = "maps 1\nbf10000000000000\n9500000000000000\n";
+    static const uint32_t sizes[] = {3, 4};
 
-    for (at = 0;; at++) {
+    if (form == 0)
+        return bpfspec_load(machine, program, strlen(program), refusal);
+    if (form == 1)
+        return bpfspec_load_hex(machine, hex, strlen(hex), refusal);
+    return bpfspec_load_insns(machine, sizes, 2, insns, sizeof insns, refusal);
+}
+
+static int refuses_each(int form, struct bpfspec_machine *machine)
+{
+    for (long at = 0;; at++) {
+        struct bpfspec_refusal refusal = {1, 2, 3};
+        int status;
+
         asked = 0;
         refused_at = at;
-        status = bpfspec_load(&machine, program, strlen(program), &refusal);
+        status = load(form, machine, &refusal);
+        refused_at = -1;
+        if (refusal.kind != 1 || refusal.number != 2 || refusal.place != 3)
+            return fails("a refusal is written", at);
         if (status == BPFSPEC_DONE)
-            break;
+            return at < 5 ? fails("a load asked for little", at) : 0;
         if (status != BPFSPEC_MEMORY)
             return fails("another status", at);
-        if (machine.loaded || held != 0)
+        if (machine->loaded || held != 0)
             return fails("something is left", at);
     }
-    refused_at = -1;
+}
+
+static int runs(struct bpfspec_machine *machine)
+{
+    static uint64_t numbers[1000], answers[1000];
+    uint64_t words[4];
+
     asked = 0;
     for (uint64_t number = 0; number < 1000; number++) {
-        uint64_t answer;
-        if (bpfspec_run(&machine, number, &answer) != BPFSPEC_DONE || answer != number + 100)
+        numbers[number] = number;
+        if (bpfspec_run(machine, number, answers) != BPFSPEC_DONE || answers[0] != number + 100)
             return fails("a run went wrong", (long)number);
     }
-    if (asked != 0)
-        return fails("a run asked for memory", asked);
-    bpfspec_free(&machine);
-    if (held != 0)
-        return fails("a machine isn't freed", held);
-    if (at < 5)
-        return fails("a load asked for little", at);
+    if (bpfspec_run_each(machine, numbers, 1000, answers, 1000) != BPFSPEC_DONE || answers[999] != 1099)
+        return fails("runs went wrong", 0);
+    if (bpfspec_words(machine, 0, words, 4) != BPFSPEC_DONE || words[0] != 2000 * 4950)
+        return fails("the words are wrong", 0);
+    if (bpfspec_set_words(machine, 0, words, 4) != BPFSPEC_DONE)
+        return fails("the words aren't set", 0);
+    return asked != 0 ? fails("a run asked for memory", asked) : 0;
+}
+
+int main(void)
+{
+    for (int form = 0; form < 3; form++) {
+        struct bpfspec_machine machine = {0};
+
+        if (refuses_each(form, &machine) || (form == 0 && runs(&machine)))
+            return 1;
+        bpfspec_free(&machine);
+        if (held != 0)
+            return fails("a machine isn't freed", held);
+    }
     puts("each allocation refused in turn");
     return 0;
 }

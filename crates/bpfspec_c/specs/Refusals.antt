@@ -15,9 +15,9 @@ error_status (Codec fault slot) = status.malformed
 error_status (Rule rule slot) = status.refused
 error_status Memory = status.memory
 
--- the letter, the number and the line or slot of an error: A, I or V; all are 0 where memory ran out
-abbrev pub refusal_of : LoadError → Refusal
-refusal_of (Text fault line) = record { kind = 65; number = text_fault_number fault; place = line }
-refusal_of (Codec fault slot) = record { kind = 73; number = codec_fault_number fault; place = slot }
-refusal_of (Rule rule slot) = record { kind = 86; number = rule_number rule; place = slot }
-refusal_of Memory = record { kind = 0; number = 0; place = 0 }
+-- the letter, the number and the line or slot of an error: A, I or V; where memory ran out, what was told before
+abbrev pub told_after : LoadError → (before : Refusal) → Refusal
+told_after (Text fault line) before = record { kind = 65; number = text_fault_number fault; place = line }
+told_after (Codec fault slot) before = record { kind = 73; number = codec_fault_number fault; place = slot }
+told_after (Rule rule slot) before = record { kind = 86; number = rule_number rule; place = slot }
+told_after Memory before = before

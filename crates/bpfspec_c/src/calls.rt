@@ -1,13 +1,15 @@
 //! The calls of the library.
 
-ghost use Rattle.std.specs.Prelude.{◌≡◌, None};
-ghost use Rattle.bpfspec_machine.specs.Loading.{loaded, text_program, hex_program};
-ghost use Rattle.bpfspec_c.specs.Calls.{Holds, Loads, Runs, Tells, value_at, Sets};
+ghost use Rattle.std.specs.Prelude.{◌≡◌, None, length};
+ghost use Rattle.bpfspec_machine.specs.Loading.{loaded, text_program, hex_program, insns_program};
+ghost use Rattle.bpfspec_c.specs.Calls.{Holds, Loads, Runs, RunsEach, Tells, Sets, SetsWords};
+ghost use Rattle.bpfspec_c.specs.Calls.{value_at, size_at, words_at, most_at, loop_at};
 
 use crate::loaded::Loaded;
-use crate::refusal::{Refusal, error_status, refusal_of};
+use crate::loop_line::{LoopLine, loop_line};
+use crate::refusal::{Refusal, error_status, told_after};
 use crate::statuses::{DONE, EMPTY, HELD, OUT_OF_RANGE};
-use bpfspec_machine::{LoadError, Machine, load_hex, load_text};
+use bpfspec_machine::{LoadError, Machine, load_hex, load_insns, load_text};
 use std::alloc::Global;
 
 /// The number of this interface. It grows where a call changes.
@@ -21,7 +23,7 @@ pub extern "C" fn bpfspec_version() -> u32
 /// Puts a machine into an empty handle, or tells why there is none.
 fn hold(machine: &mut Loaded, loaded: Result<Box<Machine>, LoadError>, refusal: &mut Refusal) -> i32
     requires { machine.old.held.machine ≡ None }
-    ensures { Holds loaded machine.new.held.machine result refusal.new }
+    ensures { Holds loaded machine.new.held.machine result refusal.old refusal.new }
 {
     match loaded {
         Ok(loaded) => {
@@ -29,14 +31,14 @@ fn hold(machine: &mut Loaded, loaded: Result<Box<Machine>, LoadError>, refusal: 
             DONE
         }
         Err(error) => {
-            *refusal = refusal_of(&error);
+            *refusal = told_after(&error, *refusal);
             error_status(&error)
         }
     }
 }
 
 /// Loads an assembler text into an empty handle.
-#[tactic(auto, using(crate::proofs::CallLaws::held_stays, crate::proofs::CallLaws::empty_loads, crate::proofs::CallLaws::is_empty))]
+#[tactic(auto, using(crate::proofs::CallLaws::load_laws))]
 #[unsafe(no_mangle)]
 pub extern "C" fn bpfspec_load(
     alloc: Global,
@@ -45,7 +47,7 @@ pub extern "C" fn bpfspec_load(
     refusal: &mut Refusal,
 ) -> i32
     ensures { Loads (loaded (text_program text.now)) machine.old.held.machine machine.new.held.machine result
-        refusal.new }
+        refusal.old refusal.new }
 {
     if machine.is_loaded() {
         return HELD;
@@ -54,7 +56,7 @@ pub extern "C" fn bpfspec_load(
 }
 
 /// Loads a text in hex form into an empty handle.
-#[tactic(auto, using(crate::proofs::CallLaws::held_stays, crate::proofs::CallLaws::empty_loads, crate::proofs::CallLaws::is_empty))]
+#[tactic(auto, using(crate::proofs::CallLaws::load_laws))]
 #[unsafe(no_mangle)]
 pub extern "C" fn bpfspec_load_hex(
     alloc: Global,
@@ -63,12 +65,31 @@ pub extern "C" fn bpfspec_load_hex(
     refusal: &mut Refusal,
 ) -> i32
     ensures { Loads (loaded (hex_program text.now)) machine.old.held.machine machine.new.held.machine result
-        refusal.new }
+        refusal.old refusal.new }
 {
     if machine.is_loaded() {
         return HELD;
     }
     hold(machine, load_hex(alloc, text), refusal)
+}
+
+/// Loads a program by the sizes of its maps and the bytes of its instructions into an empty handle.
+#[tactic(auto, using(crate::proofs::CallLaws::load_laws))]
+#[unsafe(no_mangle)]
+pub extern "C" fn bpfspec_load_insns(
+    alloc: Global,
+    machine: &mut Loaded,
+    sizes: &[u32],
+    insns: &[u8],
+    refusal: &mut Refusal,
+) -> i32
+    ensures { Loads (loaded (insns_program sizes.now insns.now)) machine.old.held.machine machine.new.held.machine result
+        refusal.old refusal.new }
+{
+    if machine.is_loaded() {
+        return HELD;
+    }
+    hold(machine, load_insns(alloc, sizes, insns), refusal)
 }
 
 /// Frees what a handle holds, and leaves it empty.
@@ -80,7 +101,7 @@ pub extern "C" fn bpfspec_free(alloc: Global, machine: &mut Loaded)
 }
 
 /// Runs a machine, its argument in R1, and gives the program's return value.
-#[tactic(auto, using(crate::proofs::CallLaws::runs_none, crate::proofs::CallLaws::runs_some))]
+#[tactic(auto, using(crate::proofs::CallLaws::run_laws))]
 #[unsafe(no_mangle)]
 pub extern "C" fn bpfspec_run(
     alloc: Global,
@@ -88,7 +109,7 @@ pub extern "C" fn bpfspec_run(
     argument: u64,
     answer: &mut u64,
 ) -> i32
-    ensures { Runs argument machine.old.held.machine machine.new.held.machine result answer.new }
+    ensures { Runs argument machine.old.held.machine machine.new.held.machine result answer.old answer.new }
 {
     let Some(mut held) = machine.take(alloc) else {
         return EMPTY;
@@ -98,8 +119,31 @@ pub extern "C" fn bpfspec_run(
     DONE
 }
 
+/// Runs a machine once for each argument, in order, and gives the return values.
+#[tactic(auto, using(crate::proofs::CallLaws::each_laws))]
+#[unsafe(no_mangle)]
+pub extern "C" fn bpfspec_run_each(
+    alloc: Global,
+    machine: &mut Loaded,
+    arguments: &[u64],
+    answers: &mut [u64],
+) -> i32
+    ensures { RunsEach arguments.now machine.old.held.machine machine.new.held.machine result answers.old answers.new }
+{
+    let Some(mut held) = machine.take(alloc) else {
+        return EMPTY;
+    };
+    if arguments.len() != answers.len() {
+        machine.put(held);
+        return OUT_OF_RANGE;
+    }
+    held.run_each(arguments, answers);
+    machine.put(held);
+    DONE
+}
+
 /// Gives the value of an element of a map.
-#[tactic(auto, using(crate::proofs::CallLaws::tells_none, crate::proofs::CallLaws::tells_value, crate::proofs::CallLaws::tells_range))]
+#[tactic(auto, using(crate::proofs::CallLaws::tell_laws))]
 #[unsafe(no_mangle)]
 pub extern "C" fn bpfspec_get(
     alloc: Global,
@@ -108,7 +152,8 @@ pub extern "C" fn bpfspec_get(
     index: u32,
     value: &mut u64,
 ) -> i32
-    ensures { Tells (value_at map index) machine.old.held.machine machine.new.held.machine result value.new }
+    ensures { Tells (value_at map index) machine.old.held.machine machine.new.held.machine result
+        value.old value.new }
 {
     let Some(held) = machine.take(alloc) else {
         return EMPTY;
@@ -125,7 +170,7 @@ pub extern "C" fn bpfspec_get(
 }
 
 /// Sets the value of an element of a map.
-#[tactic(auto, using(crate::proofs::CallLaws::sets_none, crate::proofs::CallLaws::sets_some))]
+#[tactic(auto, using(crate::proofs::CallLaws::set_laws))]
 #[unsafe(no_mangle)]
 pub extern "C" fn bpfspec_set(
     alloc: Global,
@@ -142,4 +187,116 @@ pub extern "C" fn bpfspec_set(
     let there = held.set(map, index, value);
     machine.put(held);
     if there { DONE } else { OUT_OF_RANGE }
+}
+
+/// Gives the values of all elements of a map, which has as many.
+#[tactic(auto, using(crate::proofs::CallLaws::words_laws))]
+#[unsafe(no_mangle)]
+pub extern "C" fn bpfspec_words(
+    alloc: Global,
+    machine: &mut Loaded,
+    map: u32,
+    words: &mut [u64],
+) -> i32
+    ensures { Tells (words_at map (length words.old)) machine.old.held.machine machine.new.held.machine result
+        words.old words.new }
+{
+    let Some(held) = machine.take(alloc) else {
+        return EMPTY;
+    };
+    let there = held.copy_words(map, words);
+    machine.put(held);
+    if there { DONE } else { OUT_OF_RANGE }
+}
+
+/// Sets the values of all elements of a map, which has as many.
+#[tactic(auto, using(crate::proofs::CallLaws::set_words_laws))]
+#[unsafe(no_mangle)]
+pub extern "C" fn bpfspec_set_words(
+    alloc: Global,
+    machine: &mut Loaded,
+    map: u32,
+    words: &[u64],
+) -> i32
+    ensures { SetsWords map words.now machine.old.held.machine machine.new.held.machine result }
+{
+    let Some(mut held) = machine.take(alloc) else {
+        return EMPTY;
+    };
+    let there = held.set_words(map, words);
+    machine.put(held);
+    if there { DONE } else { OUT_OF_RANGE }
+}
+
+/// Gives how many elements a map has.
+#[tactic(auto, using(crate::proofs::CallLaws::tell_laws))]
+#[unsafe(no_mangle)]
+pub extern "C" fn bpfspec_size(alloc: Global, machine: &mut Loaded, map: u32, size: &mut u32) -> i32
+    ensures { Tells (size_at map) machine.old.held.machine machine.new.held.machine result
+        size.old size.new }
+{
+    let Some(held) = machine.take(alloc) else {
+        return EMPTY;
+    };
+    let found = held.size(map);
+    machine.put(held);
+    match found {
+        Some(elements) => {
+            *size = elements;
+            DONE
+        }
+        None => OUT_OF_RANGE,
+    }
+}
+
+/// Gives the most instructions that a call of a function takes.
+#[tactic(auto, using(crate::proofs::CallLaws::tell_laws))]
+#[unsafe(no_mangle)]
+pub extern "C" fn bpfspec_count(
+    alloc: Global,
+    machine: &mut Loaded,
+    function: u32,
+    count: &mut u32,
+) -> i32
+    ensures { Tells (most_at function) machine.old.held.machine machine.new.held.machine result
+        count.old count.new }
+{
+    let Some(held) = machine.take(alloc) else {
+        return EMPTY;
+    };
+    let found = held.count(function);
+    machine.put(held);
+    match found {
+        Some(most) => {
+            *count = most;
+            DONE
+        }
+        None => OUT_OF_RANGE,
+    }
+}
+
+/// Gives the slot and the answer of a loop call of the last run.
+#[tactic(auto, using(crate::proofs::CallLaws::tell_laws))]
+#[unsafe(no_mangle)]
+pub extern "C" fn bpfspec_report(
+    alloc: Global,
+    machine: &mut Loaded,
+    number: usize,
+    report: &mut LoopLine,
+) -> i32
+    ensures { Tells (loop_at number) machine.old.held.machine machine.new.held.machine result
+        report.old report.new }
+{
+    let Some(held) = machine.take(alloc) else {
+        return EMPTY;
+    };
+    let found = loop_line(held.line(number));
+    machine.put(held);
+    match found {
+        Some(line) => {
+            *report = line;
+            DONE
+        }
+        None => OUT_OF_RANGE,
+    }
 }

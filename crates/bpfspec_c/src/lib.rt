@@ -5,13 +5,16 @@
 mod calls;
 mod held;
 mod loaded;
+mod loop_line;
 mod loose;
 mod refusal;
 mod statuses;
 
 pub use calls::{
-    bpfspec_free, bpfspec_get, bpfspec_load, bpfspec_load_hex, bpfspec_run, bpfspec_set,
-    bpfspec_version,
+    bpfspec_count, bpfspec_free, bpfspec_get, bpfspec_load, bpfspec_load_hex, bpfspec_load_insns,
+    bpfspec_report, bpfspec_run, bpfspec_run_each, bpfspec_set, bpfspec_set_words, bpfspec_size,
+    bpfspec_version, bpfspec_words,
 };
 pub use loaded::Loaded;
+pub use loop_line::LoopLine;
 pub use refusal::Refusal;

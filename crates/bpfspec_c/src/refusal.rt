@@ -1,7 +1,7 @@
 //! Refusals, as C sees them.
 
 ghost use Rattle.std.specs.Prelude.{◌≡◌};
-ghost use Rattle.bpfspec_c.specs.Refusals.{error_status, refusal_of};
+ghost use Rattle.bpfspec_c.specs.Refusals.{error_status, told_after};
 
 use crate::statuses::{MALFORMED, MEMORY, REFUSED};
 use bpfspec_machine::LoadError;
@@ -29,9 +29,9 @@ pub(crate) fn error_status(error: &LoadError) -> i32
     }
 }
 
-/// The refusal of an error.
-pub(crate) fn refusal_of(error: &LoadError) -> Refusal
-    ensures { result ≡ refusal_of error.now }
+/// The refusal of an error; where there was no memory, what was told before.
+pub(crate) fn told_after(error: &LoadError, before: Refusal) -> Refusal
+    ensures { result ≡ told_after error.now before }
 {
     match *error {
         LoadError::Text { fault, line } => Refusal {
@@ -49,10 +49,6 @@ pub(crate) fn refusal_of(error: &LoadError) -> Refusal
             number: rule.number(),
             place: u64::from(slot),
         },
-        LoadError::Memory => Refusal {
-            kind: 0,
-            number: 0,
-            place: 0,
-        },
+        LoadError::Memory => before,
     }
 }

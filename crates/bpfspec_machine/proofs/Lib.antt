@@ -1,1 +1,3 @@
 pub mod LoadLaws
+pub mod RunLaws
+pub mod WordLaws

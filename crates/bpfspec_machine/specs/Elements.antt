@@ -1,7 +1,8 @@
 -- The elements of a machine's maps.
-use Rattle.std.specs.Prelude.{◌≡◌, ℕ, ◌+◌, nat_lt, Bool, false, if◌then◌else◌, List, slice_get, slice_set, slice_index}
-use Rattle.std.specs.Prelude.{Option, Some, None}
+use Rattle.std.specs.Prelude.{◌==◌, ℕ, ◌+◌, nat_lt, Bool, false, if◌then◌else◌, Option, Some, None}
+use Rattle.std.specs.Prelude.{List, length, slice_get, slice_set, slice_index, slice_range}
 use Rattle.array_maps.specs.MapList.{MapList, base_of}
+use Rattle.array_maps.specs.Accesses.{Write, words_after_run}
 use Rattle.bpfspec_machine.specs.Machines.{MachineState}
 
 -- an index is below a map's size, where there is the map
@@ -33,3 +34,33 @@ with_element machine map index value = record {
 abbrev pub with_element_if : Bool → MachineState → (map index value : ℕ) → MachineState
 with_element_if there machine map index value =
     if there then with_element machine map index value else machine
+
+-- a map is of this size, where there is the map
+abbrev pub is_size : Option ℕ → (count : ℕ) → Bool
+is_size None count = false
+is_size (Some size) count = size == count
+
+-- there is this map, with this many elements
+abbrev pub has_words : List ℕ → (map count : ℕ) → Bool
+has_words sizes map count = is_size (slice_get sizes map) count
+
+-- the values of its elements
+abbrev pub words_of : MapList → (map : ℕ) → List ℕ
+words_of maps map =
+    slice_range maps.words (base_of maps.sizes map) (base_of maps.sizes map + slice_index maps.sizes map)
+
+-- a machine with other values there
+abbrev pub with_words : MachineState → (map : ℕ) → List ℕ → MachineState
+with_words machine map values = record {
+  program = machine.program;
+  maps = record {
+    sizes = machine.maps.sizes;
+    words = words_after_run (base_of machine.maps.sizes map) (λ k. Write (slice_index values k)) (length values)
+        machine.maps.words;
+  };
+  loops = machine.loops;
+}
+
+-- a machine with other values there, where there is the map
+abbrev pub with_words_if : Bool → MachineState → (map : ℕ) → List ℕ → MachineState
+with_words_if there machine map values = if there then with_words machine map values else machine

@@ -1,10 +1,12 @@
 //! Machines.
 
-ghost use Rattle.std.specs.Prelude.{◌≡◌, ◌≤◌, length, slice_get};
+ghost use Rattle.std.specs.Prelude.{◌≡◌, ◌<◌, ◌≤◌, if◌then◌else◌, length, slice_get};
+ghost use Rattle.std.specs.List.{sum};
 ghost use Rattle.bpf_verify_sound.specs.Soundness.{most_from};
-ghost use Rattle.bpfspec_machine.specs.Machines.{new_machine, MachineRan};
+ghost use Rattle.bpfspec_machine.specs.Machines.{new_machine, MachineRan, RanEach, count_at};
 ghost use Rattle.bpfspec_machine.specs.Elements.{has_element, element_of, with_element_if};
-ghost use Rattle.array_maps.specs.MapList.{zero_maps};
+ghost use Rattle.bpfspec_machine.specs.Elements.{has_words, words_of, with_words_if};
+ghost use Rattle.array_maps.specs.MapList.{zero_maps, base_of};
 
 use array_maps::Maps;
 use bpf_verify::Verified;
@@ -63,6 +65,28 @@ impl Machine {
         ran.ret
     }
 
+    /// Runs the program once for each argument, in order, and writes the answers. There are as many of these.
+    pub fn run_each(&mut self, arguments: &[u64], answers: &mut [u64])
+        requires { length answers.old ≡ length arguments.now }
+        ensures { RanEach arguments.now self.old self.new answers.new }
+    {
+        for i in 0..arguments.len() {
+            answers[i] = self.run(arguments[i]);
+        }
+    }
+
+    /// The most instructions that a call of a function takes; none where there is no such function. Main is 0, and
+    /// callbacks are numbered from 1 by where they start.
+    pub fn count(&self, function: u32) -> Option<u32>
+        ensures { result ≡ count_at self.now.program function }
+    {
+        if function <= self.program.callbacks() {
+            Some(self.program.count(function))
+        } else {
+            None
+        }
+    }
+
     /// How many elements a map has; none where there is no such map.
     pub fn size(&self, map: u32) -> Option<u32>
         ensures { result ≡ slice_get self.now.maps.sizes map }
@@ -105,6 +129,51 @@ impl Machine {
         true
     }
 
+    /// Whether a map has this many elements.
+    fn has_words(&self, map: u32, count: usize) -> bool
+        ensures { result ≡ has_words self.now.maps.sizes map count }
+    {
+        match self.size(map) {
+            Some(size) => size as usize == count,
+            None => false,
+        }
+    }
+
+    /// Where the values of a map begin.
+    fn first(&self, map: u32) -> u32
+        requires { map < length self.now.maps.sizes }
+        ensures { result ≡ base_of self.now.maps.sizes map }
+    {
+        sum_of(&self.maps.sizes()[..map as usize])
+    }
+
+    /// Copies the values of a map's elements out, and tells whether there is a map of as many elements.
+    pub fn copy_words(&self, map: u32, words: &mut [u64]) -> bool
+        ensures there { result ≡ has_words self.now.maps.sizes map (length words.old) }
+        ensures copied { words.new ≡ (if result then words_of self.now.maps map else words.old) }
+    {
+        if !self.has_words(map, words.len()) {
+            return false;
+        }
+        let _sizes = self.maps.sizes(); // as many as there are words
+        words.copy_from_slice(self.maps.values(map as usize));
+        true
+    }
+
+    /// Sets the values of a map's elements, and tells whether there is a map of as many elements.
+    pub fn set_words(&mut self, map: u32, words: &[u64]) -> bool
+        ensures there { result ≡ has_words self.old.maps.sizes map (length words.now) }
+        ensures set { self.new ≡ with_words_if result self.old map words.now }
+    {
+        if !self.has_words(map, words.len()) {
+            return false;
+        }
+        let _sizes = self.maps.sizes(); // as many as there are words
+        let first = self.first(map);
+        self.maps.store_run(first, words);
+        true
+    }
+
     /// What is told of a loop call of the last run, by its number; none where it made fewer.
     pub fn line(&self, number: usize) -> Option<LoopReport>
         ensures { result ≡ slice_get self.now.loops number }
@@ -118,4 +187,16 @@ impl Machine {
             None
         }
     }
+}
+
+/// The sum of sizes that are small enough.
+fn sum_of(sizes: &[u32]) -> u32
+    requires { sum sizes.now ≤ 65536 }
+    ensures { result ≡ sum sizes.now }
+{
+    let mut total = 0;
+    for size in sizes {
+        total += *size;
+    }
+    total
 }

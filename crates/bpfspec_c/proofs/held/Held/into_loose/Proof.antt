@@ -27,8 +27,7 @@ use Rattle.std.specs.contracts.impls.GlobalAllocator.TheImpl.{ghosts}
 use Rattle.std.proofs.raw_atomic.Walks.{proved_at, leaves}
 use Rattle.bpfspec_machine.specs.contracts.machine.Machine.{the_row as machine_row}
 use Rattle.std.specs.Prelude.{true, is_some}
-use Rattle.bpfspec_c.specs.Holding.{holds}
-use Rattle.libc.specs.Heap.{chunk}
+use Rattle.bpfspec_c.specs.Holding.{holds, heap}
 use Rattle.std_alloc.specs.Box.Ownership.{box_owns}
 use Rattle.std.specs.declared.option.Option.{Option}
 use Rattle.bpfspec_c.proofs.Values.{both, Loose, al, loose_good, loose_in}
@@ -49,7 +48,7 @@ into_loose_spec 𝓤 𝓛 𝓜 𝓡 wired =
     let there = held_value d.machine is in let x = there.0 in
     move ! (1 ∷ []) $ fsplit ! $ held_out ! d z.0.4.0 (λ ws.
     rewrite ! 0 (λ (m : Option R.Denot). ‵ (holds R d.at m)) there.1 refl $
-    in_a_block ! d.at (λ p. box_owns chunk R p x) (fst∗ 𝓤 (never 𝓤) (sem 𝓛 (chunk (bare (lone R.mir)) null_ptr))) (λ b o e.
+    in_a_block ! d.at (λ p. box_owns (ghosts.dealloc_token heap) R p x) (fst∗ 𝓤 (never 𝓤) (sem 𝓛 (ghosts.dealloc_token heap (bare (lone R.mir)) null_ptr))) (λ b o e.
     move ! (1 ∷ []) $ fsplit ! $ handle_tells (al R Z LZ ghosts) ! a z.0.4.1.0 (λ h ea fits.
     let w : Val = alone (vptr b o) in let held_is : z.0.4.0 ≡ w ∷ [] = ws ∙ ap (λ (p : Ptr). alone (ptr_val p) ∷ []) e in
     let made = loose_good R Z LZ ghosts b o h fits in
