@@ -353,13 +353,14 @@ class Signals(InFolder):
 class Installed(InFolder):
     def test_in_another_place_through_a_link(self) -> None:
         room = self.folder / "room"
-        room.mkdir()
+        of_cpu = room / "x86-64-v2"
+        of_cpu.mkdir(parents=True)
         for name in "bpfspec", "bpfspec_explain":
-            program = room / name
+            program = of_cpu / name
             program.write_text(f'#!/bin/sh\nexec {os.environ.get(name.upper(), f"{TOP}/bpfspec")} "$@"\n')
             program.chmod(0o755)
         prefix = self.folder / "prefix"
-        subprocess.run([TOP / "tools" / "install", room, prefix], check=True, stdout=subprocess.DEVNULL)
+        subprocess.run([TOP / "tools" / "install", room, of_cpu.name, prefix], check=True, stdout=subprocess.DEVNULL)
         (self.folder / "link").symlink_to(prefix / "bin" / "bpfrun")
         environment = {k: v for k, v in ENVIRONMENT.items() if not k.startswith("BPFSPEC")}
         words = [str(self.folder / "link"), "run", str(EXAMPLES / "collatz.o"), "--workers", "1"]

@@ -25,6 +25,13 @@ for crate in crates/*; do
     chmod +x "$crate/out/$name"
 done
 """
+# Compiles for another processor: a program that tells that it is for it.
+BUILD_FOR = """#!/bin/bash
+mkdir -p "${3%/*}"
+printf '#!/bin/bash\\necho for %s: "$@"\\n' "$1" >"$3"
+chmod +x "$3"
+"""
+USAGE = 3
 
 
 class Launcher(unittest.TestCase):
@@ -41,15 +48,21 @@ class Launcher(unittest.TestCase):
         (self.top / "HANDLES").touch()
         shutil.copy(TOP / "bpfspec", self.top)
         words = self.folder / "words"
-        words.mkdir()
-        (words / "rt").write_text(RT)
-        (words / "rt").chmod(0o755)
+        self.write_command(words / "rt", RT)
+        self.write_command(self.top / "tools" / "build_for", BUILD_FOR)
         self.environment = {
             **os.environ,
             "PATH": f"{words}:{os.environ['PATH']}",
             "XDG_CACHE_HOME": str(self.folder / "cache"),
             "BUILDS": str(self.builds),
+            "BPFSPEC_CPU": "x86-64-v2",
         }
+
+    def write_command(self, file: Path, script: str) -> None:
+        """Writes a script that can be run."""
+        file.parent.mkdir(exist_ok=True)
+        file.write_text(script)
+        file.chmod(0o755)
 
     def printed(self, *words: str, by: str | None = None, folder: Path | None = None) -> str:
         """What ./bpfspec prints for these words."""
@@ -98,6 +111,36 @@ class Launcher(unittest.TestCase):
             self.assertEqual(lines[0], f"bpfspec {word}")
             self.assertTrue(any(line.startswith("  explain ") for line in lines))
         self.assertEqual(self.printed("explain", "--help"), "bpfspec_explain --help\n")
+
+    def test_it_runs_the_program_for_the_processor_that_is_named(self) -> None:
+        self.assertEqual(self.printed("run"), "bpfspec run\n")
+        self.environment["BPFSPEC_CPU"] = "x86-64-v3"
+        self.assertEqual(self.printed("run"), "for x86-64-v3: run\n")
+        self.assertEqual(self.printed("explain"), "bpfspec_explain\n")
+        self.assertEqual(self.printed("--version"), "for x86-64-v3: --version\nbuilt for x86-64-v3\n")
+        self.assertEqual(self.printed("explain", "--version"), "bpfspec_explain --version\nbuilt for x86-64-v2\n")
+        self.assertEqual(self.number_of_builds(), 1)
+
+    def test_it_names_the_processor_by_itself(self) -> None:
+        del self.environment["BPFSPEC_CPU"]
+        lines = Path("/proc/cpuinfo").read_text().splitlines()
+        flags = next(line for line in lines if line.startswith("flags")).split()
+        cpu = "x86-64-v3" if {"avx2", "bmi2", "fma", "movbe"} <= set(flags) else "x86-64-v2"
+        self.assertEqual(self.printed("--version").splitlines()[-1], f"built for {cpu}")
+
+    def test_another_processor_is_refused(self) -> None:
+        for name in "x86-64-v4", "native", "x86-64-v33":
+            self.environment["BPFSPEC_CPU"] = name
+            done = subprocess.run([self.top / "bpfspec", "run"], env=self.environment, capture_output=True, text=True)
+            self.assertEqual((done.returncode, done.stdout), (USAGE, ""))
+            self.assertEqual(done.stderr, f"bpfspec: BPFSPEC_CPU is {name}, and may be x86-64-v2 or x86-64-v3\n")
+        self.assertEqual(self.number_of_builds(), 0)
+
+    def test_what_is_proved_serves_where_no_other_is_compiled(self) -> None:
+        self.write_command(self.top / "tools" / "build_for", "#!/bin/bash\nexit 1\n")
+        self.environment["BPFSPEC_CPU"] = "x86-64-v3"
+        self.assertEqual(self.printed("--version"), "bpfspec --version\nbuilt for x86-64-v2\n")
+        self.assertEqual(self.number_of_builds(), 1)
 
 
 if __name__ == "__main__":
