@@ -31,6 +31,11 @@ mkdir -p "${3%/*}"
 printf '#!/bin/bash\\necho for %s: "$@"\\n' "$1" >"$3"
 chmod +x "$3"
 """
+# Tells which archive it is given, and the folder.
+MAKE_LIBRARY = """#!/bin/bash
+"$1" archive
+echo "in $2"
+"""
 USAGE = 3
 
 
@@ -41,15 +46,16 @@ class Launcher(unittest.TestCase):
         self.top = self.folder / "top"
         self.builds = self.folder / "builds"
         self.builds.touch()
-        for crate in (*PROGRAMS, "other"):
+        for crate in (*PROGRAMS, "bpfspec_c", "other"):
             (self.top / "crates" / crate / "src").mkdir(parents=True)
             (self.top / "crates" / crate / "src" / "main.rt").write_text("fn main() {}\n")
-        (self.top / "crates.txt").write_text("bpfspec:\nbpfspec_explain: bpfspec\nother:\n")
+        (self.top / "crates.txt").write_text("bpfspec:\nbpfspec_explain: bpfspec\nbpfspec_c staticlib:\nother:\n")
         (self.top / "HANDLES").touch()
         shutil.copy(TOP / "bpfspec", self.top)
         words = self.folder / "words"
         self.write_command(words / "rt", RT)
         self.write_command(self.top / "tools" / "build_for", BUILD_FOR)
+        self.write_command(self.top / "tools" / "make_library", MAKE_LIBRARY)
         self.environment = {
             **os.environ,
             "PATH": f"{words}:{os.environ['PATH']}",
@@ -120,6 +126,17 @@ class Launcher(unittest.TestCase):
         self.assertEqual(self.printed("--version"), "for x86-64-v3: --version\nbuilt for x86-64-v3\n")
         self.assertEqual(self.printed("explain", "--version"), "bpfspec_explain --version\nbuilt for x86-64-v2\n")
         self.assertEqual(self.number_of_builds(), 1)
+
+    def test_the_library_is_built_apart_and_once(self) -> None:
+        self.assertEqual(self.printed("library", "made"), "for x86-64-v2: archive\nin made\n")
+        self.environment["BPFSPEC_CPU"] = "x86-64-v3"
+        self.assertEqual(self.printed("library", "made"), "for x86-64-v3: archive\nin made\n")
+        self.assertEqual(self.number_of_builds(), 1)
+        self.assertEqual(self.printed("run"), "for x86-64-v3: run\n")
+        self.assertEqual(self.number_of_builds(), 2)
+        for words in ("library",), ("library", "--help"), ("library", "a", "b"):
+            done = subprocess.run([self.top / "bpfspec", *words], env=self.environment, capture_output=True, text=True)
+            self.assertEqual((done.returncode, done.stderr), (USAGE, "usage: ./bpfspec library FOLDER\n"))
 
     def test_it_names_the_processor_by_itself(self) -> None:
         del self.environment["BPFSPEC_CPU"]
