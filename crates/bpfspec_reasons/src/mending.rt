@@ -32,7 +32,7 @@ pub(crate) fn mend(rule: Rule) -> &'static str {
         Rule::AccessAlignment => "multiply the index by the size of the access",
         Rule::AccessBounds =>
             "compare the very register that is used with the map's size before the access, or mask it: \
-            what a comparison says of a register isn't known of its copies",
+            a comparison narrows the compared register only, not its copies",
         Rule::UnwrittenByte =>
             "write the bytes before, on each way (in C: give the variable a first value)",
         Rule::CtxWrite => "keep what the callback changes in a map",
