@@ -5,7 +5,9 @@ use bpfspec_causes::{
     Wish, causes_of_hex, causes_of_text, picture_of_events, picture_of_hex, picture_of_text,
 };
 use bpfspec_command_line::UnitForm;
-use bpfspec_reasons::{reasons_of_hex, reasons_of_text};
+use bpfspec_reasons::{
+    Given, given_reasons_of_hex, given_reasons_of_text, reasons_of_hex, reasons_of_text,
+};
 use std::alloc::{AllocError, Global};
 use std::str;
 
@@ -64,10 +66,39 @@ fn causes(alloc: Global, ask: &Ask, text: &str) -> Result<String, AllocError> {
     }
 }
 
+/// Why the values of an accepted program's maps, or the events of its replay, aren't taken.
+fn given_reasons(alloc: Global, ask: &Ask, text: &str) -> Result<String, AllocError> {
+    let section = unit_section(text);
+    let given = Given {
+        values: maps_section(text),
+        events: events_section(text),
+    };
+    match ask.form {
+        UnitForm::Assembler => given_reasons_of_text(alloc, section, given),
+        UnitForm::Hex => given_reasons_of_hex(alloc, section, given),
+    }
+}
+
+/// What is said of an input that is no text, by how it begins.
+fn file_words(input: &[u8]) -> Option<&'static str> {
+    if input.starts_with(b"\x7fELF") {
+        return Some("  this is an object of clang: tools/bpfrun or tools/elf2unit reads it\n");
+    }
+    if input.starts_with(b"\xff\xfe") || input.starts_with(b"\xfe\xff") {
+        return Some(
+            "  the input begins with a byte order mark of UTF-16: save the file as UTF-8 without a mark\n",
+        );
+    }
+    if input.len() > MAX_INPUT {
+        return Some("  an input has at most 3145728 bytes\n");
+    }
+    None
+}
+
 /// What is written of an input after the answer of `verify`, which has the refusal itself. Memory may run out.
 pub fn reasons(alloc: Global, ask: &Ask, input: &[u8]) -> Result<String, AllocError> {
-    if input.len() > MAX_INPUT {
-        return String::from_str(alloc, "  an input has at most 3145728 bytes\n");
+    if let Some(words) = file_words(input) {
+        return String::from_str(alloc, words);
     }
     let Ok(text) = str::from_utf8(input) else {
         return String::from_str(alloc, "  the input isn't UTF-8\n");
@@ -78,6 +109,7 @@ pub fn reasons(alloc: Global, ask: &Ask, input: &[u8]) -> Result<String, AllocEr
         UnitForm::Hex => reasons_of_hex(alloc, ask.extent, section)?,
     };
     out.push_str(causes(alloc, ask, text)?.as_str())?;
+    out.push_str(given_reasons(alloc, ask, text)?.as_str())?;
     Ok(out)
 }
 

@@ -14,18 +14,24 @@ mod access_rules;
 mod accessing;
 mod chain;
 mod explanation;
+mod files;
 mod forms;
+mod given;
 mod hexes;
 mod insn_rules;
 mod link;
 mod mending;
+mod misfit;
 mod nearest;
+mod numbers;
 mod operands;
 mod page;
 mod piece;
 mod placing;
 mod reading;
 mod reasons;
+mod schedule;
+mod shown;
 mod slips;
 mod state_rules;
 mod states;
@@ -35,8 +41,12 @@ mod values;
 mod words;
 
 pub use explanation::Explanation;
+pub use misfit::{Misfit, first_misfit};
 pub use page::Page;
 pub use piece::Piece;
 pub use reasons::explain_refusal;
+pub use shown::Shown;
 pub use states::explain_states;
-pub use units::{Extent, reasons_of_hex, reasons_of_text};
+pub use units::{
+    Extent, Given, given_reasons_of_hex, given_reasons_of_text, reasons_of_hex, reasons_of_text,
+};

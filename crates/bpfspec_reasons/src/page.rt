@@ -4,10 +4,23 @@ ghost use Rattle.std.specs.Prelude.{◌≡◌, ◌≤◌, [], length, slice_get,
 ghost use Rattle.bpf_text_lex.specs.Lines.{contents_of};
 ghost use Rattle.bpf_text_lines.specs.SlotLines.{lines_by_slot};
 
+use crate::files::before_comment;
+use crate::shown::Shown;
 use bpf_text_lex::MAX_TEXT;
 use bpf_text_lines::{comment_of, line_at, line_numbers};
 use std::alloc::{AllocError, Global};
 use std::marker::Model;
+
+/// A comment without the slot that the loader from C writes at its front.
+fn without_slot(comment: &str) -> &str {
+    if !comment.starts_with("slot ") {
+        return comment;
+    }
+    match comment.split_once(", ") {
+        Some((_, rest)) => rest,
+        None => comment,
+    }
+}
 
 /// The text of a unit, and for each slot the number of the line whose instruction takes it. Of a unit in hex form the
 /// text is empty, and places are slots. In contracts it is the list of these numbers.
@@ -55,23 +68,12 @@ impl<'a> Page<'a> {
     }
 
     /// The instruction of a line as it is written, without its comment.
-    pub fn instruction(&self, number: u32) -> &str {
-        let line = line_at(self.text, number);
-        match line.split_once(';') {
-            Some((content, _)) => content.trim(),
-            None => line.trim(),
-        }
+    pub fn instruction(&self, number: u32) -> Shown<'_> {
+        Shown::of(before_comment(line_at(self.text, number)).trim())
     }
 
     /// The comment of a line, without the slot that the loader from C writes at its front.
-    pub fn comment(&self, number: u32) -> &str {
-        let comment = comment_of(self.text, number);
-        if !comment.starts_with("slot ") {
-            return comment;
-        }
-        match comment.split_once(", ") {
-            Some((_, rest)) => rest,
-            None => comment,
-        }
+    pub fn comment(&self, number: u32) -> Shown<'_> {
+        Shown::of(without_slot(comment_of(self.text, number)))
     }
 }

@@ -1,6 +1,7 @@
 //! Instructions in words: their lines, and themselves.
 
 use crate::page::Page;
+use crate::shown::Shown;
 use bpf_insn_types::Insn;
 use bpf_text_mnemonics::print_insn;
 use std::alloc::{AllocError, Global};
@@ -13,7 +14,7 @@ fn insn_text(alloc: Global, insn: &Insn) -> Result<String, AllocError> {
 }
 
 /// Writes a comment, if there is one.
-fn write_comment(out: &mut String, comment: &str) -> Result<(), AllocError> {
+fn write_comment(out: &mut String, comment: Shown<'_>) -> Result<(), AllocError> {
     if comment.is_empty() {
         return Ok(());
     }

@@ -2,24 +2,21 @@
 
 use crate::forms::{Form, example, form_of, operand_count};
 use crate::nearest::nearest_mnemonic;
+use crate::numbers::number_slip;
+use crate::shown::Shown;
 use std::alloc::{AllocError, Global};
 
-/// A slip in characters that can't be told from others by sight.
-pub(crate) fn hidden_slip(content: &str) -> Option<&'static str> {
-    if content.contains('\r') {
-        return Some("the line has a carriage return: lines end with a newline alone");
-    }
-    if !content.is_ascii() {
-        return Some("the line has a character that isn't ASCII, perhaps a space or a dash");
-    }
-    None
-}
-
 /// Signs of slips in a line, whatever its mnemonic is, and what is said of them.
-const LINE_SLIPS: [(&str, &str); 8] = [
+const LINE_SLIPS: [(&str, &str); 10] = [
     (
         ", #",
         "a number is written without a sign before it, as `5`",
+    ),
+    (",#", "a number is written without a sign before it, as `5`"),
+    (
+        "*(",
+        "this is the form of llvm-objdump and of the kernel's verifier log: here a load is written \
+        `ldx64 r0, [r1+0]` for `r0 = *(u64 *)(r1 + 0)`, and a store `stx64 [r1+0], r0`",
     ),
     ("//", "a comment begins with a semicolon, `;`"),
     ("#", "a comment begins with a semicolon, `;`"),
@@ -51,6 +48,21 @@ const OPERAND_SLIPS: [(&str, &str); 7] = [
     (" ]", "an address has no blanks, as `[r1+0]`"),
     (" + ", "an address has no blanks, as `[r1+0]`"),
     (" - ", "an address has no blanks, as `[r1+0]`"),
+];
+
+/// The comparisons of C and of the kernel's verifier log, each before those that it contains, and their branches.
+const COMPARISONS: [(&str, &str); 11] = [
+    ("s>=", "jsge64"),
+    ("s<=", "jsle64"),
+    ("s>", "jsgt64"),
+    ("s<", "jslt64"),
+    ("==", "jeq64"),
+    ("!=", "jne64"),
+    (">=", "jge64"),
+    ("<=", "jle64"),
+    (">", "jgt64"),
+    ("<", "jlt64"),
+    ("&", "jset64"),
 ];
 
 /// What is said of the first of these signs that is in a text.
@@ -89,6 +101,27 @@ fn has_register(operands: &str, letter: &str) -> bool {
     false
 }
 
+/// The operands that may be numbers: the last one of a jump is a distance, which has a sign.
+fn numbers_of(form: Form, operands: &str) -> &str {
+    match form {
+        Form::Branch | Form::Jump | Form::Code => match operands.rsplit_once(',') {
+            Some((before, _)) => before,
+            None => "",
+        },
+        _ => operands,
+    }
+}
+
+/// A slip in a number among the operands of a line.
+fn number_slip_in(form: Form, operands: &str) -> Option<&'static str> {
+    for operand in numbers_of(form, operands).split(',') {
+        if let Some(slip) = number_slip(operand.trim()) {
+            return Some(slip);
+        }
+    }
+    None
+}
+
 /// A slip in the operands of a line.
 fn operand_slip(form: Form, operands: &str) -> Option<&'static str> {
     if has_register(operands, "R") {
@@ -104,6 +137,9 @@ fn operand_slip(form: Form, operands: &str) -> Option<&'static str> {
     }
     if operands.contains('[') && !operands.contains('+') && !operands.contains('-') {
         return Some("an address has an offset with its sign, as `[r1+0]`");
+    }
+    if let Some(slip) = number_slip_in(form, operands) {
+        return Some(slip);
     }
     match form {
         Form::Call => Some("helpers are called by number: 1 is bpf_map_lookup_elem, 181 bpf_loop"),
@@ -161,7 +197,8 @@ fn is_hex_slot(word: &str) -> bool {
 
 /// Adds what is wrong with a line whose first word is no mnemonic.
 fn write_word_slip(out: &mut String, alloc: Global, word: &str) -> Result<(), AllocError> {
-    write!(out, "  `{word}` is no mnemonic")?;
+    let shown = Shown::of(word);
+    write!(out, "  `{shown}` is no mnemonic")?;
     match nearest_mnemonic(alloc, word)? {
         None => out.push_str("\n"),
         Some(nearest) => {
@@ -184,11 +221,29 @@ fn write_label_slip(out: &mut String, operands: &str) -> Result<(), AllocError> 
     out.push_str("  a label stands on a line of its own, before the instruction\n")
 }
 
+/// Adds how a branch is written whose line begins with `if`.
+fn write_branch_slip(out: &mut String, content: &str) -> Result<(), AllocError> {
+    for (sign, branch) in &COMPARISONS {
+        if content.contains(*sign) {
+            return writeln!(
+                out,
+                "  a branch begins with its mnemonic, as `{branch} r1, 5, done` for `if r1 {sign} 5 goto done`"
+            );
+        }
+    }
+    out.push_str(
+        "  a branch begins with its mnemonic, as `jgt64 r1, 5, done` for `if r1 > 5 goto done`\n",
+    )
+}
+
 /// Adds what is wrong with the form of a line after the first, and how such a line is written. The line is without its
 /// comment.
 pub(crate) fn write_slip(out: &mut String, alloc: Global, content: &str) -> Result<(), AllocError> {
     let word = content.split_ascii_whitespace().next().unwrap_or("");
     let operands = content.strip_prefix(word).unwrap_or("").trim();
+    if word == "if" {
+        return write_branch_slip(out, content);
+    }
     if let Some(slip) = common_slip(content) {
         return writeln!(out, "  {slip}");
     }
@@ -200,11 +255,6 @@ pub(crate) fn write_slip(out: &mut String, alloc: Global, content: &str) -> Resu
     }
     if is_hex_slot(word) {
         return out.push_str("  the line is one of the hex form, which is read with `--hex`\n");
-    }
-    if word == "if" {
-        return out.push_str(
-            "  a branch begins with its mnemonic, as `jgt64 r1, 5, done` for `if r1 > 5 goto done`\n",
-        );
     }
     match form_of(word) {
         Some(form) => write_operand_slip(out, word, form, operands),

@@ -1,32 +1,11 @@
 //! Why a unit's text is refused.
 
-use crate::slips::{hidden_slip, write_slip};
+use crate::files::{before_comment, is_first, write_c, write_hidden, write_whole_line};
+use crate::forms::form_of;
+use crate::slips::write_slip;
 use bpf_text_lex::TextFault;
 use bpf_text_lines::line_at;
 use std::alloc::{AllocError, Global};
-
-/// A line without its comment, as it stands.
-fn before_comment(line: &str) -> &str {
-    match line.split_once(';') {
-        Some((content, _)) => content,
-        None => line,
-    }
-}
-
-/// Whether a line is the first of a text that isn't empty.
-fn is_first(text: &str, number: u32) -> bool {
-    let mut at: u32 = 0;
-    for line in text.split('\n') {
-        at = at.saturating_add(1);
-        if at >= number {
-            return true;
-        }
-        if !before_comment(line).trim().is_empty() {
-            return false;
-        }
-    }
-    true
-}
 
 /// Adds what a unit's first line has to be.
 fn write_head(out: &mut String) -> Result<(), AllocError> {
@@ -60,34 +39,33 @@ fn write_form_reasons(
     text: &str,
     line: u32,
 ) -> Result<(), AllocError> {
-    let content = before_comment(line_at(text, line));
-    match hidden_slip(content) {
-        Some(slip) => writeln!(out, "  {slip}"),
-        None => if line == 0 || is_first(text, line) {
-            write_head(out)
-        } else {
-            write_slip(out, alloc, content.trim())
-        },
-    }
-}
-
-/// Adds the line of a fault as it stands, if it is of one line.
-fn write_whole_line(out: &mut String, text: &str, line: u32) -> Result<(), AllocError> {
-    if line == 0 {
+    if write_c(out, text, line)? || write_hidden(out, text, line)? {
         return Ok(());
     }
-    let whole = line_at(text, line).trim();
-    writeln!(out, "  line {line}: {whole}")
+    if line == 0 || is_first(text, line) {
+        return write_head(out);
+    }
+    write_slip(out, alloc, before_comment(line_at(text, line)).trim())
 }
 
-/// Adds what a fault other than that of the form says.
-fn write_sentence(out: &mut String, fault: TextFault) -> Result<(), AllocError> {
+/// Adds what a fault other than that of the form says. On the first line the numbers are sizes of maps.
+fn write_sentence(
+    out: &mut String,
+    text: &str,
+    fault: TextFault,
+    line: u32,
+) -> Result<(), AllocError> {
+    let fault = if fault == TextFault::Field && is_first(text, line) {
+        TextFault::Limits
+    } else {
+        fault
+    };
     let says = sentence(fault);
     writeln!(out, "  {says}")
 }
 
 /// Adds where to read more of a fault.
-fn write_more(out: &mut String, fault: TextFault) -> Result<(), AllocError> {
+pub(crate) fn write_more(out: &mut String, fault: TextFault) -> Result<(), AllocError> {
     let number = fault.number();
     writeln!(out, "  more in docs/REFUSALS.md under A{number}")
 }
@@ -103,9 +81,54 @@ pub(crate) fn write_text_reasons(
     write_whole_line(out, text, line)?;
     match fault {
         TextFault::Form => write_form_reasons(out, alloc, text, line)?,
-        _ => write_sentence(out, fault)?,
+        _ => write_sentence(out, text, fault, line)?,
     }
     write_more(out, fault)
+}
+
+/// Whether each word of a line is of hex digits.
+fn are_hex(words: &str) -> bool {
+    for word in words.split_ascii_whitespace() {
+        if !word.as_bytes().iter().all(|byte| byte.is_ascii_hexdigit()) {
+            return false;
+        }
+    }
+    true
+}
+
+/// What is said of a line that isn't of hex digits, or not of an even number of them. It has no blanks round it.
+fn digits_slip(content: &str) -> Option<&'static str> {
+    if content.contains("0x") || content.contains("0X") {
+        return Some("the digits stand without `0x` before them");
+    }
+    if !are_hex(content) {
+        let word = content.split_ascii_whitespace().next().unwrap_or("");
+        return match form_of(word) {
+            None => None,
+            Some(_) => Some("the line is assembler text, which is read without `--hex`"),
+        };
+    }
+    if content.contains(' ') || content.contains('\t') {
+        return Some("the digits of a line have no blanks between them");
+    }
+    Some("the line has an odd number of digits")
+}
+
+/// Adds what is wrong with a line of a unit in hex form.
+fn write_hex_form_reasons(out: &mut String, text: &str, line: u32) -> Result<(), AllocError> {
+    if write_c(out, text, line)? || write_hidden(out, text, line)? {
+        return Ok(());
+    }
+    out.push_str(
+        "  a unit in hex form is the line `maps`, and then lines of two hex digits for each byte\n",
+    )?;
+    if line == 0 || is_first(text, line) {
+        return Ok(());
+    }
+    match digits_slip(before_comment(line_at(text, line)).trim()) {
+        None => Ok(()),
+        Some(slip) => writeln!(out, "  {slip}"),
+    }
 }
 
 /// Adds why a unit's text in hex form is refused: the line as it stands, and what was expected there.
@@ -117,10 +140,8 @@ pub(crate) fn write_hex_reasons(
 ) -> Result<(), AllocError> {
     write_whole_line(out, text, line)?;
     match fault {
-        TextFault::Form => out.push_str(
-            "  a unit in hex form is the line `maps`, and then lines of two hex digits for each byte\n",
-        )?,
-        _ => write_sentence(out, fault)?,
+        TextFault::Form => write_hex_form_reasons(out, text, line)?,
+        _ => write_sentence(out, text, fault, line)?,
     }
     write_more(out, fault)
 }

@@ -1,8 +1,10 @@
 //! Why a unit in one of its two forms is refused.
 
+use crate::given::write_given_reasons;
 use crate::hexes::write_byte_reasons;
 use crate::page::Page;
 use crate::reasons::explain_refusal;
+use crate::schedule::write_schedule_reasons;
 use crate::states::explain_states;
 use crate::texts::{write_hex_reasons, write_text_reasons};
 use bpf_insn::{CodecError, decode};
@@ -87,6 +89,72 @@ pub fn reasons_of_hex(alloc: Global, extent: Extent, text: &str) -> Result<Strin
             write_hex_reasons(&mut out, text, fault, line)?;
         }
         Err(TextError::Memory) => return Err(AllocError),
+    }
+    Ok(out)
+}
+
+/// What is given beside a unit, as sections of an input.
+#[derive(Clone, Copy)]
+pub struct Given<'a> {
+    /// The values of its maps.
+    pub values: &'a str,
+    /// The bounds and events of a replay.
+    pub events: &'a str,
+}
+
+/// Adds why what is given beside a unit isn't taken, if the unit is accepted: the values, or else the events.
+fn write_beside(
+    out: &mut String,
+    alloc: Global,
+    unit: Unit,
+    given: Given<'_>,
+) -> Result<(), AllocError> {
+    let inspection = inspect(alloc, unit)?;
+    if inspection.fault().is_some() {
+        return Ok(());
+    }
+    write_given_reasons(out, alloc, inspection.sizes(), given.values)?;
+    if !out.is_empty() {
+        return Ok(());
+    }
+    write_schedule_reasons(out, alloc, given.events)
+}
+
+/// Why the values of the maps of a unit in assembler text, or the events of a replay of it, aren't taken. It is empty
+/// where they are, and where the unit isn't accepted. Memory may run out.
+pub fn given_reasons_of_text(
+    alloc: Global,
+    text: &str,
+    given: Given<'_>,
+) -> Result<String, AllocError> {
+    let mut out = String::new(alloc);
+    match parse_unit(alloc, text) {
+        Ok(unit) => write_beside(&mut out, alloc, unit, given)?,
+        Err(TextError::Refused { .. }) => {}
+        Err(TextError::Memory) => return Err(AllocError),
+    }
+    Ok(out)
+}
+
+/// The same of a unit in hex form.
+pub fn given_reasons_of_hex(
+    alloc: Global,
+    text: &str,
+    given: Given<'_>,
+) -> Result<String, AllocError> {
+    let mut out = String::new(alloc);
+    let parts = match read_hex(alloc, text) {
+        Ok(parts) => parts,
+        Err(TextError::Refused { .. }) => return Ok(out),
+        Err(TextError::Memory) => return Err(AllocError),
+    };
+    match decode(alloc, &parts.bytes) {
+        Ok(insns) => {
+            let sizes = parts.sizes;
+            write_beside(&mut out, alloc, Unit { sizes, insns }, given)?;
+        }
+        Err(CodecError::Refused { .. }) => {}
+        Err(CodecError::Memory) => return Err(AllocError),
     }
     Ok(out)
 }

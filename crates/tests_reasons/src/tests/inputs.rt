@@ -70,7 +70,7 @@ fn maps_that_are_refused_follow_an_accepted_program(rt: HostRuntime) -> Result<(
     )?;
     assert_eq!(rt;
         told.as_str(),
-        "Done accepted\nfunction 0 at 0 count 2\nthe maps aren't taken: refused A1 at maps line 1\n"
+        "Done accepted\nfunction 0 at 0 count 2\nthe maps aren't taken: refused A1 at maps line 1\n  line 1: map 0: x\n  a line of values is `map`, the map's number, a colon, and a value for each element, as `map 0: 10 20`\n  more in docs/REFUSALS.md under A1\n"
     );
     let told = served(
         rt.alloc(),
@@ -79,7 +79,7 @@ fn maps_that_are_refused_follow_an_accepted_program(rt: HostRuntime) -> Result<(
     )?;
     assert_eq!(rt;
         told.as_str(),
-        "Done accepted\nfunction 0 at 0 count 2\nthe maps aren't taken: refused P1\n"
+        "Done accepted\nfunction 0 at 0 count 2\nthe maps aren't taken: refused P1\n  map 0 has 1 element, and 2 values are given\n  what usually helps: give a value for each element of each map, or no `%%` and no values, and all are 0\n  more in docs/REFUSALS.md under P1\n"
     );
     Ok(())
 }

@@ -1,0 +1,35 @@
+//! Parts of an untrusted text, as they are shown.
+
+use std::fmt;
+
+/// The most bytes of a part that are shown.
+const MOST_BYTES: usize = 200;
+
+/// A part of a text as it is shown: of more than 200 bytes the first, and three dots.
+#[derive(Clone, Copy)]
+pub struct Shown<'a> {
+    text: &'a str,
+}
+
+impl<'a> Shown<'a> {
+    /// This part of a text.
+    pub(crate) fn of(text: &'a str) -> Shown<'a> {
+        Shown { text }
+    }
+
+    /// Whether there is nothing in it.
+    pub fn is_empty(&self) -> bool {
+        self.text.is_empty()
+    }
+}
+
+impl<'a> fmt::Display for Shown<'a> {
+    fn fmt<W: fmt::Write>(&self, f: &mut fmt::Formatter<W>) -> fmt::Result {
+        let text = self.text;
+        if text.len() <= MOST_BYTES {
+            return write!(f, "{text}");
+        }
+        let (front, _) = text.split_at(text.floor_char_boundary(MOST_BYTES));
+        write!(f, "{front}...")
+    }
+}
