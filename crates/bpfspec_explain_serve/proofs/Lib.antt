@@ -1,2 +1,3 @@
 pub mod ExplainLaws
 pub mod HeldLaws
+pub mod ShowingLaws

@@ -13,6 +13,7 @@ use Rattle.bpfspec_serve.specs.HowServed.{AnswersReader, HowServed, HowWritten}
 use Rattle.bpfspec_serve.specs.Output.{Answer}
 use Rattle.bpfspec_explain_serve.specs.declared.ask.Ask.{Ask}
 use Rattle.bpfspec_explain_serve.specs.Asked.{Asks, explain_app}
+use Rattle.bpfspec_explain_serve.specs.Showing.{IsShowable}
 
 -- an answer or a refusal was written whole
 abbrev pub is_answered : Served → Bool
@@ -22,12 +23,13 @@ is_answered served.Text = true
 is_answered served.Memory = false
 is_answered served.Device = false
 
--- after an answer nothing is written, or reasons; they don't change how the input was served, unless a write fails
+-- after an answer nothing is written, or reasons, of which no byte controls a terminal; they don't change how the input
+-- was served, unless a write fails
 pub data HowExplained (verified result : Served) (writes_failed : ℕ → Type 0) (before after : Option (List ℕ)) : Type 0
   where
     Without : result ≡ verified → writes_failed 0 → before ≡ after
         → HowExplained verified result writes_failed before after
-    With : (reasons : List ℕ) → HowWritten reasons verified result writes_failed before after
+    With : (reasons : List ℕ) → IsShowable reasons → HowWritten reasons verified result writes_failed before after
         → HowExplained verified result writes_failed before after
 
 -- first is written what `verify` answers to what a reader has left, or that memory ran out; then the reasons

@@ -25,6 +25,7 @@ mod faults;
 mod program;
 mod recorded;
 mod serving;
+mod showing;
 
 pub use ask::Ask;
 pub use bpfspec_reasons::Extent;

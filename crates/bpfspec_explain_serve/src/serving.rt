@@ -1,17 +1,19 @@
 //! An input is answered as `verify` answers it, and the reasons are written; or a picture is in their place.
 
-ghost use Rattle.std.specs.Prelude.{◌≡◌, ◌+◌, ◌-◌, ◌^◌, ◌<◌, true};
+ghost use Rattle.std.specs.Prelude.{◌≡◌, ◌+◌, ◌-◌, ◌^◌, ◌<◌, true, IfOk};
 ghost use Rattle.bpfspec_explain_serve.specs.Explained.{ExplainsInput, ExplainsInWords, HowExplained, is_answered};
 ghost use Rattle.bpfspec_explain_serve.specs.Recording.{source_of};
+ghost use Rattle.bpfspec_explain_serve.specs.Showing.{IsShowable};
 ghost use Rattle.bpfspec_serve.specs.HowServed.{HowWritten};
 
 use crate::ask::Ask;
 use crate::drawing::{picture_of, verify_input};
 use crate::explaining::reasons;
 use crate::recorded::Recorded;
+use crate::showing::shown;
 use bpfspec_output::MEMORY_LINE;
 use bpfspec_serve::{Mode, ReadAllError, Served, Sink, Source, serve, write_all};
-use std::alloc::Global;
+use std::alloc::{AllocError, Global};
 
 /// Writes a text, and returns how it was served: as wanted, unless a write failed.
 pub(crate) fn write<W: Sink>(sink: &mut W, text: &[u8], wanted: Served) -> Served
@@ -35,6 +37,14 @@ fn is_answered(served: Served) -> bool
     }
 }
 
+/// The reasons of an input, as they are shown. Memory may run out.
+fn shown_reasons(alloc: Global, ask: &Ask, input: &[u8]) -> Result<Vec<u8>, AllocError>
+    ensures { IfOk result (λ text. IsShowable text.items) }
+{
+    let text = reasons(alloc, ask, input)?;
+    shown(alloc, text.as_bytes())
+}
+
 /// Writes the reasons after an answer that was written whole, if the input is at hand and there is memory for them.
 fn write_reasons<W: Sink>(
     alloc: Global,
@@ -53,9 +63,9 @@ fn write_reasons<W: Sink>(
     let Some(bytes) = input else {
         return verified;
     };
-    match reasons(alloc, ask, bytes) {
+    match shown_reasons(alloc, ask, bytes) {
         Err(_) => verified,
-        Ok(text) => write(sink, text.as_bytes(), verified),
+        Ok(text) => write(sink, &text, verified),
     }
 }
 
