@@ -9,6 +9,7 @@ ghost use Rattle.loop_core_model.specs.Report.{reported_with};
 ghost use Rattle.spec_run.specs.Calls.{MayRun, MayAnswer, RunsCalls};
 ghost use Rattle.spec_run.specs.Reports.{IsReportOf};
 
+use crate::observing::Observer;
 use crate::report::Report;
 use array_maps::{Maps, Store};
 use bpf_step::{LoopCall, Main, Turned};
@@ -38,11 +39,12 @@ fn run_one<F: Fn(&LoopCall, &mut Maps, &mut Workspace) -> Result<LoopAnswer, All
 }
 
 /// Runs main of the program, its argument in R1, on these maps, which are of its sizes, and changes them as it goes.
-/// Each loop call is run by `run_call`, all in one workspace, and told as the judge says. Where memory runs out the
-/// maps stay as they are then.
+/// Each loop call is run by `run_call`, all in one workspace, and told as the judge says, and the observer is told of
+/// it. Where memory runs out the maps stay as they are then.
 pub(crate) fn run_main<
     J: Judge,
     F: Fn(&LoopCall, &mut Maps, &mut Workspace) -> Result<LoopAnswer, AllocError>,
+    O: Observer,
 >(
     alloc: Global,
     program: &Verified,
@@ -50,6 +52,7 @@ pub(crate) fn run_main<
     argument: u64,
     judge: &J,
     run_call: &F,
+    observer: &mut O,
 ) -> Result<Report, AllocError>
     requires sizes { maps.old.sizes ≡ program.now.sizes }
     requires runs { RunsCalls F.Fn run_call.now (J.line_of judge.now program.now) program.now }
@@ -66,10 +69,13 @@ pub(crate) fn run_main<
     let mut loops = Vec::new(alloc);
     let mut main = Main::new(program, argument);
     let mut workspace = Workspace::new();
+    observer.begin();
     loop {
         match main.next(maps) {
             Turned::Loop(call) => {
+                observer.begin_loop();
                 let answered = run_one(run_call, &call, maps, &mut workspace)?;
+                observer.end_loop(loops.len(), &call, &answered);
                 main.resume(answered.answer);
                 loops.push(LoopReport {
                     slot: call.slot(),
@@ -82,7 +88,10 @@ pub(crate) fn run_main<
                 answer,
                 verdict: Verdict::Refused,
             })?,
-            Turned::Exit(ret) => return Ok(Report { ret, loops }),
+            Turned::Exit(ret) => {
+                observer.end();
+                return Ok(Report { ret, loops });
+            }
         }
     }
 }

@@ -7,20 +7,28 @@
 //! let plan = Plan { workers: 4, blocks: 16, test: Test::Flow, policy: Policy::Pays };
 //! let report = run(&rt, alloc, &program, &mut maps, 0, &plan, &NoGate)?;
 //! // report.ret is 8, its loop answered 8 in parallel, and maps.get(0, 0) is 5 + 0 + 1 + .. + 7
+//! // with run_observed(.., &mut Stats::new(alloc, &rt)) also which way the loop went, and how long it took
 //! ```
 #![tactic(auto)]
 
 mod driver;
 mod freed_memory;
 mod judges;
+mod observing;
 mod report;
 mod running;
 mod speculating;
+mod stats;
 
 pub use loop_core_model::{LoopReport, Test, Verdict};
 pub use loop_core_split::{Gate, NoGate};
+pub use observing::{Observer, Unobserved};
 pub use report::Report;
 pub use running::run_in_order;
-pub use spec_run_loop::{LoopOutcome, LoopRun, RunError, SpeculativeLoop, run_loop, work};
+pub use spec_run_loop::{
+    BlocksReason, Course, LoopAnswer, LoopOutcome, LoopRun, RunError, SpeculativeLoop, run_loop,
+    work,
+};
 pub use spec_run_plan::{Plan, Policy};
-pub use speculating::run;
+pub use speculating::{run, run_observed};
+pub use stats::{LoopStats, Stats};

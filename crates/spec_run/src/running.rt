@@ -8,13 +8,14 @@ ghost use Rattle.spec_run.specs.InOrder.{IsReportInOrder};
 
 use crate::driver::run_main;
 use crate::judges::Nobody;
+use crate::observing::Unobserved;
 use crate::report::Report;
 use array_maps::Maps;
 use bpf_step::LoopCall;
 use bpf_verify::Verified;
 use loop_core_model::Verdict;
 use loop_core_sequential::in_order;
-use spec_run_loop::{LoopAnswer, RunError, Workspace};
+use spec_run_loop::{Course, LoopAnswer, RunError, Workspace};
 use std::alloc::{AllocError, Global};
 
 /// Runs the program on the maps, its argument in R1, with each loop in order. It runs on a copy, which
@@ -50,9 +51,18 @@ pub fn run_in_order(
         Ok(LoopAnswer {
             verdict: Verdict::InOrder,
             answer: in_order(program, call, maps),
+            course: Course::InOrder,
         })
     };
-    let report = run_main(alloc, program, &mut left, argument, &Nobody, &run_call)?;
+    let report = run_main(
+        alloc,
+        program,
+        &mut left,
+        argument,
+        &Nobody,
+        &run_call,
+        &mut Unobserved,
+    )?;
     *maps = left;
     Ok(report)
 }

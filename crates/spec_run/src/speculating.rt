@@ -8,6 +8,7 @@ ghost use Rattle.spec_run_plan.specs.Plans.{IsPlan};
 
 use crate::driver::run_main;
 use crate::freed_memory::keep_freed_memory;
+use crate::observing::{Observer, Unobserved};
 use crate::report::Report;
 use array_maps::Maps;
 use bpf_step::LoopCall;
@@ -21,9 +22,9 @@ use std::thread::Threads;
 
 /// Runs the program on the maps, its argument in R1. Each loop goes the way that the plan chooses: as it pays, or by
 /// blocks, which its workers run at once; where the loop passes the test, what they left is committed, and else it is
-/// run in order. All of it runs on a copy, which takes the maps' place at the end. It waits for its threads; where one can't be started, the others do its
-/// share. A gate may hold them for a while, and changes nothing else. No iteration is stuck, speculative ones included,
-/// and each ends within the count that the verifier reports.
+/// run in order. All of it runs on a copy, which takes the maps' place at the end. It waits for its threads; where one
+/// can't be started, the others do its share. A gate may hold them for a while, and changes nothing else. No iteration
+/// is stuck, speculative ones included, and each ends within the count that the verifier reports.
 ///
 /// It fails with `Sizes` (P1) where the maps' sizes differ from the program's; else with `Plan` (P2) where the workers
 /// aren't 1 to 16 or the blocks not 1 to 64; else only with `Memory`. The maps are as before then.
@@ -35,6 +36,33 @@ pub fn run<R: Threads + Sync, G: Gate>(
     argument: u64,
     plan: &Plan,
     gate: &G,
+) -> Result<Report, RunError>
+    ensures headline { RunsAsInOrder program.now argument plan.now maps.old maps.new result }
+    ensures sizes { (result ≡ Err RunError.Sizes) ↔ (maps.old.sizes ≢ program.now.sizes) }
+    ensures plan { (result ≡ Err RunError.Plan) ↔ ((maps.old.sizes ≡ program.now.sizes) × (¬ IsPlan plan.now)) }
+{
+    run_observed(
+        rt,
+        alloc,
+        program,
+        maps,
+        argument,
+        plan,
+        gate,
+        &mut Unobserved,
+    )
+}
+
+/// Does the same, and tells an observer of the program and of its loop calls, from the calling thread.
+pub fn run_observed<R: Threads + Sync, G: Gate, O: Observer>(
+    rt: &R,
+    alloc: Global,
+    program: &Verified,
+    maps: &mut Maps,
+    argument: u64,
+    plan: &Plan,
+    gate: &G,
+    observer: &mut O,
 ) -> Result<Report, RunError>
     ensures headline { RunsAsInOrder program.now argument plan.now maps.old maps.new result }
     ensures sizes { (result ≡ Err RunError.Sizes) ↔ (maps.old.sizes ≢ program.now.sizes) }
@@ -67,7 +95,9 @@ pub fn run<R: Threads + Sync, G: Gate>(
         };
         run_by_plan(rt, &job, maps, workspace, gate)
     };
-    let report = run_main(alloc, program, &mut left, argument, &plan.test, &run_call)?;
+    let report = run_main(
+        alloc, program, &mut left, argument, &plan.test, &run_call, observer,
+    )?;
     *maps = left;
     Ok(report)
 }

@@ -16,6 +16,7 @@ use Rattle.loop_core_gather.specs.declared.storing.LeftPage.{LeftPage}
 use Rattle.loop_core_gather.specs.Gathered.{HasOutcome, IsOutcome}
 use Rattle.loop_core_gather.specs.Held.{GatheredOf}
 use Rattle.loop_core_gather.specs.Pages.{AreLeft}
+use Rattle.spec_run_loop.specs.declared.course.Course.{Course}
 use Rattle.spec_run_loop.specs.declared.decision.LoopAnswer.{LoopAnswer}
 use Rattle.spec_run_loop.specs.Decisions.{Passes}
 
@@ -32,10 +33,10 @@ passes_so test program call words g answer pages has passed same left = record {
 }
 
 -- a loop that ran in order and passes by the flow test has this outcome
-pub passed_in_order : (program : Program) (call : LoopCall) (start left : MapList) (answer : ℕ) (told : LoopAnswer)
-    → told ≡ record { verdict = Parallel; answer = answer } → RanAndPasses program call start left answer
+pub passed_in_order : (program : Program) (call : LoopCall) (start left : MapList) (answer : ℕ) (course : Course)
+    (told : LoopAnswer) → told ≡ record { verdict = Parallel; answer = answer; course = course } → RanAndPasses program call start left answer
     → IsOutcome Flow program call start told.verdict told.answer left
-passed_in_order program call start left answer told told_is is =
+passed_in_order program call start left answer course told told_is is =
     let looped : Looped = record { answer = answer; words = left.words } in
     subst (λ (a : LoopAnswer). IsOutcome Flow program call start a.verdict a.answer left) (sym told_is) (record {
       outcome_is = ap (followed (judged_as (verdict Flow program 4096 call start.words))) is.ran.told

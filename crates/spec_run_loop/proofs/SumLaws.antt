@@ -15,14 +15,17 @@ use Rattle.loop_core_model.specs.Outcome.{judged_as}
 use Rattle.loop_core_sequential.specs.Loops.{RanLoopInOrder}
 use Rattle.loop_core_sums.specs.SumLoops.{SumLoopOf, AlwaysPasses}
 use Rattle.loop_core_gather.specs.Gathered.{IsOutcome}
+use Rattle.spec_run_loop.specs.declared.course.Course.{Course}
 use Rattle.spec_run_loop.specs.declared.decision.LoopAnswer.{LoopAnswer}
 
 -- a loop that adds up, and what was done in order, is its outcome
-pub passed_so : (l : SumLoopOf) (start left : MapList) (answer : ℕ) (told : LoopAnswer) → AlwaysPasses l
+pub passed_so : (l : SumLoopOf) (start left : MapList) (answer : ℕ) (course : Course) (told : LoopAnswer)
+    → AlwaysPasses l
     → length start.words ≡ sum start.sizes → start.sizes ≡ l.program.sizes → AreWords start.words
-    → told ≡ record { verdict = Parallel; answer = answer } → RanLoopInOrder l.program l.call start left answer
+    → told ≡ record { verdict = Parallel; answer = answer; course = course }
+    → RanLoopInOrder l.program l.call start left answer
     → (test : Test) → IsOutcome test l.program l.call start told.verdict told.answer left
-passed_so l start left answer told passes count sizes fit told_is ran test =
+passed_so l start left answer course told passes count sizes fit told_is ran test =
     let looped : Looped = record { answer = answer; words = left.words } in
     let known : AreMapWords l.program start.words = record { count = count ∙ ap sum sizes; fit = fit } in
     let judged : verdict test l.program 4096 l.call start.words ≡ Ended Parallel = passes test start.words known in

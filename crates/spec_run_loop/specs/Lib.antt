@@ -1,4 +1,5 @@
 pub mod Plans
 pub mod Jobs
 pub mod Ways
+pub mod Courses
 pub mod Decisions

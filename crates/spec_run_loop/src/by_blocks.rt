@@ -6,11 +6,12 @@ ghost use Rattle.loop_core_block.specs.LoopBlocks.{RecordsRunOf};
 ghost use Rattle.loop_core_block.specs.Shown.{shown};
 ghost use Rattle.loop_core_gather.specs.Gathered.{IsOutcome};
 ghost use Rattle.loop_core_gather.specs.Pages.{AreLeft};
+ghost use Rattle.spec_run_loop.specs.Courses.{course_by};
 ghost use Rattle.spec_run_loop.specs.Decisions.{HasOutcomeOf, IsDecision};
 ghost use Rattle.spec_run_loop.specs.Ways.{IsBlockPlan, IsCrewFor};
 ghost use Rattle.spec_run_workers.specs.Workers.{AreFaultless};
 
-use crate::decision::{Decision, LoopAnswer};
+use crate::decision::{CarriedOut, Decision, LoopAnswer};
 use crate::job::LoopJob;
 use crate::way::{BlockPlan, Crew};
 use array_maps::Maps;
@@ -162,6 +163,7 @@ pub(crate) fn run_by_blocks<R: Threads + Sync, G: Gate>(
     requires plan { IsBlockPlan job.now.call.n blocks.now }
     ensures outcome { IfOk result (λ a. IsOutcome job.now.plan.test job.now.program job.now.call maps.old a.verdict
         a.answer maps.new) }
+    ensures course { IfOk result (λ a. a.course ≡ course_by blocks.now) }
     ensures kept { OnErr result (maps.new ≡ maps.old) }
 {
     let of = SpeculativeLoop {
@@ -173,5 +175,15 @@ pub(crate) fn run_by_blocks<R: Threads + Sync, G: Gate>(
         test: job.plan.test,
     };
     let decision = decided(rt, &of, blocks.crew, workspace, gate)?;
-    Ok(decision.carry_out(job.program, job.call, maps, job.plan.test))
+    let CarriedOut { verdict, answer } = decision.carry_out(
+        job.program,
+        job.call,
+        maps,
+        job.plan.test,
+    );
+    Ok(LoopAnswer {
+        verdict,
+        answer,
+        course: blocks.course(),
+    })
 }

@@ -5,6 +5,7 @@ ghost use Rattle.bpf_verify_sound.specs.Soundness.{OverApproximatesCall};
 ghost use Rattle.loop_core_gather.specs.Gathered.{IsOutcome};
 ghost use Rattle.spec_run_loop.specs.Decisions.{IsDecision};
 
+use crate::course::Course;
 use array_maps::Maps;
 use bpf_step::LoopCall;
 use bpf_verify::Verified;
@@ -21,23 +22,33 @@ pub(crate) enum Decision {
     Discard { verdict: Verdict },
 }
 
-/// The verdict on a loop, and what its call answers: how many iterations ran in order, or would have.
+/// The verdict on a loop, and what its call answers.
+#[derive(Clone, Copy)]
+pub(crate) struct CarriedOut {
+    pub(crate) verdict: Verdict,
+    pub(crate) answer: u32,
+}
+
+/// The verdict on a loop, what its call answers, which is how many iterations ran in order, or would have, and which
+/// way it went.
 #[derive(Clone, Copy)]
 pub struct LoopAnswer {
     pub verdict: Verdict,
     pub answer: u32,
+    pub course: Course,
 }
 
 impl LoopAnswer {
     ghost use Rattle.loop_core_model.specs.declared.verdict.Verdict.TheVariants as verdicts;
 
     /// What is told of a loop that passes.
-    pub(crate) fn passed(answer: u32) -> LoopAnswer
-        ensures { result ≡ record { verdict = verdicts.Parallel; answer = answer } }
+    pub(crate) fn passed(answer: u32, course: Course) -> LoopAnswer
+        ensures { result ≡ record { verdict = verdicts.Parallel; answer = answer; course = course } }
     {
         LoopAnswer {
             verdict: Verdict::Parallel,
             answer,
+            course,
         }
     }
 }
@@ -51,7 +62,7 @@ impl Decision {
         call: &LoopCall,
         maps: &mut Maps,
         test: Test,
-    ) -> LoopAnswer
+    ) -> CarriedOut
         requires known { OverApproximatesCall program.now call.now }
         requires sizes { maps.old.sizes ≡ program.now.sizes }
         requires decided { IsDecision test program.now call.now maps.old.words self }
@@ -60,9 +71,12 @@ impl Decision {
         match self {
             Decision::Commit { answer, pages } => {
                 store_pages(maps, &pages);
-                LoopAnswer::passed(answer)
+                CarriedOut {
+                    verdict: Verdict::Parallel,
+                    answer,
+                }
             }
-            Decision::Discard { verdict } => LoopAnswer {
+            Decision::Discard { verdict } => CarriedOut {
                 verdict,
                 answer: in_order(program, call, maps),
             },

@@ -4,6 +4,7 @@
 #![tactic(auto)]
 
 mod by_blocks;
+mod course;
 mod decision;
 mod error;
 mod job;
@@ -13,6 +14,7 @@ mod summing;
 mod watching;
 mod way;
 
+pub use course::{BlocksReason, Course};
 pub use decision::LoopAnswer;
 pub use error::RunError;
 pub use job::LoopJob;

@@ -3,10 +3,13 @@
 ghost use Rattle.std.specs.Prelude.{◌≡◌, ◌≢◌, ◌↔◌, Err, IsTrue, IfOk, OnErr};
 ghost use Rattle.bpf_verify_sound.specs.Soundness.{OverApproximatesCall};
 ghost use Rattle.loop_core_gather.specs.Gathered.{IsOutcome};
+ghost use Rattle.spec_run_loop.specs.Courses.{course_by};
 ghost use Rattle.spec_run_loop.specs.Plans.{IsLoopPlan};
+ghost use Rattle.spec_run_loop.specs.Ways.{all_blocks_of};
+ghost use Rattle.spec_run_plan.specs.declared.plan.Policy.TheVariants.{Blocks};
 
 use crate::by_blocks::{decided, run_by_blocks};
-use crate::decision::LoopAnswer;
+use crate::decision::{CarriedOut, LoopAnswer};
 use crate::error::RunError;
 use crate::job::LoopJob;
 use crate::paying::elements_of;
@@ -38,19 +41,19 @@ pub fn run_by_plan<R: Threads + Sync, G: Gate>(
     requires sizes { maps.old.sizes ≡ job.now.program.sizes }
     ensures outcome { IfOk result (λ a. IsOutcome job.now.plan.test job.now.program job.now.call maps.old a.verdict
         a.answer maps.new) }
+    ensures asked { job.now.plan.policy ≡ Blocks → IfOk result (λ a. a.course ≡ course_by (all_blocks_of job.now)) }
     ensures kept { OnErr result (maps.new ≡ maps.old) }
 {
-    let blocks = match way_of(job, elements_of(maps)) {
-        Way::Sums { of, workers } => return run_sums(rt, job.alloc, &of, maps, workers),
+    match way_of(job, elements_of(maps)) {
+        Way::Sums { of, workers } => run_sums(rt, job.alloc, &of, maps, workers),
         Way::Watched { otherwise } => {
             if let Some(done) = run_watched(job, maps, workspace)? {
                 return Ok(done);
             }
-            otherwise
+            run_by_blocks(rt, job, &otherwise, maps, workspace, gate)
         }
-        Way::ByBlocks { blocks } => blocks,
-    };
-    run_by_blocks(rt, job, &blocks, maps, workspace, gate)
+        Way::ByBlocks { blocks } => run_by_blocks(rt, job, &blocks, maps, workspace, gate),
+    }
 }
 
 /// A loop call that main of a program made, and how it is run by blocks.
@@ -102,7 +105,7 @@ fn run_on_copy<R: Threads + Sync, G: Gate>(
     let crew = Crew::Workers(run.workers);
     let decision = decided(rt, &of, crew, &mut Workspace::new(), gate)?;
     let mut maps = run.start.try_copy(run.alloc)?;
-    let LoopAnswer { verdict, answer } = decision.carry_out(
+    let CarriedOut { verdict, answer } = decision.carry_out(
         run.program,
         run.call,
         &mut maps,

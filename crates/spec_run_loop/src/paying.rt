@@ -94,17 +94,15 @@ pub(crate) fn are_copies_dear(job: &LoopJob, workers: u32) -> bool
     instructions * u64::from(workers.min(PROCESSORS)) < instructions + COPYING
 }
 
-/// How many of the workers that a loop of n iterations keeps busy, 1 to 16, are worth a share of it where it adds up:
-/// each of them makes a word for each element, which is combined with the maps.
-pub(crate) fn worthwhile_shares(call: &LoopCall, start: &Maps, busy: u32) -> u32
+/// How many of the workers that a loop of n iterations keeps busy, 1 to 16, are worth a share of it where it adds up
+/// over this many elements: each of them makes a word for each element, which is combined with the maps.
+pub(crate) fn worthwhile_shares(call: &LoopCall, elements: u32, busy: u32) -> u32
     requires some { 0 < busy }
     requires few { busy ≤ 16 }
     ensures some { 0 < result }
     ensures few { result ≤ 16 }
 {
-    (call.n() / VISITS / elements_of(start).max(1))
-        .min(busy)
-        .max(1)
+    (call.n() / VISITS / elements.max(1)).min(busy).max(1)
 }
 
 /// How many even blocks, of at most this many, a loop of so much work over this many elements is worth, that keeps so

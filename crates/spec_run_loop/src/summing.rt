@@ -6,9 +6,11 @@ ghost use Rattle.loop_core_sequential.specs.Loops.{RanLoopInOrder};
 ghost use Rattle.loop_core_sums.specs.Rounds.{share_start};
 ghost use Rattle.loop_core_sums.specs.Sums.{IsSumFor, IsSumOf, AreSumsOf};
 ghost use Rattle.loop_core_gather.specs.Gathered.{IsOutcome};
+ghost use Rattle.spec_run_loop.specs.declared.course.Course.TheVariants.{Sums};
 
+use crate::course::Course;
 use crate::decision::LoopAnswer;
-use crate::paying::{elements_of, worthwhile_shares};
+use crate::paying::elements_of;
 use array_maps::Maps;
 use loop_core_block::most_instructions;
 use loop_core_sequential::in_order;
@@ -27,34 +29,35 @@ const ROUND_ELEMENT: u32 = 128;
 const ROUND_ITERATIONS: u32 = 2_048;
 
 /// Runs a loop call that adds up by 1 to 16 workers: on these maps, which are of the program's sizes, and change only
-/// where it gives an answer. One worker runs it in order; several add up an even share of each round each, where that
-/// pays.
+/// where it gives an answer. One worker runs it in order; several add up an even share of each round each.
 pub(crate) fn run_sums<R: Threads + Sync>(
     rt: &R,
     alloc: Global,
     of: &SumLoop,
     maps: &mut Maps,
-    busy: u32,
+    workers: u32,
 ) -> Result<LoopAnswer, AllocError>
     requires sizes { maps.old.sizes ≡ of.now.program.sizes }
-    requires some { 0 < busy }
-    requires few { busy ≤ 16 }
+    requires some { 0 < workers }
+    requires few { workers ≤ 16 }
     ensures outcome { IfOk result (λ a. (test : Test) → IsOutcome test of.now.program of.now.call maps.old a.verdict
         a.answer maps.new) }
+    ensures course { IfOk result (λ a. a.course ≡ Sums workers) }
     ensures kept { OnErr result (maps.new ≡ maps.old) }
 {
     of.law_of_passing();
     // These tell the proof how many words the maps have, and that they are below 2^64.
     let _sizes = maps.sizes();
     let _words = maps.words();
-    let shares = worthwhile_shares(of.call, maps, busy);
-    if shares == 1 {
-        return Ok(LoopAnswer::passed(in_order(of.program, of.call, maps)));
+    let course = Course::Sums { workers };
+    if workers == 1 {
+        let answer = in_order(of.program, of.call, maps);
+        return Ok(LoopAnswer::passed(answer, course));
     }
-    let mut sums = of.try_new_sums(alloc, shares)?;
-    let first = first_round(of, shares, elements_of(maps));
+    let mut sums = of.try_new_sums(alloc, workers)?;
+    let first = first_round(of, workers, elements_of(maps));
     let answer = in_rounds(rt, of, first, sums.as_mut_slice(), maps);
-    Ok(LoopAnswer::passed(answer))
+    Ok(LoopAnswer::passed(answer, course))
 }
 
 /// How many iterations the first round of a loop has, over this many elements, at most 65,536, in so many shares. It is

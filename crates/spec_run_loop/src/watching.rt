@@ -3,7 +3,9 @@
 ghost use Rattle.std.specs.Prelude.{◌≡◌, IfSome, IfNone, IfOk, OnErr};
 ghost use Rattle.loop_core_model.specs.declared.loop_test.Test.TheVariants as tests;
 ghost use Rattle.loop_core_gather.specs.Gathered.{IsOutcome};
+ghost use Rattle.spec_run_loop.specs.declared.course.Course.TheVariants.{Watched};
 
+use crate::course::Course;
 use crate::decision::LoopAnswer;
 use crate::job::LoopJob;
 use crate::paying::elements_of;
@@ -22,6 +24,7 @@ pub(crate) fn run_watched(
     requires sizes { maps.old.sizes ≡ job.now.program.sizes }
     ensures outcome { IfOk result (λ done. IfSome done (λ a. IsOutcome tests.Flow job.now.program job.now.call maps.old
         a.verdict a.answer maps.new)) }
+    ensures course { IfOk result (λ done. IfSome done (λ a. a.course ≡ Watched)) }
     ensures undone { IfOk result (λ done. IfNone done (maps.new ≡ maps.old)) }
     ensures kept { OnErr result (maps.new ≡ maps.old) }
 {
@@ -32,7 +35,7 @@ pub(crate) fn run_watched(
     let answer = in_order_watched(job.program, job.call, &mut log, maps);
     workspace.keep_log(log);
     match answer {
-        Some(answer) => Ok(Some(LoopAnswer::passed(answer))),
+        Some(answer) => Ok(Some(LoopAnswer::passed(answer, Course::Watched))),
         None => Ok(None),
     }
 }

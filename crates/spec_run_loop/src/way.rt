@@ -4,12 +4,14 @@ ghost use Rattle.std.specs.Prelude.{◌≡◌, ◌<◌, ◌≤◌, None, true};
 ghost use Rattle.loop_core_model.specs.Split.{even_bounds, split_fault};
 ghost use Rattle.loop_core_model.specs.declared.loop_test.Test.TheVariants as tests;
 ghost use Rattle.spec_run_plan.specs.declared.plan.Policy.TheVariants as policies;
-ghost use Rattle.spec_run_loop.specs.declared.way.Crew.TheVariants as crews;
-ghost use Rattle.spec_run_loop.specs.Ways.{IsBlockPlan, IsWayOf, IsByPlan};
+ghost use Rattle.spec_run_loop.specs.Courses.{course_by, workers_of};
+ghost use Rattle.spec_run_loop.specs.Ways.{IsBlockPlan, IsWayOf, IsByPlan, all_blocks_of};
 
+use crate::course::{BlocksReason, Course, reason_by};
 use crate::job::LoopJob;
 use crate::paying::{
     are_copies_dear, busy_workers, work_by_blocks, work_in_order, worthwhile_blocks,
+    worthwhile_shares,
 };
 use bpf_step::LoopCall;
 use loop_core_model::Test;
@@ -26,6 +28,18 @@ pub(crate) enum Crew {
     Workers(u32),
 }
 
+impl Crew {
+    /// How many workers they are.
+    fn workers(self) -> u32
+        ensures { result ≡ workers_of self }
+    {
+        match self {
+            Crew::Caller => 1,
+            Crew::Workers(workers) => workers,
+        }
+    }
+}
+
 /// How a loop is run by blocks.
 #[derive(Drop)]
 pub(crate) struct BlockPlan {
@@ -33,13 +47,28 @@ pub(crate) struct BlockPlan {
     pub(crate) split: Split,
     /// Who runs them.
     pub(crate) crew: Crew,
+    /// Why they are run.
+    pub(crate) why: BlocksReason,
+}
+
+impl BlockPlan {
+    /// Which way a loop goes that is run so.
+    pub(crate) fn course(&self) -> Course
+        ensures { result ≡ course_by self.now }
+    {
+        Course::Blocks {
+            blocks: self.split.blocks(),
+            workers: self.crew.workers(),
+            why: self.why,
+        }
+    }
 }
 
 /// The ways that a loop can go, in the order in which they are tried.
 #[derive(Drop)]
 pub(crate) enum Way<'l> {
-    /// Its iterations do nothing but reduce elements by one operator: even shares of them are added up, by at most
-    /// this many workers, 1 to 16. It needs no marks and no copies.
+    /// Its iterations do nothing but reduce elements by one operator: even shares of them are added up, by this many
+    /// workers, 1 to 16. It needs no marks and no copies.
     Sums { of: SumLoop<'l>, workers: u32 },
     /// In order on the maps, watched. Where an iteration reads what an earlier one wrote, by blocks.
     Watched { otherwise: BlockPlan },
@@ -64,34 +93,35 @@ fn even_split(call: &LoopCall, blocks: u32) -> Split
 /// All blocks of the plan, by all its workers.
 fn all_blocks(job: &LoopJob) -> BlockPlan
     ensures plan { IsBlockPlan job.now.call.n result }
-    ensures all { result ≡ record {
-      split = even_bounds job.now.call.n job.now.plan.blocks;
-      crew = crews.Workers job.now.plan.workers;
-    } }
+    ensures all { result ≡ all_blocks_of job.now }
 {
     BlockPlan {
         split: even_split(job.call, job.plan.blocks),
         crew: Crew::Workers(job.plan.workers),
+        why: BlocksReason::Asked,
     }
 }
 
 /// As many blocks as are worth it, over this many elements, for the workers that they keep busy: one in the calling
 /// thread where that is one worker.
-fn blocks_that_pay(job: &LoopJob, elements: u32, workers: u32) -> BlockPlan
+fn blocks_that_pay(job: &LoopJob, elements: u32, workers: u32, why: BlocksReason) -> BlockPlan
     requires some { 0 < workers }
     requires few { workers ≤ 16 }
-    ensures { IsBlockPlan job.now.call.n result }
+    ensures plan { IsBlockPlan job.now.call.n result }
+    ensures why { result.why ≡ why }
 {
     if workers == 1 {
         return BlockPlan {
             split: even_split(job.call, 1),
             crew: Crew::Caller,
+            why,
         };
     }
     let blocks = worthwhile_blocks(work_by_blocks(job), elements, job.plan.blocks, workers);
     BlockPlan {
         split: even_split(job.call, blocks),
         crew: Crew::Workers(workers),
+        why,
     }
 }
 
@@ -112,15 +142,19 @@ fn way_that_pays<'l>(job: &LoopJob<'l>, elements: u32) -> Way<'l>
     ensures { IsWayOf job.now result }
 {
     if let Some(of) = SumLoop::of(job.program, job.call) {
-        let workers = busy_workers(work_in_order(job), 0, job.plan);
+        let busy = busy_workers(work_in_order(job), 0, job.plan);
+        let workers = worthwhile_shares(job.call, elements, busy);
         return Way::Sums { of, workers };
     }
     let workers = busy_workers(work_by_blocks(job), elements, job.plan);
-    let blocks = blocks_that_pay(job, elements, workers);
     if pays_in_order(job, workers) {
-        Way::Watched { otherwise: blocks }
+        Way::Watched {
+            otherwise: blocks_that_pay(job, elements, workers, BlocksReason::ReadsWritten),
+        }
     } else {
-        Way::ByBlocks { blocks }
+        Way::ByBlocks {
+            blocks: blocks_that_pay(job, elements, workers, reason_by(job.plan.test)),
+        }
     }
 }
 

@@ -5,21 +5,23 @@ use Rattle.loop_core_sums.specs.SumLoops.{SumLoopOf}
 use Rattle.spec_run_loop.proofs.SumLaws.{passed_so}
 use Rattle.spec_run_loop.proofs.summing.run_sums.Goals as goal
 
-pub in_order-requires-clause-sizes : goal.in_order-requires-clause-sizes
-in_order-requires-clause-sizes g c =
+pub in_order-answer-requires-clause-sizes : goal.in_order-answer-requires-clause-sizes
+in_order-answer-requires-clause-sizes g c =
     c.requires.sizes ∙ sym (ap (λ (l : SumLoopOf). l.program.sizes) c.of.view_is)
 
-pub returns-then-shares-eq1-clause-outcome : goal.returns-then-shares-eq1-clause-outcome
-returns-then-shares-eq1-clause-outcome g c =
-    passed_so c.args.of.now c.args.maps.now c.in_order.new.maps c.in_order.result c.passed.result
+pub returns-then-workers-eq1-clause-outcome : goal.returns-then-workers-eq1-clause-outcome
+returns-then-workers-eq1-clause-outcome g c =
+    passed_so c.args.of.now c.args.maps.now c.in_order-answer.new.maps c.in_order-answer.result _
+    c.passed.result
     c.law_of_passing.ensures c.sizes-sizes.ensures.words c.requires.sizes
     (subst AreWords c.words-words.ensures.words c.words-words.ensures.fit) c.passed.ensures
-    (subst (λ (l : SumLoopOf). RanLoopInOrder l.program l.call c.args.maps.now c.in_order.new.maps c.in_order.result)
-    c.of.view_is c.in_order.ensures)
+    (subst (λ (l : SumLoopOf). RanLoopInOrder l.program l.call c.args.maps.now c.in_order-answer.new.maps
+    c.in_order-answer.result)
+    c.of.view_is c.in_order-answer.ensures)
 
 pub returns-clause-outcome : goal.returns-clause-outcome
 returns-clause-outcome g c =
-    passed_so c.args.of.now c.args.maps.now c.in_rounds-answer.new.maps c.in_rounds-answer.result c.passed-2.result
+    passed_so c.args.of.now c.args.maps.now c.in_rounds-answer.new.maps c.in_rounds-answer.result _ c.passed-2.result
     c.law_of_passing.ensures c.sizes-sizes.ensures.words c.requires.sizes
     (subst AreWords c.words-words.ensures.words c.words-words.ensures.fit) c.passed-2.ensures
     c.in_rounds-answer.ensures

@@ -11,4 +11,4 @@ returns-in-Some-clause-outcome c =
     subst (λ (job : JobOf). IsOutcome tests.Flow job.program job.call c.args.maps.now c.passed.result.verdict
     c.passed.result.answer left) c.job.view_is
     (passed_in_order c.job.inside.program.now c.job.inside.call.now c.args.maps.now left c.in-Some.answer
-    c.passed.result c.passed.ensures c.in-Some.ensures.passes)
+    _ c.passed.result c.passed.ensures c.in-Some.ensures.passes)

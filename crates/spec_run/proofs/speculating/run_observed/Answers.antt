@@ -4,7 +4,7 @@ use Rattle.bpf_step_model.specs.State.{LoopCall}
 use Rattle.bpf_verify_sound.specs.Soundness.{IsSoundProgram, OverApproximatesCall}
 use Rattle.loop_core_gather.specs.Gathered.{IsOutcome}
 use Rattle.spec_run.proofs.CallLaws.{each_by_test, told_of}
-use Rattle.spec_run.proofs.speculating.run.Goals as goal
+use Rattle.spec_run.proofs.speculating.run_observed.Goals as goal
 
 pub run_main-requires-clause-runs : goal.run_main-requires-clause-runs
 run_main-requires-clause-runs g c =

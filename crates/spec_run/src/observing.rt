@@ -1,0 +1,33 @@
+//! Who is told of a run while it goes on.
+
+use bpf_step::LoopCall;
+use spec_run_loop::LoopAnswer;
+
+/// Is told of a program and its loop calls while they run. Nothing that a run gives depends on it.
+pub trait Observer {
+    /// The program begins.
+    fn begin(&mut self);
+
+    /// A valid loop call begins.
+    fn begin_loop(&mut self);
+
+    /// That loop call is done: it has this number among the program's loop calls, refused ones included.
+    fn end_loop(&mut self, number: usize, call: &LoopCall, answered: &LoopAnswer);
+
+    /// The program is done.
+    fn end(&mut self);
+}
+
+/// Nobody is told.
+#[derive(Drop)]
+pub struct Unobserved;
+
+impl Observer for Unobserved {
+    fn begin(&mut self) {}
+
+    fn begin_loop(&mut self) {}
+
+    fn end_loop(&mut self, _number: usize, _call: &LoopCall, _answered: &LoopAnswer) {}
+
+    fn end(&mut self) {}
+}
