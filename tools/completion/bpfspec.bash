@@ -16,6 +16,7 @@ _bpfspec_files() {
 _bpfspec_value() {
     case $1 in
     --test) _bpfspec_words "flow lrpd" ;;
+    --way) _bpfspec_words "pays blocks" ;;
     --workers) _bpfspec_words "1 2 4 8 16" ;;
     --blocks) _bpfspec_words "1 4 16 64" ;;
     --load | --save | --page) _bpfspec_files "" ;;
@@ -35,7 +36,7 @@ _bpfspec() {
     case $command in
     verify) _bpfspec_words "--hex" ;;
     order) _bpfspec_words "--hex --arg" ;;
-    run) _bpfspec_words "--hex --arg --workers --blocks --test" ;;
+    run) _bpfspec_words "--hex --arg --workers --blocks --test --way --stats" ;;
     replay) _bpfspec_words "--hex --arg --test" ;;
     explain) _bpfspec_words "--hex --arg --test --states --all --picture" ;;
     install | library) _bpfspec_files "!*/" ;;

@@ -3,6 +3,7 @@
 from __future__ import annotations
 
 import os
+import re
 import resource
 import shutil
 import subprocess
@@ -13,6 +14,7 @@ from .kinds import NO_END, Ran
 
 SOURCE = Path(__file__).resolve().parent / "fail.c"
 FLAGS = "-O1 -fno-builtin -fPIC -shared -nostdlib".split()
+STATS = re.compile(rb"(?:loop \d+ at|program:) .*\n")  # lines of `--stats`, whose times aren't those of another run
 TIME_LIMIT = 20  # seconds of a run, which takes some milliseconds
 STACK = 128 * 1024  # bytes of stack, for the main thread and for each other, that are enough for every row
 
@@ -36,7 +38,7 @@ class Program:
                 )
             except subprocess.TimeoutExpired as late:
                 return Ran(NO_END, late.stdout or b"", late.stderr or b"")
-        return Ran(ran.returncode, ran.stdout, ran.stderr)
+        return Ran(ran.returncode, ran.stdout, STATS.sub(b"", ran.stderr))
 
 
 def _small_stack() -> None:

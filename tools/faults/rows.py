@@ -51,7 +51,7 @@ def commands() -> Iterator[tuple[str, ...]]:
         yield from (("run", "--workers", str(workers), "--blocks", str(blocks)) for blocks in BLOCKS)
     for workers, blocks in BY_BLOCKS:
         yield ("run", "--way", "blocks", "--workers", str(workers), "--blocks", str(blocks))
-    yield from (("run", "--test", "lrpd"), ("run", "--test", "lrpd", "--way", "blocks"))
+    yield from (("run", "--test", "lrpd"), ("run", "--test", "lrpd", "--way", "blocks"), ("run", "--stats"))
     yield from (("replay",), ("replay", "--test", "lrpd"))
     yield from (("verify",), ("order",), ("asm",), ("disasm",))
 

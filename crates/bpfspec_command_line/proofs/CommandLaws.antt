@@ -18,7 +18,8 @@ use Rattle.loop_core_model.specs.declared.loop_test.Test.TheVariants.{Flow, Lrpd
 use Rattle.spec_run_plan.specs.declared.plan.Plan.{Plan}
 use Rattle.spec_run_plan.specs.declared.plan.Policy.{Policy}
 use Rattle.spec_run_plan.specs.declared.plan.Policy.TheVariants.{Pays, Blocks}
-use Rattle.bpfspec_command_line.specs.CommandLine.{AsksFor, AsksForJob, Finds, IsArg, IsArgument, IsChosen, IsCommand}
+use Rattle.bpfspec_command_line.specs.CommandLine.{AsksFor, AsksForJob, AsksForStats, Finds, IsArg, IsArgument}
+use Rattle.bpfspec_command_line.specs.CommandLine.{IsChosen, IsCommand}
 use Rattle.bpfspec_command_line.specs.CommandLine.{IsNumber, IsNumberWithin, IsPlanOf, IsPolicy, IsTest}
 use Rattle.bpfspec_command_line.specs.declared.job.Job.{Job}
 use Rattle.bpfspec_command_line.specs.declared.job.Job.TheVariants.{Serve, Run}
@@ -183,6 +184,19 @@ pub no_run : (named : Option (Text × List Row)) (rows : List Row) → named ≡
     → ((n : ℕ) (plan : Plan) → IsArgument rows n → ¬ (IsPlanOf rows plan)) → (job : Job) → ¬ (AsksForJob named job)
 no_run named rows is none = subst (λ (used : Option (Text × List Row)). (job : Job) → ¬ (AsksForJob used job))
     (sym is) (run_for rows none)
+
+-- the stats of run, and of any other subcommand
+pub stats_of_run : (named : Option (Text × List Row)) (rows : List Row) (stats : Bool)
+    → named ≡ Some (codes "run", rows) → IsChosen (codes "stats") false true rows stats → AsksForStats named stats
+stats_of_run named rows stats is given =
+    subst (λ (used : Option (Text × List Row)). AsksForStats used stats) (sym is)
+    ((λ same. given), (λ other. absurd (other refl)))
+
+pub no_stats : {Z : Type 0} (used : Option (Box SubCommand Z))
+    → ¬ (option_map (λ b. (out-SubCommand (box_value b)).name.now) used ≡ Some (codes "run"))
+    → AsksForStats (subcommand_rows used) false
+no_stats None other = refl
+no_stats (Some b) other = ((λ same. absurd (other (ap Some same))), (λ different. refl))
 
 -- a command with one argument more, and with one subcommand more
 pub with_arg : {app : App} {rule : Rule} {old new : Command} (arg : Arg) → IsCommand app old → IsArg rule arg

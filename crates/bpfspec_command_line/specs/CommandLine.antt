@@ -1,6 +1,6 @@
 -- The program's command line, in clap's words, and what the words of one ask for.
-use Rattle.std.specs.Prelude.{◌≡◌, ℕ, ◌^◌, ◌<◌, ◌≤◌, List, [], ◌∷◌, Option, Some, None, MatchOption, codes, true}
-use Rattle.std.specs.Prelude.{false}
+use Rattle.std.specs.Prelude.{◌≡◌, ◌≢◌, ℕ, ◌^◌, ◌<◌, ◌≤◌, List, [], ◌∷◌, Option, Some, None, MatchOption, codes}
+use Rattle.std.specs.Prelude.{Bool, true, false}
 use Rattle.std.specs.Str.Parse.{IsNumeral, digits_value, without_leading_plus}
 use Rattle.clap.specs.Words.{App, Row, Rule, Text, app_of, fault_of, first_of, new_app, new_rule}
 use Rattle.clap.specs.Words.{one_of, rule_of, subcommand_of, with_rule, with_subcommand}
@@ -18,12 +18,20 @@ use Rattle.bpfspec_command_line.specs.declared.job.Job.{Job}
 use Rattle.bpfspec_command_line.specs.declared.job.Job.TheVariants.{Serve, Run}
 use Rattle.bpfspec_command_line.specs.declared.job.Mode.{Mode}
 use Rattle.bpfspec_command_line.specs.declared.job.Mode.TheVariants.{Verify, Order, Replay, Asm, Disasm}
+use Rattle.bpfspec_command_line.specs.declared.job.Request.{Request}
 use Rattle.bpfspec_command_line.specs.declared.job.UnitForm.{UnitForm}
 use Rattle.bpfspec_command_line.specs.declared.job.UnitForm.TheVariants.{Assembler, Hex}
 
--- --hex
+-- a flag of this name
+abbrev pub flag_rule : Text → Rule
+flag_rule name = record (new_rule name) { long = Some name; action = Some SetTrue }
+
+-- --hex and --stats
 abbrev pub hex_rule : Rule
-hex_rule = record (new_rule (codes "hex")) { long = Some (codes "hex"); action = Some SetTrue }
+hex_rule = flag_rule (codes "hex")
+
+abbrev pub stats_rule : Rule
+stats_rule = flag_rule (codes "stats")
 
 -- an option of this name with a value, which is this where it isn't given
 abbrev pub valued_rule : (name default : Text) → Rule
@@ -61,7 +69,7 @@ pub record IsArg (rule : Rule) (arg : Arg) : Type 0 where
   pub own : arg.global ≡ false
 
 -- verify [--hex], order [--hex] [--arg N], run [--hex] [--arg N] [--workers N] [--blocks N] [--test flow|lrpd]
--- [--way pays|blocks], and replay [--hex] [--arg N] [--test flow|lrpd]
+-- [--way pays|blocks] [--stats], and replay [--hex] [--arg N] [--test flow|lrpd]
 abbrev pub verify_app : App
 verify_app = with_rule (new_app (codes "verify")) hex_rule
 
@@ -69,8 +77,8 @@ abbrev pub order_app : App
 order_app = with_rule (with_rule (new_app (codes "order")) hex_rule) arg_rule
 
 abbrev pub run_app : App
-run_app = with_rule (with_rule (with_rule (with_rule (with_rule (with_rule (new_app (codes "run")) hex_rule) arg_rule)
-    workers_rule) blocks_rule) test_rule) way_rule
+run_app = with_rule (with_rule (with_rule (with_rule (with_rule (with_rule (with_rule (new_app (codes "run")) hex_rule)
+    arg_rule) workers_rule) blocks_rule) test_rule) way_rule) stats_rule
 
 abbrev pub replay_app : App
 replay_app = with_rule (with_rule (with_rule (new_app (codes "replay")) hex_rule) arg_rule) test_rule
@@ -172,7 +180,14 @@ abbrev pub AsksForJob : Option (Text × List Row) → Job → Type 0
 AsksForJob named (Serve mode) = AsksFor named mode
 AsksForJob named (Run form argument plan) = AsksForRun named form argument plan
 
--- a job that the words of a command line ask for: clap takes them
-pub record WordsAskFor (words : List Text) (job : Job) : Type 0 where
+-- whether stats are asked for: the subcommand run asks for them by its flag --stats, and no other does
+abbrev pub AsksForStats : Option (Text × List Row) → Bool → Type 0
+AsksForStats None stats = stats ≡ false
+AsksForStats (Some named) stats = (named.0 ≡ codes "run" → IsChosen (codes "stats") false true named.1 stats)
+    × (named.0 ≢ codes "run" → stats ≡ false)
+
+-- what the words of a command line ask for: clap takes them
+pub record WordsAskFor (words : List Text) (request : Request) : Type 0 where
   pub taken : fault_of bpfspec_app words ≡ []
-  pub asked : AsksForJob (subcommand_of bpfspec_app words) job
+  pub asked : AsksForJob (subcommand_of bpfspec_app words) request.job
+  pub stats : AsksForStats (subcommand_of bpfspec_app words) request.stats

@@ -3,20 +3,39 @@
 ghost use Rattle.std.specs.Prelude.{IfOk};
 ghost use Rattle.clap.specs.Words.{new_app};
 ghost use Rattle.bpfspec_command_line.specs.CommandLine.{IsArg, IsCommand, arg_rule, blocks_rule, bpfspec_app};
-ghost use Rattle.bpfspec_command_line.specs.CommandLine.{hex_rule, order_app, replay_app, run_app, test_rule};
-ghost use Rattle.bpfspec_command_line.specs.CommandLine.{top_app, valued_rule, verify_app, way_rule, workers_rule};
+ghost use Rattle.bpfspec_command_line.specs.CommandLine.{flag_rule, hex_rule, order_app, replay_app, run_app};
+ghost use Rattle.bpfspec_command_line.specs.CommandLine.{stats_rule, test_rule, top_app, valued_rule, verify_app};
+ghost use Rattle.bpfspec_command_line.specs.CommandLine.{way_rule, workers_rule};
 
 use clap::{Arg, ArgAction, Command};
 use std::alloc::{AllocError, Global};
+
+/// A flag of this name.
+fn flag<'a>(alloc: Global, name: &'a str, help: &'a str) -> Arg<'a>
+    ensures { IsArg (flag_rule name.entry.now) result }
+{
+    Arg::new(alloc, name)
+        .long(name)
+        .action(ArgAction::SetTrue)
+        .help(help)
+}
 
 /// The flag --hex.
 pub fn hex_flag<'a>(alloc: Global) -> Arg<'a>
     ensures { IsArg hex_rule result }
 {
-    Arg::new(alloc, "hex")
-        .long("hex")
-        .action(ArgAction::SetTrue)
-        .help("The unit is in hex form")
+    flag(alloc, "hex", "The unit is in hex form")
+}
+
+/// The flag --stats.
+fn stats_flag<'a>(alloc: Global) -> Arg<'a>
+    ensures { IsArg stats_rule result }
+{
+    flag(
+        alloc,
+        "stats",
+        "Tells on standard error which way each loop went, and how long it took",
+    )
 }
 
 /// An option of this name with a value, which is this where it isn't given.
@@ -126,7 +145,8 @@ pub(crate) fn run_command<'a>(alloc: Global) -> Result<Command<'a>, AllocError>
         .arg(workers_option(alloc))?
         .arg(blocks_option(alloc))?
         .arg(test_option(alloc))?
-        .arg(way_option(alloc))
+        .arg(way_option(alloc))?
+        .arg(stats_flag(alloc))
 }
 
 pub(crate) fn replay_command<'a>(alloc: Global) -> Result<Command<'a>, AllocError>
@@ -141,6 +161,7 @@ pub(crate) fn replay_command<'a>(alloc: Global) -> Result<Command<'a>, AllocErro
 /// What help says of the program's streams and its exit status.
 const STREAMS: &str = "\
 It reads a program, the values of its maps and a list of events from standard input, and writes to standard output.
+Why a program is refused, or a loop conflicts, is told by bpfspec_explain, in a clone by ./bpfspec explain.
 
 Exit status:
   0  done

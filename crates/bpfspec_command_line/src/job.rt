@@ -54,6 +54,15 @@ pub enum Job {
     },
 }
 
+/// A job, and whether more is told of it.
+#[derive(Clone, Copy, Debug)]
+pub struct Request {
+    /// The job.
+    pub job: Job,
+    /// Whether it is told on standard error how the loops of a run went.
+    pub stats: bool,
+}
+
 /// Why a command line asks for no job.
 #[derive(Debug, Drop, Error)]
 pub enum LineFault {

@@ -10,7 +10,7 @@ mod words;
 
 pub use commands::{arg_option, hex_flag, test_option};
 pub use faults::{fault_of, own_fault};
-pub use job::{Job, LineFault, Mode, UnitForm};
+pub use job::{Job, LineFault, Mode, Request, UnitForm};
 pub use loop_core_model::Test;
 pub use spec_run_plan::{Plan, Policy};
 pub use values::{argument, chosen, loop_test, unit_form};

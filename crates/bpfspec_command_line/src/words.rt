@@ -2,13 +2,14 @@
 
 ghost use Rattle.std.specs.Prelude.{◌≡◌, ℕ, List, map, true, IfOk, IfErr};
 ghost use Rattle.clap.specs.Words.{subcommand_rows_of};
-ghost use Rattle.bpfspec_command_line.specs.CommandLine.{AsksFor, AsksForJob, Finds, WordsAskFor, bpfspec_app};
+ghost use Rattle.bpfspec_command_line.specs.CommandLine.{AsksFor, AsksForJob, AsksForStats, Finds, WordsAskFor};
+ghost use Rattle.bpfspec_command_line.specs.CommandLine.{bpfspec_app};
 ghost use Rattle.bpfspec_command_line.specs.Faults.{AreNoCommand, AsksForHelp, is_help, is_usage};
 
 use crate::commands::bpfspec_command;
 use crate::faults::{fault_of, value_fault, words_fault};
-use crate::job::{Job, LineFault, Mode};
-use crate::values::{argument, loop_test, plan_of, unit_form};
+use crate::job::{Job, LineFault, Mode, Request};
+use crate::values::{argument, chosen, loop_test, plan_of, unit_form};
 use clap::ArgMatches;
 use std::alloc::Global;
 use std::convert::AsStr;
@@ -59,15 +60,25 @@ fn job_of(matches: &ArgMatches<'_>) -> Option<Job>
     Some(Job::Serve(mode_of(matches)?))
 }
 
+/// Whether the words ask for stats in which clap found these matches: run by its flag --stats, and no other subcommand.
+fn asks_for_stats(matches: &ArgMatches<'_>) -> bool
+    ensures { AsksForStats (subcommand_rows_of matches.now) result }
+{
+    match matches.subcommand_matches("run") {
+        Some(run) => chosen(run, "stats", false, true),
+        None => false,
+    }
+}
+
 /// Reads the words of a command line, the program's name first.
 ///
 /// It fails with `Help` where they ask for help or the version (`--help`, `-h`, `help`, `--version`, `-V`), and with
 /// the text that they ask for; with `Usage` where they aren't `verify [--hex]`, `order [--hex] [--arg N]`,
-/// `run [--hex] [--arg N] [--workers W] [--blocks B] [--test flow|lrpd] [--way pays|blocks]`,
+/// `run [--hex] [--arg N] [--workers W] [--blocks B] [--test flow|lrpd] [--way pays|blocks] [--stats]`,
 /// `replay [--hex] [--arg N] [--test flow|lrpd]`, N from 0 to 18446744073709551615, W from 1 to 16, B from 1 to 64,
 /// `asm` or `disasm`; and with `Memory` where there is no memory.
-pub fn read_words<S: AsStr>(alloc: Global, words: &[S]) -> Result<Job, LineFault>
-    ensures job { IfOk result (WordsAskFor (map S.text words.now)) }
+pub fn read_words<S: AsStr>(alloc: Global, words: &[S]) -> Result<Request, LineFault>
+    ensures request { IfOk result (WordsAskFor (map S.text words.now)) }
     ensures help { IfErr result (λ fault. is_help fault ≡ true → AsksForHelp bpfspec_app (map S.text words.now)) }
     ensures usage { IfErr result (λ fault. is_usage fault ≡ true → AreNoCommand (map S.text words.now)) }
 {
@@ -76,16 +87,17 @@ pub fn read_words<S: AsStr>(alloc: Global, words: &[S]) -> Result<Job, LineFault
         Ok(matches) => matches,
         Err(error) => return Err(fault_of(alloc, &error)),
     };
+    let stats = asks_for_stats(&matches);
     match job_of(&matches) {
-        Some(job) => Ok(job),
+        Some(job) => Ok(Request { job, stats }),
         None => Err(value_fault(alloc, &matches)?),
     }
 }
 
 /// Reads the words that the process was started with. It fails as `read_words` does, and with `Usage`
 /// where one of them isn't UTF-8.
-pub fn read_command_line<R: Env + AllocGlobal>(rt: &R) -> Result<Job, LineFault>
-    ensures job { IfOk result (λ job. (words : List (List ℕ)) × WordsAskFor words job) }
+pub fn read_command_line<R: Env + AllocGlobal>(rt: &R) -> Result<Request, LineFault>
+    ensures request { IfOk result (λ request. (words : List (List ℕ)) × WordsAskFor words request) }
     ensures help { IfErr result (λ fault. is_help fault ≡ true
         → (words : List (List ℕ)) × AsksForHelp bpfspec_app words) }
 {

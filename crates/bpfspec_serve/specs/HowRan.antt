@@ -3,6 +3,7 @@ use Rattle.std.specs.Prelude.{◌≡◌, ℕ, List, Option}
 use Rattle.bpfspec_command_line.specs.CommandLine.{WordsAskFor, bpfspec_app}
 use Rattle.bpfspec_command_line.specs.Faults.{AsksForHelp}
 use Rattle.bpfspec_command_line.specs.declared.job.Job.{Job}
+use Rattle.bpfspec_command_line.specs.declared.job.Request.{Request}
 use Rattle.bpfspec_serve.specs.declared.program_end.ProgramEnd.{ProgramEnd}
 use Rattle.bpfspec_serve.specs.declared.program_end.ProgramEnd.TheVariants as ends
 use Rattle.bpfspec_serve.specs.declared.serving.Served.{Served}
@@ -15,8 +16,8 @@ use Rattle.bpfspec_output.specs.Refusals.{memory_line}
 -- written; or there is no memory for them; or they ask for nothing, and nothing is written to the output
 pub data HowRan (Is_answer : Job → Answer → Type 0) (end : ProgramEnd) (reads_failed writes_failed : ℕ → Type 0)
     (before after : Option (List ℕ)) : Type 0 where
-  Serves : (words : List (List ℕ)) (job : Job) (result : Served) → WordsAskFor words job → end ≡ ends.Served result
-      → HowServed (Is_answer job) result reads_failed writes_failed before after
+  Serves : (words : List (List ℕ)) (request : Request) (result : Served) → WordsAskFor words request
+      → end ≡ ends.Served result → HowServed (Is_answer request.job) result reads_failed writes_failed before after
       → HowRan Is_answer end reads_failed writes_failed before after
   Helps : (words : List (List ℕ)) (text : List ℕ) (result : Served) → AsksForHelp bpfspec_app words
       → end ≡ ends.Served result → HowWritten text served.Done result writes_failed before after

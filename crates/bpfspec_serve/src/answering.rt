@@ -21,7 +21,7 @@ use bpfspec_command_line::{Mode, Plan, Test, UnitForm};
 use bpfspec_output::{Function, Refusal, print_accepted, print_replay, print_report};
 use loop_core_event::Event;
 use loop_core_split::Gate;
-use spec_run::{RunError, run, run_in_order};
+use spec_run::{Observer, RunError, run_in_order, run_observed};
 use spec_run_replay::{NoReplay, ReplayRefusal, replay};
 use std::alloc::{AllocError, Global};
 use std::thread::Threads;
@@ -57,7 +57,7 @@ fn order(alloc: Global, form: UnitForm, argument: u64, input: &str) -> Result<St
 }
 
 /// What comes of a program that runs by a plan on these maps, which are of its sizes.
-fn run_on<R: Threads + Sync, G: Gate>(
+fn run_on<R: Threads + Sync, G: Gate, O: Observer>(
     rt: &R,
     alloc: Global,
     program: &Verified,
@@ -65,13 +65,16 @@ fn run_on<R: Threads + Sync, G: Gate>(
     argument: u64,
     plan: &Plan,
     gate: &G,
+    observer: &mut O,
 ) -> Result<String, AnswerError>
     requires { maps.sizes ≡ program.now.sizes }
     ensures { SatisfiesUnlessMemory string_bytes (PrintsReportByPlan program.now argument plan.now (Ok maps.words))
         result }
 {
     let mut maps = maps;
-    match run(rt, alloc, program, &mut maps, argument, plan, gate) {
+    match run_observed(
+        rt, alloc, program, &mut maps, argument, plan, gate, observer,
+    ) {
         Ok(report) => Ok(print_report(alloc, report.ret, &report.loops, &maps)?),
         Err(RunError::Sizes) => unreachable!(),
         Err(RunError::Plan) => Err(AnswerError::Refused(Refusal::Plan)),
@@ -80,13 +83,14 @@ fn run_on<R: Threads + Sync, G: Gate>(
 }
 
 /// What comes of a unit, its argument, its maps and a plan.
-fn run_program<R: Threads + Sync, G: Gate>(
+fn run_program<R: Threads + Sync, G: Gate, O: Observer>(
     rt: &R,
     alloc: Global,
     form: UnitForm,
     argument: u64,
     plan: &Plan,
     gate: &G,
+    observer: &mut O,
     input: &str,
 ) -> Result<String, AnswerError>
     ensures { SatisfiesUnlessMemory string_bytes (OfReadable (Run form argument plan.now) (Ok input.now)) result }
@@ -95,7 +99,7 @@ fn run_program<R: Threads + Sync, G: Gate>(
     let maps = part(unit.rest);
     let program = accept(alloc, form, unit.section)?;
     let maps = start_maps(alloc, &program, maps.section)?;
-    run_on(rt, alloc, &program, maps, argument, plan, gate)
+    run_on(rt, alloc, &program, maps, argument, plan, gate, observer)
 }
 
 /// The refusal of a replay.
@@ -223,17 +227,19 @@ pub(crate) fn outcome(alloc: Global, mode: &Mode, input: &[u8]) -> Result<String
     }
 }
 
-/// What comes of an input whose program runs by a plan.
-pub(crate) fn run_outcome<R: Threads + Sync, G: Gate>(
+/// What comes of an input whose program runs by a plan, of which an observer is told.
+pub(crate) fn run_outcome<R: Threads + Sync, G: Gate, O: Observer>(
     rt: &R,
     alloc: Global,
     form: UnitForm,
     argument: u64,
     plan: &Plan,
     gate: &G,
+    observer: &mut O,
     input: &[u8],
 ) -> Result<String, AnswerError>
     ensures { SatisfiesUnlessMemory string_bytes (OfInput (Run form argument plan.now) input.now) result }
 {
-    run_program(rt, alloc, form, argument, plan, gate, readable(input)?)
+    let input = readable(input)?;
+    run_program(rt, alloc, form, argument, plan, gate, observer, input)
 }

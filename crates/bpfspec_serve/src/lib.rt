@@ -16,9 +16,10 @@ mod program_end;
 mod reading;
 mod sections;
 mod serving;
+mod stats_text;
 
 pub use bpfspec_command_line::{
-    Job, LineFault, Mode, Plan, Test, UnitForm, read_command_line, read_words,
+    Job, LineFault, Mode, Plan, Request, Test, UnitForm, read_command_line, read_words,
 };
 pub use bpfspec_streams::{
     Counted, DeviceFault, ReadAllError, Sink, Source, read_all, read_outcome, write_all,
@@ -28,3 +29,4 @@ pub use loop_core_split::{Gate, NoGate};
 pub use program::run;
 pub use program_end::{ProgramEnd, exit_status};
 pub use serving::{Served, serve, serve_run};
+pub use spec_run::{Observer, Stats, Unobserved};

@@ -7,17 +7,22 @@ ghost use Rattle.bpfspec_serve.specs.HowServed.{AnswersReader, HowServed};
 
 use crate::program_end::{ProgramEnd, exit_status};
 use crate::serving::{Served, serve, serve_run, write};
-use bpfspec_command_line::{Job, LineFault, read_command_line};
+use crate::stats_text::print_stats;
+use bpfspec_command_line::{Job, LineFault, Request, read_command_line};
 use bpfspec_output::MEMORY_LINE;
 use bpfspec_streams::{Sink, Source, write_all};
 use loop_core_split::NoGate;
+use spec_run::{Observer, Stats, Unobserved};
+use std::alloc::Global;
 use std::env::Env;
 use std::thread::Threads;
+use std::time::Clock;
 
-/// Serves an input as a job asks.
-fn serve_job<R: AllocGlobal + Threads + Sync, S: Source, W: Sink>(
+/// Serves an input as a job asks, and tells an observer of a run.
+fn serve_job<R: AllocGlobal + Threads + Sync, O: Observer, S: Source, W: Sink>(
     rt: &R,
     job: &Job,
+    observer: &mut O,
     input: &mut S,
     output: &mut W,
 ) -> Served
@@ -31,14 +36,52 @@ fn serve_job<R: AllocGlobal + Threads + Sync, S: Source, W: Sink>(
     match job {
         Job::Serve(mode) => serve(alloc, mode, input, output),
         Job::Run { form, arg, plan } => {
-            serve_run(rt, alloc, *form, *arg, plan, &NoGate, input, output)
+            serve_run(
+                rt, alloc, *form, *arg, plan, &NoGate, observer, input, output,
+            )
         }
     }
 }
 
+/// Tells on `messages` how the loops of a run went. Where there is no memory for it, nothing is told.
+fn tell_stats<C: Clock, M: Sink>(alloc: Global, stats: &Stats<'_, C>, messages: &mut M)
+    requires { M.failed messages.old < 2 ^ 64 - 1 }
+{
+    if let Ok(text) = print_stats(alloc, stats) {
+        let _ = write_all(messages, text.as_bytes());
+    }
+}
+
+/// Serves an input as the words of the command line ask, and tells on `messages` how the loops of a run went, where
+/// they ask for that and it is done.
+fn serve_request<R: AllocGlobal + Threads + Sync + Clock, S: Source, W: Sink, M: Sink>(
+    rt: &R,
+    request: &Request,
+    input: &mut S,
+    output: &mut W,
+    messages: &mut M,
+) -> Served
+    requires reads { S.failed input.old < 2 ^ 64 - 1 }
+    requires writes { W.failed output.old < 2 ^ 64 - 1 }
+    requires tells { M.failed messages.old < 2 ^ 64 - 1 }
+    ensures { HowServed (AnswersReader request.now.job (S.left input.old) (S.left input.new)) result
+        (λ n. S.failed input.new ≡ S.failed input.old + n) (λ n. W.failed output.new ≡ W.failed output.old + n)
+        (W.taken output.old) (W.taken output.new) }
+{
+    if !request.stats {
+        return serve_job(rt, &request.job, &mut Unobserved, input, output);
+    }
+    let mut stats = Stats::new(rt.alloc(), rt);
+    let served = serve_job(rt, &request.job, &mut stats, input, output);
+    if served == Served::Done {
+        tell_stats(rt.alloc(), &stats, messages);
+    }
+    served
+}
+
 /// Serves an input as the command line asks, or tells the help or the version that it asks for; or why it asks for
 /// nothing: its usage on `messages`, or on `output` that memory ran out.
-fn carry_out<R: Env + AllocGlobal + Threads + Sync, S: Source, W: Sink, M: Sink>(
+fn carry_out<R: Env + AllocGlobal + Threads + Sync + Clock, S: Source, W: Sink, M: Sink>(
     rt: &R,
     input: &mut S,
     output: &mut W,
@@ -52,7 +95,7 @@ fn carry_out<R: Env + AllocGlobal + Threads + Sync, S: Source, W: Sink, M: Sink>
         (W.taken output.old) (W.taken output.new) }
 {
     match read_command_line(rt) {
-        Ok(job) => ProgramEnd::Served(serve_job(rt, &job, input, output)),
+        Ok(request) => { ProgramEnd::Served(serve_request(rt, &request, input, output, messages)) }
         Err(LineFault::Help(text)) => {
             ProgramEnd::Served(write(output, text.as_bytes(), Served::Done))
         }
@@ -64,11 +107,11 @@ fn carry_out<R: Env + AllocGlobal + Threads + Sync, S: Source, W: Sink, M: Sink>
     }
 }
 
-/// Runs the program, and gives its exit status. Usage is told on `messages`, all else on `output`. It waits
-/// for the threads that a run takes, and for nothing else.
+/// Runs the program, and gives its exit status. Usage, and how the loops of a run went, is told on `messages`, all else
+/// on `output`. It waits for the threads that a run takes, and for nothing else.
 ///
 /// The `failures` of all three have to be below 2^64 - 1.
-pub fn run<R: Env + AllocGlobal + Threads + Sync, S: Source, W: Sink, M: Sink>(
+pub fn run<R: Env + AllocGlobal + Threads + Sync + Clock, S: Source, W: Sink, M: Sink>(
     rt: &R,
     input: &mut S,
     output: &mut W,

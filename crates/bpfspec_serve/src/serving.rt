@@ -14,6 +14,7 @@ use bpfspec_command_line::{Mode, Plan, UnitForm};
 use bpfspec_output::{MEMORY_LINE, Refusal, print_refusal};
 use bpfspec_streams::{ReadAllError, Sink, Source, read_all, write_all};
 use loop_core_split::Gate;
+use spec_run::Observer;
 use std::alloc::{AllocError, Global};
 use std::thread::Threads;
 
@@ -116,16 +117,17 @@ pub fn serve<R: Source, W: Sink>(alloc: Global, mode: &Mode, source: &mut R, sin
 /// Does the same for an input whose unit is of this form and runs with this argument, its loops by this
 /// plan: its workers pass the gate, and run in threads that it waits for. Whatever they do when, the answer
 /// is the report of the program in order, with the verdicts of the plan's test; or a refusal, P2 where the
-/// plan isn't within its limits.
+/// plan isn't within its limits. The observer is told of the program and its loop calls, and changes nothing.
 ///
 /// The source's and the sink's `failures` have to be below 2^64 - 1.
-pub fn serve_run<T: Threads + Sync, G: Gate, R: Source, W: Sink>(
+pub fn serve_run<T: Threads + Sync, G: Gate, O: Observer, R: Source, W: Sink>(
     rt: &T,
     alloc: Global,
     form: UnitForm,
     arg: u64,
     plan: &Plan,
     gate: &G,
+    observer: &mut O,
     source: &mut R,
     sink: &mut W,
 ) -> Served
@@ -139,7 +141,7 @@ pub fn serve_run<T: Threads + Sync, G: Gate, R: Source, W: Sink>(
     match read_all(alloc, source, MAX_READ) {
         Ok(input) => tell(
             alloc,
-            run_outcome(rt, alloc, form, arg, plan, gate, &input),
+            run_outcome(rt, alloc, form, arg, plan, gate, observer, &input),
             sink,
         ),
         Err(ReadAllError::Device) => Served::Device,

@@ -8,4 +8,5 @@ mod long_loops;
 mod loops;
 mod program;
 mod replays;
+mod stats;
 mod streams;

@@ -2,7 +2,7 @@
 
 use crate::tests::asserts::{assert_same, assert_same_in};
 use crate::tests::program::{is_answered, run_line, run_on, told};
-use bpfspec_command_line::{Job, read_words};
+use bpfspec_command_line::{Request, read_words};
 use std::alloc::Global;
 use std::test::Fail;
 
@@ -24,7 +24,7 @@ const JOBS: &str = "
 ";
 
 /// What a command line asks for.
-fn job_of(alloc: Global, line: &str) -> Result<Job, Fail> {
+fn request_of(alloc: Global, line: &str) -> Result<Request, Fail> {
     let mut words = Vec::new(alloc);
     words.push("bpfspec")?;
     for word in line.split_ascii_whitespace() {
@@ -37,8 +37,27 @@ fn job_of(alloc: Global, line: &str) -> Result<Job, Fail> {
 fn a_command_and_its_arguments_are_read(rt: HostRuntime) -> Result<(), Fail> {
     for row in JOBS.trim().lines() {
         let (line, wanted) = row.split_once("=>").ok_or("a row has a job")?;
-        let job = job_of(rt.alloc(), line)?;
+        let job = request_of(rt.alloc(), line)?.job;
         let told = format!(in rt.alloc(); "{job:?}")?;
+        assert_same_in(&rt, line, told.as_str(), wanted.trim());
+    }
+    Ok(())
+}
+
+/// Command lines that ask for stats, and others.
+const STATS: &str = "
+    run --stats                    => true
+    run --hex --stats --way blocks => true
+    run                            => false
+    order                          => false
+    asm                            => false
+";
+
+#[test]
+fn stats_are_asked_for_by_a_flag_of_run(rt: HostRuntime) -> Result<(), Fail> {
+    for row in STATS.trim().lines() {
+        let (line, wanted) = row.split_once("=>").ok_or("a row has an answer")?;
+        let told = format!(in rt.alloc(); "{}", request_of(rt.alloc(), line)?.stats)?;
         assert_same_in(&rt, line, told.as_str(), wanted.trim());
     }
     Ok(())
@@ -57,7 +76,8 @@ const HELP: &str = "
         \x20 help    Print this message or the help of the given subcommand(s) |  | \
         Options: |   -h, --help     Print help |   -V, --version  Print version |  | \
         It reads a program, the values of its maps and a list of events from standard input, and writes to standard \
-        output. |  | Exit status: |   0  done |   1  the program, its values or its events are refused | \
+        output. | Why a program is refused, or a loop conflicts, is told by bpfspec_explain, in a clone by \
+        ./bpfspec explain. |  | Exit status: |   0  done |   1  the program, its values or its events are refused | \
         \x20 2  a text is refused |   3  the words are no command |   4  memory ran out |   5  a read or a write failed
     verify -h => 0 Tells whether a program is accepted |  | Usage: bpfspec verify [OPTIONS] |  | \
         Options: |       --hex   The unit is in hex form |   -h, --help  Print help
@@ -122,6 +142,9 @@ const OTHER_FAULTS: &str = "
     order --arg
     order --test flow
     order --workers 2
+    order --stats
+    replay --stats
+    run --stats 1
     run --workers 0
     run --workers 17
     run --workers 4294967298

@@ -16,7 +16,7 @@ const SHORT: &str = "
 ";
 
 /// Rows with the lines for which their words stand.
-fn spelled_out(alloc: Global, rows: &str) -> Result<String, AllocError> {
+pub(crate) fn spelled_out(alloc: Global, rows: &str) -> Result<String, AllocError> {
     let mut text = String::from_str(alloc, rows)?;
     for line in SHORT.trim().lines() {
         if let Some((short, lines)) = line.split_once(": ") {

@@ -5,9 +5,11 @@ use crate::tests::streams::{Narrow, Stumbling};
 use bpfspec_serve::run;
 use std::alloc::{AllocError, Global};
 use std::env::{Env, FillError};
+use std::io;
 use std::process::Abort;
 use std::test::Fail;
 use std::thread::Threads;
+use std::time::{Clock, Duration};
 
 /// A process that was started with these words, on this runtime.
 #[derive(Drop)]
@@ -17,6 +19,17 @@ pub struct Started<'a, R> {
 }
 
 impl<R: Threads> Threads for Started<'_, R> {}
+
+/// Its clock stands still.
+impl<R> Clock for Started<'_, R> {
+    fn monotonic(&self) -> io::Result<Duration> {
+        Ok(Duration::ZERO)
+    }
+
+    fn since_1970(&self) -> io::Result<Duration> {
+        Ok(Duration::ZERO)
+    }
+}
 
 impl<R> Env for Started<'_, R> {
     fn arg(&self, i: usize, buf: &mut [u8]) -> Result<usize, FillError> {
@@ -101,7 +114,7 @@ pub(crate) fn told(alloc: Global, ran: &Ran) -> Result<String, Fail> {
 }
 
 /// The lines of a row.
-fn lines_of(alloc: Global, row: &str) -> Result<String, AllocError> {
+pub(crate) fn lines_of(alloc: Global, row: &str) -> Result<String, AllocError> {
     row.trim().replace(alloc, " | ", "\n")
 }
 

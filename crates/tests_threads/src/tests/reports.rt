@@ -3,7 +3,7 @@
 ghost use Rattle.bpf_verify_sound.specs.Soundness.{OverApproximatesCall};
 
 use bpfspec_output::{print_replay, print_report};
-use bpfspec_serve::{Counted, UnitForm, serve_run};
+use bpfspec_serve::{Counted, UnitForm, Unobserved, serve_run};
 use loop_core_model::LoopReport;
 use loop_core_split::{Gate, Split};
 use spec_run::{Plan, run};
@@ -74,6 +74,7 @@ pub(crate) fn served<R: Threads + Sync, G: Gate>(
         0,
         plan,
         gate,
+        &mut Unobserved,
         &mut source,
         &mut sink,
     );

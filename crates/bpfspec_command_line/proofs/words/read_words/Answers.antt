@@ -2,7 +2,7 @@ use Rattle.std.proofs.Common.{inl, inr, refl, subst, List, Option, map}
 use Rattle.std.specs.Prelude.{Ok, Err}
 use Rattle.clap.specs.Words.{App, HasMatchesOf, Row, Text, fault_of}
 use Rattle.clap.specs.declared.parser.matches.ArgMatches.{ArgMatches}
-use Rattle.bpfspec_command_line.specs.CommandLine.{AsksForJob, bpfspec_app}
+use Rattle.bpfspec_command_line.specs.CommandLine.{AsksForJob, AsksForStats, bpfspec_app}
 use Rattle.bpfspec_command_line.proofs.FaultLaws.{asked, fails_of, wrong}
 use Rattle.bpfspec_command_line.proofs.words.read_words.Goals as goal
 
@@ -20,8 +20,8 @@ returns-in-Err-clause-usage g c = λ usage.
     (fails_of {T = ArgMatches} words (Err c.in-Err.error) c.in_ok-command.ensures.app_is refl c.in-Err.ensures.kinds)
     c.fault_of.ensures.memory usage (c.fault_of.ensures.usage usage))
 
-pub returns-in-Some-clause-job : goal.returns-in-Some-clause-job
-returns-in-Some-clause-job g c =
+pub returns-in-Some-clause-request : goal.returns-in-Some-clause-request
+returns-in-Some-clause-request g c =
     let words = map g.S.AsStr.text c.args.words.now in
     let same = subst (λ (app : App). HasMatchesOf app words c.in-Ok.matches) c.in_ok-command.ensures.app_is
     c.in-Ok.ensures.ok.2 in
@@ -30,6 +30,8 @@ returns-in-Some-clause-job g c =
           c.in-Ok.ensures.kinds;
       asked = subst (λ (named : Option (Text × List Row)). AsksForJob named c.in-Some.job) (same refl).1
           c.in-Some.ensures;
+      stats = subst (λ (named : Option (Text × List Row)). AsksForStats named c.asks_for_stats-stats.result)
+          (same refl).1 c.asks_for_stats-stats.ensures;
     }
 
 pub returns-clause-usage : goal.returns-clause-usage

@@ -11,14 +11,14 @@ returns-in-Ok g c =
     let told : Reported = record {
       ret = c.in-Ok.report.ret;
       loops = c.in-Ok.report.loops.items;
-      words = c.run.new.maps.words;
+      words = c.run_observed.new.maps.words;
     } in
     let is = c.in_ok-print_report-in-Ok.ensures
-    ∙ ap (λ (loops : List LoopReport). report_text c.run.new.maps.sizes (record {
+    ∙ ap (λ (loops : List LoopReport). report_text c.run_observed.new.maps.sizes (record {
       ret = c.in-Ok.report.ret;
       loops = loops;
-      words = c.run.new.maps.words;
+      words = c.run_observed.new.maps.words;
     })) c.deref.ensures.value in (
-      (λ within. printed c.args.program.now _ told c.run.new.maps.sizes _ ran.told (ran.kept ∙ ran.sizes) is),
+      (λ within. printed c.args.program.now _ told c.run_observed.new.maps.sizes _ ran.told (ran.kept ∙ ran.sizes) is),
       (λ outside. absurd cc (c.in-Ok.ensures.plan.1 (c.requires, outside))),
     )

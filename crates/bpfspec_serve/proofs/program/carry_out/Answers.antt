@@ -4,8 +4,8 @@ use Rattle.bpfspec_serve.specs.HowRan.{Serves, Helps, No_memory}
 use Rattle.bpfspec_serve.proofs.program.carry_out.Goals as goal
 
 pub returns-in-Ok : goal.returns-in-Ok
-returns-in-Ok g c = Serves c.in-Ok.ensures.job.0 c.in-Ok.job c.serve_job.result c.in-Ok.ensures.job.1 refl
-    c.serve_job.ensures
+returns-in-Ok g c = Serves c.in-Ok.ensures.request.0 c.in-Ok.request c.serve_request.result c.in-Ok.ensures.request.1
+    refl c.serve_request.ensures
 
 pub returns-in-Err-Help : goal.returns-in-Err-Help
 returns-in-Err-Help g c =
