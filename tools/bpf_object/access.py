@@ -122,6 +122,8 @@ class Planner:
             return self._stop(insn, f"an access of {names(things)} that isn't at a multiple of its size")
         if is_moved:
             known, offset = moved(known, offset), 0
+        if known.hi + offset > ALL:
+            self.facts.keep_room([thing.number for thing in things], offset)
         low = least - offset if known.lo + offset < least else None
         high = most - offset if known.hi + offset > most else None
         align = size if known.z < log else 0

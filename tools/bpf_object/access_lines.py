@@ -117,23 +117,18 @@ class AccessLines:
                 continue
             self._out.add(f"ldx64 r{register}, [r10{self._scratch.place(number):+d}]")
             if isinstance(held, Value):
-                self._know(number, register, held.range)
+                self._know(register, held.range)
 
-    def _know(self, number: int, register: int, known: Range) -> None:
-        """Tests what always holds, since the verifier forgets it of a number in the frame."""
-        trap = self._out.trap(self._impossible, None)
-        if known.hi < NUMBER_LIMIT:
-            self._out.add(f"jgt64 r{register}, {known.hi}, {trap}")
-        elif known.hi <= LOW:
+    def _know(self, register: int, known: Range) -> None:
+        """Tells the verifier again what it forgets of a number in the frame, by what changes no number that is so."""
+        if NUMBER_LIMIT <= known.hi <= LOW:
             self._out.add(f"mov32 r{register}, r{register}")
+        if known.z:
+            self._out.add(f"and64 r{register}, {-(1 << min(known.z, 30))}")
+        if known.hi < NUMBER_LIMIT:
+            self._out.add(f"jgt64 r{register}, {known.hi}, {self._out.trap(self._impossible, None)}")
         if 0 < known.lo < NUMBER_LIMIT:
-            self._out.add(f"jlt64 r{register}, {known.lo}, {trap}")
-        spare = self._aside[number + 1 :] + self._spare
-        if known.z and known.hi <= LOW and spare:
-            self.forget(1 << spare[0])
-            self._out.add(f"mov64 r{spare[0]}, r{register}")
-            self._out.add(f"and64 r{spare[0]}, {-(1 << min(known.z, 30))}")
-            self._out.add(f"jne64 r{spare[0]}, r{register}, {trap}")
+            self._out.add(f"jlt64 r{register}, {known.lo}, {self._out.trap(self._impossible, None)}")
 
     def _plain(self, insn: Load | Store | Atomic, base: int, offset: int) -> None:
         place, size = f"[r{base}{offset:+d}]", insn.size * 8

@@ -35,6 +35,7 @@ from .values import ANY, LOADED, Handle, State, Value, result
 
 LOOP_LIMIT = 1 << 23  # iterations
 BYTE_LIMIT = 524288  # that an address in a map may be moved up to
+ROOM_LIMIT = 1 << 16  # bytes in front of a thing that are left out for addresses
 HELPERS = {2: "bpf_map_update_elem", 3: "bpf_map_delete_elem", 5: "bpf_ktime_get_ns", 6: "bpf_trace_printk"}
 HELPERS.update({7: "bpf_get_prandom_u32", 12: "bpf_tail_call", 14: "bpf_get_current_pid_tgid"})
 
@@ -124,6 +125,8 @@ class Analysis:
             state.regs[insn.dst] = Value(exact(0))
             return [constant(insn.dst, 0, insn.line)]
         found = result(insn.op, insn.width, a, b)
+        if found.real and insn.op in ("add", "sub"):
+            self._keep_room(insn.op, a, b, found)
         if not found.is_exact:
             self._take(a, insn.op == "sub")
             if insn.op == "sub" and a.real and b.real:
@@ -138,6 +141,20 @@ class Analysis:
         if found.is_exact and not (insn.op == "mov" and insn.src is None):
             return [self._constant(insn.dst, found, insn.line)]
         return [insn]
+
+    def _keep_room(self, op: str, a: Value, b: Value, found: Value) -> None:
+        """An address is moved by a number, perhaps to before its thing's begin: it has to be above 0 there."""
+        if found.is_exact:
+            for thing in found.real & self.planner.layout.spots.keys():
+                below = self.planner.layout.spots[thing].address - signed(found.range.lo, 64)
+                if signed(found.range.lo, 64) < 0 and below <= ROOM_LIMIT:
+                    self.facts.keep_room((thing,), below)
+            return
+        number = b if a.real else a
+        if number.is_exact:
+            distance = signed(number.range.lo, 64) if op == "add" else -signed(number.range.lo, 64)
+            if -ROOM_LIMIT <= distance < 0:
+                self.facts.keep_room(found.real, -distance)
 
     def _take(self, value: Value, is_down: bool) -> None:
         """An address of a frame leads to one that isn't known alone."""

@@ -15,6 +15,7 @@ class Facts:
     escaped: set[int] = field(default_factory=set)  # whose address is stored somewhere
     moved: set[int] = field(default_factory=set)  # frames that have to lie in the map
     taken: dict[int, int] = field(default_factory=dict)  # of a frame the lowest byte whose address leads further
+    room: dict[int, int] = field(default_factory=dict)  # the least address of a thing, so that none is below 0
     used: set[int] = field(default_factory=set)
     sizes: dict[int, set[int]] = field(default_factory=dict)  # of the accesses of a thing
     uneven: set[int] = field(default_factory=set)  # things with an access that isn't at a multiple of its size
@@ -44,6 +45,13 @@ class Facts:
         if byte < self.taken.get(frame, 1 << 30):
             self.taken[frame] = byte
             self.version += 1
+
+    def keep_room(self, things: Iterable[int], size: int) -> None:
+        """Addresses of so many bytes below these things are computed."""
+        for thing in things:
+            if size > self.room.get(thing, 0):
+                self.room[thing] = size
+                self.version += 1
 
     def access(self, things: Iterable[int], size: int, is_even: bool, byte: int | None) -> None:
         """An access of some bytes, at a byte where that is known."""

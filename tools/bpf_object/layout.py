@@ -2,7 +2,8 @@
 
 Element 0 is never a thing's, so that no address is 0. An address is a number: that of the byte in the map. Where all
 accesses of a thing have one size below 8, each value has an element of its own; then the address times the number of
-elements in one is that of the byte in the map.
+elements in one is that of the byte in the map. Where the program computes addresses before the begin of a thing,
+elements in front of it are left out, so that these are above 0 too.
 """
 
 from __future__ import annotations
@@ -72,6 +73,7 @@ class Layout:
         sizes = self._facts.sizes.get(thing.number, set())
         if group in self._spread and sizes:
             return self._spread_spot(thing, min(sizes))
+        self._leave_room(thing, ELEMENT_BYTES)
         element = self._take(-(-thing.size // ELEMENT_BYTES))
         stride = thing.size // thing.entries if thing.entries else 0
         return Spot(thing.number, element * ELEMENT_BYTES, thing.size, element, stride=stride)
@@ -81,6 +83,7 @@ class Layout:
         if thing.entries:
             stride = -(-thing.value_size // unit) * unit
             size = thing.entries * stride
+        self._leave_room(thing, unit)
         element = self._take(-(-size // unit))
         return Spot(thing.number, element * unit, size, element, scale=SCALES[unit], stride=stride)
 
@@ -90,10 +93,13 @@ class Layout:
             address = FRAMES_AT + self._frames * 2 * FRAME_BYTES
             return Spot(thing.number, address, thing.size, low=thing.size, is_native=True)
         low = self._facts.taken.get(thing.number, 0)
-        if self.elements * ELEMENT_BYTES < low:
-            self._take(low // ELEMENT_BYTES - self.elements)
+        self.elements = max(self.elements, low // ELEMENT_BYTES)
+        self._leave_room(thing, ELEMENT_BYTES)
         element = self._take((thing.size - low) // ELEMENT_BYTES)
         return Spot(thing.number, element * ELEMENT_BYTES - low, thing.size, element, low, is_native=True)
+
+    def _leave_room(self, thing: Thing, unit: int) -> None:
+        self.elements = max(self.elements, -(-self._facts.room.get(thing.number, 0) // unit))
 
     def _take(self, elements: int) -> int:
         first = self.elements

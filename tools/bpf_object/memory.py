@@ -59,7 +59,7 @@ class Memory:
             Thing(ARGUMENT, Kind.ARGUMENT, "", 0),
             Thing(FLAG, Kind.HIDDEN, "the trap", FLAG_WORDS * ELEMENT_BYTES),
         ]
-        self._sections: dict[int, list[Thing]] = {}
+        self._sections: dict[int, list[tuple[int, Thing]]] = {}  # the first byte of each thing
         self._read_maps()
         for section in obj.sections:
             if section.is_data and f"{section.name}.".startswith(GLOBAL):
@@ -75,7 +75,7 @@ class Memory:
 
     def at(self, section: Section, byte: int) -> Thing | None:
         """The thing at a byte of a section; one past the last byte is the last thing's."""
-        found = [thing for thing in self._sections.get(section.index, []) if thing.offset <= byte]
+        found = [thing for first, thing in self._sections.get(section.index, []) if first <= byte]
         if not found or byte > found[-1].offset + found[-1].size:
             return None
         return found[-1]
@@ -85,7 +85,7 @@ class Memory:
         if section is None:
             return
         things = [self._map_thing(declared, section) for declared in declared_maps(self._obj, self.btf)]
-        self._sections[section.index] = things
+        self._sections[section.index] = [(thing.offset, thing) for thing in things]
 
     def _map_thing(self, declared: Declared, section: Section) -> Thing:
         stride = -(-declared.value_size // ELEMENT_BYTES) * ELEMENT_BYTES
@@ -102,21 +102,24 @@ class Memory:
             raise Refused(f"{section.name} has {section.size} bytes, of at most {ELEMENTS_LIMIT * ELEMENT_BYTES}")
         kinds = dict(self.btf.variables(section.name)) if self.btf else {}
         data = bytes(section.data).ljust(section.size, b"\0")
-        things: list[Thing] = []
+        things = self._sections[section.index] = []
         at = 0
         for symbol in self._obj.symbols_in(section, STT_OBJECT):
             end = min(symbol.value + symbol.size, section.size)
             if symbol.value < at or end <= symbol.value:
                 continue  # another name of the same bytes
             if symbol.value > at:
-                things.append(self._place(Kind.GAP, section.name, section, at, symbol.value, data))
+                things.append((at, self._gap(section, at, symbol.value, data)))
             thing = self._place(Kind.GLOBAL, symbol.name, section, symbol.value, end, data)
             thing.type = kinds.get(symbol.name)
-            things.append(thing)
+            things.append((symbol.value, thing))
             at = end
         if at < section.size:
-            things.append(self._place(Kind.GAP, section.name, section, at, section.size, data))
-        self._sections[section.index] = things
+            things.append((at, self._gap(section, at, section.size, data)))
+
+    def _gap(self, section: Section, start: int, end: int, data: bytes) -> Thing:
+        """Bytes without a name, which keep their alignment: constants of several sizes may lie in them."""
+        return self._place(Kind.GAP, section.name, section, start // ELEMENT_BYTES * ELEMENT_BYTES, end, data)
 
     def _place(self, kind: Kind, name: str, section: Section, start: int, end: int, data: bytes) -> Thing:
         thing = self.add(kind, name, end - start)

@@ -4,6 +4,7 @@
 from __future__ import annotations
 
 import random
+import re
 import sys
 import unittest
 from pathlib import Path
@@ -143,6 +144,38 @@ class Steps(Same):
                     insns = [Address(6, 3, at), Load(size, False, 0, 6, 0), copy(2, 0), imm("xor", 2, -1)]
                     insns += [Store(size, 6, 1, 2, 0), Store(size, 6, 9, None, -7)]
                     self.compare(memory_of(a=40), {0: Function("main", 0, {0: Block(insns, Exit())})})
+
+    def test_address_below_the_begin(self) -> None:
+        for distance in (8, 24, 1000):
+            known = [Address(6, 3, 0), imm("add", 6, -distance), copy(7, 1), imm("lsh", 7, 3), op("add", 6, 7)]
+            unknown = [Address(6, 3, 0), copy(7, 1), imm("lsh", 7, 3), op("add", 6, 7), imm("add", 6, -distance)]
+            turned = [Address(7, 3, 0), imm("sub", 7, distance), copy(6, 1), imm("lsh", 6, 3), op("add", 6, 7)]
+            for insns in known, unknown, turned:
+                body = [*insns, Load(8, False, 0, 6, distance), Store(8, 6, distance + 8, 0, 0)]
+                functions = {0: Function("main", 0, {0: Block(body, Exit())})}
+                for argument in (0, 1, 4):
+                    self.compare(memory_of(a=48), functions, argument)
+
+    def test_loop_downwards(self) -> None:
+        for size in (1, 2, 8):
+            start = Block([mov(6, 9), mov(0, 0), Address(7, 3, 10 * size)], Goto(1))
+            body = [copy(2, 1), imm("mul", 2, size), op("add", 2, 7), Load(size, False, 3, 2, 9 * size)]
+            body += [op("add", 0, 3), Store(size, 2, 8 * size, 6, 0), imm("sub", 7, 2 * size), imm("sub", 6, 1)]
+            round_ = Block(body, Branch("jne", 64, 6, None, -1, 1, 2))
+            function = Function("main", 0, {0: start, 1: round_, 2: Block([], Exit())})
+            for argument in (0, 3):
+                self.compare(memory_of(a=24 * size), {0: function}, argument)
+
+    def test_alignment_is_known_of_what_was_put_aside(self) -> None:
+        insns = [Address(9, 4, 0), copy(2, 1), imm("lsh", 2, 3), op("add", 9, 2), Address(8, 3, 0), op("add", 8, 1)]
+        insns += [mov(register, register) for register in (3, 4, 5, 6, 7)]
+        insns += [Atomic(8, "add_fetch", 9, 0, register) for register in (3, 4, 5, 6, 7)]
+        insns += [copy(0, 1), Store(1, 8, 0, 0, 0), Load(8, False, 9, 9, 8), op("add", 0, 9)]
+        insns += [op("add", 0, register) for register in (1, 2, 3, 4, 5, 6, 7)]
+        insns += [Load(1, False, 1, 8, 1), op("add", 0, 1)]
+        unit = self.compare(memory_of(a=16, b=64), {0: Function("main", 0, {0: Block(insns, Exit())})}, 3)
+        aside = re.search(r"ldx64 r(\d), \[r10-\d+\]\n +and64 r\1, -8\n", unit)
+        self.assertIsNotNone(aside, unit)
 
     def test_function_put_in(self) -> None:
         called = [copy(6, 2), copy(7, 2), Store(8, 10, -8, 6, 0), Load(8, False, 8, 1, 0), copy(9, 8)]
