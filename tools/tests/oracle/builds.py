@@ -11,7 +11,8 @@ from pathlib import Path
 
 TESTS = Path(__file__).resolve().parents[1]
 REPOSITORY = TESTS.parents[1]
-HEADERS = (TESTS / "include", REPOSITORY / "examples" / "from_c")
+STAND_INS = REPOSITORY / "tools" / "include"
+HEADERS = (STAND_INS, REPOSITORY / "examples" / "from_c")
 LEVELS = ("-O1", "-O2", "-Os")
 QUICK_LEVELS = ("-O2",)
 CPUS = ("v2", "v3", "v4")

@@ -7,13 +7,13 @@ from collections.abc import Iterable, Iterator, Sequence
 from dataclasses import dataclass, replace
 from pathlib import Path
 
-from .builds import TESTS
+from .builds import STAND_INS, TESTS
 from .names import Names
 
 FLAGS = ("-w", "-std=gnu11", "-fwrapv", "-fno-strict-aliasing", "-fno-builtin")
 LEVEL = "-O1"
 SKIPPED = "-"
-HEADERS = (TESTS / "native", TESTS / "include")
+HEADERS = (TESTS / "native", STAND_INS)
 GCC_SECONDS = 120
 RUN_SECONDS = 20
 
