@@ -34,37 +34,26 @@ class Slots:
 class Emitted:
     """A unit, and what it is made of."""
 
-    def __init__(
-        self, memory: Memory, rewritten: Rewritten, text: List[str], slots: Slots, has_traps: bool, callback_slots: int
-    ) -> None:
+    def __init__(self, memory: Memory, rewritten: Rewritten, parts: Dict[int, List[Line]], has_traps: bool) -> None:
         self._memory = memory
         self._rewritten = rewritten
-        self._text = text
-        self._slots = slots
+        self._lines = [line for number in sorted(parts) for line in parts[number]]
         self._has_traps = has_traps
-        self._callback_slots = callback_slots
-
-    @property
-    def slots(self) -> int:
-        """How many slots it takes, which may be more than there are."""
-        return self._slots.count
-
-    @property
-    def callback_slots(self) -> int:
-        """How many of them are of callbacks."""
-        return self._callback_slots
+        self.slots = sum(line.slots for line in self._lines)  # which may be more than there are
+        self.callback_slots = self.slots - sum(line.slots for line in parts[0])
 
     def loaded(self, programs: List[str]) -> Loaded:
         """All that is known of it."""
         rewritten = self._rewritten
+        text, slots = text_of(self._lines)
         header = _header(self._memory, rewritten.layout, rewritten, self._has_traps)
         return Loaded(
-            unit="".join(f"{line}\n" for line in [*header, *self._text]),
+            unit="".join(f"{line}\n" for line in [*header, *text]),
             sizes=(rewritten.layout.elements,),
             initial=[rewritten.layout.initial()],
             variables=rewritten.layout.variables(),
-            lines=self._slots.lines,
-            loops=self._slots.loops,
+            lines=slots.lines,
+            loops=slots.loops,
             traps=rewritten.traps.all,
             trap_element=FLAG_ELEMENT if self._has_traps else None,
             rewrites=rewrites_of(self._memory, rewritten, rewritten.sources),
@@ -83,9 +72,7 @@ def emit(memory: Memory, rewritten: Rewritten) -> Emitted:
     sum_up(rewritten)
     for number in callback_order(rewritten):
         parts[number] = Lowering(rewritten, number, names[number], names).lines(can_trap)
-    text, slots = text_of([line for number in sorted(parts) for line in parts[number]])
-    callback_slots = sum(line.slots for number, part in parts.items() if number for line in part)
-    return Emitted(memory, rewritten, text, slots, any(can_trap.values()), callback_slots)
+    return Emitted(memory, rewritten, parts, any(can_trap.values()))
 
 
 def label_names(functions: Dict[int, Function]) -> Dict[int, str]:

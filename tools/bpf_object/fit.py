@@ -30,14 +30,17 @@ def fit(memory: Memory, functions: Dict[int, Function], choices: Iterable[Set[in
     """The unit by the first of some choices of what is spread that has room for its loops, or for the most of them."""
     first: Optional[TooLong] = None
     best: Optional[Tuple[int, Emitted]] = None
+    limited: Set[Loop] = set()
     for sizes in choices:
+        fitting = _Fit(memory, functions, sizes, set(limited))
         try:
-            done, emitted = _Fit(memory, functions, sizes).run()
+            done, emitted = fitting.run()
         except TooLong as reason:
             first = first or reason
             continue
-        if not done.cut:
+        if not done.cut or not fitting.is_spread:
             return emitted
+        functions, limited = fitting.functions, fitting.limited
         rounds = min(done.copied[loop] for loop in done.cut)
         if best is None or rounds > best[0]:
             best = rounds, emitted
@@ -49,11 +52,19 @@ def fit(memory: Memory, functions: Dict[int, Function], choices: Iterable[Set[in
 class _Fit:
     """Finds which loops are copied, and which are callbacks, by what there is room for."""
 
-    def __init__(self, memory: Memory, functions: Dict[int, Function], sizes: Set[int]) -> None:
+    def __init__(
+        self, memory: Memory, functions: Dict[int, Function], sizes: Set[int], limited: Set[Loop]
+    ) -> None:
         self._memory = memory
-        self._functions = functions
+        self.functions = functions
+        self.limited = limited  # the loops of which fewer rounds are copied
         self._sizes = sizes
         self._mender = Mender(memory, functions, sizes)
+
+    @property
+    def is_spread(self) -> bool:
+        """Whether any value has an element of its own."""
+        return self._mender.is_spread
 
     def _attempt(self, rounds: Dict[Loop, int]) -> Tuple[Rewritten, Emitted]:
         done = self._mender.run(BUDGET, rounds)
@@ -61,35 +72,35 @@ class _Fit:
 
     def run(self) -> Tuple[Rewritten, Emitted]:
         """The unit with all rounds of all loops, or else with as many as there is room for of those that go on."""
-        limited: Set[Loop] = set()
+        limited = self.limited
         while True:
             try:
                 done, emitted = self._attempt(dict.fromkeys(limited, FIRST_ROUNDS))
             except TooMany as reason:
-                self._limit(reason.loop, limited, f"the code takes more than {SLOTS_LIMIT} slots")
+                self._limit(reason.loop, f"the code takes more than {SLOTS_LIMIT} slots")
                 continue
             if emitted.slots <= SLOTS_LIMIT:
                 break
             counts = [(n, loop) for loop, n in done.copied.items() if loop not in limited and n >= FIRST_ROUNDS]
             of_main = [one for one in counts if not one[1][0] and emitted.callback_slots < ENOUGH * SLOTS_LIMIT]
             longest = max(of_main or counts, default=(0, None))[1]
-            self._limit(longest, limited, f"the code takes {emitted.slots} slots, of at most {SLOTS_LIMIT}")
+            self._limit(longest, f"the code takes {emitted.slots} slots, of at most {SLOTS_LIMIT}")
         best = _most_rounds(self._attempt, limited, done, emitted) if done.cut else (done, emitted)
         if best[0].endless is not None:
             raise TooLong(best[0].endless)
         return best
 
-    def _limit(self, loop: Optional[Loop], limited: Set[Loop], reason: str) -> None:
+    def _limit(self, loop: Optional[Loop], reason: str) -> None:
         """A loop is made a callback, where it is main's, or else fewer rounds of it are copied."""
         if loop is None:
             raise TooLong(reason)
-        outlined = None if loop[0] else outline(self._functions, loop[1])
+        outlined = None if loop[0] else outline(self.functions, loop[1])
         if outlined is None:
-            limited.add(loop)
+            self.limited.add(loop)
             return
-        self._functions = outlined
+        self.functions = outlined
         self._mender = Mender(self._memory, outlined, self._sizes)
-        limited.clear()
+        self.limited.clear()
 
 
 def _most_rounds(attempt: Try, limited: Set[Loop], done: Rewritten, emitted: Emitted) -> Tuple[Rewritten, Emitted]:

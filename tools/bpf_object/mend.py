@@ -54,10 +54,18 @@ class Mender:
                 self.facts.use((target,))
                 self.facts.escape(frozenset((target,)))
         self._spread: set[int] = set()
+        self._is_tried = False
+
+    @property
+    def is_spread(self) -> bool:
+        """Whether any value has an element of its own."""
+        return bool(self._spread)
 
     def run(self, budget: int, rounds: Dict[Loop, int]) -> Rewritten:
-        """The program with plans that agree with its layout, by few rounds of its loops first."""
-        self._settle(TRIAL_BUDGET, {}, True)
+        """The program with plans that agree with its layout, the first time by few rounds of its loops before."""
+        if not self._is_tried:
+            self._settle(TRIAL_BUDGET, {}, True)
+            self._is_tried = True
         return self._settle(budget, rounds, False)
 
     def _settle(self, budget: int, rounds: Dict[Loop, int], is_trial: bool) -> Rewritten:

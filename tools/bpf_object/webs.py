@@ -28,6 +28,7 @@ class Webs:
         self._defs: Dict[Tuple[int, int], int] = {}  # of a block and a place in it
         self._bases: Dict[Tuple[int, int], int] = {}
         self._held: Dict[Tuple[int, int], List[Defs]] = {}
+        self._natives_of: Dict[Defs, bool] = {}
         self._follow()
 
     def apply(self) -> None:
@@ -44,8 +45,13 @@ class Webs:
 
     def _natives(self, label: int, at: int) -> int:
         """The registers that have native addresses at an access."""
-        regs = self._held[label, at]
-        return sum(1 << register for register in range(REGISTERS) if any(map(self._is_native, regs[register])))
+        found = 0
+        for register, webs in enumerate(self._held[label, at]):
+            is_native = self._natives_of.get(webs)
+            if is_native is None:
+                is_native = self._natives_of[webs] = any(map(self._is_native, webs))
+            found |= is_native << register
+        return found
 
     def _is_native(self, web: int) -> bool:
         return not self._bad[self._find(web)]
@@ -78,7 +84,7 @@ class Webs:
         for label in order_of(self._function):
             block = self._function.blocks[label]
             states = arriving.pop(label, [start])
-            regs = [states[0][at].union(*(state[at] for state in states[1:])) for at in range(REGISTERS)]
+            regs = states[0][:] if len(states) == 1 else [frozenset().union(*webs) for webs in zip(*states)]
             for at, insn in enumerate(block.insns):
                 self._insn(label, at, insn, regs)
             end = block.end
@@ -104,8 +110,9 @@ class Webs:
             self._join(regs[insn.src] | {web})
             regs[insn.dst] = frozenset((web,))
         else:
+            read = reads_of(insn)
             for register in range(REGISTERS):
-                if reads_of(insn) >> register & 1:
+                if read >> register & 1:
                     self._spoil(regs[register])
             self._overwrite(label, at, writes_of(insn), regs)
 
