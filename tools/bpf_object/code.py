@@ -160,6 +160,31 @@ class Block:
     end: End
 
 
+class Kept(NamedTuple):
+    """The words of main's frame in which a callback that was a loop of main keeps what goes from round to round."""
+
+    top: int  # the byte of the frame under which they lie
+
+    @property
+    def way(self) -> int:
+        """The place of the number of the exit that was taken."""
+        return self.top - 8 - FRAME_BYTES
+
+    @property
+    def part(self) -> int:
+        """The place of the number of the inner loop that goes on, or of 0."""
+        return self.top - 16 - FRAME_BYTES
+
+    def register(self, number: int) -> int:
+        """The place of a register."""
+        return self.top - 8 * (number + 3) - FRAME_BYTES
+
+    @property
+    def bottom(self) -> int:
+        """The lowest byte of the frame that they take."""
+        return self.top - 8 * (len(REGISTERS) + 2)
+
+
 @dataclass
 class Function:
     """A function: its blocks by their labels."""
@@ -169,6 +194,8 @@ class Function:
     blocks: dict[int, Block] = field(default_factory=dict)
     line: SourceLine | None = None
     frame_of: int | None = None  # the function whose frame register 10 means, where that isn't its own
+    kept: Kept | None = None  # where it was a loop of main
+    parts: int = 0  # the inner loops that are left and gone on with round by round
 
     @property
     def size(self) -> int:

@@ -7,9 +7,10 @@ from typing import Callable, Dict, List, Optional, Set, Tuple
 
 from .code import Function
 from .emit import Emitted, emit
+from .inline import callbacks_in, inline_loop
 from .memory import Memory
 from .mend import Mender, Rewritten
-from .outline import outline
+from .outline import loop_of, outline, part
 from .refusal import Refused
 from .unit import SLOTS_LIMIT
 from .unroll import Loop, TooMany
@@ -17,6 +18,7 @@ from .unroll import Loop, TooMany
 BUDGET = 8000  # instructions that are copied at most, before those that nothing reads are left out
 FIRST_ROUNDS = 2
 ENOUGH = 0.9  # of the slots, where no more rounds are tried
+ENOUGH_ROUNDS = 64  # of a loop whose rounds aren't known: callbacks with fewer become loops of main
 TRIES = 8
 
 Try = Callable[[Dict[Loop, int]], Tuple[Rewritten, Emitted]]
@@ -59,6 +61,7 @@ class _Fit:
         self.functions = functions
         self.limited = limited  # the loops of which fewer rounds are copied
         self._sizes = sizes
+        self._rounds: Dict[Loop, int] = {}  # of the loops that end by themselves
         self._mender = Mender(memory, functions, sizes)
 
     @property
@@ -72,34 +75,80 @@ class _Fit:
 
     def run(self) -> Tuple[Rewritten, Emitted]:
         """The unit with all rounds of all loops, or else with as many as there is room for of those that go on."""
-        limited = self.limited
+        done, emitted = self._fitting()
+        best = _most_rounds(self._attempt, self.limited, done, emitted) if done.cut else (done, emitted)
+        if self._is_enough(best[0]):
+            return best
+        try:
+            return self._with_loops_of_main(best[0].cut)
+        except TooLong:
+            if best[0].endless is not None:
+                raise TooLong(best[0].endless) from None
+            return best
+
+    def _fitting(self) -> Tuple[Rewritten, Emitted]:
+        """The unit with few rounds of the loops that there is no room for."""
         while True:
             try:
-                done, emitted = self._attempt(dict.fromkeys(limited, FIRST_ROUNDS))
+                done, emitted = self._attempt(dict.fromkeys(self.limited, FIRST_ROUNDS))
             except TooMany as reason:
                 self._limit(reason.loop, f"the code takes more than {SLOTS_LIMIT} slots")
                 continue
             if emitted.slots <= SLOTS_LIMIT:
-                break
-            counts = [(n, loop) for loop, n in done.copied.items() if loop not in limited and n >= FIRST_ROUNDS]
+                return done, emitted
+            self._rounds.update((loop, rounds) for loop, rounds in done.copied.items() if loop not in self.limited)
+            counts = [(n, loop) for loop, n in done.copied.items() if loop not in self.limited and n >= FIRST_ROUNDS]
             of_main = [one for one in counts if not one[1][0] and emitted.callback_slots < ENOUGH * SLOTS_LIMIT]
             longest = max(of_main or counts, default=(0, None))[1]
             self._limit(longest, f"the code takes {emitted.slots} slots, of at most {SLOTS_LIMIT}")
-        best = _most_rounds(self._attempt, limited, done, emitted) if done.cut else (done, emitted)
-        if best[0].endless is not None:
-            raise TooLong(best[0].endless)
-        return best
+
+    def _is_enough(self, done: Rewritten) -> bool:
+        """Whether each loop that is cut likely ends by itself before."""
+        most = {loop: self._rounds.get(loop, ENOUGH_ROUNDS) for loop in done.cut}
+        return done.endless is None and all(done.copied[loop] >= rounds for loop, rounds in most.items())
+
+    def _with_loops_of_main(self, cut: Set[Loop]) -> Tuple[Rewritten, Emitted]:
+        """The unit in which the callbacks of some loops, or in them, are loops of main: these can be parted."""
+        changed = self.functions
+        headers = sorted(header for number, header in cut if not number)
+        callbacks = {number for number, _ in cut if number}
+        for header in headers:
+            callbacks |= callbacks_in(changed[0], loop_of(changed[0], header))
+        for number in sorted(number for number in callbacks if changed[number].kept is None):
+            found = inline_loop(changed, number)
+            if found is None:
+                raise TooLong("a loop is too long")
+            changed = found[0]
+            headers += found[1]
+        for header in headers:
+            if header in changed[0].blocks:
+                outlined = outline(changed, header)
+                if outlined is None:
+                    raise TooLong("a loop is too long")
+                changed = outlined
+        self._begin_with(changed)
+        return self.run()
 
     def _limit(self, loop: Optional[Loop], reason: str) -> None:
-        """A loop is made a callback, where it is main's, or else fewer rounds of it are copied."""
+        """A loop is made a callback, where it is main's, or parted; or else fewer rounds of it are copied."""
         if loop is None:
             raise TooLong(reason)
-        outlined = None if loop[0] else outline(self.functions, loop[1])
-        if outlined is None:
+        number, header = loop
+        if number == 0:
+            changed = outline(self.functions, header)
+        elif self.functions[number].kept is not None:
+            changed = {**self.functions, number: part(self.functions[number], header)}
+        else:
+            changed = None
+        if changed is None:
             self.limited.add(loop)
-            return
-        self.functions = outlined
-        self._mender = Mender(self._memory, outlined, self._sizes)
+        else:
+            self._begin_with(changed)
+
+    def _begin_with(self, functions: Dict[int, Function]) -> None:
+        self.functions = functions
+        self._mender = Mender(self._memory, functions, self._sizes)
+        self._rounds.clear()
         self.limited.clear()
 
 

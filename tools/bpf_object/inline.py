@@ -6,7 +6,9 @@ they were, it is given those that its caller doesn't need there; others are kept
 
 from __future__ import annotations
 
-from typing import Dict, List, Optional, Set
+from collections.abc import Iterable, Iterator
+from dataclasses import replace
+from typing import Dict, List, Optional, Set, Tuple
 
 from .btf import SourceLine
 from .code import (
@@ -59,6 +61,39 @@ def inline_callback(functions: Dict[int, Function], number: int) -> Function:
     return _Inliner(functions).whole(number, True)
 
 
+def inline_loop(functions: Dict[int, Function], number: int) -> Optional[Tuple[Dict[int, Function], List[int]]]:
+    """The functions with a callback as loops of main, and the first blocks of these.
+
+    It is nothing where main doesn't name the callback right at its calls.
+    """
+    main = functions[0]
+    done = Function(main.name, main.entry, dict(main.blocks), main.line)
+    headers: List[int] = []
+    try:
+        for label in order_of(main):
+            headers += _put_in_loops(done, label, number, functions[number])
+    except Refused:
+        return None
+    if number in _callbacks(done):
+        return None
+    others = {other: function for other, function in functions.items() if other not in (0, number)}
+    return {0: done, **others}, headers
+
+
+def _put_in_loops(main: Function, label: int, number: int, body: Function) -> Iterator[int]:
+    """Puts a callback in at all calls of a block; the last one is done first, so that the others keep their places."""
+    insns = main.blocks[label].insns
+    for at in [at for at, insn in enumerate(insns) if isinstance(insn, Call) and insn.helper == LOOP][::-1]:
+        if _loop_callback(main.blocks[label], at) == number:
+            yield _Site(main, label, at, body).put_in(True)
+
+
+def callbacks_in(function: Function, labels: Iterable[int]) -> Set[int]:
+    """The callbacks that some blocks name."""
+    insns = (insn for label in labels for insn in function.blocks[label].insns)
+    return {insn.function for insn in insns if isinstance(insn, CodeOf)}
+
+
 def _callbacks(function: Function) -> List[int]:
     return [insn.function for block in function.blocks.values() for insn in block.insns if isinstance(insn, CodeOf)]
 
@@ -74,7 +109,7 @@ class _Inliner:
         if number in self._open:
             raise Refused(f"{line_text(source.line)}{source.name} calls itself")
         self._open.append(number)
-        function = Function(source.name, source.entry, dict(source.blocks), source.line, source.frame_of)
+        function = replace(source, blocks=dict(source.blocks))
         calls = True
         while calls:
             calls = False
@@ -118,6 +153,13 @@ def _loop_callback(block: Block, at: int) -> int:
     raise Refused(f"{line_text(line)}a callback calls bpf_loop with a callback that isn't named there")
 
 
+def _without_name(insns: List) -> List:
+    """What is done in front of a loop call that is put in, without the callback's name where nothing else reads it."""
+    named = max(at for at, insn in enumerate(insns) if isinstance(insn, CodeOf) and insn.dst == 2)
+    is_read = any(2 in reads(insn) for insn in insns[named + 1 :])
+    return insns if is_read else [*insns[:named], *insns[named + 1 :]]
+
+
 class _Site:
     """A call, and the function that is put in for it."""
 
@@ -136,8 +178,8 @@ class _Site:
         self._kept = [target for target in targets[: len(_saved_used(body))] if live >> target & 1]
         self._lowest = lowest_byte(function)
 
-    def put_in(self, is_loop: bool) -> None:
-        """Parts the block at the call, and puts the body between."""
+    def put_in(self, is_loop: bool) -> int:
+        """Parts the block at the call, and puts the body between; gives the first block of the loop, if it is one."""
         rest = self._new_label()
         words = len(self._kept) + (3 if is_loop else 0)
         bottom = self._lowest - 8 * words
@@ -150,12 +192,16 @@ class _Site:
         keep = [Store(8, FRAME, place, register, 0, self._line) for register, place in zip(self._kept, places)]
         restore = [Load(8, False, register, FRAME, place, self._line) for register, place in zip(self._kept, places)]
         self._function.blocks[rest] = Block([*restore, *self._block.insns[self._at + 1 :]], self._block.end)
-        front = [*self._block.insns[: self._at], *keep]
+        front = self._block.insns[: self._at]
+        front = [*(_without_name(front) if is_loop else front), *keep]
         if is_loop:
-            end = self._loop(rest, places[len(self._kept) :], under, front)
+            header = self._new_label()
+            end = self._loop(header, rest, places[len(self._kept) :], under, front)
         else:
-            end = Goto(self._copy(rest, under), self._line)
+            header = self._copy(rest, under)
+            end = Goto(header, self._line)
         self._function.blocks[self._label] = Block(front, end)
+        return header
 
     def _new_label(self) -> int:
         self._next += 1
@@ -189,13 +235,13 @@ class _Site:
             return [found, Alu("add", 64, found.dst, None, shift, insn.line)]
         return [found]
 
-    def _loop(self, rest: int, places: List[int], bottom: int, front: List) -> Branch:
+    def _loop(self, test: int, rest: int, places: List[int], bottom: int, front: List) -> Branch:
         """The callback's rounds, with the count, the round and ctx in the frame."""
         line = self._line
         count, at, context = places
         front += [Store(8, FRAME, context, 3, 0, line), Alu("mov", 32, 1, 1, 0, line)]
         front += [Store(8, FRAME, count, 1, 0, line), Store(8, FRAME, at, None, 0, line)]
-        valid, test, more, behind, done = (self._new_label() for _ in range(5))
+        valid, more, behind, done = (self._new_label() for _ in range(4))
         invalid, too_big = self._answer(INVALID, rest), self._answer(TOO_BIG, rest)
         blocks = self._function.blocks
         blocks[valid] = Block([], Branch("jgt", 64, 1, None, COUNT_LIMIT, too_big, test, line))

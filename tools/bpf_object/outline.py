@@ -1,17 +1,18 @@
 """Makes a callback of a loop in main, for the loops that there is no room to copy.
 
 The callback does one round. What registers hold from one round to the next lies in main's frame meanwhile, which the
-callback reaches, so that it has to be in the map.
+callback reaches, so that it has to be in the map. A loop in such a callback, for which there is no room either, is
+parted: each of its rounds ends the callback, and the next iteration goes on with it.
 """
 
 from __future__ import annotations
 
+from dataclasses import replace
 from typing import Dict, List, Optional, Set
 
 from .btf import SourceLine
 from .code import (
     FRAME,
-    FRAME_BYTES,
     LOOP,
     REGISTERS,
     RESULT,
@@ -24,6 +25,7 @@ from .code import (
     Exit,
     Function,
     Goto,
+    Kept,
     Load,
     Stop,
     Store,
@@ -40,7 +42,7 @@ ROUNDS = 1 << 23  # that a loop call does at most
 def outline(functions: Dict[int, Function], header: int) -> Optional[Dict[int, Function]]:
     """The functions with one more, or nothing where the loop can't be made one."""
     main = functions[0]
-    labels = _loop(main, header)
+    labels = loop_of(main, header)
     order = order_of(main)
     enters = [label for label in order if label not in labels and set(successors(main.blocks[label].end)) & labels]
     if any(set(successors(main.blocks[label].end)) & (labels - {header}) for label in enters):
@@ -48,8 +50,9 @@ def outline(functions: Dict[int, Function], header: int) -> Optional[Dict[int, F
     named = [insn.function for label in labels for insn in main.blocks[label].insns if isinstance(insn, CodeOf)]
     if any(functions[callback].frame_of is None for callback in named):
         return None  # the user's own loop calls stay main's
-    site = _Site(main, header, labels)
-    if site.bottom < 0:
+    known = [function.kept for function in functions.values() if function.kept is not None]
+    site = _Site(main, header, labels, known[0] if known and not named else Kept(lowest_byte(main)))
+    if site.kept.bottom < 0:
         return None
     number = max(functions) + 1
     done = dict(functions)
@@ -59,7 +62,29 @@ def outline(functions: Dict[int, Function], header: int) -> Optional[Dict[int, F
     return done
 
 
-def _loop(function: Function, header: int) -> Set[int]:
+def part(function: Function, header: int) -> Function:
+    """A callback that was a loop of main, with one of its own loops parted."""
+    kept = function.kept
+    assert kept is not None
+    block = function.blocks[header]
+    line = block.insns[0].line if block.insns else block.end.line
+    registers = [register for register in REGISTERS if live_in_of(function)[header] >> register & 1]
+    entry, again, leave = (max(function.blocks) + n for n in (1, 2, 3))
+    number = function.parts + 1
+    blocks = {
+        label: Block(block.insns, _led(block.end, header, leave)) for label, block in function.blocks.items()
+    }
+    start = leave if function.entry == header else function.entry
+    blocks[entry] = Block([Load(8, False, 1, FRAME, kept.part, line)], Branch("jeq", 64, 1, None, number, again, start))
+    loads = [Load(8, False, register, FRAME, kept.register(register), line) for register in registers]
+    blocks[again] = Block([Store(8, FRAME, kept.part, None, 0, line), *loads], Goto(header, line))
+    stores = [Store(8, FRAME, kept.register(register), register, 0, line) for register in registers]
+    stores.append(Store(8, FRAME, kept.part, None, number, line))
+    blocks[leave] = Block([*stores, Alu("mov", 64, RESULT, None, 0, line)], Exit(line))
+    return replace(function, entry=entry, blocks=blocks, parts=number)
+
+
+def loop_of(function: Function, header: int) -> Set[int]:
     """The blocks of the loop that begins at one."""
     place = {label: at for at, label in enumerate(order_of(function))}
     leads: Dict[int, List[int]] = {}
@@ -77,7 +102,7 @@ def _loop(function: Function, header: int) -> Set[int]:
 
 
 class _Site:
-    def __init__(self, main: Function, header: int, labels: Set[int]) -> None:
+    def __init__(self, main: Function, header: int, labels: Set[int], kept: Kept) -> None:
         self._main = main
         self._header = header
         self._labels = labels
@@ -88,25 +113,16 @@ class _Site:
         edges = [(label, to) for label in sorted(labels) for to in successors(main.blocks[label].end)]
         self._exits = sorted({to for _, to in edges if to not in labels})
         self._written = {r for label in labels for insn in main.blocks[label].insns for r in writes(insn)}
-        self._lowest = lowest_byte(main)
-        self.bottom = self._lowest - 8 * (len(REGISTERS) + 1)
-
-    def _place(self, register: int) -> int:
-        return self._lowest - 8 * (register + 2) - FRAME_BYTES
-
-    @property
-    def _way(self) -> int:
-        """The place of the number of the exit that was taken."""
-        return self._lowest - 8 - FRAME_BYTES
+        self.kept = kept  # the same words as those of another loop, which isn't in this one
 
     def _registers(self, label: int) -> List[int]:
         return [register for register in REGISTERS if self._live[label] >> register & 1]
 
     def _load(self, register: int) -> Load:
-        return Load(8, False, register, FRAME, self._place(register), self._line)
+        return Load(8, False, register, FRAME, self.kept.register(register), self._line)
 
     def _store(self, register: int) -> Store:
-        return Store(8, FRAME, self._place(register), register, 0, self._line)
+        return Store(8, FRAME, self.kept.register(register), register, 0, self._line)
 
     def _number(self, register: int, number: int) -> Alu:
         return Alu("mov", 64, register, None, number, self._line)
@@ -115,7 +131,7 @@ class _Site:
         """One round."""
         name = f"{self._main.name}_round"
         entry, again = self._next, self._next + 1
-        function = Function(name, entry, {}, self._line, 0)
+        function = Function(name, entry, {}, self._line, 0, self.kept)
         blocks = function.blocks
         registers = self._registers(self._header)
         blocks[entry] = Block([self._load(register) for register in registers], Goto(self._header, self._line))
@@ -126,7 +142,7 @@ class _Site:
         for number, label in enumerate(self._exits, 1):
             out = leading[label] = again + number
             kept = [self._store(register) for register in self._registers(label) if register in self._written]
-            kept.append(Store(8, FRAME, self._way, None, number, self._line))
+            kept.append(Store(8, FRAME, self.kept.way, None, number, self._line))
             blocks[out] = Block([*kept, self._number(RESULT, 1)], Exit(self._line))
         for label in self._labels:
             block = self._main.blocks[label]
@@ -141,9 +157,9 @@ class _Site:
         for label in enters:
             blocks[label] = Block(blocks[label].insns, _led(blocks[label].end, self._header, call))
         insns: List = [self._store(register) for register in self._registers(self._header)]
-        insns.append(Store(8, FRAME, self._way, None, 0, self._line))
+        insns += [Store(8, FRAME, place, None, 0, self._line) for place in (self.kept.way, self.kept.part)]
         insns += [self._number(1, ROUNDS), CodeOf(2, number, self._line), self._number(3, 0), self._number(4, 0)]
-        insns += [Call(LOOP, self._line), Load(8, False, 1, FRAME, self._way, self._line)]
+        insns += [Call(LOOP, self._line), Load(8, False, 1, FRAME, self.kept.way, self._line)]
         blocks[call] = Block(insns, Goto(call, self._line))
         last = call
         for way, label in enumerate(self._exits, 1):
