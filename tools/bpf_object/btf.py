@@ -122,6 +122,14 @@ class Btf:
                         raise Refused(f"a variable of {section} isn't one by its type")
                     yield variable.name, self._plain(variable.size_or_type)
 
+    def result_of(self, function: str) -> Type | None:
+        """The type of what a function returns; nothing where that isn't known, or is void."""
+        found = next((kind for kind in self._types if kind.kind == Kind.FUNC and kind.name == function), None)
+        prototype = self._type(found.size_or_type) if found else None
+        if prototype is None or prototype.kind != Kind.FUNC_PROTO or not prototype.size_or_type:
+            return None
+        return self._plain(prototype.size_or_type)
+
     def members(self, structure: Type) -> Iterator[tuple[str, Type]]:
         """The name of each member of a structure, and the type that the member points to."""
         if len(structure.behind) > MEMBERS_LIMIT * MEMBER.size:

@@ -105,7 +105,8 @@ class _Fit:
     def _is_enough(self, done: Rewritten) -> bool:
         """Whether each loop that is cut likely ends by itself before."""
         most = {loop: self._rounds.get(loop, ENOUGH_ROUNDS) for loop in done.cut}
-        return done.endless is None and all(done.copied[loop] >= rounds for loop, rounds in most.items())
+        is_long = all(done.copied[loop] >= rounds for loop, rounds in most.items())
+        return done.endless is None and not done.counted and is_long
 
     def _with_loops_of_main(self, cut: Set[Loop]) -> Tuple[Rewritten, Emitted]:
         """The unit in which the callbacks of some loops, or in them, are loops of main: these can be parted."""

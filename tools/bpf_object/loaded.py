@@ -6,7 +6,10 @@ from collections.abc import Sequence
 from dataclasses import dataclass, field
 
 from .btf import Btf, SourceLine
+from .refusal import Refused
 from .variables import ELEMENT_BYTES, Variable
+
+SECTION_LIMIT = 1 << 20  # bytes of the values, as docs/FORMATS.md has it
 
 
 @dataclass(frozen=True)
@@ -54,8 +57,9 @@ class Loaded:
         """The unit with its maps' values where any isn't 0."""
         if not any(any(words) for words in self.initial):
             return self.unit
-        lines = [f"map {number}: {' '.join(map(str, words))}" for number, words in enumerate(self.initial)]
-        return "".join([self.unit, "%%\n", *(f"{line}\n" for line in lines)])
+        values = "".join(f"map {number}: {' '.join(map(str, words))}\n" for number, words in enumerate(self.initial))
+        refuse_long_values(len(values))
+        return f"{self.unit}%%\n{values}"
 
     def trap_in(self, words: Sequence[int]) -> str | None:
         """The trap that was taken, in words, by all elements after a run; nothing where none was."""
@@ -65,6 +69,12 @@ class Loaded:
         if number > len(self.traps):
             return f"trap {number}"
         return self.traps[number - 1].told(words[self.trap_element + 1])
+
+
+def refuse_long_values(size: int) -> None:
+    """Refuses values whose text takes more bytes than a section of an input may have."""
+    if size > SECTION_LIMIT:
+        raise Refused(f"the variables' values take {size} bytes as decimal numbers, of at most {SECTION_LIMIT}")
 
 
 def bytes_of_words(words: Sequence[int]) -> bytes:

@@ -32,6 +32,7 @@ class Rewritten:
     facts: Facts
     traps: Traps
     cut: Set[Loop]
+    counted: Set[Loop]
     copied: Dict[Loop, int]
     sources: Dict[int, Function]
     endless: Optional[str] = None
@@ -83,7 +84,7 @@ class Mender:
     def _round(self, layout: Layout, limits: Limits) -> Rewritten:
         traps = Traps()
         planner = Planner(self._memory, layout, self.facts, traps)
-        done = Rewritten({}, {}, self._frames, self._contexts, layout, self.facts, traps, set(), {}, self._functions)
+        done = Rewritten({}, {}, self._frames, self._contexts, layout, self.facts, traps, set(), set(), {}, self._functions)
         waiting: List[int] = [0]
         while waiting:
             number = waiting.pop(0)
@@ -91,6 +92,7 @@ class Mender:
             unroller = Unroller(analysis, planner, self._functions[number], limits)
             done.functions[number] = unroller.run(self._entry(number, layout, done.entries))
             done.cut |= unroller.cut
+            done.counted |= unroller.counted
             done.copied.update(unroller.copied)
             done.endless = done.endless or unroller.endless
             for callback, entry in analysis.entries.items():

@@ -6,6 +6,7 @@ Where a round limit is given, what would lead further is a trap. A lookup become
 
 from __future__ import annotations
 
+from dataclasses import dataclass
 from typing import Dict, FrozenSet, List, Optional, Tuple
 
 from .access import Planner
@@ -43,6 +44,16 @@ class Limits:
         self.is_trial = is_trial  # all loops have few rounds, and nothing is refused
 
 
+@dataclass
+class _Open:
+    """A loop that is being copied."""
+
+    loop: Loop
+    labels: FrozenSet[int]
+    rounds: int = 0
+    is_counted: bool = False  # in this round it was known that a way out isn't taken
+
+
 class Unroller:
     """One function."""
 
@@ -52,8 +63,9 @@ class Unroller:
         self._source = function
         self._graph = Graph(function)
         self._limits = limits
-        self._open: List[List] = []  # the loops that are being copied, and their rounds
+        self._open: List[_Open] = []
         self.cut: set[Loop] = set()
+        self.counted: set[Loop] = set()  # those of them that surely have more rounds, or may by a known count
         self.endless: Optional[str] = None  # why a loop never comes to its end
         self.copied: Dict[Loop, int] = {}  # the most rounds of each loop
         self.result = Function(function.name, 0, {}, function.line)
@@ -91,11 +103,15 @@ class Unroller:
         loop = (self._analysis.number, header)
         limit = TRIAL_ROUNDS if self._limits.is_trial else self._limits.rounds.get(loop)
         exits: Exits = []
-        self._open.append([loop, 0])
+        this = _Open(loop, labels)
+        self._open.append(this)
         while incoming:
-            if limit is not None and self._open[-1][1] >= limit:
+            if limit is not None and this.rounds >= limit:
                 self._cut(header, incoming, limit, not exits)
+                if this.is_counted:
+                    self.counted.add(loop)
                 break
+            this.is_counted = False
             again: List[Arrival] = []
             for target, edge, state in self._region(labels, incoming, header):
                 if target == header:
@@ -103,8 +119,9 @@ class Unroller:
                 else:
                     exits.append((target, edge, state))
             incoming = {header: again} if again else {}
-            self._open[-1][1] += 1
-        self.copied[loop] = max(self.copied.get(loop, 0), self._open.pop()[1])
+            this.rounds += 1
+        self._open.pop()
+        self.copied[loop] = max(self.copied.get(loop, 0), this.rounds)
         return exits
 
     def _cut(self, header: int, incoming: Dict[int, List[Arrival]], rounds: int, is_always: bool) -> None:
@@ -181,7 +198,7 @@ class Unroller:
     def _count(self, insns: int) -> None:
         self._limits.budget -= insns + 1
         if self._limits.budget < 0:
-            unlimited = [(rounds, loop) for loop, rounds in self._open if loop not in self._limits.rounds]
+            unlimited = [(one.rounds, one.loop) for one in self._open if one.loop not in self._limits.rounds]
             raise TooMany(max(unlimited)[1] if unlimited else None)
 
     def _end(self, end: End, target: int, state: State, exits: Exits) -> None:
@@ -198,6 +215,8 @@ class Unroller:
             taken, other = self._analysis.compare(end, state)
             if taken is None or other is None or end.taken == end.other:
                 following = end.other if taken is None else end.taken
+                if self._open and end.taken + end.other - following not in self._open[-1].labels:
+                    self._open[-1].is_counted = True
                 block.end = Goto(following, end.line)
                 exits.append((following, (target, "target"), taken or other or state))
             else:

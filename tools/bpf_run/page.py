@@ -73,7 +73,7 @@ def _run(report: Report, run: RunReport) -> Iterator[str]:
     if run.trap is not None:
         yield f'<p class="bad">trap at {escape(run.trap)}</p>'
         return
-    yield f"<p>return <code>{escape(str(report.program.returned(run.value)))}</code></p>"
+    yield f"<p>return <code>{escape(report.program.returned_text(run.value))}</code></p>"
     yield from _loops(run.loops)
 
 

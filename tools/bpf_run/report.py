@@ -12,7 +12,7 @@ from bpf_object.btf import SourceLine
 from bpf_object.load import Loaded, Variable
 
 from .c_types import CType, Form, Number, type_of, type_of_variable
-from .c_values import Value, decoded
+from .c_values import Value, decoded, text_of
 from .most import Most
 from .reports import Refusal
 from .unit_text import UnitText, read_unit
@@ -76,13 +76,20 @@ class Program:
             name: decoded(variable.bytes_in(words), self.types[name]) for name, variable in self.variables.items()
         }
 
+    @cached_property
+    def _result(self) -> Number:
+        """The type of main's result; a signed number of 64 bits where C says nothing."""
+        btf = self.loaded.btf
+        kind = type_of(btf, btf.result_of(self.name)) if btf else None
+        return kind if isinstance(kind, Number) else Number(ANSWER_BYTES, Form.SIGNED)
+
     def returned(self, number: int) -> Value:
-        """What main returned, as the number that C says it is; a signed one of 64 bits where C says nothing."""
-        result_of = getattr(self.loaded.btf, "result_of", None)
-        kind = type_of(self.loaded.btf, result_of(self.name)) if result_of else None
-        if not isinstance(kind, Number):
-            kind = Number(ANSWER_BYTES, Form.SIGNED)
-        return decoded(number.to_bytes(ANSWER_BYTES, "little"), kind)
+        """What main returned, as the value that C says it is."""
+        return decoded(number.to_bytes(ANSWER_BYTES, "little"), self._result)
+
+    def returned_text(self, number: int) -> str:
+        """The same in words."""
+        return text_of(self.returned(number), self._result)
 
 
 @dataclass(frozen=True)

@@ -7,6 +7,7 @@ import sys
 from collections.abc import Iterator
 
 from bpf_object.load import Loaded, load
+from bpf_object.loaded import refuse_long_values
 from bpf_object.program import Fault
 from bpf_object.refusal import Refused
 
@@ -18,7 +19,6 @@ from .report import AccessReport, ConflictReport, FunctionReport, LoopReport, Re
 from .reports import Conflict, Explanation, Function, Loop, Refusal, read_explanation, read_run, read_verify
 from .unit_text import VALUES, split, with_values
 
-SECTION_LIMIT = 1 << 20  # bytes of the values, as docs/FORMATS.md has it
 EXPLAIN_SECONDS = 60.0  # that a run's conflicts may take to be explained
 # What no object should lead to, since all is tested before it is used; still no object gets a trace.
 UNFORESEEN = (struct.error, ArithmeticError, LookupError, MemoryError, RecursionError, TypeError, ValueError)
@@ -146,9 +146,7 @@ class Session:
     def _values(self) -> str:
         """The unit with the values that the run begins with."""
         text = with_values(self.program.unit.text, split(self.words, self.program.loaded.sizes))
-        size = len(text) - len(self.program.unit.text) - len(VALUES) - 1
-        if size > SECTION_LIMIT:
-            raise Refused(f"the variables' values take {size} bytes as decimal numbers, of at most {SECTION_LIMIT}")
+        refuse_long_values(len(text) - len(self.program.unit.text) - len(VALUES) - 1)
         return text
 
     def _name(self, slot: int, number: int) -> str:

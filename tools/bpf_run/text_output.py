@@ -22,7 +22,7 @@ def run_lines(program: Program, run: RunReport, is_one: bool) -> Iterator[str]:
     if run.trap is not None:
         yield f"trap at {run.trap}"
         return
-    yield f"return {program.returned(run.value)}"
+    yield f"return {program.returned_text(run.value)}"
     yield from map(loop_line, run.loops)
 
 
