@@ -84,7 +84,8 @@ class Mender:
     def _round(self, layout: Layout, limits: Limits) -> Rewritten:
         traps = Traps()
         planner = Planner(self._memory, layout, self.facts, traps)
-        done = Rewritten({}, {}, self._frames, self._contexts, layout, self.facts, traps, set(), set(), {}, self._functions)
+        known = (self._frames, self._contexts, layout, self.facts, traps)
+        done = Rewritten({}, {}, *known, set(), set(), {}, self._functions)
         waiting: List[int] = [0]
         while waiting:
             number = waiting.pop(0)

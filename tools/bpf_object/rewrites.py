@@ -42,6 +42,10 @@ def _of_loops(rewritten: Rewritten, sources: Dict[int, Function]) -> Iterator[st
         line = block.insns[0].line if block.insns else block.end.line
         end = ", and a trap behind the last" if loop in rewritten.cut else ""
         yield f"{line_text(line)}the loop's rounds are copied, {rounds} of them{end}"
+    for function in sources.values():
+        if function.kept is not None:
+            parts = ", and so are those of a loop in it" if function.parts else ""
+            yield f"{line_text(function.line)}the loop's rounds are iterations of a loop call{parts}"
 
 
 def _at_lines(rewritten: Rewritten) -> Iterator[str]:

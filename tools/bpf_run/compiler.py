@@ -20,6 +20,8 @@ FLAGS = ("-O2", "-g", "-target", "bpf")
 TRIES = ((), ("-mcpu=v3",), ("-mcpu=v4",))  # v3 has atomics of 4 bytes, and v4 signed division
 QUIET = "-fno-crash-diagnostics"
 UNSUPPORTED = re.compile("error in backend|Unsupported atomic")
+LIBRARY = re.compile("built-in function 'mem")  # clang makes a call of a function of C's library of a loop
+NO_LIBRARY = ("-fno-builtin",)
 DUMP = "PLEASE submit a bug report"
 NUMBERED = re.compile(r"clang-(\d+)")
 SOURCES = (".c", ".i")
@@ -81,6 +83,9 @@ def compiled(source: str, clock: Clock) -> Compiled:
     errors = ""
     for more in TRIES:
         data, said = _tried(source, more, clock)
+        if data is None and LIBRARY.search(said):
+            more = (*more, *NO_LIBRARY)
+            data, said = _tried(source, more, clock)
         if data is not None:
             sys.stderr.write(said)
             return Compiled(data, more)

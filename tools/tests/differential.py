@@ -5,8 +5,8 @@
 
 Each program of tools/tests/c, of examples/from_c and of what is named is compiled by gcc and by clang at -O1, -O2 and
 -Os for each instruction set that this clang knows. The unit runs by `order`, and by `run` with several workers. With
---quick it is compiled at -O2 for v2 and v3 and runs by `order` alone. The status is 1 where anything differs or is
-refused.
+--quick it is compiled for v2 at one of these levels and for v3 at the next one, by turns, and runs with one argument.
+The status is 1 where anything differs, is refused or ends by a trap.
 """
 
 from __future__ import annotations
@@ -21,7 +21,8 @@ from pathlib import Path
 
 sys.path.insert(0, str(Path(__file__).resolve().parents[1]))
 
-from oracle.builds import REPOSITORY, TESTS, Build, ClangFailed, builds, has_clang  # noqa: E402
+from oracle.builds import REPOSITORY, TESTS, Build, ClangFailed, builds, has_clang, processes  # noqa: E402
+from oracle.builds import turned_builds  # noqa: E402
 from oracle.compare import Judged, Outcome, judge  # noqa: E402
 from oracle.names import Names, names_of  # noqa: E402
 from oracle.native import NativeFailed, compile_native, run_native  # noqa: E402
@@ -29,14 +30,13 @@ from oracle.units import make_ready  # noqa: E402
 
 ARGUMENTS = (0, 7)
 QUICK_ARGUMENTS = (7,)
-PROCESSES = 2
 FOLDERS = (TESTS / "c", REPOSITORY / "examples" / "from_c")
 
 
 def main() -> int:
     """Compares all programs, and prints what came of them."""
     parser = argparse.ArgumentParser(prog="differential.py", description=(__doc__ or "").partition("\n")[0])
-    parser.add_argument("--quick", action="store_true", help="-O2 for v2 and v3, by `order` alone")
+    parser.add_argument("--quick", action="store_true", help="v2 at one level and v3 at the next, and one argument")
     parser.add_argument("--all", action="store_true", help="print the builds that are the same too")
     parser.add_argument("programs", nargs="*", type=Path, help="sources in C, instead of those of the folders")
     options = parser.parse_args()
@@ -46,8 +46,10 @@ def main() -> int:
     make_ready()
     sources = options.programs or [path for folder in FOLDERS for path in sorted(folder.glob("*.c"))]
     judged: list[Judged] = []
-    with ProcessPoolExecutor(PROCESSES) as pool:
-        for found in pool.map(partial(compare, is_quick=options.quick), sources):
+    tried = [[*turned_builds(number)] if options.quick else [*builds(is_quick=False)] for number in range(len(sources))]
+    arguments = QUICK_ARGUMENTS if options.quick else ARGUMENTS
+    with ProcessPoolExecutor(processes()) as pool:
+        for found in pool.map(partial(compare, arguments=arguments), sources, tried):
             for one in found:
                 judged.append(one)
                 if options.all or one.outcome is not Outcome.SAME:
@@ -62,13 +64,12 @@ def main() -> int:
     return 1 if count[Outcome.SAME] < len(judged) else 0
 
 
-def compare(source: Path, is_quick: bool) -> list[Judged]:
+def compare(source: Path, tried: list[Build], arguments: tuple[int, ...]) -> list[Judged]:
     """What comes of each build and each main function of a program."""
-    arguments = QUICK_ARGUMENTS if is_quick else ARGUMENTS
     with tempfile.TemporaryDirectory(prefix="differential_") as name:
         folder = Path(name)
         try:
-            objects = {build: build.compile(source.resolve(), folder / "x.o") for build in builds(is_quick)}
+            objects = {build: build.compile(source.resolve(), folder / "x.o") for build in tried}
             names = all_names(objects)
             executable = compile_native(source.resolve(), names, folder)
             natives = {
@@ -78,7 +79,7 @@ def compare(source: Path, is_quick: bool) -> list[Judged]:
         except (ClangFailed, NativeFailed) as reason:
             return [Judged(source.name, "", Outcome.DIFFERS, (str(reason),))]
         return [
-            judge(title(source, main, names), str(build), data, main, natives[main], not is_quick)
+            judge(title(source, main, names), str(build), data, main, natives[main], with_run=True)
             for build, data in objects.items()
             for main in names.mains
         ]

@@ -3,6 +3,7 @@
 from __future__ import annotations
 
 import functools
+import os
 import shutil
 import subprocess
 from collections.abc import Iterator
@@ -18,6 +19,8 @@ QUICK_LEVELS = ("-O2",)
 CPUS = ("v2", "v3", "v4")
 QUICK_CPUS = ("v2", "v3")
 CLANG_SECONDS = 60
+PROCESSES = 4
+LIBRARY = "built-in function 'mem"  # in what clang says where it makes a call of C's library of a loop
 
 
 class ClangFailed(Exception):
@@ -39,7 +42,12 @@ class Build:
         words = ["clang", self.level, "-g", "-target", "bpf", f"-mcpu={self.cpu}", "-w"]
         words += [f"-I{folder}" for folder in HEADERS]
         words += ["-c", str(source), "-o", str(target)]
-        done = subprocess.run(words, capture_output=True, text=True, errors="replace", timeout=CLANG_SECONDS)
+        for more in ([], ["-fno-builtin"]):  # as bpfrun does it
+            done = subprocess.run(
+                words + more, capture_output=True, text=True, errors="replace", timeout=CLANG_SECONDS
+            )
+            if LIBRARY not in done.stderr:
+                break
         if done.returncode:
             raise ClangFailed(next(iter(done.stderr.splitlines()), f"clang ended with {done.returncode}"))
         return target.read_bytes()
@@ -56,6 +64,17 @@ def builds(is_quick: bool) -> Iterator[Build]:
         for cpu in QUICK_CPUS if is_quick else CPUS:
             if cpu in _known_cpus():
                 yield Build(level, cpu)
+
+
+def turned_builds(number: int) -> Iterator[Build]:
+    """A build for each quick instruction set, at a level that changes with the number of a program."""
+    known = [cpu for cpu in QUICK_CPUS if cpu in _known_cpus()]
+    yield from (Build(LEVELS[(number + at) % len(LEVELS)], cpu) for at, cpu in enumerate(known))
+
+
+def processes() -> int:
+    """How many programs are tried at once."""
+    return min(PROCESSES, len(os.sched_getaffinity(0)))
 
 
 @functools.lru_cache(maxsize=None)
