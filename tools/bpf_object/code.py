@@ -194,7 +194,7 @@ class Function:
     blocks: dict[int, Block] = field(default_factory=dict)
     line: SourceLine | None = None
     frame_of: int | None = None  # the function whose frame register 10 means, where that isn't its own
-    kept: Kept | None = None  # where it was a loop of main
+    kept: Kept | None = None  # where it was a loop of main; of main itself, the lowest one of all of these
     parts: int = 0  # the inner loops that are left and gone on with round by round
 
     @property

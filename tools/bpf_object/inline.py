@@ -67,7 +67,7 @@ def inline_loop(functions: Dict[int, Function], number: int) -> Optional[Tuple[D
     It is nothing where main doesn't name the callback right at its calls.
     """
     main = functions[0]
-    done = Function(main.name, main.entry, dict(main.blocks), main.line)
+    done = replace(main, blocks=dict(main.blocks))
     headers: List[int] = []
     try:
         for label in order_of(main):
@@ -298,8 +298,8 @@ def _live_before(function: Function, label: int, at: int, live_in: Dict[int, int
 
 
 def lowest_byte(function: Function) -> int:
-    """The lowest byte of the frame that a function names by a constant, at a multiple of 8."""
-    lowest = FRAME_BYTES
+    """The lowest byte of the frame that a function names by a constant or keeps registers in, at a multiple of 8."""
+    lowest = function.kept.bottom if function.kept else FRAME_BYTES
     for block in function.blocks.values():
         copies: Set[int] = set()
         for insn in block.insns:

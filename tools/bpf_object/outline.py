@@ -50,8 +50,8 @@ def outline(functions: Dict[int, Function], header: int) -> Optional[Dict[int, F
     named = [insn.function for label in labels for insn in main.blocks[label].insns if isinstance(insn, CodeOf)]
     if any(functions[callback].frame_of is None for callback in named):
         return None  # the user's own loop calls stay main's
-    known = [function.kept for function in functions.values() if function.kept is not None]
-    site = _Site(main, header, labels, known[0] if known and not named else Kept(lowest_byte(main)))
+    is_shared = main.kept is not None and not named
+    site = _Site(main, header, labels, main.kept if is_shared else Kept(lowest_byte(main)))
     if site.kept.bottom < 0:
         return None
     number = max(functions) + 1
@@ -172,7 +172,8 @@ class _Site:
         if last == call:
             blocks[call].end = Stop(0, None, self._line)
         entry = call if main.entry == self._header else main.entry
-        return Function(main.name, entry, blocks, main.line)
+        lowest = min((kept for kept in (main.kept, self.kept) if kept is not None), key=lambda kept: kept.bottom)
+        return Function(main.name, entry, blocks, main.line, None, lowest)
 
 
 def _led(end: End, label: int, instead: int) -> End:

@@ -42,8 +42,8 @@ def _of_loops(rewritten: Rewritten, sources: Dict[int, Function]) -> Iterator[st
         line = block.insns[0].line if block.insns else block.end.line
         end = ", and a trap behind the last" if loop in rewritten.cut else ""
         yield f"{line_text(line)}the loop's rounds are copied, {rounds} of them{end}"
-    for function in sources.values():
-        if function.kept is not None:
+    for number, function in sources.items():
+        if number and function.kept is not None:
             parts = ", and so are those of a loop in it" if function.parts else ""
             yield f"{line_text(function.line)}the loop's rounds are iterations of a loop call{parts}"
 
