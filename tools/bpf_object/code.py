@@ -195,6 +195,7 @@ class Function:
     line: SourceLine | None = None
     frame_of: int | None = None  # the function whose frame register 10 means, where that isn't its own
     kept: Kept | None = None  # where it was a loop of main; of main itself, the lowest one of all of these
+    needed: dict[int, tuple[int, ...]] = field(default_factory=dict)  # of each end the registers that are read behind
     parts: int = 0  # the inner loops that are left and gone on with round by round
 
     @property

@@ -32,17 +32,15 @@ def fit(memory: Memory, functions: Dict[int, Function], choices: Iterable[Set[in
     """The unit by the first of some choices of what is spread that has room for its loops, or for the most of them."""
     first: Optional[TooLong] = None
     best: Optional[Tuple[int, Emitted]] = None
-    limited: Set[Loop] = set()
     for sizes in choices:
-        fitting = _Fit(memory, functions, sizes, set(limited))
+        fitting = _Fit(memory, functions, sizes)
         try:
             done, emitted = fitting.run()
         except TooLong as reason:
             first = first or reason
             continue
-        if not done.cut or not fitting.is_spread:
+        if fitting.is_enough(done) or not fitting.is_spread:
             return emitted
-        functions, limited = fitting.functions, fitting.limited
         rounds = min(done.copied[loop] for loop in done.cut)
         if best is None or rounds > best[0]:
             best = rounds, emitted
@@ -54,14 +52,14 @@ def fit(memory: Memory, functions: Dict[int, Function], choices: Iterable[Set[in
 class _Fit:
     """Finds which loops are copied, and which are callbacks, by what there is room for."""
 
-    def __init__(
-        self, memory: Memory, functions: Dict[int, Function], sizes: Set[int], limited: Set[Loop]
-    ) -> None:
+    def __init__(self, memory: Memory, functions: Dict[int, Function], sizes: Set[int]) -> None:
         self._memory = memory
-        self.functions = functions
-        self.limited = limited  # the loops of which fewer rounds are copied
+        self._functions = functions
+        self._limited: Set[Loop] = set()  # the loops of which fewer rounds are copied
         self._sizes = sizes
         self._rounds: Dict[Loop, int] = {}  # of the loops that end by themselves
+        self._given = functions  # before any loop of main is made a callback
+        self._headers: List[int] = []  # of the loops that are made callbacks, of which none is in another
         self._mender = Mender(memory, functions, sizes)
 
     @property
@@ -76,12 +74,12 @@ class _Fit:
     def run(self) -> Tuple[Rewritten, Emitted]:
         """The unit with all rounds of all loops, or else with as many as there is room for of those that go on."""
         done, emitted = self._fitting()
-        best = _most_rounds(self._attempt, self.limited, done, emitted) if done.cut else (done, emitted)
-        if self._is_enough(best[0]):
+        best = _most_rounds(self._attempt, self._limited, done, emitted) if done.cut else (done, emitted)
+        if self.is_enough(best[0]):
             return best
         try:
             return self._with_loops_of_main(best[0].cut)
-        except TooLong:
+        except Refused:
             if best[0].endless is not None:
                 raise TooLong(best[0].endless) from None
             return best
@@ -90,19 +88,19 @@ class _Fit:
         """The unit with few rounds of the loops that there is no room for."""
         while True:
             try:
-                done, emitted = self._attempt(dict.fromkeys(self.limited, FIRST_ROUNDS))
+                done, emitted = self._attempt(dict.fromkeys(self._limited, FIRST_ROUNDS))
             except TooMany as reason:
                 self._limit(reason.loop, f"the code takes more than {SLOTS_LIMIT} slots")
                 continue
             if emitted.slots <= SLOTS_LIMIT:
                 return done, emitted
-            self._rounds.update((loop, rounds) for loop, rounds in done.copied.items() if loop not in self.limited)
-            counts = [(n, loop) for loop, n in done.copied.items() if loop not in self.limited and n >= FIRST_ROUNDS]
+            self._rounds.update((loop, rounds) for loop, rounds in done.copied.items() if loop not in self._limited)
+            counts = [(n, loop) for loop, n in done.copied.items() if loop not in self._limited and n >= FIRST_ROUNDS]
             of_main = [one for one in counts if not one[1][0] and emitted.callback_slots < ENOUGH * SLOTS_LIMIT]
             longest = max(of_main or counts, default=(0, None))[1]
             self._limit(longest, f"the code takes {emitted.slots} slots, of at most {SLOTS_LIMIT}")
 
-    def _is_enough(self, done: Rewritten) -> bool:
+    def is_enough(self, done: Rewritten) -> bool:
         """Whether each loop that is cut likely ends by itself before."""
         most = {loop: self._rounds.get(loop, ENOUGH_ROUNDS) for loop in done.cut}
         is_long = all(done.copied[loop] >= rounds for loop, rounds in most.items())
@@ -110,25 +108,36 @@ class _Fit:
 
     def _with_loops_of_main(self, cut: Set[Loop]) -> Tuple[Rewritten, Emitted]:
         """The unit in which the callbacks of some loops, or in them, are loops of main: these can be parted."""
-        changed = self.functions
+        changed = self._given
         headers = sorted(header for number, header in cut if not number)
         callbacks = {number for number, _ in cut if number}
         for header in headers:
             callbacks |= callbacks_in(changed[0], loop_of(changed[0], header))
-        for number in sorted(number for number in callbacks if changed[number].kept is None):
+        for number in sorted(callbacks & changed.keys()):
             found = inline_loop(changed, number)
             if found is None:
                 raise TooLong("a loop is too long")
             changed = found[0]
             headers += found[1]
+        self._given, self._headers = changed, []
         for header in headers:
-            if header in changed[0].blocks:
-                outlined = outline(changed, header)
+            if not any(header in loop_of(changed[0], outer) for outer in self._headers):
+                outlined = self._outlined(header)
                 if outlined is None:
                     raise TooLong("a loop is too long")
-                changed = outlined
-        self._begin_with(changed)
+                self._begin_with(outlined)
         return self.run()
+
+    def _outlined(self, header: int) -> Optional[Dict[int, Function]]:
+        """The functions with one more loop of main as a callback, instead of those in it."""
+        inside = loop_of(self._given[0], header)
+        headers = [*(other for other in self._headers if other not in inside), header]
+        functions: Optional[Dict[int, Function]] = self._given
+        for one in headers:
+            functions = outline(functions, one) if functions else None
+        if functions is not None:
+            self._headers = headers
+        return functions
 
     def _limit(self, loop: Optional[Loop], reason: str) -> None:
         """A loop is made a callback, where it is main's, or parted; or else fewer rounds of it are copied."""
@@ -136,21 +145,21 @@ class _Fit:
             raise TooLong(reason)
         number, header = loop
         if number == 0:
-            changed = outline(self.functions, header)
-        elif self.functions[number].kept is not None:
-            changed = {**self.functions, number: part(self.functions[number], header)}
+            changed = self._outlined(header)
+        elif self._functions[number].kept is not None:
+            changed = {**self._functions, number: part(self._functions[number], header)}
         else:
             changed = None
         if changed is None:
-            self.limited.add(loop)
+            self._limited.add(loop)
         else:
             self._begin_with(changed)
 
     def _begin_with(self, functions: Dict[int, Function]) -> None:
-        self.functions = functions
+        self._functions = functions
         self._mender = Mender(self._memory, functions, self._sizes)
         self._rounds.clear()
-        self.limited.clear()
+        self._limited.clear()
 
 
 def _most_rounds(attempt: Try, limited: Set[Loop], done: Rewritten, emitted: Emitted) -> Tuple[Rewritten, Emitted]:

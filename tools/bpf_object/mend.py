@@ -13,7 +13,7 @@ from .layout import Layout, spread_groups
 from .memory import ARGUMENT, Kind, Memory, Thing
 from .ranges import TOP, exact
 from .refusal import Refused
-from .unroll import Limits, Loop, Unroller
+from .unroll import Limits, Loop, TooMany, Unroller
 from .values import State, Value, entry_state
 
 TRIES = 64  # more than facts ever take
@@ -91,7 +91,10 @@ class Mender:
             number = waiting.pop(0)
             analysis = Analysis(planner, number, self._functions[number], self._frames[number])
             unroller = Unroller(analysis, planner, self._functions[number], limits)
-            done.functions[number] = unroller.run(self._entry(number, layout, done.entries))
+            try:
+                done.functions[number] = unroller.run(self._entry(number, layout, done.entries))
+            except TooMany as reason:
+                raise reason if reason.loop else TooMany(limits.longest({**done.copied, **unroller.copied})) from None
             done.cut |= unroller.cut
             done.counted |= unroller.counted
             done.copied.update(unroller.copied)

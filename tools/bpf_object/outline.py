@@ -66,6 +66,8 @@ def part(function: Function, header: int) -> Function:
     """A callback that was a loop of main, with one of its own loops parted."""
     kept = function.kept
     assert kept is not None
+    if not function.parts:
+        function = _with_all_kept(function, kept)
     block = function.blocks[header]
     line = block.insns[0].line if block.insns else block.end.line
     registers = [register for register in REGISTERS if live_in_of(function)[header] >> register & 1]
@@ -82,6 +84,16 @@ def part(function: Function, header: int) -> Function:
     stores.append(Store(8, FRAME, kept.part, None, number, line))
     blocks[leave] = Block([*stores, Alu("mov", 64, RESULT, None, 0, line)], Exit(line))
     return replace(function, entry=entry, blocks=blocks, parts=number)
+
+
+def _with_all_kept(function: Function, kept: Kept) -> Function:
+    """A callback whose ends keep all registers that are read behind them, since the words are used within it too."""
+    blocks = dict(function.blocks)
+    for label, registers in function.needed.items():
+        block = blocks[label]
+        stores = [Store(8, FRAME, kept.register(register), register, 0, block.end.line) for register in registers]
+        blocks[label] = Block([*stores, *(insn for insn in block.insns if insn not in stores)], block.end)
+    return replace(function, blocks=blocks)
 
 
 def loop_of(function: Function, header: int) -> Set[int]:
@@ -135,12 +147,14 @@ class _Site:
         blocks = function.blocks
         registers = self._registers(self._header)
         blocks[entry] = Block([self._load(register) for register in registers], Goto(self._header, self._line))
+        function.needed[again] = tuple(registers)
         kept = [self._store(register) for register in registers if register in self._written]
         blocks[again] = Block([*kept, self._number(RESULT, 0)], Exit(self._line))
         leading = {label: label for label in self._labels}
         leading[self._header] = again
         for number, label in enumerate(self._exits, 1):
             out = leading[label] = again + number
+            function.needed[out] = tuple(self._registers(label))
             kept = [self._store(register) for register in self._registers(label) if register in self._written]
             kept.append(Store(8, FRAME, self.kept.way, None, number, self._line))
             blocks[out] = Block([*kept, self._number(RESULT, 1)], Exit(self._line))

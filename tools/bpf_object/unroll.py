@@ -43,6 +43,11 @@ class Limits:
         self.rounds = rounds  # of a loop; one that isn't here has all of its rounds copied
         self.is_trial = is_trial  # all loops have few rounds, and nothing is refused
 
+    def longest(self, copied: Dict[Loop, int]) -> Loop | None:
+        """The loop with the most rounds, of those that have all of theirs copied."""
+        found = [(rounds, loop) for loop, rounds in copied.items() if loop not in self.rounds and rounds > TRIAL_ROUNDS]
+        return max(found)[1] if found else None
+
 
 @dataclass
 class _Open:
