@@ -175,14 +175,19 @@ class Kept(NamedTuple):
         """The place of the number of the inner loop that goes on, or of 0."""
         return self.top - 16 - FRAME_BYTES
 
+    @property
+    def count(self) -> int:
+        """The place of the number of rounds that are done."""
+        return self.top - 24 - FRAME_BYTES
+
     def register(self, number: int) -> int:
         """The place of a register."""
-        return self.top - 8 * (number + 3) - FRAME_BYTES
+        return self.top - 8 * (number + 4) - FRAME_BYTES
 
     @property
     def bottom(self) -> int:
         """The lowest byte of the frame that they take."""
-        return self.top - 8 * (len(REGISTERS) + 2)
+        return self.top - 8 * (len(REGISTERS) + 3)
 
 
 @dataclass
@@ -196,6 +201,7 @@ class Function:
     frame_of: int | None = None  # the function whose frame register 10 means, where that isn't its own
     kept: Kept | None = None  # where it was a loop of main; of main itself, the lowest one of all of these
     needed: dict[int, tuple[int, ...]] = field(default_factory=dict)  # of each end the registers that are read behind
+    step: int = 0  # its block that leads to what a round does
     parts: int = 0  # the inner loops that are left and gone on with round by round
 
     @property

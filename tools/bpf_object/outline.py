@@ -3,6 +3,8 @@
 The callback does one round. What registers hold from one round to the next lies in main's frame meanwhile, which the
 callback reaches, so that it has to be in the map. A loop in such a callback, for which there is no room either, is
 parted: each of its rounds ends the callback, and the next iteration goes on with it.
+
+An iteration that isn't run behind the one before, as where a loop is tried by several workers, ends the loop at once.
 """
 
 from __future__ import annotations
@@ -71,19 +73,21 @@ def part(function: Function, header: int) -> Function:
     block = function.blocks[header]
     line = block.insns[0].line if block.insns else block.end.line
     registers = [register for register in REGISTERS if live_in_of(function)[header] >> register & 1]
-    entry, again, leave = (max(function.blocks) + n for n in (1, 2, 3))
+    choice, again, leave = (max(function.blocks) + n for n in (1, 2, 3))
     number = function.parts + 1
     blocks = {
         label: Block(block.insns, _led(block.end, header, leave)) for label, block in function.blocks.items()
     }
-    start = leave if function.entry == header else function.entry
-    blocks[entry] = Block([Load(8, False, 1, FRAME, kept.part, line)], Branch("jeq", 64, 1, None, number, again, start))
+    step = blocks[function.step]
+    chosen = Branch("jeq", 64, 1, None, number, again, successors(step.end)[0])
+    blocks[choice] = Block([Load(8, False, 1, FRAME, kept.part, line)], chosen)
+    blocks[function.step] = Block(step.insns, Goto(choice, line))
     loads = [Load(8, False, register, FRAME, kept.register(register), line) for register in registers]
     blocks[again] = Block([Store(8, FRAME, kept.part, None, 0, line), *loads], Goto(header, line))
     stores = [Store(8, FRAME, kept.register(register), register, 0, line) for register in registers]
     stores.append(Store(8, FRAME, kept.part, None, number, line))
     blocks[leave] = Block([*stores, Alu("mov", 64, RESULT, None, 0, line)], Exit(line))
-    return replace(function, entry=entry, blocks=blocks, parts=number)
+    return replace(function, blocks=blocks, parts=number)
 
 
 def _with_all_kept(function: Function, kept: Kept) -> Function:
@@ -142,11 +146,16 @@ class _Site:
     def body(self) -> Function:
         """One round."""
         name = f"{self._main.name}_round"
-        entry, again = self._next, self._next + 1
-        function = Function(name, entry, {}, self._line, 0, self.kept)
+        entry, step, start, stale, again = (self._next + n for n in range(5))
+        function = Function(name, entry, {}, self._line, 0, self.kept, step=step)
         blocks = function.blocks
         registers = self._registers(self._header)
-        blocks[entry] = Block([self._load(register) for register in registers], Goto(self._header, self._line))
+        count = Load(8, False, 2, FRAME, self.kept.count, self._line)
+        blocks[entry] = Block([count], Branch("jeq", 64, 1, 2, 0, step, stale, self._line))
+        counted = [Alu("add", 64, 1, None, 1, self._line), Store(8, FRAME, self.kept.count, 1, 0, self._line)]
+        blocks[step] = Block(counted, Goto(start, self._line))
+        blocks[stale] = Block([self._number(RESULT, 1)], Exit(self._line))
+        blocks[start] = Block([self._load(register) for register in registers], Goto(self._header, self._line))
         function.needed[again] = tuple(registers)
         kept = [self._store(register) for register in registers if register in self._written]
         blocks[again] = Block([*kept, self._number(RESULT, 0)], Exit(self._line))
@@ -171,7 +180,8 @@ class _Site:
         for label in enters:
             blocks[label] = Block(blocks[label].insns, _led(blocks[label].end, self._header, call))
         insns: List = [self._store(register) for register in self._registers(self._header)]
-        insns += [Store(8, FRAME, place, None, 0, self._line) for place in (self.kept.way, self.kept.part)]
+        begun = (self.kept.way, self.kept.part, self.kept.count)
+        insns += [Store(8, FRAME, place, None, 0, self._line) for place in begun]
         insns += [self._number(1, ROUNDS), CodeOf(2, number, self._line), self._number(3, 0), self._number(4, 0)]
         insns += [Call(LOOP, self._line), Load(8, False, 1, FRAME, self.kept.way, self._line)]
         blocks[call] = Block(insns, Goto(call, self._line))
