@@ -338,8 +338,8 @@ module _ (lanes : ℕ) (words : List ℕ) (e : ℕ) (s t : ℕ → Access) where
   both_apart apart =
       let never : (n m : ℕ) → n < lanes → m < lanes → eqb (s n).element e ≡ true → eqb (t m).element e ≡ false =
       λ n m n_below m_below here.
-          ne_eqb (t m).element e (λ there. apart n m n_below m_below
-          (eqb-true (s n).element e here ∙ sym there)) in (
+      ne_eqb (t m).element e (λ there. apart n m n_below m_below
+      (eqb-true (s n).element e here ∙ sym there)) in (
         λ m n m_below n_below x.
             apart_swap (λ (v : Option ℕ). last_after v (s n).action (slice_index words e))
             (λ (v : Option ℕ). last_after v (t m).action (slice_index words e))
