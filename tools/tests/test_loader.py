@@ -208,6 +208,15 @@ class Steps(Same):
         unit = self.compare(memory_of(a=2000), {0: self.loop(2000)})
         self.assertIn("call 181", unit)
 
+    def test_loop_of_a_callback_is_parted(self) -> None:
+        body = [Load(1, False, 3, 7, 0), op("add", 3, 1), op("xor", 3, 6), Store(1, 7, 0, 3, 0), imm("add", 7, 1)]
+        start = Block([mov(6, 0), Address(7, 3, 0)], Goto(1))
+        round_ = Block([*body, imm("add", 6, 1)], Branch("jlt", 64, 6, None, 600, 1, 2))
+        callback = Function("f", 0, {0: start, 1: round_, 2: Block([mov(0, 0)], Exit())})
+        call = [mov(1, 3), CodeOf(2, 1), mov(3, 0), mov(4, 0), Call(LOOP), mov(0, 9)]
+        unit = self.compare(memory_of(a=600), {0: Function("main", 0, {0: Block(call, Exit())}), 1: callback})
+        self.assertIn("main_round", unit)
+
     def sums(self, rest: list) -> str:
         insns = [Load(8, False, 3, 2, 0), op("add", 3, 1), Store(8, 2, 0, 3, 0), *rest, mov(0, 0)]
         main = [Store(8, 10, -8, None, 3), mov(1, 9), CodeOf(2, 1), copy(3, 10), imm("add", 3, -8), mov(4, 0)]
