@@ -34,19 +34,33 @@ def find_program() -> str:
 
 def verify(unit: str) -> Fault | None:
     """Asks the program whether it takes a unit."""
+    status, answer = _ask("verify", unit)
+    if status == 0 and answer.startswith("accepted"):
+        return None
+    found = REFUSAL.fullmatch(answer.strip())
+    if found is None:
+        raise Refused(f"{find_program()} doesn't verify the unit: {answer.strip() or f'status {status}'}")
+    return Fault(found[1], int(found[2]))
+
+
+def in_hex(text: str) -> str:
+    """A unit in hex form, by the program, and its values as they are."""
+    unit, mark, values = text.partition("\n%%\n")
+    status, answer = _ask("asm", f"{unit}\n" if mark else unit)
+    if status:
+        raise Refused(f"{find_program()} doesn't write the unit in hex form: {answer.strip() or f'status {status}'}")
+    return answer + mark.lstrip() + values
+
+
+def _ask(command: str, unit: str) -> tuple[int, str]:
+    """The status of a command of the program for a unit, and what it prints."""
     program = find_program()
     try:
         done = subprocess.run(
-            [program, "verify"], input=unit.encode(), stdout=subprocess.PIPE, timeout=TIME_LIMIT, check=False
+            [program, command], input=unit.encode(), stdout=subprocess.PIPE, timeout=TIME_LIMIT, check=False
         )
     except OSError as reason:
         raise Refused(f"{program} can't be run: {reason.strerror}") from None
     except subprocess.TimeoutExpired:
-        raise Refused(f"{program} took more than {TIME_LIMIT} seconds to verify a unit") from None
-    answer = done.stdout.decode(errors="replace").strip()
-    if done.returncode == 0 and answer.startswith("accepted"):
-        return None
-    found = REFUSAL.fullmatch(answer)
-    if found is None:
-        raise Refused(f"{program} doesn't verify the unit: {answer or f'status {done.returncode}'}")
-    return Fault(found[1], int(found[2]))
+        raise Refused(f"{program} took more than {TIME_LIMIT} seconds for a unit") from None
+    return done.returncode, done.stdout.decode(errors="replace")
