@@ -19,10 +19,11 @@ from .programs import TOOLS, Clock, run
 FLAGS = ("-O2", "-g", "-target", "bpf")
 TRIES = ((), ("-mcpu=v3",), ("-mcpu=v4",))  # v3 has atomics of 4 bytes, and v4 signed division
 QUIET = "-fno-crash-diagnostics"
-UNSUPPORTED = re.compile("error in backend|Unsupported atomic")
+UNSUPPORTED = re.compile("error in backend|[Uu]nsupported (atomic|signed division)|usage of the XADD return value")
 LIBRARY = re.compile("built-in function 'mem")  # clang makes a call of a function of C's library of a loop
 NO_LIBRARY = ("-fno-builtin",)
 DUMP = "PLEASE submit a bug report"
+CRASHED = re.compile("on function '@([^']+)'")
 NUMBERED = re.compile(r"clang-(\d+)")
 SOURCES = (".c", ".i")
 HEADERS = TOOLS.parent / "examples" / "from_c"  # bpf.h
@@ -92,7 +93,7 @@ def compiled(source: str, clock: Clock) -> Compiled:
         errors = errors or said
         if not UNSUPPORTED.search(said):
             break
-    sys.stderr.write(errors.partition(DUMP)[0])
+    sys.stderr.write(_reason(errors))
     raise NotCompiled(source)
 
 
@@ -106,6 +107,16 @@ def _tried(source: str, more: tuple[str, ...], clock: Clock) -> tuple[bytes | No
             said = errors.read().decode(errors="replace")
         is_made = answer is not None and answer.status == 0 and os.path.exists(target)
         return read_file(target) if is_made else None, said
+
+
+def _reason(said: str) -> str:
+    """What clang said without the dump of its stack; where that is all, it crashed, and the dump names a function."""
+    reason, dump, stack = said.partition(DUMP)
+    if not dump or "error" in reason.lower():
+        return reason
+    place = CRASHED.search(stack)
+    where = f" at function {place[1]}" if place else ""
+    return f"{reason}clang crashes{where}: clang 14 and 16 do so at __builtin_clz and __builtin_ctz\n"
 
 
 def _numbered_clang() -> str | None:

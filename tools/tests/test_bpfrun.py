@@ -8,6 +8,8 @@ The program is that of $BPFSPEC and $BPFSPEC_EXPLAIN, else ./bpfspec.
 
 from __future__ import annotations
 
+import contextlib
+import io
 import json
 import os
 import shutil
@@ -203,6 +205,30 @@ class Refusals(InFolder):
         done = bpfrun("run", self.file("bad.c", "int main( {\n"))
         self.assertEqual((done.returncode, done.stdout), (2, ""))
         self.assertIn("bad.c:1:11: error:", done.stderr)
+
+    def test_crash_of_clang(self) -> None:
+        dump = f"{compiler.DUMP} ..\n1. Code generation\n2. Running pass 'Selection' on function '@work'\n"
+        with self.clang_says(dump), contextlib.redirect_stderr(io.StringIO()) as errors:
+            self.assertRaises(compiler.NotCompiled, compiler.compiled, "x.c", Clock())
+        self.assertEqual(errors.getvalue().partition(":")[0], "clang crashes at function work")
+
+    def test_newer_instructions(self) -> None:
+        for said, word in (
+            ("fatal error: error in backend: Cannot select: i64 = sdiv", "-mcpu=v4"),  # clang 16
+            ("x.c:1:9: error: unsupported signed division, please convert to unsigned div/mod.", "-mcpu=v4"),  # 19
+            ("x.c:1:9: error: Invalid usage of the XADD return value", "-mcpu=v3"),
+            ("x.c:1:9: error: unsupported atomic operation, please use 64 bit version", "-mcpu=v3"),
+        ):
+            with self.subTest(said=said), self.clang_says(said, unless=word):
+                self.assertEqual(compiler.compiled("x.c", Clock()).more, (word,))
+
+    def clang_says(self, said: str, unless: str = "") -> contextlib.AbstractContextManager[object]:
+        """A clang that says something, and makes no object unless it is given a word."""
+
+        def tried(source: str, more: tuple[str, ...], clock: Clock) -> tuple[bytes | None, str]:
+            return (b"", "") if unless in more else (None, said)
+
+        return unittest.mock.patch.object(compiler, "_tried", tried)
 
     def test_usage(self) -> None:
         for words in ([], ["walk", "x.c"], ["run"], ["run", "--arg", "x", "x.c"], ["run", "--workers", "17", "x.c"]):
