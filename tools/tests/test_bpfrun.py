@@ -351,9 +351,9 @@ class Signals(InFolder):
             output, errors = child.communicate(timeout=LIMIT)
             self.assertEqual((first, child.returncode), ("argument 1\n", 130))
             self.assertRegex(second, r"^[1-9] s$")
-            # 1 * 6364136223846793005 + 1442695040888963407
-            self.assertEqual(output.splitlines()[-1], "x = 7806831264735756412")
-            self.assertEqual(json.loads(state.read_text()), {"x": 7806831264735756412})
+            # From 1, 8 times x * 6364136223846793005 + 1442695040888963407, of which 64 bits stay.
+            self.assertEqual(output.splitlines()[-1], "x = 1206773305466921929")
+            self.assertEqual(json.loads(state.read_text()), {"x": 1206773305466921929})
             self.assertIn("1 of 2 runs are done", errors.splitlines()[-1])
 
     def test_it_ends_what_its_programs_run(self) -> None:

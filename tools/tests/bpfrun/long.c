@@ -9,5 +9,9 @@ static long step(__u32 i, void *ctx) {
 }
 
 SEC("xdp") long takes_long(__u64 argument) {
-    return bpf_loop(argument, step, 0, 0);
+    long done = 0;
+    for (int call = 0; call < 8; call++) {
+        done += bpf_loop(argument, step, 0, 0);
+    }
+    return done;
 }
