@@ -16,7 +16,7 @@ from bpf_object.refusal import Refused
 
 from .programs import TOOLS, Clock, run
 
-FLAGS = ("-O2", "-g", "-target", "bpf")
+FLAGS = ("-O2", "-g", "-target", "bpf", "-fno-strict-aliasing")  # as kernels are built
 TRIES = ((), ("-mcpu=v3",), ("-mcpu=v4",))  # v3 has atomics of 4 bytes, and v4 signed division
 QUIET = "-fno-crash-diagnostics"
 UNSUPPORTED = re.compile("error in backend|[Uu]nsupported (atomic|signed division)|usage of the XADD return value")

@@ -39,7 +39,7 @@ class Build:
 
     def compile(self, source: Path, target: Path) -> bytes:
         """The object that clang makes of a source file, which it leaves at the target."""
-        words = ["clang", self.level, "-g", "-target", "bpf", f"-mcpu={self.cpu}", "-w"]
+        words = ["clang", self.level, "-g", "-target", "bpf", "-fno-strict-aliasing", f"-mcpu={self.cpu}", "-w"]
         words += [f"-I{folder}" for folder in HEADERS]
         words += ["-c", str(source), "-o", str(target)]
         for more in ([], ["-fno-builtin"]):  # as bpfrun does it
