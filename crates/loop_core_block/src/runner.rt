@@ -22,7 +22,7 @@ use crate::site_folds::{end_all, note_all};
 use crate::speculative_loop::SpeculativeLoop;
 use crate::workspace::BlockWorkspace;
 use bpf_step::Callback;
-use bpf_step_batch::{Batch, Entry};
+use bpf_step_batch::{Batch, Entry, MOST_ENTRIES};
 use bpf_verify::Verified;
 use loop_core_split::{Gate, NoGate};
 use private_copy::{MAX_ACCESSES, Private, law_of_accesses};
@@ -212,7 +212,7 @@ impl<'c, 'a> Runner<'c, 'a> {
     ) -> Result<(), AllocError>
         requires ready { IsReady self.old }
         requires room { lanes ≤ 128 }
-        requires few { length entries.now ≤ 8 }
+        requires few { length entries.now ≤ MOST_ENTRIES }
         requires within { index + lanes ≤ self.old.callback.call.n }
         requires are { AreIterations self.old.callback.program self.old.callback.call (start_words self.old) entries.now
             index lanes }
@@ -281,7 +281,7 @@ impl<'c, 'a> Runner<'c, 'a> {
     ) -> Result<(), AllocError>
         requires ready { IsReady self.old }
         requires lane { lane < 128 }
-        requires few { length entries.now ≤ 8 }
+        requires few { length entries.now ≤ MOST_ENTRIES }
         requires below { index < self.old.callback.call.n }
         requires is { IsLane self.old.callback.program self.old.callback.call (start_words self.old) entries.now index
             lane }

@@ -9,21 +9,21 @@ ghost use Rattle.bpf_step_batch.specs.Logs.{IsLogged, access_by, element_by, log
 ghost use Rattle.loop_core_sequential.specs.Tries.{AreWithin};
 
 use array_maps::{Maps, Op, Store, combine};
-use bpf_step_batch::Entry;
+use bpf_step_batch::{Entry, MOST_ENTRIES};
 use loop_core_batch::{Elements, Site, all_commute, law_of_sums, none_sees};
 use loop_core_model::Access;
 
 /// Tells whether iterations that ran on the words from before them all are the loop in order, by what
 /// they accessed, and their accesses may be applied site by site.
 pub(crate) fn are_in_order(entries: &[Entry], lanes: u32) -> bool
-    requires { length entries.now ≤ 8 }
+    requires { length entries.now ≤ MOST_ENTRIES }
     ensures { result ≡ true → AllUnseen lanes (map site_of entries.now) × AllCommute lanes (map site_of entries.now) }
 {
     let none = Site {
         kind: Access::Read,
         elements: Elements::One(0),
     };
-    let mut sites = [none; 8];
+    let mut sites = [none; MOST_ENTRIES];
     for k in 0..entries.len() {
         sites[k] = entries[k].site;
     }
