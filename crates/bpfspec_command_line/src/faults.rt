@@ -12,6 +12,7 @@ use crate::values::{argument, blocks_of, policy_of, workers_of};
 use clap::error::ErrorKind;
 use clap::{ArgMatches, Command};
 use std::alloc::{AllocError, Global};
+use std::convert::AsStr;
 use std::io;
 
 /// Whether an error of this kind is help or the version, which words asked for.
@@ -149,6 +150,39 @@ pub(crate) fn value_fault(alloc: Global, matches: &ArgMatches<'_>) -> Result<Lin
     )
 }
 
+/// The fault of words that are wrong in such a way, told with the usage of the whole program.
+fn program_fault(alloc: Global, wrong: &str) -> LineFault
+    ensures { is_help result ≡ false }
+{
+    match bpfspec_command(alloc) {
+        Ok(mut command) => own_fault(alloc, &mut command, wrong),
+        Err(_) => LineFault::Memory,
+    }
+}
+
+/// What is told of words that ask this program for `explain`.
+const EXPLAIN: &str = "\
+'explain' is a program of its own, bpfspec_explain, which ./bpfspec and an installed bpfspec start";
+
+/// Whether the first word after the program's name and any `help` is `explain`.
+fn names_explain<S: AsStr>(words: &[S]) -> bool {
+    let mut named = words.iter().skip(1).map(|word| word.as_str());
+    named.find(|word| *word != "help") == Some("explain")
+}
+
+/// The fault of a command line in which clap found this error. Of `explain` it says where that is, since clap would
+/// take it for a misspelt `replay`.
+pub(crate) fn line_fault<S: AsStr>(alloc: Global, words: &[S], error: &clap::Error) -> LineFault
+    ensures memory { kind_of error.now ≡ ErrorKind.OutOfMemory → result ≡ LineFault.Memory }
+    ensures help { is_help result ≡ true → Shows (kind_of error.now) }
+    ensures usage { is_usage result ≡ true → ¬ (Shows (kind_of error.now)) }
+{
+    if error.kind() == ErrorKind::InvalidSubcommand && names_explain(words) {
+        return program_fault(alloc, EXPLAIN);
+    }
+    fault_of(alloc, error)
+}
+
 /// The fault of words that the system doesn't give.
 pub(crate) fn words_fault(alloc: Global, error: &io::Error) -> LineFault
     ensures memory { error_kind error.now ≡ io_errors.OutOfMemory → result ≡ LineFault.Memory }
@@ -157,8 +191,5 @@ pub(crate) fn words_fault(alloc: Global, error: &io::Error) -> LineFault
     if error.kind() == io::ErrorKind::OutOfMemory {
         return LineFault::Memory;
     }
-    match bpfspec_command(alloc) {
-        Ok(mut command) => own_fault(alloc, &mut command, "a word isn't UTF-8"),
-        Err(_) => LineFault::Memory,
-    }
+    program_fault(alloc, "a word isn't UTF-8")
 }

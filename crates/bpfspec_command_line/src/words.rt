@@ -7,7 +7,7 @@ ghost use Rattle.bpfspec_command_line.specs.CommandLine.{bpfspec_app};
 ghost use Rattle.bpfspec_command_line.specs.Faults.{AreNoCommand, AsksForHelp, is_help, is_usage};
 
 use crate::commands::bpfspec_command;
-use crate::faults::{fault_of, value_fault, words_fault};
+use crate::faults::{line_fault, value_fault, words_fault};
 use crate::job::{Job, LineFault, Mode, Request};
 use crate::values::{argument, chosen, loop_test, plan_of, unit_form};
 use clap::ArgMatches;
@@ -85,7 +85,7 @@ pub fn read_words<S: AsStr>(alloc: Global, words: &[S]) -> Result<Request, LineF
     let mut command = bpfspec_command(alloc)?;
     let matches = match command.try_get_matches_from_mut(words) {
         Ok(matches) => matches,
-        Err(error) => return Err(fault_of(alloc, &error)),
+        Err(error) => return Err(line_fault(alloc, words, &error)),
     };
     let stats = asks_for_stats(&matches);
     match job_of(&matches) {
