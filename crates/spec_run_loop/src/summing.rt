@@ -3,6 +3,7 @@
 ghost use Rattle.std.specs.Prelude.{◌≡◌, ◌+◌, ◌<◌, ◌≤◌, All, length, IfOk, OnErr};
 ghost use Rattle.loop_core_model.specs.declared.loop_test.Test.{Test};
 ghost use Rattle.loop_core_sequential.specs.Loops.{RanLoopInOrder};
+ghost use Rattle.loop_core_sequential.specs.Rests.{RanTo};
 ghost use Rattle.loop_core_sums.specs.Rounds.{share_start};
 ghost use Rattle.loop_core_sums.specs.Sums.{IsSumFor, IsSumOf, AreSumsOf};
 ghost use Rattle.loop_core_gather.specs.Gathered.{IsOutcome};
@@ -10,26 +11,29 @@ ghost use Rattle.spec_run_loop.specs.declared.course.Course.TheVariants.{Sums};
 
 use crate::course::Course;
 use crate::decision::LoopAnswer;
-use crate::paying::elements_of;
+use crate::paying::{PROCESSORS, elements_of};
 use array_maps::Maps;
 use loop_core_block::most_instructions;
-use loop_core_sequential::in_order;
+use loop_core_sequential::{in_order, range_in_order};
 use loop_core_sums::{PartialSum, Round, SumLoop};
 use std::alloc::{AllocError, Global};
 use std::thread;
 use std::thread::Threads;
 
-/// How many instructions a share of the first round has, by its iterations' most: they are worth a thread.
-const ROUND_SHARE: u32 = 2_000_000;
+/// How many instructions the calling thread does alone at first, by its iterations' most. They take some four times as
+/// long as to start threads and wait for them: so does the least share.
+const ALONE: u32 = 1_000_000;
 
-/// How many more it has for each element: each round makes a word for it, and combines it with the maps.
-const ROUND_ELEMENT: u32 = 128;
+/// How many more it does for each element: each share makes a word for it, and combines it with the maps.
+const ALONE_ELEMENT: u32 = 32;
 
-/// How many iterations it has at least: they go in batches.
-const ROUND_ITERATIONS: u32 = 2_048;
+/// How many iterations it does alone at least, and how many a share has, where there are several: fewer go one by one,
+/// not in batches.
+const SHARE_ITERATIONS: u32 = 2_048;
 
 /// Runs a loop call that adds up by 1 to 16 workers: on these maps, which are of the program's sizes, and change only
-/// where it gives an answer. One worker runs it in order; several add up an even share of each round each.
+/// where it gives an answer. One worker runs it in order; several add up an even share of each round each, after some
+/// iterations in order.
 pub(crate) fn run_sums<R: Threads + Sync>(
     rt: &R,
     alloc: Global,
@@ -55,35 +59,31 @@ pub(crate) fn run_sums<R: Threads + Sync>(
         return Ok(LoopAnswer::passed(answer, course));
     }
     let mut sums = of.try_new_sums(alloc, workers)?;
-    let first = first_round(of, workers, elements_of(maps));
-    let answer = in_rounds(rt, of, first, sums.as_mut_slice(), maps);
+    let alone = iterations_alone(of, elements_of(maps));
+    let answer = in_rounds(rt, of, alone, sums.as_mut_slice(), maps);
     Ok(LoopAnswer::passed(answer, course))
 }
 
-/// How many iterations the first round of a loop has, over this many elements, at most 65,536, in so many shares. It is
-/// little work, for the loop may break off at once.
-fn first_round(of: &SumLoop, shares: u32, elements: u32) -> u32
-    requires some { 0 < shares }
-    requires few { shares ≤ 16 }
-    requires elements { elements ≤ 65536 }
+/// How many iterations of a loop over this many elements, at most 65,536, the calling thread does before others help.
+fn iterations_alone(of: &SumLoop, elements: u32) -> u32
+    requires { elements ≤ 65536 }
     ensures { 0 < result }
 {
     let most = most_instructions(of.program, of.call.callback()).max(1);
-    let instructions = ROUND_SHARE + ROUND_ELEMENT * elements;
-    shares * (instructions / most).max(ROUND_ITERATIONS)
+    let instructions = ALONE + ALONE_ELEMENT * elements;
+    (instructions / most).max(SHARE_ITERATIONS)
 }
 
-/// Runs the loop round by round, each round over even shares of its iterations, up to the round in which one breaks
-/// off. Each round but the last has twice as many iterations as the one before: so little is run in vain. The maps
-/// are of the program's sizes.
+/// Runs the first iterations in order, and then the loop round by round, each round over even shares of its iterations,
+/// up to the one in which an iteration breaks off. The maps are of the program's sizes.
 fn in_rounds<R: Threads + Sync>(
     rt: &R,
     of: &SumLoop,
-    first: u32,
+    alone: u32,
     sums: &mut [PartialSum],
     maps: &mut Maps,
 ) -> u32
-    requires first { 0 < first }
+    requires alone { 0 < alone }
     requires some { 0 < length sums.old }
     requires few { length sums.old ≤ 16 }
     requires fit { All (IsSumFor of.now) sums.old }
@@ -91,40 +91,79 @@ fn in_rounds<R: Threads + Sync>(
     ensures { RanLoopInOrder of.now.program of.now.call maps.old maps.new result }
 {
     let n = of.call.n();
-    let mut from = 0;
-    let mut step = first;
+    let mut from = alone.min(n);
+    if let Some(broke) = run_alone(of, from, maps) {
+        return broke;
+    }
     while from < n {
-        let to = round_end(from, step, n);
-        let round = Round {
-            from,
-            to,
-            shares: sums.len() as u32,
-        };
-        run_shares(rt, of, &round, sums);
-        if let Some(answer) = of.add_up(sums, maps) {
+        let round = next_round(from, n, sums.len() as u32);
+        if let Some(answer) = run_round(rt, of, &round, sums, maps) {
             return answer;
         }
-        from = to;
-        step = step.saturating_mul(2);
+        from = round.to;
     }
     n
 }
 
-/// Where a round of so many iterations ends: with the loop, where what is left after it is no more than it has.
-fn round_end(from: u32, step: u32, n: u32) -> u32
-    requires from { from < n }
-    requires step { 0 < step }
-    ensures on { from < result }
-    ensures within { result ≤ n }
+/// Runs the iterations up to, and not with, an index in order on the maps, which are of the program's sizes, up to the
+/// first that breaks off. Gives the loop's answer where one did.
+fn run_alone(of: &SumLoop, to: u32, maps: &mut Maps) -> Option<u32>
+    requires within { to ≤ of.now.call.n }
+    requires sizes { maps.old.sizes ≡ of.now.program.sizes }
+    ensures { RanTo of.now.program of.now.call 0 to maps.old maps.new result }
 {
-    if n - from <= step.saturating_mul(2) {
-        n
+    range_in_order(of.program, of.call, 0, to, maps)
+}
+
+/// The round after so many of n iterations, by this many workers, 1 to 16: they are at it as long as one was, or would
+/// have been, at all iterations before it, so no more than that is in vain where one of it breaks off. The last one may
+/// be longer by a quarter.
+fn next_round(done: u32, n: u32, workers: u32) -> Round
+    requires some { 0 < done }
+    requires left { done < n }
+    requires workers { 0 < workers }
+    ensures from { result.from ≡ done }
+    ensures on { done < result.to }
+    ensures within { result.to ≤ n }
+    ensures shares { result.shares ≤ workers }
+{
+    let left = n - done;
+    let even = done.saturating_mul(workers.min(PROCESSORS));
+    let iterations = if left <= even.saturating_add(even / 4) {
+        left
     } else {
-        from + step
+        even
+    };
+    Round {
+        from: done,
+        to: done + iterations,
+        shares: (iterations / SHARE_ITERATIONS).min(workers).max(1),
     }
 }
 
-/// Adds up the iterations of each share of a round, in a thread of its own where one can be started.
+/// Adds up the iterations of a round, and combines the maps with them, up to the first that breaks off. Gives the
+/// loop's answer where one did. The maps are of the program's sizes.
+fn run_round<R: Threads + Sync>(
+    rt: &R,
+    of: &SumLoop,
+    round: &Round,
+    sums: &mut [PartialSum],
+    maps: &mut Maps,
+) -> Option<u32>
+    requires within { round.now.to ≤ of.now.call.n }
+    requires enough { round.now.shares ≤ length sums.old }
+    requires few { length sums.old ≤ 16 }
+    requires fit { All (IsSumFor of.now) sums.old }
+    requires sizes { maps.old.sizes ≡ of.now.program.sizes }
+    ensures ran { RanTo of.now.program of.now.call round.now.from round.now.to maps.old maps.new result }
+    ensures fit { All (IsSumFor of.now) sums.new }
+{
+    let sums = &mut sums[..round.shares as usize];
+    run_shares(rt, of, round, sums);
+    of.add_up(sums, maps)
+}
+
+/// Adds up the iterations of each share of a round: of several each in a thread of its own where one can be started.
 fn run_shares<R: Threads + Sync>(rt: &R, of: &SumLoop, round: &Round, sums: &mut [PartialSum])
     requires within { round.now.to ≤ of.now.call.n }
     requires few { round.now.shares ≤ 16 }

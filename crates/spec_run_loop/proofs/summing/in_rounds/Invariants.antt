@@ -6,7 +6,7 @@ use Rattle.spec_run_loop.proofs.summing.in_rounds.Given as goal
 
 abbrev pub invariant-loop-from : goal.invariant-loop-from
 invariant-loop-from g l = record {
-  step : 0 < l.step;
+  some : l.from < l.n → 0 < l.from;
   fit : All (IsSumFor l.of) l.sums;
   ran : RanOn l.of.program l.of.call 0 l.from l.fn.maps l.maps;
 }
