@@ -1,0 +1,79 @@
+"""Definitions and their comments."""
+
+from __future__ import annotations
+
+import re
+from collections.abc import Iterator
+from dataclasses import dataclass, field
+from itertools import takewhile
+from pathlib import PurePath
+
+from base.reach import Crates
+from base.specs import Imports
+
+from .cited import Name, imported
+from .comments import comment_above, joined
+
+DEFINES = re.compile(r"(?:(?:abbrev|unfoldable) pub|pub (?:record|data)) (\S+)")
+MARK = "--"
+# How many definitions may share the comment of one above them.
+MOST_SHARING = 2
+# How a comment begins that goes on from the definition above it.
+SPEAKS_OF_ABOVE = re.compile(r"(?:the same|so|such|these|those|and|it|its)\b")
+
+
+@dataclass
+class Definitions:
+    """A file of definitions."""
+
+    crate: str
+    file: str  # below specs/, without its ending
+    about: str  # the comment that it begins with
+    comments: dict[str, str] = field(default_factory=dict)  # by name, in order; empty where there is none
+    imports: Imports = field(default_factory=Imports)
+
+    @property
+    def has_rows(self) -> bool:
+        """Whether it has worked values, which nothing else stands on."""
+        return self.file.endswith("Rows")
+
+    def cites(self, crates: Crates) -> Iterator[Name]:
+        """The definitions of other files that it imports."""
+        return imported(crates, self.imports)
+
+    def only(self, names: set[Name]) -> dict[str, str]:
+        """The comments of those of its definitions that are among the names, or that a comment below speaks of."""
+        taken: dict[str, str] = {}
+        is_meant = False
+        for name, comment in reversed(self.comments.items()):
+            if is_meant or Name(self.crate, self.file, name) in names:
+                taken[name] = comment
+                is_meant = bool(SPEAKS_OF_ABOVE.match(comment))
+        return dict(reversed(taken.items()))
+
+
+def read_definitions(crates: Crates, crate: str) -> list[Definitions]:
+    """The files of definitions of a crate, by name."""
+    folder = crates.folder / crate / "specs"
+    return [_read(crates, crate, path.relative_to(folder)) for path in sorted(folder.rglob("*.antt"))]
+
+
+def _read(crates: Crates, crate: str, path: PurePath) -> Definitions:
+    lines = (crates.folder / crate / "specs" / path).read_text(encoding="utf-8").splitlines()
+    about = joined(takewhile(lambda line: line.startswith(MARK), lines), MARK)
+    file = Definitions(crate, path.with_suffix("").as_posix(), about)
+    file.imports = crates.specs(crate, f"specs/{path.as_posix()}").imports
+    file.comments.update(_comments(lines))
+    return file
+
+
+def _comments(lines: list[str]) -> Iterator[tuple[str, str]]:
+    """The definitions, each with its comment. One that has none shares that of a near one above."""
+    comment, sharing = "", 0
+    for number, line in enumerate(lines):
+        if found := DEFINES.match(line):
+            has_rank = number and lines[number - 1].startswith("infix")
+            own = comment_above(lines, number - bool(has_rank), MARK)
+            sharing = 0 if own else sharing + 1
+            comment = own or (comment if sharing <= MOST_SHARING else "")
+            yield found.group(1), comment

@@ -1,0 +1,89 @@
+"""The pages of which a part is made."""
+
+from __future__ import annotations
+
+from collections.abc import Callable
+from functools import cached_property
+from pathlib import Path
+
+from base.reach import Crates
+
+from .calls import Call, cited_by_types, read_calls
+from .cited import Name
+from .crates import Group, read_groups
+from .definitions import Definitions, read_definitions
+from .edits import read_edits
+from .shown import EDIT_HEAD, by_crate, by_group, shown_calls, shown_definitions, shown_edit
+
+MARK = "<!-- tools/make_pages writes what is below this line. -->"
+HEADLINE = ("spec_run", "run")
+
+
+class Unmarked(Exception):
+    """A page that doesn't tell where what is made begins."""
+
+
+class Lists:
+    """What the pages list, read from the crates."""
+
+    def __init__(self, top: Path) -> None:
+        self.crates = Crates(top)
+        self.groups: list[Group] = read_groups(top / "crates.txt")
+
+    @property
+    def pages(self) -> dict[str, Callable[[], list[str]]]:
+        """How the lines of each page below docs/ are made."""
+        return {
+            "DEFINITIONS.md": self.definitions_page,
+            "CONTRACTS.md": self.contracts_page,
+            "WRONG_BODIES.md": self.wrong_bodies_page,
+        }
+
+    @cached_property
+    def calls(self) -> dict[str, list[Call]]:
+        """The public calls of each crate."""
+        return {crate: read_calls(self.crates, crate) for group in self.groups for crate in group.crates}
+
+    @cached_property
+    def definitions(self) -> dict[str, list[Definitions]]:
+        """The definitions of each crate."""
+        return {crate: read_definitions(self.crates, crate) for group in self.groups for crate in group.crates}
+
+    def cited(self) -> set[Name]:
+        """The definitions that are cited from outside of their file, and those that stand under the headline."""
+        names = {name for calls in self.calls.values() for call in calls for name in call.cites()}
+        for crate, files in self.definitions.items():
+            names.update(cited_by_types(self.crates, crate))
+            names.update(name for file in files if not file.has_rows for name in file.cites(self.crates))
+        under = self.crates.reached(*HEADLINE)
+        return names | {Name(item.crate, _bare(item.file), item.name) for item in under if not item.is_type}
+
+    def definitions_page(self) -> list[str]:
+        """The definitions by crate and file."""
+        cited = self.cited()
+
+        def of(crate: str) -> list[str]:
+            return [line for file in self.definitions[crate] for line in shown_definitions(file, file.only(cited))]
+
+        return by_crate(self.groups, of)
+
+    def contracts_page(self) -> list[str]:
+        """The public calls by crate."""
+        return by_crate(self.groups, lambda crate: shown_calls(self.calls[crate]))
+
+    def wrong_bodies_page(self) -> list[str]:
+        """The edits by crate."""
+        return by_group(self.groups, lambda crate: [*map(shown_edit, read_edits(self.crates.folder, crate))], EDIT_HEAD)
+
+
+def _bare(file: str) -> str:
+    """A file below a crate's folder, as a file below its specs/ without an ending."""
+    return file.removeprefix("specs/").removesuffix(".antt")
+
+
+def with_lines(page: str, lines: list[str]) -> str:
+    """The page with what is above its mark as it stands, and the lines below it."""
+    head, mark, _ = page.partition(f"{MARK}\n")
+    if not mark:
+        raise Unmarked(f"has no line `{MARK}`")
+    return "\n".join([f"{head}{MARK}", "", *lines]).rstrip("\n") + "\n"

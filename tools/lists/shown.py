@@ -1,0 +1,91 @@
+"""The lists as Markdown."""
+
+from __future__ import annotations
+
+import re
+from collections.abc import Callable, Iterable, Iterator
+from itertools import groupby
+
+from .calls import Call, Clause
+from .cited import Name
+from .crates import Group
+from .definitions import Definitions
+from .edits import Edit
+
+
+def by_crate(groups: Iterable[Group], lines_of: Callable[[str], list[str]]) -> list[str]:
+    """A heading for each group, and one for each crate that has lines; and above them links to the groups."""
+    made = by_group(groups, lambda crate: [f"### `{crate}`", "", *lines] if (lines := lines_of(crate)) else [])
+    titles = [line.removeprefix("## ") for line in made if line.startswith("## ")]
+    return [" · ".join(f"[{title}](#{_anchor(title)})" for title in titles), "", *made]
+
+
+def _anchor(title: str) -> str:
+    """What a link to a heading names."""
+    return re.sub(r"[^\w -]", "", title.lower()).replace(" ", "-")
+
+
+def by_group(groups: Iterable[Group], lines_of: Callable[[str], list[str]], head: Iterable[str] = ()) -> list[str]:
+    """A heading for each group that has lines, and a head above them."""
+    made: list[str] = []
+    for group in groups:
+        lines = [line for crate in group.crates for line in lines_of(crate)]
+        if lines:
+            made += [f"## {group.title}", "", *head, *lines]
+            if lines[-1]:
+                made.append("")
+    return made
+
+
+def shown_definitions(file: Definitions, comments: dict[str, str]) -> list[str]:
+    """A file with the definitions that have a line: their names, and what each is."""
+    if not comments:
+        return []
+    place = f"../crates/{file.crate}/specs/{file.file}.antt"
+    return [f"**[{file.file}]({place})**: {file.about}", "", *_under_each(comments), ""]
+
+
+def _under_each(comments: dict[str, str]) -> Iterator[str]:
+    """A line for each comment, with the names that stand under it."""
+    for comment, names in groupby(comments, comments.__getitem__):
+        under = ", ".join(f"`{name}`" for name in names)
+        yield f"- {under}: {comment}" if comment else f"- {under}"
+
+
+def shown_calls(calls: list[Call]) -> list[str]:
+    """Calls in one list, each with its clauses."""
+    lines = [line for call in calls for line in _call(call)]
+    return [*lines, ""] if lines else []
+
+
+def _call(call: Call) -> Iterator[str]:
+    """A call, and then its clauses, in which each definition is named once."""
+    yield f"- `{call.name}`: {call.about}"
+    named: set[Name] = set()
+    clauses = [_clauses(call, keyword, named) for keyword in ("requires", "ensures")]
+    said = "; ".join(clause for clause in clauses if clause)
+    yield f"  {said[:1].upper()}{said[1:]}." if said else "  No clause."
+
+
+def _clauses(call: Call, keyword: str, named: set[Name]) -> str:
+    """The clauses of a keyword."""
+    clauses = [_clause(clause, named) for clause in call.clauses if clause.keyword == keyword]
+    return f"{keyword} {', '.join(clauses)}" if clauses else ""
+
+
+def _clause(clause: Clause, named: set[Name]) -> str:
+    """A clause's name with the definitions that it cites and none before it did; or else the clause itself."""
+    cites = [f"`{name.name}`" for name in clause.cites if name not in named]
+    named.update(clause.cites)
+    if not clause.name:
+        return ", ".join(cites) or f"`{clause.text}`"
+    return f"*{clause.name}* ({', '.join(cites)})" if cites else f"*{clause.name}*"
+
+
+EDIT_HEAD = ("| Crate | Wrong body | What it does wrong | What refuses it |", "|---|---|---|---|")
+
+
+def shown_edit(edit: Edit) -> str:
+    """An edit as a row of a table."""
+    cells = (f"`{edit.crate}`", f"`{edit.name}`", edit.does, edit.refused)
+    return "| " + " | ".join(cell.replace("|", "\\|") for cell in cells) + " |"

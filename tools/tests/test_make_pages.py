@@ -1,0 +1,225 @@
+#!/usr/bin/env python3
+"""Runs tools/make_pages in a small repository.
+
+    python3 tools/tests/test_make_pages.py
+"""
+
+from __future__ import annotations
+
+import shutil
+import subprocess
+import sys
+import tempfile
+import unittest
+from pathlib import Path
+
+TOP = Path(__file__).resolve().parents[2]
+HEAD = "# By hand\n\n"
+MARK = "<!-- tools/make_pages writes what is below this line. -->\n"
+PAGES = ("DEFINITIONS.md", "CONTRACTS.md", "WRONG_BODIES.md")
+FILES = {
+    "crates.txt": "# NAME: what it stands on.\n\n# halves, and wholes\nhalves:\nwholes: halves\ntests_wholes:\n",
+    "crates/halves/specs/Half.antt": """\
+-- What a half is.
+use Rattle.std.specs.Prelude.{ℕ, ◌≡◌}
+
+-- the half of a number,
+-- rounded down
+abbrev pub half : ℕ → ℕ
+half n = n / 2
+
+-- the same, where a number has one
+abbrev pub whole_half : ℕ → Option ℕ
+whole_half n = if n % 2 == 0 then Some (half n) else None
+
+abbrev pub shared : ℕ → ℕ
+shared n = half n
+
+-- named in this file alone
+abbrev pub inner : ℕ
+inner = 2
+
+-- below ten
+abbrev pub IsSmall : ℕ → Type 0
+IsSmall n = n < 10
+
+-- how a number stands
+pub data Kind : Type 0 where
+  pub Even : Kind
+  pub Odd : Kind
+""",
+    "crates/halves/src/lib.rt": """\
+//! Halves.
+
+mod hidden;
+pub mod number;
+
+pub use number::Number;
+""",
+    "crates/halves/src/hidden.rt": "/// Not offered.\npub fn hide()\n{}\n",
+    "crates/halves/src/number.rt": """\
+ghost use Rattle.halves.specs.Half.{whole_half, shared, IsSmall};
+ghost use Rattle.halves.specs.Half as half;
+
+/// A number.
+pub struct Number {
+    pub(crate) number: u32,
+}
+
+impl Model for Number {
+    ghost view = { λ number. number.number };
+
+    ghost invariant = { λ number. IsSmall number.number };
+}
+
+impl Number {
+    /// Its half,
+    /// if it has one.
+    ///
+    /// An example.
+    #[tactic(auto)]
+    pub fn halve(&self, limit: u32) -> Option<u32>
+        requires small { limit < 10 }
+        requires { half.Even ≡ half.Even }
+        ensures { result ≡ whole_half
+            self.now }
+        ensures again { whole_half self.now ≡ Some (shared limit) }
+    {
+        None
+    }
+
+    /// Its number.
+    pub fn number(&self) -> u32
+        ensures { result ≡ self.now }
+    {
+        self.number
+    }
+
+    fn inner(&self) -> u32 {
+        0
+    }
+}
+
+/// Shows.
+pub trait Show {
+    /// Is shown.
+    fn show(&self)
+        ensures { shows self.now };
+
+    /// Is hidden.
+    fn hide(&self);
+}
+""",
+    "crates/halves/must-fail/rounds_up.edit": """\
+does: rounds up
+refused by: `halve`: the half | rounded down
+file: src/number.rt
+old: None
+new: Some(1)
+""",
+    "crates/tests_wholes/src/lib.rt": "/// Not promised.\npub fn test()\n{}\n",
+}
+DEFINITIONS = """
+[Halves, and wholes](#halves-and-wholes)
+
+## Halves, and wholes
+
+### `halves`
+
+**[Half](../crates/halves/specs/Half.antt)**: What a half is.
+
+- `half`: the half of a number, rounded down
+- `whole_half`, `shared`: the same, where a number has one
+- `IsSmall`: below ten
+- `Kind`: how a number stands
+"""
+CONTRACTS = """
+[Halves, and wholes](#halves-and-wholes)
+
+## Halves, and wholes
+
+### `halves`
+
+- `Number::halve`: Its half, if it has one.
+  Requires *small*, `Kind`; ensures `whole_half`, *again* (`shared`).
+- `Number::number`: Its number.
+  Ensures `result ≡ self.now`.
+- `Show::show`: Is shown.
+  Ensures `shows self.now`.
+- `Show::hide`: Is hidden.
+  No clause.
+"""
+WRONG_BODIES = """
+## Halves, and wholes
+
+| Crate | Wrong body | What it does wrong | What refuses it |
+|---|---|---|---|
+| `halves` | `rounds_up` | rounds up | `halve`: the half \\| rounded down |
+"""
+
+
+class MakePages(unittest.TestCase):
+    def setUp(self) -> None:
+        self.top = Path(tempfile.mkdtemp())
+        self.addCleanup(shutil.rmtree, self.top)
+        for name, text in FILES.items():
+            self.write(name, text)
+        for name in PAGES:
+            self.write(f"docs/{name}", HEAD + MARK + "\nold\n")
+        tools = self.top / "tools"
+        for package in ("base", "lists"):
+            shutil.copytree(TOP / "tools" / package, tools / package)
+        shutil.copy(TOP / "tools" / "make_pages", tools)
+
+    def write(self, name: str, text: str) -> None:
+        path = self.top / name
+        path.parent.mkdir(parents=True, exist_ok=True)
+        path.write_text(text, encoding="utf-8")
+
+    def make(self, *words: str) -> subprocess.CompletedProcess[str]:
+        command = [sys.executable, str(self.top / "tools" / "make_pages"), *words]
+        return subprocess.run(command, capture_output=True, text=True, check=False)
+
+    def page(self, name: str) -> str:
+        return (self.top / "docs" / name).read_text(encoding="utf-8")
+
+    def test_pages_are_made_below_what_is_by_hand(self) -> None:
+        self.assertEqual(self.make().returncode, 0)
+        for name, made in zip(PAGES, (DEFINITIONS, CONTRACTS, WRONG_BODIES)):
+            self.assertEqual(self.page(name), HEAD + MARK + made)
+
+    def test_made_pages_are_as_they_should_be(self) -> None:
+        self.make()
+        checked = self.make("--check")
+        self.assertEqual((checked.returncode, checked.stderr), (0, ""))
+
+    def test_the_first_difference_is_told_and_nothing_written(self) -> None:
+        self.make()
+        stands = self.page("CONTRACTS.md").replace("Its number", "Their number").replace("Is shown", "Is seen")
+        self.write("docs/CONTRACTS.md", stands)
+        checked = self.make("--check")
+        told = "docs/CONTRACTS.md:13: would be `- `Number::number`: Its number.`; tools/make_pages writes it\n"
+        self.assertEqual((checked.returncode, checked.stderr), (1, told))
+        self.assertEqual(self.page("CONTRACTS.md"), stands)
+
+    def test_a_line_too_many_is_told(self) -> None:
+        self.make()
+        self.write("docs/DEFINITIONS.md", self.page("DEFINITIONS.md") + "more\n")
+        self.assertIn("DEFINITIONS.md:17: would not be there", self.make("--check").stderr)
+
+    def test_an_edit_tells_what_it_does(self) -> None:
+        edit = "crates/halves/must-fail/rounds_up.edit"
+        self.write(edit, FILES[edit].replace("does: ", ""))
+        made = self.make("--check")
+        self.assertEqual(made.returncode, 1)
+        self.assertEqual(made.stderr.splitlines()[-1], f"{edit} has not one line `does: ..`")
+
+    def test_a_page_tells_where_the_made_part_begins(self) -> None:
+        self.write("docs/DEFINITIONS.md", HEAD)
+        made = self.make()
+        self.assertEqual((made.returncode, made.stderr), (1, f"docs/DEFINITIONS.md has no line `{MARK.strip()}`\n"))
+        self.assertEqual(self.page("DEFINITIONS.md"), HEAD)
+
+
+if __name__ == "__main__":
+    unittest.main()
