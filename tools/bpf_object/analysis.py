@@ -2,7 +2,7 @@
 
 from __future__ import annotations
 
-from typing import Dict, List, Optional, Tuple
+from typing import Dict, List, NamedTuple, Optional, Tuple
 
 from .access import Planner
 from .btf import SourceLine
@@ -28,18 +28,16 @@ from .code import (
 )
 from .inline import lowest_byte
 from .memory import Kind, Thing
-from .plans import LoopCall, Moved, Touch, Where
+from .plans import LoopCall, Moved, Plan, Touch, Where
 from .ranges import ALL, LOW, OPPOSITE, TOP, Range, exact, join, low32, refine, signed, top
 from .refusal import Refused
-from .values import ANY, LOADED, Handle, State, Value, result
+from .values import ANY, EXACT_ZERO, LOADED, Handle, Held, State, Value, result
 
 LOOP_LIMIT = 1 << 23  # iterations
 BYTE_LIMIT = 524288  # that an address in a map may be moved up to
 ROOM_LIMIT = 1 << 16  # bytes in front of a thing that are left out for addresses
 HELPERS = {2: "bpf_map_update_elem", 3: "bpf_map_delete_elem", 5: "bpf_ktime_get_ns", 6: "bpf_trace_printk"}
 HELPERS.update({7: "bpf_get_prandom_u32", 12: "bpf_tail_call", 14: "bpf_get_current_pid_tgid"})
-
-
 class Entry:
     """What a callback is given by all calls that name it."""
 
@@ -53,10 +51,28 @@ class Entry:
         self.context = Value(join(self.context.range, context.range), self.context.things | context.things)
 
 
+class Done(NamedTuple):
+    """What an instruction gives, and what is done in its place."""
+
+    value: Value
+    insns: List
+
+
+Refined = Optional[Tuple[Value, Value]]  # what two operands are; nothing where it can't come to that
+
+
+class Results:
+    """What was found of a function's instructions, by their identities and operands, as long as the layout is one."""
+
+    def __init__(self) -> None:
+        self.done: Dict[Tuple[int, Held, Held], Tuple[Alu, Done]] = {}  # each keeps what its identity is of
+        self.compared: Dict[Tuple[int, Value, Held], Tuple[Branch, Refined, Refined]] = {}
+
+
 class Analysis:
     """Follows the instructions of one function."""
 
-    def __init__(self, planner: Planner, number: int, function: Function, frame: Thing) -> None:
+    def __init__(self, planner: Planner, number: int, function: Function, frame: Thing, results: Results) -> None:
         self.planner = planner
         self.facts = planner.facts
         self.number = number
@@ -64,12 +80,13 @@ class Analysis:
         self.frame = frame
         self.entries: Dict[int, Entry] = {}
         self.lowest = lowest_byte(function)
-        self.stopped: set[int] = set()
+        self._results = results
+        self._plans: Dict[Tuple[int, Held, int], Tuple[Insn, Plan | Stop, Held]] = {}  # each with its instruction
 
     def step(self, insn: Insn, state: State) -> List:
         """The instructions that are done in place of one; a `Stop` among them ends the path."""
         if isinstance(insn, Alu):
-            return self._alu(insn, state)
+            return self.alu(insn, state)
         if isinstance(insn, (Load, Store, Atomic)):
             return self._access(insn, state)
         if isinstance(insn, Number):
@@ -115,16 +132,32 @@ class Analysis:
                 return Address(dst, thing, byte, line, found.range.lo)
         return constant(dst, found.range.lo, line)
 
-    def _alu(self, insn: Alu, state: State) -> List:
-        if insn.op == "mov" and insn.src is not None and isinstance(state.regs[insn.src], Handle) and insn.width == 64:
-            state.regs[insn.dst] = state.regs[insn.src]
+    def alu(self, insn: Alu, state: State) -> List:
+        """The instructions that are done in place of one that computes."""
+        regs, dst, src = state.regs, insn.dst, insn.src
+        is_move = insn.op.startswith("mov")
+        if is_move and src is not None and isinstance(regs[src], Handle) and insn.width == 64 and insn.op == "mov":
+            regs[dst] = regs[src]
             return []
-        a = Value(exact(0)) if insn.op.startswith("mov") else self.value(insn.dst, state, insn)
-        b = Value(exact(insn.imm)) if insn.src is None else self.value(insn.src, state, insn)
+        a = None if is_move else regs[dst] if isinstance(regs[dst], Value) else self.value(dst, state, insn)
+        b = None if src is None else regs[src] if isinstance(regs[src], Value) else self.value(src, state, insn)
+        key = (id(insn), a, b)
+        found = self._results.done.get(key)
+        if found is None:
+            a = EXACT_ZERO if a is None else a
+            found = insn, self._result(insn, a, Value(exact(insn.imm)) if b is None else b)
+            self._results.done[key] = found
+        regs[dst] = found[1].value
+        return found[1].insns
+
+    def _result(self, insn: Alu, a: Value, b: Value) -> Done:
+        """What an arithmetic instruction gives of two numbers, and what is done in its place."""
         if insn.op in ("sub", "xor") and insn.src == insn.dst:
-            state.regs[insn.dst] = Value(exact(0))
-            return [constant(insn.dst, 0, insn.line)]
+            return Done(EXACT_ZERO, [constant(insn.dst, 0, insn.line)])
         found = result(insn.op, insn.width, a, b)
+        if not a.things and not b.things:
+            is_known = found.is_exact and not (insn.op == "mov" and insn.src is None)
+            return Done(found, [constant(insn.dst, found.range.lo, insn.line) if is_known else insn])
         if found.real and insn.op in ("add", "sub"):
             self._keep_room(insn.op, a, b, found)
         if not found.is_exact:
@@ -132,15 +165,14 @@ class Analysis:
             if insn.op == "sub" and a.real and b.real:
                 self.facts.together(a.real | b.real)
             self._take(b, False)
-        state.regs[insn.dst] = found
         if insn.src == FRAME:
             insn = insn._replace(src=None, imm=signed(b.range.lo, 32))
         is_sum = insn.op == "add" and insn.width == 64 and bool(a.real) and not b.real
         if is_sum and a.range.hi + b.range.hi <= BYTE_LIMIT:
-            return [Moved(insn, found.range.lo if found.is_exact else None, insn.line)]
+            return Done(found, [Moved(insn, found.range.lo if found.is_exact else None, insn.line)])
         if found.is_exact and not (insn.op == "mov" and insn.src is None):
-            return [self._constant(insn.dst, found, insn.line)]
-        return [insn]
+            return Done(found, [self._constant(insn.dst, found, insn.line)])
+        return Done(found, [insn])
 
     def _keep_room(self, op: str, a: Value, b: Value, found: Value) -> None:
         """An address is moved by a number, perhaps to before its thing's begin: it has to be above 0 there."""
@@ -180,36 +212,49 @@ class Analysis:
                     self.take(thing, value.range.lo)
 
     def _access(self, insn: Load | Store | Atomic, state: State) -> List:
-        if state.regs[insn.base] is None:
-            self.value(insn.base, state, insn)
-        plan = self.planner.plan(insn, state, self.frame)
+        plan = self._plan(insn, state)
         if isinstance(plan, Stop):
             return [plan]
-        touch = Touch(insn, plan, insn.line)
+        is_cut = False
         if isinstance(insn, Load):
-            done = self._load(insn, touch, state)
+            number = self._load(insn, plan, state)
+            if number is not None:
+                return [number]
         elif isinstance(insn, Store):
-            done = [self._store(insn, touch, state)]
+            insn, is_cut = self._store(insn, plan, state)
         else:
-            self._atomic(insn, touch, state)
-            done = [touch]
-        held = tuple(state.regs)
-        return [one._replace(held=held) if isinstance(one, Touch) else one for one in done]
+            self._atomic(insn, plan, state)
+        return [Touch(insn, plan, insn.line, is_cut, False, tuple(state.regs))]
 
-    def _load(self, insn: Load, touch: Touch, state: State) -> List:
+    def _plan(self, insn: Load | Store | Atomic, state: State) -> Plan | Stop:
+        """The plan of an access, which is found once for each address that its base may have."""
+        base = state.regs[insn.base]
+        if base is None:
+            base = self.value(insn.base, state, insn)
+        key = (id(insn), base, len(self.facts.escaped))
+        found = self._plans.get(key)
+        if found is None:
+            plan = self.planner.plan(insn, state, self.frame)
+            self._plans[key] = insn, plan, state.regs[insn.base]
+            return plan
+        state.regs[insn.base] = found[2]
+        return found[1]
+
+    def _load(self, insn: Load, plan: Plan, state: State) -> Alu | Number | Address | None:
+        """Puts in the register what is loaded, and gives what is done instead where that is one number."""
         found = Value(top(insn.size * 8), LOADED)
-        if touch.plan.where is Where.FRAME:
-            byte = touch.plan.at + FRAME_BYTES
+        if plan.where is Where.FRAME:
+            byte = plan.at + FRAME_BYTES
             self._test_written(byte, insn.size, state)
             held = state.load(byte, insn.size)
             if held.is_exact:
                 number = held.range.lo
                 number = signed(number, insn.size * 8) & ALL if insn.signed else number
-                state.regs[insn.dst] = Value(exact(number), held.things)
-                return [self._constant(insn.dst, Value(exact(number), held.things), insn.line)]
+                state.regs[insn.dst] = known = Value(exact(number), held.things)
+                return self._constant(insn.dst, known, insn.line)
             found = Value(top(insn.size * 8), held.things)
         state.regs[insn.dst] = Value(TOP, found.things) if insn.signed else found
-        return [touch]
+        return None
 
     def _test_written(self, byte: int, size: int, state: State) -> None:
         if not state.is_written(byte, size):
@@ -217,23 +262,24 @@ class Analysis:
                 if not state.is_written(at, 1):
                     self.facts.leave_unwritten(self.number, at)
 
-    def _store(self, insn: Store, touch: Touch, state: State) -> Touch:
+    def _store(self, insn: Store, plan: Plan, state: State) -> Tuple[Store, bool]:
+        """Puts what is stored in the frame; gives the store, and whether that has no bits above its size."""
         value = Value(exact(insn.imm)) if insn.src is None else self.value(insn.src, state, insn)
         if insn.src == FRAME:
             insn = insn._replace(src=None, imm=signed(value.range.lo, 32))
-        if touch.plan.where is Where.FRAME:
-            state.store(touch.plan.at + FRAME_BYTES, insn.size, value)
+        if plan.where is Where.FRAME:
+            state.store(plan.at + FRAME_BYTES, insn.size, value)
         else:
             self.escape(value)
-        return touch._replace(insn=insn, is_cut=value.range.hi < 1 << (8 * insn.size))
+        return insn, value.range.hi < 1 << (8 * insn.size)
 
-    def _atomic(self, insn: Atomic, touch: Touch, state: State) -> None:
+    def _atomic(self, insn: Atomic, plan: Plan, state: State) -> None:
         value = self.value(insn.src, state, insn)
         bits = insn.size * 8
         if insn.op in ("xchg", "cmpxchg"):
             self.escape(value)
-        if touch.plan.where is Where.FRAME:
-            byte = touch.plan.at + FRAME_BYTES
+        if plan.where is Where.FRAME:
+            byte = plan.at + FRAME_BYTES
             self._test_written(byte, insn.size, state)
             self.escape(value)
             state.store(byte, insn.size, None)
@@ -264,7 +310,20 @@ class Analysis:
     def compare(self, end: Branch, state: State) -> Tuple[Optional[State], Optional[State]]:
         """What is known where a branch is taken, and where not; nothing where it can't come to that."""
         a = self.value(end.dst, state, end)
-        b = Value(exact(end.imm)) if end.src is None else self.value(end.src, state, end)
+        b = None if end.src is None else self.value(end.src, state, end)
+        if end.src == end.dst:
+            return state, state.copy()
+        key = (id(end), a, b)
+        found = self._results.compared.get(key)
+        if found is None:
+            found = self._compared(end, a, Value(exact(end.imm)) if b is None else b)
+            self._results.compared[key] = found
+        _, taken, other = found
+        behind = state.copy() if other else None
+        return _put(end, taken, state), _put(end, other, behind)
+
+    def _compared(self, end: Branch, a: Value, b: Value) -> Tuple[Branch, Refined, Refined]:
+        """What the operands are where a branch is taken, and where not."""
         if a.real and b.real and a.real != b.real:
             self.facts.together(a.real | b.real)
             for value in (a, b):
@@ -272,19 +331,21 @@ class Analysis:
                 for thing in value.real:
                     if self.planner.memory.things[thing].kind == Kind.FRAME:
                         self.facts.move(thing)
-        if end.src == end.dst:
-            return state, state.copy()
-        other = state.copy()
-        return self._refined(end, end.op, a, b, state), self._refined(end, OPPOSITE[end.op], a, b, other)
+        return end, _refined(end, end.op, a, b), _refined(end, OPPOSITE[end.op], a, b)
 
-    def _refined(self, end: Branch, op: str, a: Value, b: Value, state: State) -> State | None:
-        found = refine(op, end.width, a.range, b.range)
-        if found is None:
-            return None
-        state.regs[end.dst] = Value(found[0], a.things)
-        if end.src is not None:
-            state.regs[end.src] = Value(found[1], b.things)
-        return state
+
+def _refined(end: Branch, op: str, a: Value, b: Value) -> Refined:
+    found = refine(op, end.width, a.range, b.range)
+    return None if found is None else (Value(found[0], a.things), Value(found[1], b.things))
+
+
+def _put(end: Branch, found: Refined, state: State | None) -> State | None:
+    if found is None or state is None:
+        return None
+    state.regs[end.dst] = found[0]
+    if end.src is not None:
+        state.regs[end.src] = found[1]
+    return state
 
 
 def constant(dst: int, number: int, line: SourceLine | None) -> Alu | Number:

@@ -203,6 +203,7 @@ class Function:
     needed: dict[int, tuple[int, ...]] = field(default_factory=dict)  # of each end the registers that are read behind
     step: int = 0  # its block that leads to what a round does
     parts: int = 0  # the inner loops that are left and gone on with round by round
+    visits: dict[int, int] = field(default_factory=dict)  # how often first blocks of loops are come to, at most
 
     @property
     def size(self) -> int:

@@ -4,8 +4,11 @@ from __future__ import annotations
 
 from collections.abc import Iterable
 from dataclasses import dataclass, field
+from typing import FrozenSet, Tuple
 
 from .values import VAGUE, Things
+
+Followed = Tuple[FrozenSet, ...]
 
 
 @dataclass
@@ -26,6 +29,11 @@ class Facts:
     unwritten: set[tuple[int, int]] = field(default_factory=set)  # a function, and 8 bytes of its frame likewise
     _groups: dict[int, int] = field(default_factory=dict)
     version: int = 0  # rises with each new fact
+
+    def followed(self) -> Followed:
+        """The facts that change how a program is followed, where its layout is the same."""
+        sets = (self.escaped, self.undefined, self.unwritten, self.hidden)
+        return tuple(frozenset(known) for known in sets)
 
     def escape(self, things: Things) -> None:
         """An address in these things is stored where it isn't followed."""

@@ -5,6 +5,7 @@ from __future__ import annotations
 from collections.abc import Iterable
 from typing import Callable, Dict, List, Optional, Set, Tuple
 
+from .bounds import Bounds
 from .code import Function
 from .emit import Emitted, emit
 from .inline import callbacks_in, inline_loop
@@ -59,6 +60,7 @@ class _Fit:
         self._sizes = sizes
         self._rounds: Dict[Loop, int] = {}  # of the loops that end by themselves
         self._given = functions  # before any loop of main is made a callback
+        self._bounds = Bounds(functions[0])  # of the loops of main as it is given
         self._headers: List[int] = []  # of the loops that are made callbacks, of which none is in another
         self._mender = Mender(memory, functions, sizes)
 
@@ -119,7 +121,7 @@ class _Fit:
                 raise TooLong("a loop is too long")
             changed = found[0]
             headers += found[1]
-        self._given, self._headers = changed, []
+        self._given, self._bounds, self._headers = changed, Bounds(changed[0]), []
         for header in headers:
             if not any(header in loop_of(changed[0], outer) for outer in self._headers):
                 outlined = self._outlined(header)
@@ -134,7 +136,7 @@ class _Fit:
         headers = [*(other for other in self._headers if other not in inside), header]
         functions: Optional[Dict[int, Function]] = self._given
         for one in headers:
-            functions = outline(functions, one) if functions else None
+            functions = outline(functions, one, self._bounds.visits(one)) if functions else None
         if functions is not None:
             self._headers = headers
         return functions
@@ -147,7 +149,7 @@ class _Fit:
         if number == 0:
             changed = self._outlined(header)
         elif self._functions[number].kept is not None:
-            changed = {**self._functions, number: part(self._functions[number], header)}
+            changed = part(self._functions, number, header)
         else:
             changed = None
         if changed is None:

@@ -3,9 +3,17 @@
 from __future__ import annotations
 
 from collections.abc import Iterable
-from typing import Dict, FrozenSet, List, Optional, Tuple
+from typing import Dict, FrozenSet, List, NamedTuple, Optional, Tuple
 
 from .code import Function, successors
+
+
+class Part(NamedTuple):
+    """A loop, or a single block."""
+
+    labels: FrozenSet[int]
+    first: int
+    is_loop: bool
 
 
 class Graph:
@@ -13,19 +21,20 @@ class Graph:
 
     def __init__(self, function: Function) -> None:
         self._next = {label: successors(block.end) for label, block in function.blocks.items()}
-        self._parts: Dict[Tuple[FrozenSet[int], Optional[int]], List[List[int]]] = {}
+        self._parts: Dict[Tuple[FrozenSet[int], Optional[int]], List[Part]] = {}
 
-    def parts(self, labels: FrozenSet[int], header: int | None) -> List[List[int]]:
+    def parts(self, labels: FrozenSet[int], header: int | None) -> List[Part]:
         """The loops and single blocks of some labels, in an order that the edges among them follow.
 
         Edges that lead to the header are left out.
         """
         key = (labels, header)
         if key not in self._parts:
-            self._parts[key] = self._find(labels, header)
+            parts = self._find(labels, header)
+            self._parts[key] = [Part(frozenset(part), part[0], self._is_loop(part, header)) for part in parts]
         return self._parts[key]
 
-    def is_loop(self, part: List[int], header: int | None) -> bool:
+    def _is_loop(self, part: List[int], header: int | None) -> bool:
         """Whether a part leads to itself."""
         return len(part) > 1 or (part[0] in self._next[part[0]] and part[0] != header)
 

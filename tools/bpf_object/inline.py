@@ -298,16 +298,19 @@ def _live_before(function: Function, label: int, at: int, live_in: Dict[int, int
 
 
 def lowest_byte(function: Function) -> int:
-    """The lowest byte of the frame that a function names by a constant or keeps registers in, at a multiple of 8."""
+    """The lowest byte of the frame that a function names by constants or keeps registers in, at a multiple of 8."""
     lowest = function.kept.bottom if function.kept else FRAME_BYTES
     for block in function.blocks.values():
-        copies: Set[int] = set()
+        addresses: Dict[int, int] = {}  # the registers with an address in the frame, and its byte
         for insn in block.insns:
             if isinstance(insn, (Load, Store, Atomic)) and insn.base == FRAME:
                 lowest = min(lowest, FRAME_BYTES + insn.offset)
-            elif isinstance(insn, Alu) and insn.op == "mov" and insn.src == FRAME:
-                copies.add(insn.dst)
-            elif isinstance(insn, Alu) and insn.op == "add" and insn.src is None and insn.dst in copies:
-                lowest = min(lowest, FRAME_BYTES + insn.imm)
-                copies.discard(insn.dst)
+            if isinstance(insn, Alu) and insn.op == "mov" and insn.src == FRAME:
+                addresses[insn.dst] = FRAME_BYTES
+            elif isinstance(insn, Alu) and insn.op == "add" and insn.src is None and insn.dst in addresses:
+                addresses[insn.dst] += insn.imm
+                lowest = min(lowest, addresses[insn.dst])
+            else:
+                for register in writes(insn):
+                    addresses.pop(register, None)
     return max(lowest // 8 * 8, 0)

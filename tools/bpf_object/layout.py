@@ -106,6 +106,10 @@ class Layout:
         self.elements += elements
         return first
 
+    def is_as(self, other: Layout) -> bool:
+        """Whether all things lie as in another layout."""
+        return self.elements == other.elements and self.spots == other.spots
+
     def initial(self) -> list[int]:
         """The elements' values at the begin."""
         words = [0] * self.elements

@@ -6,9 +6,9 @@ from dataclasses import dataclass
 from typing import Dict, List, Optional, Set
 
 from .access import Planner, Traps
-from .analysis import Analysis, Entry
+from .analysis import Analysis, Entry, Results
 from .code import FRAME_BYTES, Function
-from .facts import Facts
+from .facts import Facts, Followed
 from .layout import Layout, spread_groups
 from .memory import ARGUMENT, Kind, Memory, Thing
 from .ranges import TOP, exact
@@ -56,6 +56,8 @@ class Mender:
                 self.facts.escape(frozenset((target,)))
         self._spread: set[int] = set()
         self._is_tried = False
+        self._layout: Optional[Layout] = None  # of the round before
+        self._results: Dict[int, Results] = {}  # of the functions, by that layout
 
     @property
     def is_spread(self) -> bool:
@@ -71,17 +73,23 @@ class Mender:
 
     def _settle(self, budget: int, rounds: Dict[Loop, int], is_trial: bool) -> Rewritten:
         for _ in range(TRIES):
-            version = self.facts.version
+            version, followed = self.facts.version, self.facts.followed()
             layout = Layout(self._memory, self.facts, self._spread)
             done = self._round(layout, Limits(budget, rounds, is_trial))
-            if self.facts.version == version:
+            if self.facts.version == version or self._is_settled(layout, followed):
                 spread = spread_groups(self._memory, self.facts, self._sizes)
                 if spread == self._spread:
                     return done
                 self._spread = spread
         raise Refused("the program's variables have no layout that all its accesses agree with")
 
+    def _is_settled(self, layout: Layout, followed: Followed) -> bool:
+        """Whether a round with all facts that are known by now would be the same."""
+        return self.facts.followed() == followed and Layout(self._memory, self.facts, self._spread).is_as(layout)
+
     def _round(self, layout: Layout, limits: Limits) -> Rewritten:
+        if self._layout is None or not layout.is_as(self._layout):
+            self._layout, self._results = layout, {number: Results() for number in self._functions}
         traps = Traps()
         planner = Planner(self._memory, layout, self.facts, traps)
         known = (self._frames, self._contexts, layout, self.facts, traps)
@@ -89,8 +97,9 @@ class Mender:
         waiting: List[int] = [0]
         while waiting:
             number = waiting.pop(0)
-            analysis = Analysis(planner, number, self._functions[number], self._frames[number])
-            unroller = Unroller(analysis, planner, self._functions[number], limits)
+            function = self._functions[number]
+            analysis = Analysis(planner, number, function, self._frames[number], self._results[number])
+            unroller = Unroller(analysis, planner, function, limits)
             try:
                 done.functions[number] = unroller.run(self._entry(number, layout, done.entries))
             except TooMany as reason:

@@ -12,6 +12,7 @@ from __future__ import annotations
 from dataclasses import replace
 from typing import Dict, List, Optional, Set
 
+from .bounds import Visits
 from .btf import SourceLine
 from .code import (
     FRAME,
@@ -38,11 +39,11 @@ from .code import (
 )
 from .inline import inline_callback, live_in_of, lowest_byte
 
-ROUNDS = 1 << 23  # that a loop call does at most
+MOST_ROUNDS = 1 << 23  # that a loop call does
 
 
-def outline(functions: Dict[int, Function], header: int) -> Optional[Dict[int, Function]]:
-    """The functions with one more, or nothing where the loop can't be made one."""
+def outline(functions: Dict[int, Function], header: int, visits: Visits) -> Optional[Dict[int, Function]]:
+    """The functions with one more, or nothing where the loop can't be made one; its own visits are its rounds."""
     main = functions[0]
     labels = loop_of(main, header)
     order = order_of(main)
@@ -58,21 +59,37 @@ def outline(functions: Dict[int, Function], header: int) -> Optional[Dict[int, F
         return None
     number = max(functions) + 1
     done = dict(functions)
-    done[number] = site.body()
-    done[0] = site.main(number, enters)
+    done[number] = replace(site.body(), visits=visits)
+    done[0] = site.main(number, enters, visits.get(header, MOST_ROUNDS))
     done[number] = inline_callback(done, number)
     return done
 
 
-def part(function: Function, header: int) -> Function:
-    """A callback that was a loop of main, with one of its own loops parted."""
+def part(functions: Dict[int, Function], number: int, header: int) -> Dict[int, Function]:
+    """The functions with one of the loops of a callback parted, which was a loop of main itself."""
+    more = functions[number].visits.get(header, MOST_ROUNDS)
+    blocks = {label: _with_more(block, number, more) for label, block in functions[0].blocks.items()}
+    return {**functions, 0: replace(functions[0], blocks=blocks), number: _parted(functions[number], header)}
+
+
+def _with_more(block: Block, number: int, more: int) -> Block:
+    """A block, where the call of a callback does more rounds if it is there."""
+    insns = list(block.insns)
+    for at, (count, insn) in enumerate(zip(insns, insns[1:])):
+        if isinstance(insn, CodeOf) and insn.function == number:
+            insns[at] = count._replace(imm=min(count.imm + more, MOST_ROUNDS))
+    return Block(insns, block.end)
+
+
+def _parted(function: Function, header: int) -> Function:
     kept = function.kept
     assert kept is not None
     if not function.parts:
         function = _with_all_kept(function, kept)
     block = function.blocks[header]
     line = block.insns[0].line if block.insns else block.end.line
-    registers = [register for register in REGISTERS if live_in_of(function)[header] >> register & 1]
+    live = live_in_of(function)[header]
+    registers = [register for register in REGISTERS if live >> register & 1]
     choice, again, leave = (max(function.blocks) + n for n in (1, 2, 3))
     number = function.parts + 1
     blocks = {
@@ -172,8 +189,8 @@ class _Site:
             blocks[label] = Block(block.insns, renamed(block.end, leading))
         return function
 
-    def main(self, number: int, enters: List[int]) -> Function:
-        """Main with a loop call in place of the loop."""
+    def main(self, number: int, enters: List[int], rounds: int) -> Function:
+        """Main with a loop call of so many rounds in place of the loop."""
         main = self._main
         blocks = {label: block for label, block in main.blocks.items() if label not in self._labels}
         call, self._next = self._next, self._next + 1
@@ -182,7 +199,8 @@ class _Site:
         insns: List = [self._store(register) for register in self._registers(self._header)]
         begun = (self.kept.way, self.kept.part, self.kept.count)
         insns += [Store(8, FRAME, place, None, 0, self._line) for place in begun]
-        insns += [self._number(1, ROUNDS), CodeOf(2, number, self._line), self._number(3, 0), self._number(4, 0)]
+        insns += [self._number(1, min(rounds, MOST_ROUNDS)), CodeOf(2, number, self._line)]
+        insns += [self._number(3, 0), self._number(4, 0)]
         insns += [Call(LOOP, self._line), Load(8, False, 1, FRAME, self.kept.way, self._line)]
         blocks[call] = Block(insns, Goto(call, self._line))
         last = call

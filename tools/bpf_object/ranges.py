@@ -119,7 +119,7 @@ def compute(op: str, width: int, a: int, b: int) -> int:
 
 def alu(op: str, width: int, a: Range, b: Range) -> Range:
     """The range of the result, by the verifier's table."""
-    if op[:2] in ("le", "be") or op.startswith("swap"):
+    if op not in NUMBERS and (op[:2] in ("le", "be") or op.startswith("swap")):
         return _byte_order(op, a)
     if width == 32:
         a, b = low32(a), low32(b)

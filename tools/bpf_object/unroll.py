@@ -7,11 +7,11 @@ Where a round limit is given, what would lead further is a trap. A lookup become
 from __future__ import annotations
 
 from dataclasses import dataclass
-from typing import Dict, FrozenSet, List, Optional, Tuple
+from typing import Dict, FrozenSet, List, Optional, Sequence, Tuple
 
 from .access import Planner
 from .analysis import LOOP_LIMIT, Analysis, constant
-from .code import LOOKUP, RESULT, Alu, Block, Branch, Call, End, Exit, Function, Goto, Load, Stop, line_text
+from .code import FRAME, LOOKUP, RESULT, Alu, Block, Branch, Call, End, Exit, Function, Goto, Load, Stop, line_text
 from .graph import Graph
 from .loaded import Trap
 from .ranges import exact
@@ -87,13 +87,13 @@ class Unroller:
         """Copies what the incoming edges lead to, and gives the edges that leave, or lead to the header."""
         exits: Exits = []
         for part in self._graph.parts(labels, header):
-            if self._graph.is_loop(part, header):
-                entries = {label: incoming.pop(label) for label in part if label in incoming}
+            if part.is_loop:
+                entries = {label: incoming.pop(label) for label in part.labels & incoming.keys()}
                 if not entries:
                     continue
-                leaving = self._loop(frozenset(part), entries)
-            elif part[0] in incoming:
-                leaving = self._copy(part[0], incoming.pop(part[0]))
+                leaving = self._loop(part.labels, entries)
+            elif part.first in incoming:
+                leaving = self._copy(part.first, incoming.pop(part.first))
             else:
                 continue
             for target, edge, state in leaving:
@@ -149,16 +149,22 @@ class Unroller:
 
     def _lead(self, edge: Edge, label: int) -> None:
         block = self.result.blocks[edge[0]]
-        block.end = block.end._replace(**{edge[1]: label})
+        end = block.end
+        if isinstance(end, Goto):
+            block.end = Goto(label, end.line)
+        elif isinstance(end, Branch):
+            taken, other = (label, end.other) if edge[1] == "taken" else (end.taken, label)
+            block.end = Branch(end.op, end.width, end.dst, end.src, end.imm, taken, other, end.line)
 
     def _copy(self, label: int, arrivals: List[Arrival]) -> Exits:
         """Copies one block; each lookup in it parts the rest of the block into two copies."""
         first = self._new(Exit())
         for edge, _ in arrivals:
             self._lead(edge, first)
-        self._take_differences([state for _, state in arrivals])
+        states = [state for _, state in arrivals]
+        self._take_differences(states)
         exits: Exits = []
-        work = [(first, 0, join_states([state for _, state in arrivals]))]
+        work = [(first, 0, join_states(states))]
         while work:
             target, index, state = work.pop()
             work += self._copy_rest(label, target, index, state, exits)
@@ -168,16 +174,18 @@ class Unroller:
         """Addresses in frames that aren't the same on all paths aren't followed further."""
         if len(states) < 2:
             return
-        for at in range(10):
-            self._take_where_different([state.regs[at] for state in states])
-        for byte in {byte for state in states for byte in state.slots}:
-            self._take_where_different([state.slots[byte][1] if byte in state.slots else None for state in states])
+        for held in zip(*(state.regs[:FRAME] for state in states)):
+            self._take_where_different(held)
+        if any(state.slots for state in states):
+            for byte in {byte for state in states for byte in state.slots}:
+                self._take_where_different([state.slots[byte][1] if byte in state.slots else None for state in states])
 
-    def _take_where_different(self, held: List[Held]) -> None:
-        if all(value is held[0] or value == held[0] for value in held):
+    def _take_where_different(self, held: Sequence[Held]) -> None:
+        first = held[0]
+        if all([value is first or value == first for value in held]):
             return
         for value in held:
-            if isinstance(value, Value) and value.is_exact:
+            if isinstance(value, Value) and value.things and value.is_exact:
                 for thing in value.real:
                     self._analysis.take(thing, value.range.lo)
 
@@ -188,6 +196,9 @@ class Unroller:
         block = self.result.blocks[target]
         for at in range(index, len(source.insns)):
             insn = source.insns[at]
+            if isinstance(insn, Alu):
+                block.insns += self._analysis.alu(insn, state)
+                continue
             if isinstance(insn, Call) and insn.helper == LOOKUP:
                 return self._lookup(insn, target, at + 1, state)
             done = self._analysis.step(insn, state)

@@ -27,7 +27,7 @@ class Value(NamedTuple):
     @property
     def real(self) -> Things:
         """The things that it is surely derived from."""
-        return self.things - VAGUE
+        return self.things - VAGUE if self.things else NOTHING
 
 
 class Handle(NamedTuple):
@@ -132,9 +132,9 @@ def things_of(op: str, a: Value, b: Value) -> Things:
 
 
 def join_states(states: List[State]) -> State:
-    """What is known where paths meet."""
+    """What is known where paths meet; a state that is alone is changed further on."""
     if len(states) == 1:
-        return states[0].copy()
+        return states[0]
     first = states[0]
     regs = first.regs[:]
     written = first.written

@@ -8,6 +8,7 @@ import re
 import sys
 import unittest
 from pathlib import Path
+from typing import Optional
 
 sys.path[:0] = [str(Path(__file__).resolve().parents[1]), str(Path(__file__).resolve().parent)]
 
@@ -28,13 +29,15 @@ from bpf_object.code import (  # noqa: E402
     Store,
     backward,
 )
+from bpf_object.bounds import Bounds  # noqa: E402
 from bpf_object.emit import emit  # noqa: E402
 from bpf_object.fit import fit  # noqa: E402
-from bpf_object.inline import inline  # noqa: E402
+from bpf_object.inline import inline, lowest_byte  # noqa: E402
 from bpf_object.memory import Kind, Memory  # noqa: E402
 from bpf_object.mend import Mender  # noqa: E402
 from bpf_object.outline import outline  # noqa: E402
 from bpf_object.ranges import ALL, HOLDS, NUMBERS, Range, alu, compute, exact, norm, refine  # noqa: E402
+from bpf_object.trips import FALLING, RISING  # noqa: E402
 from loader.forms import After, Before  # noqa: E402
 
 SEED = 7
@@ -125,6 +128,58 @@ class Ranges(unittest.TestCase):
                     self.assertTrue(r.lo <= number <= r.hi, name)
 
 
+class Rounds(unittest.TestCase):
+    """A loop's rounds are at least those that it does, and as many where a counter tells them."""
+
+    def rounds(self, start: list, steps: list, end: Branch) -> Optional[int]:
+        """The most rounds of a loop whose block is 1, and that goes on to 1."""
+        blocks = {0: Block(start, Goto(1)), 1: Block(steps, end), 2: Block([], Exit())}
+        return Bounds(Function("main", 0, blocks)).rounds(1)
+
+    def done(self, start: int, step: int, test: str, width: int, bound: int) -> Optional[int]:
+        """The rounds that the loop of a counter does, where they aren't many."""
+        at = start
+        for count in range(1, 200):
+            at = (at + step) & ALL
+            mask = ALL >> (64 - width)
+            if not HOLDS[test](at & mask, bound & mask, width):
+                return count
+        return None
+
+    def test_counters(self) -> None:
+        chosen = random.Random(SEED)
+        for _ in range(TRIES):
+            start, bound = chosen.randrange(-40, 40), chosen.randrange(-40, 40)
+            step, test = chosen.choice((-3, -2, -1, 1, 2, 3)), chosen.choice([*HOLDS])
+            width = chosen.choice((32, 64))
+            done = self.done(start & ALL, step, test, width, bound)
+            end = Branch(test, width, 6, None, bound, 1, 2)
+            found = self.rounds([mov(6, start)], [imm("add", 6, step)], end)
+            is_met = test in (RISING if step > 0 else FALLING)
+            if is_met and done is not None:
+                self.assertEqual(found, done, (start, step, test, width, bound))
+            elif found is not None and found < 200:
+                self.assertLessEqual(done or 0, found, (start, step, test, width, bound))
+                self.assertIsNotNone(done, (start, step, test, width, bound))
+
+    def test_low_half_and_frame(self) -> None:
+        low = [copy(2, 6), imm("lsh", 2, 32), imm("rsh", 2, 32)]
+        end = Branch("jne", 64, 2, None, 100, 1, 2)
+        self.assertEqual(self.rounds([mov(6, 0)], [imm("add", 6, 1), *low], end), 100)
+        slot = [Load(4, False, 6, 10, -4), imm("add", 6, 1), Store(4, 10, -4, 6, 0), *low]
+        self.assertEqual(self.rounds([Store(4, 10, -4, None, 0)], slot, end), 100)
+        taken = [copy(3, 10), imm("add", 3, -4), Store(8, 3, 0, 1, 0)]
+        self.assertIsNone(self.rounds([Store(4, 10, -4, None, 0)], [*slot, *taken], end))
+
+    def test_unknown(self) -> None:
+        end = Branch("jlt", 64, 6, 7, 0, 1, 2)
+        self.assertIsNone(self.rounds([mov(6, 0)], [imm("add", 6, 1)], end))
+        byte = [mov(6, 0), Load(1, False, 7, 1, 0)]
+        self.assertEqual(self.rounds(byte, [imm("add", 6, 1)], end), 255)
+        self.assertIsNone(self.rounds(byte, [imm("add", 6, 1)], Branch("jne", 64, 6, 7, 0, 1, 2)))
+        self.assertIsNone(self.rounds([copy(6, 1)], [imm("add", 6, 1)], Branch("jne", 64, 6, None, 9, 1, 2)))
+
+
 class Steps(Same):
     """Each step keeps what a program does."""
 
@@ -201,12 +256,13 @@ class Steps(Same):
         self.assertEqual(done.copied, {(0, 1): 40})
 
     def test_loop_is_a_callback(self) -> None:
-        functions = outline({0: self.loop(40)}, 1)
+        functions = outline({0: self.loop(40)}, 1, Bounds(self.loop(40)).visits(1))
         assert functions
         self.assertEqual([*functions], [0, 1])
         self.compare(memory_of(a=40), {0: self.loop(40)})
         unit = self.compare(memory_of(a=2000), {0: self.loop(2000)})
         self.assertIn("call 181", unit)
+        self.assertIn("mov64 r1, 2000\n", unit)
 
     def test_loop_of_a_callback_is_parted(self) -> None:
         body = [Load(1, False, 3, 7, 0), op("add", 3, 1), op("xor", 3, 6), Store(1, 7, 0, 3, 0), imm("add", 7, 1)]
@@ -216,6 +272,15 @@ class Steps(Same):
         call = [mov(1, 3), CodeOf(2, 1), mov(3, 0), mov(4, 0), Call(LOOP), mov(0, 9)]
         unit = self.compare(memory_of(a=600), {0: Function("main", 0, {0: Block(call, Exit())}), 1: callback})
         self.assertIn("main_round", unit)
+        self.assertRegex(unit, r"mov64 r1, \d{4}\n")
+
+    def test_frame_of_function_put_in(self) -> None:
+        called = [copy(2, 10), imm("add", 2, -24), Store(8, 2, 0, 1, 0), Load(8, False, 0, 10, -24)]
+        main = Function("main", 0, {0: Block([Store(8, 10, -8, None, 3), CallLocal(1)], Exit())})
+        functions = inline({0: main, 1: Function("f", 0, {0: Block(called, Exit())})})
+        self.assertEqual(lowest_byte(functions[0]), 512 - 8 - 24)
+        addresses = [copy(2, 10), imm("add", 2, -8), imm("add", 2, -24), mov(2, 0), imm("add", 2, -400)]
+        self.assertEqual(lowest_byte(Function("main", 0, {0: Block(addresses, Exit())})), 512 - 32)
 
     def sums(self, rest: list) -> str:
         insns = [Load(8, False, 3, 2, 0), op("add", 3, 1), Store(8, 2, 0, 3, 0), *rest, mov(0, 0)]
