@@ -12,12 +12,14 @@ from bpf_object.program import Fault
 from bpf_object.refusal import Refused
 
 from . import compiler, programs, state
+from .library import Machine, find_library
 from .most import NO_VALUES, most_of
 from .options import Options
 from .programs import Answer, Clock
 from .report import AccessReport, ConflictReport, FunctionReport, LoopReport, Report, RunReport, make_program
-from .reports import Conflict, Explanation, Function, Loop, Refusal, read_explanation, read_run, read_verify
-from .unit_text import VALUES, split, with_values
+from .reports import Conflict, Explanation, Function, Loop, Refusal, Run
+from .reports import read_explanation, read_run, read_verify
+from .unit_text import SHORT, VALUES, split, with_values
 
 EXPLAIN_SECONDS = 60.0  # that a run's conflicts may take to be explained
 # What no object should lead to, since all is tested before it is used; still no object gets a trace.
@@ -39,6 +41,7 @@ class Session:
         self.options = options
         self._clock = clock
         self._programs = programs.find_programs()
+        self._library = find_library()
         self._verdicts: dict[str, list[Function] | Refusal] = {}
         self.program = make_program(options.file, options.main, self._load())
         self.report = Report(self.program)
@@ -62,10 +65,10 @@ class Session:
 
     def find_most(self) -> bool:
         """Finds the most instructions of a run; whether they are within the limit."""
-        explained = self._explain(["--states"], self.program.unit.text + NO_VALUES)
+        if self.program.unit.loop_slots or self.options.page is not None:
+            self.report.states = self._explain(["--states"], self.program.unit.text + NO_VALUES).states
         counts = [Function(function.slot, function.count) for function in self.report.functions]
-        most = most_of(self.program.unit, counts, explained.states)
-        self.report.most, self.report.states = most, explained.states
+        self.report.most = most = most_of(self.program.unit, counts, self.report.states)
         limit = self.options.limit
         if limit is not None and most.instructions > limit:
             self.report.above_limit = limit
@@ -73,12 +76,10 @@ class Session:
 
     def runs(self) -> Iterator[RunReport]:
         """Runs it for each argument, the state going on, up to a trap."""
+        machine = self._machine()
         for argument in self.options.arguments:
-            values = self._values()
-            answer = self._ask(self._programs.bpfspec, "run", self.options.words(argument), values)
-            found = read_run(answer.output)
-            if isinstance(found, Refusal):
-                raise Failed(answer.status, found.text)
+            values = self._values() if machine is None or len(self.words) > SHORT else ""
+            found = self._run(argument, values) if machine is None else machine.run(argument)
             trap = self.program.loaded.trap_in(found.words)
             loops = [] if trap else [*self._loops(found.loops, argument, values)]
             report = RunReport(argument, found.value, loops, self.words, found.words, trap)
@@ -125,8 +126,25 @@ class Session:
 
     def _verdict(self, unit: str) -> list[Function] | Refusal:
         if unit not in self._verdicts:
-            self._verdicts[unit] = read_verify(self._ask(self._programs.bpfspec, "verify", [], unit).output)
+            found = self._library.verdict(unit) if self._library is not None else None
+            if found is None:
+                found = read_verify(self._ask(self._programs.bpfspec, "verify", [], unit).output)
+            self._verdicts[unit] = found
         return self._verdicts[unit]
+
+    def _machine(self) -> Machine | None:
+        """A machine of the library, where there is one and no loop has a verdict."""
+        if self._library is None or self.program.unit.loop_slots:
+            return None
+        return self._library.machine(self.program.unit.text, split(self.words, self.program.loaded.sizes))
+
+    def _run(self, argument: int, values: str) -> Run:
+        """A run by the program."""
+        answer = self._ask(self._programs.bpfspec, "run", self.options.words(argument), values)
+        found = read_run(answer.output)
+        if isinstance(found, Refusal):
+            raise Failed(answer.status, found.text)
+        return found
 
     def _ask(self, program: tuple[str, ...], command: str, words: list[str], text: str) -> Answer:
         answer = programs.run((*program, command, *words), text, self._clock)

@@ -8,6 +8,7 @@ from dataclasses import dataclass
 COMMENT = ";"
 VALUES = "%%"
 LOOP = "call 181"
+SHORT = 1 << 15  # words whose text is never too long for an input
 
 
 @dataclass(frozen=True)
