@@ -1,7 +1,8 @@
 /*
  * bpfspec: BPF programs that are loaded once and run many times, verified and run by code that is proved.
  *
- * A machine is an accepted program with its maps. It stands behind a handle of 16 bytes, and zeroes make an empty one:
+ * A machine is an accepted program with its maps. It stands behind a handle of 16 bytes, and zeroes make an empty one,
+ * which in C++ is written {}:
  *
  *     struct bpfspec_machine machine = {0};
  *     struct bpfspec_refusal refusal;

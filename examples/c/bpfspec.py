@@ -105,9 +105,13 @@ def _fits(number: int, limit: int, what: str) -> int:
 class Machine:
     """An accepted program with its maps, which are all zero at first. `close` frees it, as the end of a `with` does."""
 
+    def __new__(cls, *_: object, **__: object) -> Machine:
+        machine = super().__new__(cls)
+        machine._handle = _Handle()  # there is one to free, whatever becomes of the rest
+        return machine
+
     def __init__(self, text: Union[str, bytes], hexadecimal: bool = False) -> None:
         """Loads an assembler text, or one in hex form. Raises Refused, or MemoryError."""
-        self._handle = _Handle()
         data = text.encode() if isinstance(text, str) else text
         load = _library.bpfspec_load_hex if hexadecimal else _library.bpfspec_load
         refusal = _Refusal()
@@ -115,9 +119,8 @@ class Machine:
 
     @classmethod
     def of_insns(cls, sizes: Sequence[int], insns: bytes) -> Machine:
-        """Loads a program by the sizes of its maps and the bytes of its instructions. Raises Refused, or MemoryError."""
+        """Loads a program by the sizes of its maps and the bytes of its instructions. Raises as the other way does."""
         machine = cls.__new__(cls)
-        machine._handle = _Handle()
         each = (ctypes.c_uint32 * len(sizes))(*(_fits(size, 2**32, "size") for size in sizes))
         refusal = _Refusal()
         status = _library.bpfspec_load_insns(machine._handle, each, len(sizes), insns, len(insns), refusal)

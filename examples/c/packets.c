@@ -1,56 +1,51 @@
 /*
- * Counts the packets of a capture of 1,000 records, which it makes itself, by protocol: those whose length is within
- * 60 to 1514 bytes, and the bytes of each protocol. A packet comes to the program as its argument: the protocol in the
- * upper 32 bits, the length in the lower ones. The counts of the program are compared with those of C.
+ * Counts the packets of a capture by their protocol of IP: packets FILE, in the form of pcap, of Ethernet.
+ *
+ *     python3 capture.py capture.pcap && ./packets capture.pcap
+ *
+ * The host puts the first 64 bytes of each frame into map 0, runs the program with the frame's length, and in the end
+ * reads what it counted out of the maps.
  */
 #include "bpfspec.h"
 #include <inttypes.h>
 #include <stdio.h>
 #include <string.h>
 
-enum { RECORDS = 1000, PROTOCOLS = 256 };
+enum { START = 64, WORDS = START / 8, PROTOCOLS = 256, FRAME = 65535 };
+enum { FILE_HEADER = 24, RECORD_HEADER = 16, MAGIC = 4 }; /* bytes */
 
-/* Map 0 has the packets of each protocol, map 1 their bytes. It answers 1 where a packet is counted, and else 0. */
+/*
+ * Map 0 has the start of a frame, map 1 the packets of each protocol, map 2 their bytes. It answers the protocol, or
+ * 256 where a frame is no packet of IPv4 or IPv6, or is cut in its headers.
+ */
 static const char program[] =
-    "maps 256 256\n"
+    "maps 8 256 256\n"
     "    mov64 r6, r1\n"
-    "    rsh64 r6, 32            ; the protocol\n"
-    "    and64 r6, 255\n"
-    "    mov64 r7, r1\n"
-    "    lsh64 r7, 32\n"
-    "    rsh64 r7, 32            ; the length\n"
-    "    mov64 r0, 0\n"
-    "    jlt64 r7, 60, done\n"
-    "    jgt64 r7, 1514, done\n"
-    "    lsh64 r6, 3             ; 8 bytes an element\n"
+    "    mov64 r0, 256\n"
+    "    jlt64 r6, 34, done      ; the headers of Ethernet and IPv4\n"
     "    ldmapval r1, 0, 0\n"
-    "    add64 r1, r6\n"
+    "    ldx32 r2, [r1+12]\n"
+    "    and64 r2, 65535         ; the type of the frame, its first byte the low one\n"
+    "    ldx32 r7, [r1+20]\n"
+    "    jeq64 r2, 8, four       ; 0x0800\n"
+    "    jne64 r2, 56710, done   ; 0x86dd\n"
+    "    jlt64 r6, 54, done      ; the headers of Ethernet and IPv6\n"
+    "    ja count\n"
+    "four:\n"
+    "    rsh64 r7, 24\n"
+    "count:\n"
+    "    and64 r7, 255           ; byte 20 of IPv6, byte 23 of IPv4\n"
+    "    mov64 r0, r7\n"
+    "    lsh64 r7, 3             ; 8 bytes an element\n"
+    "    ldmapval r1, 1, 0\n"
+    "    add64 r1, r7\n"
     "    mov64 r2, 1\n"
     "    atomic64 add [r1+0], r2\n"
-    "    ldmapval r1, 1, 0\n"
-    "    add64 r1, r6\n"
-    "    atomic64 add [r1+0], r7\n"
-    "    mov64 r0, 1\n"
+    "    ldmapval r1, 2, 0\n"
+    "    add64 r1, r7\n"
+    "    atomic64 add [r1+0], r6\n"
     "done:\n"
     "    exit\n";
-
-struct record {
-    uint32_t protocol;
-    uint32_t length;
-};
-
-/* A capture: the records are drawn by a generator of its own. */
-static void capture(struct record *records)
-{
-    static const uint32_t protocols[] = {1, 6, 6, 6, 17, 17, 58, 132};
-    uint64_t state = 1;
-
-    for (int i = 0; i < RECORDS; i++) {
-        state = state * 6364136223846793005u + 1442695040888963407u;
-        records[i].protocol = protocols[state >> 61];
-        records[i].length = (uint32_t)(state >> 33) % 1700;
-    }
-}
 
 static int wrong(const char *what)
 {
@@ -58,43 +53,72 @@ static int wrong(const char *what)
     return 1;
 }
 
-int main(void)
+/* Runs the program for each frame of a capture behind its header. Gives how many there are, or -1 where one is cut. */
+static int count(struct bpfspec_machine *machine, FILE *capture)
 {
-    static struct record records[RECORDS];
+    static unsigned char frame[FRAME];
+    uint32_t header[RECORD_HEADER / 4]; /* seconds, microseconds, bytes that are here, bytes that there were */
+    int frames = 0;
+
+    while (fread(header, 1, RECORD_HEADER, capture) == RECORD_HEADER) {
+        const uint32_t length = header[2];
+        uint64_t words[WORDS] = {0}, protocol;
+
+        if (length > FRAME || fread(frame, 1, length, capture) != length)
+            return -1;
+        memcpy(words, frame, length < START ? length : START);
+        if (bpfspec_set_words(machine, 0, words, WORDS) != BPFSPEC_DONE
+            || bpfspec_run(machine, length, &protocol) != BPFSPEC_DONE)
+            return -1;
+        frames++;
+    }
+    return frames;
+}
+
+/* Prints what was counted, of as many frames. */
+static int print(struct bpfspec_machine *machine, int frames)
+{
     static uint64_t packets[PROTOCOLS], bytes[PROTOCOLS];
+    uint64_t counted = 0;
+
+    if (bpfspec_words(machine, 1, packets, PROTOCOLS) != BPFSPEC_DONE
+        || bpfspec_words(machine, 2, bytes, PROTOCOLS) != BPFSPEC_DONE)
+        return wrong("there are no such maps");
+    for (int protocol = 0; protocol < PROTOCOLS; protocol++) {
+        if (packets[protocol] > 0)
+            printf("protocol %d: %" PRIu64 " packets, %" PRIu64 " bytes\n", protocol, packets[protocol],
+                   bytes[protocol]);
+        counted += packets[protocol];
+    }
+    printf("%" PRIu64 " of %d counted\n", counted, frames);
+    return 0;
+}
+
+int main(int arguments, char **words)
+{
+    static const unsigned char magic[MAGIC] = {0xd4, 0xc3, 0xb2, 0xa1}; /* of numbers that begin with the low byte */
+    unsigned char header[FILE_HEADER];
     struct bpfspec_machine machine = {0};
     struct bpfspec_refusal refusal;
-    uint64_t counted = 0, seen = 0;
+    FILE *capture = arguments == 2 ? fopen(words[1], "rb") : NULL;
+    int status, frames;
 
-    capture(records);
-    if (bpfspec_load(&machine, program, strlen(program), &refusal) != BPFSPEC_DONE) {
+    if (capture == NULL)
+        return wrong("usage: packets FILE");
+    if (fread(header, 1, FILE_HEADER, capture) != FILE_HEADER || memcmp(header, magic, MAGIC) != 0) {
+        fclose(capture);
+        return wrong("no capture");
+    }
+    status = bpfspec_load(&machine, program, strlen(program), &refusal);
+    if (status == BPFSPEC_DONE) {
+        frames = count(&machine, capture);
+        status = frames < 0 ? wrong("the capture is cut") : print(&machine, frames);
+    } else if (status == BPFSPEC_MEMORY) {
+        wrong("there is no memory");
+    } else {
         fprintf(stderr, "packets: %c%" PRIu32 " at %" PRIu64 "\n", (int)refusal.kind, refusal.number, refusal.place);
-        return 1;
     }
-    for (int i = 0; i < RECORDS; i++) {
-        uint64_t answer;
-        if (bpfspec_run(&machine, (uint64_t)records[i].protocol << 32 | records[i].length, &answer) != BPFSPEC_DONE)
-            return wrong("it doesn't run");
-        counted += answer;
-        if (records[i].length >= 60 && records[i].length <= 1514) {
-            packets[records[i].protocol]++;
-            bytes[records[i].protocol] += records[i].length;
-            seen++;
-        }
-    }
-    if (counted != seen)
-        return wrong("the answers differ");
-    for (uint32_t protocol = 0; protocol < PROTOCOLS; protocol++) {
-        uint64_t packet_count, byte_count;
-        if (bpfspec_get(&machine, 0, protocol, &packet_count) != BPFSPEC_DONE
-            || bpfspec_get(&machine, 1, protocol, &byte_count) != BPFSPEC_DONE)
-            return wrong("an element isn't there");
-        if (packet_count != packets[protocol] || byte_count != bytes[protocol])
-            return wrong("the counts differ");
-        if (packet_count > 0)
-            printf("protocol %" PRIu32 ": %" PRIu64 " packets, %" PRIu64 " bytes\n", protocol, packet_count, byte_count);
-    }
-    printf("%" PRIu64 " of %d counted\n", counted, RECORDS);
     bpfspec_free(&machine);
-    return 0;
+    fclose(capture);
+    return status != 0;
 }

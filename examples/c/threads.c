@@ -60,9 +60,9 @@ int main(void)
     /* The first thread gets a machine that is loaded here. */
     if (bpfspec_load(&shares[0].machine, program, strlen(program), &refusal) != BPFSPEC_DONE)
         return 1;
-    for (int i = 0; i < THREADS; i++) {
-        shares[i].from = (uint64_t)NUMBERS / THREADS * i;
-        shares[i].to = (uint64_t)NUMBERS / THREADS * (i + 1);
+    for (unsigned i = 0; i < THREADS; i++) {
+        shares[i].from = NUMBERS / THREADS * i;
+        shares[i].to = NUMBERS / THREADS * (i + 1);
         if (pthread_create(&shares[i].thread, NULL, run_share, &shares[i]) != 0)
             return 1;
     }
