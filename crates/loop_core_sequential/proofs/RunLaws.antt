@@ -7,9 +7,11 @@ use Rattle.bpf_step.specs.Iterations.{CallbackOf}
 use Rattle.loop_core_undo.specs.declared.undo_log.UndoLog.{UndoLog}
 use Rattle.loop_core_sequential.specs.declared.running.LoopRun.{LoopRun}
 use Rattle.loop_core_sequential.specs.declared.watching.Watch.{Watch}
+use Rattle.loop_core_sequential.specs.declared.watched_loop.WatchedLoop.{WatchedLoop}
 use Rattle.loop_core_sequential.specs.LoopRuns.{IsLoopRun}
 use Rattle.loop_core_sequential.specs.Rests.{RanOn, RanTo}
-use Rattle.loop_core_sequential.specs.Noting.{GoesWatched, WatchedTo, WatchedToEnd}
+use Rattle.loop_core_sequential.specs.Noting.{GoesWatched}
+use Rattle.loop_core_sequential.specs.WatchedRuns.{WatchedTo, WatchedToEnd}
 use Rattle.loop_core_sequential.proofs.InOrder.{went_both, went_to, ran_both}
 
 -- its callback is of the program and the call
@@ -93,8 +95,8 @@ module _ (run : LoopRun) (program : Program) (call : LoopCall) (program_is : run
       subst (λ (p : Program). RanTo p call index next old new answer) program_is
       (subst (λ (c : LoopCall). RanTo run.program.now c index next old new answer) call_is ran)
 
-  pub ended_of : (start now : MapList) (log : UndoLog) (answer : Option ℕ)
-      → WatchedToEnd run.program.now run.call.now start now log answer → WatchedToEnd program call start now log answer
-  ended_of start now log answer ended =
-      subst (λ (p : Program). WatchedToEnd p call start now log answer) program_is
-      (subst (λ (c : LoopCall). WatchedToEnd run.program.now c start now log answer) call_is ended)
+  pub ended_of : (start now : MapList) (log : UndoLog) (ended : WatchedLoop)
+      → WatchedToEnd run.program.now run.call.now start now log ended → WatchedToEnd program call start now log ended
+  ended_of start now log ended came =
+      subst (λ (p : Program). WatchedToEnd p call start now log ended) program_is
+      (subst (λ (c : LoopCall). WatchedToEnd run.program.now c start now log ended) call_is came)

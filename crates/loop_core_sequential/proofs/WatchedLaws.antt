@@ -22,7 +22,7 @@ use Rattle.loop_core_batch.proofs.BatchLaws.{length-before}
 use Rattle.loop_core_sequential.specs.Rests.{rest_to, RanOn, BrokeOff}
 use Rattle.loop_core_sequential.specs.Watched.{RanAndPasses, accesses_if_ended, accesses_at}
 use Rattle.loop_core_sequential.specs.Watched.{NoneReadsWritten, IsWrittenBelow, WentWatched}
-use Rattle.loop_core_sequential.proofs.InOrder.{stayed, went_both, ran_all}
+use Rattle.loop_core_sequential.proofs.InOrder.{stayed, went_both, broke_before, ran_all}
 use Rattle.loop_core_sequential.proofs.WatchedFlow.{Scanned, renamed, none_scanned, last_scanned}
 use Rattle.loop_core_sequential.proofs.WatchedFlow.{scanned_from, passes_flow}
 
@@ -237,14 +237,14 @@ module _ (program : Program) (call : LoopCall) (start now : MapList) (index : �
       ∙ ap (followed (behind (loop_from program 4096 call (past - (index + 1)) (index + 1)) index)) told
 
   -- which breaks
-  one_broke : (it : Iterated) → iteration program 4096 call index now.words ≡ Ended it → it.ret ≡ 1 → index < call.n
+  pub one_broke : (it : Iterated) → iteration program 4096 call index now.words ≡ Ended it → it.ret ≡ 1
       → (new : MapList) → new.words ≡ it.words → new.sizes ≡ now.sizes
-      → BrokeOff program call 0 call.n start new (index + 1)
-  one_broke it told one below new is sizes = record {
+      → BrokeOff program call 0 (index + 1) start new (index + 1)
+  one_broke it told one new is sizes = record {
     on = omega arith;
     rest = λ past over.
-        w.went.rest past (omega (arith, below, over))
-        ∙ one_rest it told past (omega (arith, below, over))
+        w.went.rest past (omega (arith, over))
+        ∙ one_rest it told past (omega (arith, over))
         ∙ ap (λ (ret : ℕ). if ret == 1 then Ended (record { answer = index + 1; words = it.words })
         else rest_to program call past (index + 1) it.words) one
         ∙ ap (λ (words : List ℕ). Ended (record { answer = index + 1; words = words })) (sym is);
@@ -252,7 +252,7 @@ module _ (program : Program) (call : LoopCall) (start now : MapList) (index : �
   }
 
   -- or goes on
-  one_went : (it : Iterated) → iteration program 4096 call index now.words ≡ Ended it → it.ret ≡ 0 → index < call.n
+  pub one_went : (it : Iterated) → iteration program 4096 call index now.words ≡ Ended it → it.ret ≡ 0 → index < call.n
       → (new : MapList) → new.words ≡ it.words → new.sizes ≡ now.sizes
       → RanOn program call index (index + 1) now new
   one_went it told nought below new is sizes = record {
@@ -344,7 +344,8 @@ break_watched program call index start now written w below it told one new is si
     let next : suc zero ≡ 1 = omega arith in
     record {
       ran = ran_all program call call.n start new (Some (index + 1)) (index + 1) refl
-          (one_broke program call start now index written w it told one below new is sizes) refl;
+          (broke_before program call 0 (index + 1) call.n start new (index + 1) (omega (arith, below))
+          (one_broke program call start now index written w it told one new is sizes)) refl;
       passes = passes_flow program call start.words (index + 1)
           (subst (λ (n : ℕ). Scanned program call start.words call.n 0 (index + n)) next
           (scanned_all program call start now index written w (suc (call.n - (index + 1))) (suc zero) all

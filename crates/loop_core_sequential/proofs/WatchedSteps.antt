@@ -1,7 +1,7 @@
 -- An iteration of a watched loop that goes alone.
-use Rattle.std.proofs.Common.{◌≡◌, ℕ, ◌+◌, ◌<◌, false, true, ◌⊎◌, inl, inr, length, sym, ◌∙◌, ap}
-use Rattle.std.proofs.Common.{subst, arith}
-use Rattle.std.proofs.lemmas.Bool.{cases_lt, both_ways, or_left, or_right, or_cases}
+use Rattle.std.proofs.Common.{◌≡◌, ℕ, ◌+◌, ◌<◌, ◌==◌, Bool, false, true, ◌⊎◌, inl, inr, length, refl, sym, ◌∙◌, ap}
+use Rattle.std.proofs.Common.{subst, eqb-true, arith}
+use Rattle.std.proofs.lemmas.Bool.{cases_lt, both_ways, eq-eqb, or_left, or_right, or_cases}
 use Rattle.std.proofs.lemmas.List.{get_or_past}
 use Rattle.array_maps.specs.Accesses.{actions_at}
 use Rattle.array_maps.specs.MapList.{MapList}
@@ -16,9 +16,13 @@ use Rattle.loop_core_undo.specs.declared.undo_log.UndoLog.{UndoLog}
 use Rattle.loop_core_undo.specs.declared.watched.Watched.{Watched}
 use Rattle.loop_core_undo.specs.Undo.{log_elements, is_written, word_before}
 use Rattle.loop_core_undo.specs.Watching.{IsWatched, MeetsWritten, WatchedAll, AccessesAreWatched}
-use Rattle.loop_core_sequential.specs.Watched.{RanAndPasses, IsWrittenBelow, ReachesWritten}
+use Rattle.loop_core_sequential.specs.declared.progress.Progress.{Progress}
+use Rattle.loop_core_sequential.specs.Watched.{RanAndPasses, IsWrittenBelow}
 use Rattle.loop_core_sequential.specs.Noting.{CanRestore, GoesWatched}
-use Rattle.loop_core_sequential.proofs.WatchedLaws.{one_watched, break_watched}
+use Rattle.loop_core_sequential.specs.Dependences.{RanSoFar, EndsDependent}
+use Rattle.loop_core_sequential.specs.WatchedRuns.{HasMet}
+use Rattle.loop_core_sequential.proofs.InOrder.{went_both}
+use Rattle.loop_core_sequential.proofs.WatchedLaws.{one_broke, one_went, one_watched, break_watched}
 
 module _ (law : AccessesAreWatched) (program : Program) (call : LoopCall) (callback : CallbackOf)
     (same : callback ≡ record { program = program; call = call }) (index : ℕ) (below : index < call.n)
@@ -102,24 +106,28 @@ module _ (law : AccessesAreWatched) (program : Program) (call : LoopCall) (callb
   ]
 
   -- where it met something, it reached an element that was written
-  pub reached : old.met ≡ false → new.met ≡ true → ReachesWritten program call start
-  reached before met = of_meeting (all.met before met)
+  reached : (progress : Progress) → progress.done ≡ index + 1 → old.met ≡ false → new.met ≡ true
+      → EndsDependent program call start progress
+  reached progress last before met = of_meeting (all.met before met)
     where
-      of_meeting : MeetsWritten (is_written old.log.now) it.accesses → ReachesWritten program call start
+      of_meeting : MeetsWritten (is_written old.log.now) it.accesses → EndsDependent program call start progress
       of_meeting meets = record {
-        index = index;
-        below = below;
-        now = now;
-        reached = goes.watched.went;
-        it = it;
-        ended = told;
-        front = meets.front;
-        access = meets.access;
-        back = meets.back;
-        are = meets.are;
-        sees = meets.sees;
-        was = by (or_cases (is_written old.log.now meets.access.element)
-            (writes (actions_at meets.access.element meets.front)) meets.was);
+        reaches = record {
+          index = index;
+          below = below;
+          now = now;
+          reached = goes.watched.went;
+          it = it;
+          ended = told;
+          front = meets.front;
+          access = meets.access;
+          back = meets.back;
+          are = meets.are;
+          sees = meets.sees;
+          was = by (or_cases (is_written old.log.now meets.access.element)
+              (writes (actions_at meets.access.element meets.front)) meets.was);
+        };
+        last = last;
       }
         where
           by : (is_written old.log.now meets.access.element ≡ true)
@@ -129,10 +137,28 @@ module _ (law : AccessesAreWatched) (program : Program) (call : LoopCall) (callb
           by (inl was) = inl (written_below meets.access.element was)
           by (inr wrote) = inr wrote
 
+  -- it is the last of those that ran so far
+  ran_so_far : (broke : Bool) → (ret == 1) ≡ broke
+      → RanSoFar program call start new.maps.now (record { done = index + 1; broke = broke })
+  ran_so_far true test =
+      one_broke program call start now index (is_written log) goes.watched it told
+      (sym ran.ret_is ∙ eqb-true ret 1 test) new.maps.now ran.words_are sizes
+  ran_so_far false test =
+      let small = ran.small in
+      let other : ¬ (ret ≡ 1) = λ one. both_ways (ret == 1) test (eq-eqb ret 1 one) in
+      let nought : ret ≡ 0 = omega (arith, small, other) in
+      went_both program call 0 index (index + 1) start now new.maps.now goes.watched.went
+      (one_went program call start now index (is_written log) goes.watched it told (sym ran.ret_is ∙ nought) below
+      new.maps.now ran.words_are sizes)
+
   -- and the start maps can be restored
   pub met_alone : old.met ≡ false → new.met ≡ true
-      → CanRestore start new.maps.now new.log.now × ReachesWritten program call start
-  met_alone before met = (still_restores, reached before met)
+      → HasMet program call start new.maps.now new.log.now (record { done = index + 1; broke = ret == 1 })
+  met_alone before met = record {
+    restores = still_restores;
+    ends = reached (record { done = index + 1; broke = ret == 1 }) refl before met;
+    ran = ran_so_far (ret == 1) refl;
+  }
 
 -- the same of maps and a log that are these
 pub broke_as : (program : Program) (call : LoopCall) (start new last : MapList) (answer : ℕ) → last ≡ new
@@ -148,10 +174,8 @@ goes_as program call index start new last log ended same same_log goes =
     (subst (GoesWatched program call index start new) (sym same_log) goes)
 
 pub met_as : (program : Program) (call : LoopCall) (start new last : MapList) (log ended : UndoLog)
-    → last ≡ new → ended ≡ log → CanRestore start new log × ReachesWritten program call start
-    → CanRestore start last ended × ReachesWritten program call start
-met_as program call start new last log ended same same_log met = (
-  subst (λ (maps : MapList). CanRestore start maps ended) (sym same)
-      (subst (CanRestore start new) (sym same_log) met.0),
-  met.1,
-)
+    (progress : Progress) → last ≡ new → ended ≡ log → HasMet program call start new log progress
+    → HasMet program call start last ended progress
+met_as program call start new last log ended progress same same_log met =
+    subst (λ (maps : MapList). HasMet program call start maps ended progress) (sym same)
+    (subst (λ (l : UndoLog). HasMet program call start new l progress) (sym same_log) met)

@@ -5,3 +5,5 @@ pub mod Tries
 pub mod FilledCalls
 pub mod Watched
 pub mod Noting
+pub mod Dependences
+pub mod WatchedRuns

@@ -1,5 +1,5 @@
 -- What an undo log has of a loop that is watched.
-use Rattle.std.specs.Prelude.{◌≡◌, ℕ, ◌<◌, true, ◌⊎◌, List, length, slice_index, slice_index_or, Option, Some, None}
+use Rattle.std.specs.Prelude.{◌≡◌, ℕ, ◌<◌, true, ◌⊎◌, List, length, slice_index, slice_index_or}
 use Rattle.array_maps.specs.MapList.{MapList}
 use Rattle.bpf_insn_types.specs.Program.{Program}
 use Rattle.bpf_step_model.specs.State.{LoopCall}
@@ -8,9 +8,7 @@ use Rattle.loop_core_batch.specs.Sites.{kind_leaves}
 use Rattle.bpf_step_batch.specs.Logs.{element_by}
 use Rattle.loop_core_undo.specs.declared.undo_log.UndoLog.{UndoLog}
 use Rattle.loop_core_undo.specs.Undo.{log_elements, is_written, word_before}
-use Rattle.loop_core_sequential.specs.declared.watching.Watch.{Watch}
-use Rattle.loop_core_sequential.specs.declared.watching.Watch.TheVariants.{Completed, Broke, Dependent}
-use Rattle.loop_core_sequential.specs.Watched.{AreNoted, RanAndPasses, ReachesWritten, WentWatched}
+use Rattle.loop_core_sequential.specs.Watched.{AreNoted, WentWatched}
 
 -- the elements of an entry's lanes are below a number
 abbrev pub AreBelow : (elements lanes : ℕ) → Entry → Type 0
@@ -61,22 +59,3 @@ pub record GoesWatched (program : Program) (call : LoopCall) (index : ℕ) (star
   where
     pub watched : WentWatched program call index start now (is_written log)
     pub restores : CanRestore start now log
-
--- how iterations up to an index came out, from these start maps: they went on; or one broke off, and the loop passes;
--- or one saw or reduced an element that was written, and the start maps can be restored
-abbrev pub WatchedTo : Program → LoopCall → (index : ℕ) → (start now : MapList) → UndoLog → Watch → Type 0
-WatchedTo program call index start now log Completed = GoesWatched program call index start now log
-WatchedTo program call index start now log (Broke answer) = RanAndPasses program call start now answer
-WatchedTo program call index start now log Dependent = CanRestore start now log × ReachesWritten program call start
-
--- the loop has ended, and passes; or an iteration saw or reduced an element that was written, and the start maps can be
--- restored
-abbrev pub WatchedToEnd : Program → LoopCall → (start now : MapList) → UndoLog → Option ℕ → Type 0
-WatchedToEnd program call start now log (Some answer) = RanAndPasses program call start now answer
-WatchedToEnd program call start now log None = CanRestore start now log × ReachesWritten program call start
-
--- the loop's answer by how all of its n iterations came out: none where one met something
-abbrev pub answer_watched : Watch → (n : ℕ) → Option ℕ
-answer_watched Completed n = Some n
-answer_watched (Broke answer) n = Some answer
-answer_watched Dependent n = None

@@ -52,7 +52,7 @@ pub fn range_in_order(
 }
 
 /// The loop's answer: that with which it broke off, or n.
-fn answer(broke_off: Option<u32>, n: u32) -> u32
+pub(crate) fn answer(broke_off: Option<u32>, n: u32) -> u32
     ensures { result ≡ answer_of broke_off n }
 {
     match broke_off {

@@ -1,14 +1,15 @@
 //! A loop in order that is watched.
 
-ghost use Rattle.std.specs.Prelude.{◌≡◌, length, IfSome, IfNone};
+ghost use Rattle.std.specs.Prelude.{◌≡◌, length};
 ghost use Rattle.bpf_verify_sound.specs.Soundness.{OverApproximatesCall};
 ghost use Rattle.loop_core_undo.specs.Undo.{log_elements, IsEmpty};
 ghost use Rattle.loop_core_sequential.specs.LoopRuns.{IsLoopRun};
-ghost use Rattle.loop_core_sequential.specs.Watched.{RanAndPasses, ReachesWritten};
-ghost use Rattle.loop_core_sequential.specs.Noting.{WatchedToEnd, answer_watched};
+ghost use Rattle.loop_core_sequential.specs.Dependences.{CameOut};
+ghost use Rattle.loop_core_sequential.specs.WatchedRuns.{WatchedToEnd, loop_by};
 
 use crate::batches::Batches;
 use crate::ordering::FEWEST;
+use crate::progress::Progress;
 use crate::running::LoopRun;
 use crate::watching::{Watch, alone_watched};
 use array_maps::Maps;
@@ -16,35 +17,43 @@ use bpf_step::LoopCall;
 use bpf_verify::Verified;
 use loop_core_undo::UndoLog;
 
+/// How a loop came out that was watched.
+#[derive(Clone, Copy)]
+pub enum WatchedLoop {
+    /// It passes by the flow test, and its call answers this.
+    Passed(u32),
+    /// It was given up after an iteration that saw or reduced an element that was written.
+    Dependent(Progress),
+}
+
 /// Runs the iterations of a loop call that main of this program made as `in_order` does, and watches them: where none
 /// has an exposed read of an element that an earlier one wrote, the loop passes by the flow test, and its answer is
-/// given. Else the maps are as before, from the log, and it is `None`: only where the loop in order reaches an iteration
-/// that sees or reduces an element that an earlier one wrote, or that it wrote itself before that. The maps are of the
-/// program's sizes, and the log is for as many elements.
+/// given. Else it is given up after the first iteration that sees or reduces an element that an earlier one wrote, or
+/// that it wrote itself before that: then the maps are as before, and the log has those after this iteration, from which
+/// `go_on_in_order` goes on. The maps are of the program's sizes, and the log is for as many elements.
 pub fn in_order_watched(
     program: &Verified,
     call: &LoopCall,
     log: &mut UndoLog,
     maps: &mut Maps,
-) -> Option<u32>
+) -> WatchedLoop
     requires known { OverApproximatesCall program.now call.now }
     requires sizes { maps.old.sizes ≡ program.now.sizes }
     requires count { log_elements log.old ≡ length maps.old.words }
-    ensures passes { IfSome result (RanAndPasses program.now call.now maps.old maps.new) }
-    ensures kept { IfNone result (maps.new ≡ maps.old) }
-    ensures dependent { IfNone result (ReachesWritten program.now call.now maps.old) }
+    ensures { CameOut program.now call.now maps.old maps.new log.new result }
 {
     log.clear();
-    let answer = watch(program, call, log, maps);
-    if answer.is_none() {
-        log.restore(maps);
+    match watch(program, call, log, maps) {
+        WatchedLoop::Passed(answer) => WatchedLoop::Passed(answer),
+        WatchedLoop::Dependent(progress) => {
+            log.exchange(maps);
+            WatchedLoop::Dependent(progress)
+        }
     }
-    answer
 }
 
-/// Runs the iterations, watched, up to the first that returns 1, or all. Gives the loop's answer, where none met
-/// anything.
-fn watch(program: &Verified, call: &LoopCall, log: &mut UndoLog, maps: &mut Maps) -> Option<u32>
+/// Runs the iterations, watched, up to the first that returns 1 or met something, or all.
+fn watch(program: &Verified, call: &LoopCall, log: &mut UndoLog, maps: &mut Maps) -> WatchedLoop
     requires known { OverApproximatesCall program.now call.now }
     requires sizes { maps.old.sizes ≡ program.now.sizes }
     requires empty { IsEmpty (length maps.old.words) log.old }
@@ -54,25 +63,25 @@ fn watch(program: &Verified, call: &LoopCall, log: &mut UndoLog, maps: &mut Maps
     let n = call.n();
     if n < FEWEST {
         let watch = alone_watched(&mut run, 0, n, log, maps);
-        return answer(watch, n);
+        return ended(watch, n);
     }
     watch_in_batches(&mut run, log, maps)
 }
 
-/// The loop's answer, by how all of its n iterations came out.
-fn answer(watch: Watch, n: u32) -> Option<u32>
-    ensures { result ≡ answer_watched watch n }
+/// How the loop came out, by how all of its n iterations did.
+fn ended(watch: Watch, n: u32) -> WatchedLoop
+    ensures { result ≡ loop_by watch n }
 {
     match watch {
-        Watch::Completed => Some(n),
-        Watch::Broke(answer) => Some(answer),
-        Watch::Dependent => None,
+        Watch::Completed => WatchedLoop::Passed(n),
+        Watch::Broke(answer) => WatchedLoop::Passed(answer),
+        Watch::Dependent(progress) => WatchedLoop::Dependent(progress),
     }
 }
 
 /// Runs the iterations, watched, in batches where they may go together, and else one by one.
 #[inline(never)]
-fn watch_in_batches(run: &mut LoopRun<'_>, log: &mut UndoLog, maps: &mut Maps) -> Option<u32>
+fn watch_in_batches(run: &mut LoopRun<'_>, log: &mut UndoLog, maps: &mut Maps) -> WatchedLoop
     requires ready { IsLoopRun run.old }
     requires sizes { maps.old.sizes ≡ run.old.program.now.sizes }
     requires empty { IsEmpty (length maps.old.words) log.old }
@@ -90,9 +99,9 @@ fn watch_in_batches(run: &mut LoopRun<'_>, log: &mut UndoLog, maps: &mut Maps) -
         let resume = batches.resume(index, n);
         match alone_watched(run, index, resume, log, maps) {
             Watch::Completed => index = resume,
-            Watch::Broke(answer) => return Some(answer),
-            Watch::Dependent => return None,
+            Watch::Broke(answer) => return WatchedLoop::Passed(answer),
+            Watch::Dependent(progress) => return WatchedLoop::Dependent(progress),
         }
     }
-    Some(n)
+    WatchedLoop::Passed(n)
 }

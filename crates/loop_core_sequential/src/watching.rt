@@ -5,11 +5,13 @@ ghost use Rattle.array_maps.specs.MapList.{MapList};
 ghost use Rattle.loop_core_undo.specs.Undo.{log_elements};
 ghost use Rattle.loop_core_sequential.specs.LoopRuns.{IsLoopRun};
 ghost use Rattle.loop_core_sequential.specs.Tries.{index_after};
-ghost use Rattle.loop_core_sequential.specs.Noting.{GoesWatched, WatchedTo};
+ghost use Rattle.loop_core_sequential.specs.Noting.{GoesWatched};
+ghost use Rattle.loop_core_sequential.specs.WatchedRuns.{WatchedTo};
 
 use crate::applying::{apply, are_in_order};
 use crate::batches::Batches;
 use crate::noting::{are_unread, note_writes};
+use crate::progress::Progress;
 use crate::running::LoopRun;
 use crate::trying::Tried;
 use array_maps::Maps;
@@ -23,8 +25,8 @@ pub(crate) enum Watch {
     Completed,
     /// One returned 1, after which none runs: this is the loop's answer.
     Broke(u32),
-    /// One saw or reduced an element that was written before.
-    Dependent,
+    /// One saw or reduced an element that was written before. It is the last that ran.
+    Dependent(Progress),
 }
 
 impl Batches {
@@ -117,7 +119,7 @@ pub(crate) fn alone_watched(
         match one_watched(run, index, log, maps) {
             Watch::Completed => (),
             Watch::Broke(answer) => return Watch::Broke(answer),
-            Watch::Dependent => return Watch::Dependent,
+            Watch::Dependent(progress) => return Watch::Dependent(progress),
         }
     }
     Watch::Completed
@@ -144,7 +146,10 @@ fn one_watched(run: &mut LoopRun<'_>, index: u32, log: &mut UndoLog, maps: &mut 
     let mut watched = Watched::new(maps, log);
     let done = run.callback.run(index, &mut watched);
     if watched.has_met() {
-        return Watch::Dependent;
+        return Watch::Dependent(Progress {
+            done: index + 1,
+            broke: done.ret == 1,
+        });
     }
     if done.ret == 1 {
         return Watch::Broke(index + 1);

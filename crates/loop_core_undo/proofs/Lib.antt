@@ -1,4 +1,5 @@
 pub mod RunLaws
 pub mod UndoLaws
 pub mod RestoreLaws
+pub mod ExchangeLaws
 pub mod WatchedLaws

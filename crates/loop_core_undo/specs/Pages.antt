@@ -17,3 +17,12 @@ pub record PageIsBack (page : ℕ) (before : List ℕ) (old new : MapList) : Typ
   pub count : length new.words ≡ length old.words
   pub here : (e : ℕ) → e < length old.words → e / 64 ≡ page → slice_index new.words e ≡ slice_index before e
   pub others : (e : ℕ) → e / 64 ≢ page → slice_index new.words e ≡ slice_index old.words e
+
+-- the words of a page that were there and those that were saved have changed places, and nothing else has changed
+pub record PageIsExchanged (page : ℕ) (old new : UndoLog) (before after : MapList) : Type 0 where
+  pub back : PageIsBack page old.before.items before after
+  pub written : new.written.items ≡ old.written.items
+  pub saved : new.saved.items ≡ old.saved.items
+  pub here : (e : ℕ) → e < length before.words → e / 64 ≡ page
+      → slice_index new.before.items e ≡ slice_index before.words e
+  pub others : (e : ℕ) → e / 64 ≢ page → slice_index new.before.items e ≡ slice_index old.before.items e

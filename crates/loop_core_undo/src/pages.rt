@@ -2,9 +2,9 @@
 
 ghost use Rattle.std.specs.Prelude.{◌≡◌, ℕ, ◌+◌, ◌*◌, ◌<◌, ◌≤◌, true, false, length, slice_index_or};
 ghost use Rattle.loop_core_undo.specs.Undo.{log_elements, is_saved};
-ghost use Rattle.loop_core_undo.specs.Pages.{KeepsBefore, PageIsBack};
+ghost use Rattle.loop_core_undo.specs.Pages.{KeepsBefore, PageIsBack, PageIsExchanged};
 
-use crate::runs::{copy_words, set_flags};
+use crate::runs::{copy_words, exchange_words, set_flags};
 use crate::undo_log::{PAGE, UndoLog};
 use array_maps::Maps;
 
@@ -61,6 +61,17 @@ impl UndoLog {
         let first = page * PAGE;
         let end = (first + PAGE).min(self.elements());
         maps.store_run(first, &self.before[first as usize..end as usize]);
+    }
+
+    /// Exchanges the saved words of a page, which is in range, and those that are there.
+    pub(crate) fn exchange_page(&mut self, page: u32, maps: &mut Maps)
+        requires within { page * 64 < log_elements self.old }
+        requires count { length maps.old.words ≡ log_elements self.old }
+        ensures { PageIsExchanged page self.old self.new maps.old maps.new }
+    {
+        let first = page * PAGE;
+        let end = (first + PAGE).min(self.elements());
+        exchange_words(&mut self.before, first, end, maps);
     }
 
     /// Forgets what was written in a page, which is in range.

@@ -109,6 +109,21 @@ impl UndoLog {
         self.clear();
     }
 
+    /// Puts the words from before back, and keeps those that were there instead: so to restore them undoes that. The
+    /// log is for as many elements as the maps have.
+    pub fn exchange(&mut self, maps: &mut Maps)
+        requires count { length maps.old.words ≡ log_elements self.old }
+        ensures maps { maps.new ≡ record { sizes = maps.old.sizes; words = words_before self.old maps.old.words } }
+        ensures count { log_elements self.new ≡ log_elements self.old }
+        ensures back { words_before self.new maps.new.words ≡ maps.old.words }
+    {
+        for page in 0..self.saved.len() as u32 {
+            if self.saved[page as usize] {
+                self.exchange_page(page, maps);
+            }
+        }
+    }
+
     /// Forgets what was written: it is empty then.
     pub fn clear(&mut self)
         ensures { IsEmpty (log_elements self.old) self.new }

@@ -150,6 +150,31 @@ pub(crate) fn decided<R: Threads + Sync, G: Gate>(
     Ok(decision)
 }
 
+/// What becomes of a loop call whose blocks are run on these maps, which are of the program's sizes, and stay as they
+/// are.
+pub(crate) fn decision_on<R: Threads + Sync, G: Gate>(
+    rt: &R,
+    job: &LoopJob,
+    blocks: &BlockPlan,
+    maps: &Maps,
+    workspace: &mut Workspace,
+    gate: &G,
+) -> Result<Decision, AllocError>
+    requires sizes { maps.now.sizes ≡ job.now.program.sizes }
+    requires plan { IsBlockPlan job.now.call.n blocks.now }
+    ensures { IfOk result (IsDecision job.now.plan.test job.now.program job.now.call maps.now.words) }
+{
+    let of = SpeculativeLoop {
+        alloc: job.alloc,
+        program: job.program,
+        call: job.call,
+        start: maps,
+        split: &blocks.split,
+        test: job.plan.test,
+    };
+    decided(rt, &of, blocks.crew, workspace, gate)
+}
+
 /// Runs a loop call by blocks on these maps, which are of the program's sizes.
 pub(crate) fn run_by_blocks<R: Threads + Sync, G: Gate>(
     rt: &R,
@@ -166,15 +191,7 @@ pub(crate) fn run_by_blocks<R: Threads + Sync, G: Gate>(
     ensures course { IfOk result (λ a. a.course ≡ course_by blocks.now) }
     ensures kept { OnErr result (maps.new ≡ maps.old) }
 {
-    let of = SpeculativeLoop {
-        alloc: job.alloc,
-        program: job.program,
-        call: job.call,
-        start: maps,
-        split: &blocks.split,
-        test: job.plan.test,
-    };
-    let decision = decided(rt, &of, blocks.crew, workspace, gate)?;
+    let decision = decision_on(rt, job, blocks, maps, workspace, gate)?;
     let CarriedOut { verdict, answer } = decision.carry_out(
         job.program,
         job.call,

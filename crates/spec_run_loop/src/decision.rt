@@ -2,16 +2,19 @@
 
 ghost use Rattle.std.specs.Prelude.{◌≡◌};
 ghost use Rattle.bpf_verify_sound.specs.Soundness.{OverApproximatesCall};
+ghost use Rattle.loop_core_sequential.specs.Dependences.{IsAhead};
 ghost use Rattle.loop_core_gather.specs.Gathered.{IsOutcome};
 ghost use Rattle.spec_run_loop.specs.Decisions.{IsDecision};
 
 use crate::course::Course;
+use crate::job::LoopJob;
 use array_maps::Maps;
 use bpf_step::LoopCall;
 use bpf_verify::Verified;
 use loop_core_gather::{LeftPage, store_pages};
 use loop_core_model::{Test, Verdict};
-use loop_core_sequential::in_order;
+use loop_core_sequential::{Progress, go_on_in_order, in_order};
+use loop_core_undo::UndoLog;
 
 /// What becomes of a loop by its gathered blocks.
 #[derive(Drop)]
@@ -80,6 +83,30 @@ impl Decision {
                 verdict,
                 answer: in_order(program, call, maps),
             },
+        }
+    }
+
+    /// Does the same of a loop call that was watched, and given up after so much progress: where it doesn't pass, it
+    /// goes on in order from there. The maps and the log are as it left them.
+    pub(crate) fn carry_out_from(
+        self,
+        job: &LoopJob,
+        progress: Progress,
+        log: &mut UndoLog,
+        maps: &mut Maps,
+    ) -> CarriedOut
+        requires sizes { maps.old.sizes ≡ job.now.program.sizes }
+        requires ahead { IsAhead job.now.program job.now.call maps.old log.old progress }
+        requires decided { IsDecision job.now.plan.test job.now.program job.now.call maps.old.words self }
+        ensures { IsOutcome job.now.plan.test job.now.program job.now.call maps.old result.verdict result.answer
+            maps.new }
+    {
+        match self {
+            Decision::Discard { verdict } => CarriedOut {
+                verdict,
+                answer: go_on_in_order(job.program, job.call, progress, log, maps),
+            },
+            commit => commit.carry_out(job.program, job.call, maps, job.plan.test),
         }
     }
 }

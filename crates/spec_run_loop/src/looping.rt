@@ -46,12 +46,7 @@ pub fn run_by_plan<R: Threads + Sync, G: Gate>(
 {
     match way_of(job, elements_of(maps)) {
         Way::Sums { of, workers } => run_sums(rt, job.alloc, &of, maps, workers),
-        Way::Watched { otherwise } => {
-            if let Some(done) = run_watched(job, maps, workspace)? {
-                return Ok(done);
-            }
-            run_by_blocks(rt, job, &otherwise, maps, workspace, gate)
-        }
+        Way::Watched { otherwise } => run_watched(rt, job, &otherwise, maps, workspace, gate),
         Way::ByBlocks { blocks } => run_by_blocks(rt, job, &blocks, maps, workspace, gate),
     }
 }

@@ -1,41 +1,61 @@
 //! Loops that are run in order, watched.
 
-ghost use Rattle.std.specs.Prelude.{◌≡◌, IfSome, IfNone, IfOk, OnErr};
+ghost use Rattle.std.specs.Prelude.{◌≡◌, ◌⊎◌, IfOk, OnErr};
 ghost use Rattle.loop_core_model.specs.declared.loop_test.Test.TheVariants as tests;
 ghost use Rattle.loop_core_gather.specs.Gathered.{IsOutcome};
 ghost use Rattle.spec_run_loop.specs.declared.course.Course.TheVariants.{Watched};
+ghost use Rattle.spec_run_loop.specs.Courses.{course_by};
+ghost use Rattle.spec_run_loop.specs.Ways.{IsBlockPlan};
 
+use crate::by_blocks::decision_on;
 use crate::course::Course;
-use crate::decision::LoopAnswer;
+use crate::decision::{CarriedOut, LoopAnswer};
 use crate::job::LoopJob;
 use crate::paying::elements_of;
+use crate::way::BlockPlan;
 use array_maps::Maps;
-use loop_core_sequential::in_order_watched;
+use loop_core_sequential::{WatchedLoop, in_order_watched};
+use loop_core_split::Gate;
 use spec_run_workers::Workspace;
 use std::alloc::AllocError;
+use std::thread::Threads;
 
 /// Runs a loop call in order on these maps, which are of the program's sizes, and watches it: where no iteration reads
-/// what an earlier one wrote, it passes by the flow test, and is done. Else the maps are as before.
-pub(crate) fn run_watched(
+/// what an earlier one wrote, it passes by the flow test, and is done. Else blocks tell its verdict, which are run on
+/// the maps as they were, and it goes on in order from the iteration that did.
+pub(crate) fn run_watched<R: Threads + Sync, G: Gate>(
+    rt: &R,
     job: &LoopJob,
+    otherwise: &BlockPlan,
     maps: &mut Maps,
     workspace: &mut Workspace,
-) -> Result<Option<LoopAnswer>, AllocError>
+    gate: &G,
+) -> Result<LoopAnswer, AllocError>
     requires sizes { maps.old.sizes ≡ job.now.program.sizes }
-    ensures outcome { IfOk result (λ done. IfSome done (λ a. IsOutcome tests.Flow job.now.program job.now.call maps.old
-        a.verdict a.answer maps.new)) }
-    ensures course { IfOk result (λ done. IfSome done (λ a. a.course ≡ Watched)) }
-    ensures undone { IfOk result (λ done. IfNone done (maps.new ≡ maps.old)) }
+    requires flow { job.now.plan.test ≡ tests.Flow }
+    requires plan { IsBlockPlan job.now.call.n otherwise.now }
+    ensures outcome { IfOk result (λ a. IsOutcome job.now.plan.test job.now.program job.now.call maps.old a.verdict
+        a.answer maps.new) }
+    ensures course { IfOk result (λ a. (a.course ≡ Watched) ⊎ (a.course ≡ course_by otherwise.now)) }
     ensures kept { OnErr result (maps.new ≡ maps.old) }
 {
     // These tell the proof how many words the maps have, and that they are below 2^64.
     let _sizes = maps.sizes();
     let _words = maps.words();
     let mut log = workspace.take_log(job.alloc, elements_of(maps))?;
-    let answer = in_order_watched(job.program, job.call, &mut log, maps);
+    let progress = match in_order_watched(job.program, job.call, &mut log, maps) {
+        WatchedLoop::Passed(answer) => {
+            workspace.keep_log(log);
+            return Ok(LoopAnswer::passed(answer, Course::Watched));
+        }
+        WatchedLoop::Dependent(progress) => progress,
+    };
+    let decision = decision_on(rt, job, otherwise, maps, workspace, gate)?;
+    let CarriedOut { verdict, answer } = decision.carry_out_from(job, progress, &mut log, maps);
     workspace.keep_log(log);
-    match answer {
-        Some(answer) => Ok(Some(LoopAnswer::passed(answer, Course::Watched))),
-        None => Ok(None),
-    }
+    Ok(LoopAnswer {
+        verdict,
+        answer,
+        course: otherwise.course(),
+    })
 }

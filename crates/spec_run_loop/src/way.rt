@@ -70,7 +70,7 @@ pub(crate) enum Way<'l> {
     /// Its iterations do nothing but reduce elements by one operator: even shares of them are added up, by this many
     /// workers, 1 to 16. It needs no marks and no copies.
     Sums { of: SumLoop<'l>, workers: u32 },
-    /// In order on the maps, watched. Where an iteration reads what an earlier one wrote, by blocks.
+    /// In order on the maps, watched. Where an iteration reads what an earlier one wrote, blocks tell its verdict.
     Watched { otherwise: BlockPlan },
     /// By blocks on private copies, which are judged, and committed or discarded.
     ByBlocks { blocks: BlockPlan },

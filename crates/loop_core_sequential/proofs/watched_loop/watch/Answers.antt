@@ -1,6 +1,6 @@
 use Rattle.std.proofs.Common.{sym, ap, subst, ◌∙◌}
 use Rattle.bpf_step_model.specs.State.{LoopCall}
-use Rattle.loop_core_sequential.specs.Noting.{WatchedToEnd, answer_watched}
+use Rattle.loop_core_sequential.specs.WatchedRuns.{WatchedToEnd, loop_by}
 use Rattle.loop_core_sequential.proofs.RunLaws.{ended_of}
 use Rattle.loop_core_sequential.proofs.WatchedEnds.{begins, to_end}
 use Rattle.loop_core_sequential.proofs.watched_loop.watch.Goals as goal
@@ -8,10 +8,10 @@ use Rattle.loop_core_sequential.proofs.watched_loop.watch.Goals as goal
 pub returns-then-n-lt-FEWEST : goal.returns-then-n-lt-FEWEST
 returns-then-n-lt-FEWEST c =
     subst (WatchedToEnd c.args.program.now c.args.call.now c.args.maps.now c.alone_watched-watch.new.maps
-    c.alone_watched-watch.new.log) (sym c.answer.ensures)
+    c.alone_watched-watch.new.log) (sym c.ended.ensures)
     (ended_of c.new-run.result c.args.program.now c.args.call.now c.new-run.ensures.program c.new-run.ensures.call
     c.args.maps.now c.alone_watched-watch.new.maps c.alone_watched-watch.new.log
-    (answer_watched c.alone_watched-watch.result c.n-n.result)
+    (loop_by c.alone_watched-watch.result c.n-n.result)
     (to_end c.new-run.result.program.now c.new-run.result.call.now c.n-n.result c.args.maps.now
     c.alone_watched-watch.new.maps c.alone_watched-watch.new.log c.alone_watched-watch.result
     (c.n-n.ensures ∙ ap (λ (call : LoopCall). call.n) (sym c.new-run.ensures.call))

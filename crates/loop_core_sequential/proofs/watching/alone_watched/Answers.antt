@@ -22,5 +22,5 @@ returns-in-Broke-clause-ran c = λ start goes.
 pub returns-in-Dependent-clause-ran : goal.returns-in-Dependent-clause-ran
 returns-in-Dependent-clause-ran c = λ start goes.
     watched_by c.loop-index.run c.args.run.now c.loop-index.invariant.same c.loop-index.index
-    (c.loop-index.index + 1) c.loop-index.maps c.one_watched.new.maps c.loop-index.log c.one_watched.new.log Dependent
-    c.in-Dependent.ensures.ran start (c.loop-index.invariant.goes start goes)
+    (c.loop-index.index + 1) c.loop-index.maps c.one_watched.new.maps c.loop-index.log c.one_watched.new.log
+    (Dependent c.in-Dependent.progress) c.in-Dependent.ensures.ran start (c.loop-index.invariant.goes start goes)

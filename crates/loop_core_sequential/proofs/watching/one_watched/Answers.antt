@@ -32,7 +32,7 @@ returns-clause-ran c = λ start goes.
 pub returns-then-has_met-clause-ran : goal.returns-then-has_met-clause-ran
 returns-then-has_met-clause-ran c = λ start goes.
     met_as c.args.run.now.program.now c.args.run.now.call.now start c.run-done.new.store.maps.now _
-    c.run-done.new.store.log.now _ (search rules) (search rules)
+    c.run-done.new.store.log.now _ _ (search rules) (search rules)
     (met_alone c.law_of_watching.ensures c.args.run.now.program.now c.args.run.now.call.now
     c.args.run.now.callback c.requires.ready.callback
     c.args.index c.requires.below c.args.maps.now c.args.log.now c.new-watched.result c.run-done.new.store
