@@ -1,2 +1,3 @@
 pub mod SlotLines
 pub mod Comments
+pub mod Listed

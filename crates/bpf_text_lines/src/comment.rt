@@ -3,13 +3,13 @@
 ghost use Rattle.std.specs.Prelude.{◌≡◌, ◌<◌, ◌∷◌, length, ◌||◌, nat_lt};
 ghost use Rattle.bpf_text_asm.specs.AssemblerText.{is_label, line_slots};
 ghost use Rattle.bpf_text_lex.specs.Lines.{lines_of, content_of};
-ghost use Rattle.bpf_text_lines.specs.Comments.{text_line, comment_in, stands_below, comment_below, comment_of};
+ghost use Rattle.bpf_text_lines.specs.Comments.{text_line, comment_in, stands_below, comment_below, comment_or};
 
 use crate::numbering::{is_label, slots_of_line};
 use bpf_text_lex::trim;
 
 /// The first line of a text that isn't empty, without its newline, and the text after that newline.
-fn split_line(text: &str) -> (&str, &str)
+pub(crate) fn split_line(text: &str) -> (&str, &str)
     requires { 0 < length text.now }
     ensures lines { lines_of text.now ≡ result.0.now ∷ lines_of result.1.now }
     ensures shorter { length result.1.now < length text.now }
@@ -38,7 +38,7 @@ pub fn line_at(text: &str, number: u32) -> &str
 }
 
 /// What a line says, without the blanks round it, and its comment, without the white space round it.
-fn parts(line: &str) -> (&[u8], &str)
+pub(crate) fn parts(line: &str) -> (&[u8], &str)
     ensures content { result.0.now ≡ content_of line.now }
     ensures comment { result.1.now ≡ comment_in line.now }
 {
@@ -56,7 +56,7 @@ fn stands_below(content: &[u8]) -> bool
 }
 
 /// The comment that stands over what comes below a line, by the comment that stands over the line.
-fn comment_below<'a>(content: &[u8], comment: &'a str, above: &'a str) -> &'a str
+pub(crate) fn comment_below<'a>(content: &[u8], comment: &'a str, above: &'a str) -> &'a str
     ensures { result.now ≡ comment_below content.now comment.now above.now }
 {
     if content.is_empty() {
@@ -68,23 +68,9 @@ fn comment_below<'a>(content: &[u8], comment: &'a str, above: &'a str) -> &'a st
     }
 }
 
-/// The comment that belongs to the line of a number: its own; else that of the nearest comment line above, with
-/// only instructions and labels between them. It is empty where there is none.
-pub fn comment_of(text: &str, number: u32) -> &str
-    ensures { result.now ≡ comment_of number (lines_of text.now) }
+/// A comment, or where it is empty another.
+pub(crate) fn comment_or<'a>(comment: &'a str, other: &'a str) -> &'a str
+    ensures { result.now ≡ comment_or comment.now other.now }
 {
-    let mut above = "";
-    let mut rest = text;
-    let mut left = number;
-    while !rest.is_empty() {
-        let (line, behind) = split_line(rest);
-        let (content, comment) = parts(line);
-        if left == 1 {
-            return if comment.is_empty() { above } else { comment };
-        }
-        above = comment_below(content, comment, above);
-        rest = behind;
-        left = left.saturating_sub(1);
-    }
-    ""
+    if comment.is_empty() { other } else { comment }
 }

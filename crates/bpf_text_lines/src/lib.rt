@@ -2,7 +2,10 @@
 #![tactic(auto)]
 
 mod comment;
+mod listed;
+mod listing;
 mod numbering;
 
-pub use comment::{comment_of, line_at};
+pub use comment::line_at;
+pub use listing::Listing;
 pub use numbering::line_numbers;

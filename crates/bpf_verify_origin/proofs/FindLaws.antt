@@ -1,10 +1,12 @@
--- The instruction that starts at a slot, found by going over the instructions.
-use Rattle.std.proofs.Common.{◌≡◌, ℕ, zero, suc, ◌+◌, ◌-◌, ◌<◌, ◌≤◌, List, [], ◌∷◌, drop, length}
-use Rattle.std.proofs.Common.{get_or, refl, ap, sym, ◌∙◌, arith, add-one, Some, None}
+-- The instructions by the slots at which they start.
+use Rattle.std.proofs.Common.{◌≡◌, ℕ, zero, suc, ◌+◌, ◌-◌, ◌<◌, ◌≤◌, List, [], ◌∷◌, ◌++◌, drop}
+use Rattle.std.proofs.Common.{length, get_or, refl, ap, sym, ◌∙◌, arith, add-one, append_assoc, append-nil}
+use Rattle.std.proofs.Common.{Option, None}
 use Rattle.bpf_insn_types.specs.declared.insn.Insn.{Insn}
-use Rattle.bpf_insn_types.specs.Slots.{slots_of}
+use Rattle.bpf_insn_types.specs.declared.insn.Insn.TheVariants.{LoadImm}
 use Rattle.bpf_insn_types.specs.Program.{insn_at}
-use Rattle.bpf_insn_types.proofs.ProgramLaws.{insn_at-past_first, insn_at-inner, insn_at-none}
+use Rattle.bpf_insn_types.proofs.ProgramLaws.{insn_at-past_first}
+use Rattle.bpf_verify_origin.specs.Inspected.{insn_slots}
 
 drop-first_suc : (xs : List Insn) (i : ℕ) (x : Insn) → i < length xs → x ≡ get_or xs i x → drop i xs ≡ x
     ∷ drop (suc i) xs
@@ -21,23 +23,37 @@ drop-whole [] (suc i) h = refl
 drop-whole (x ∷ xs) zero h = absurd (omega arith)
 drop-whole (x ∷ xs) (suc i) h = drop-whole xs i (omega arith)
 
--- at the first of those left
-pub find-here : (xs : List Insn) (i left : ℕ) (x : Insn) → i < length xs → x ≡ get_or xs i x → left ≡ 0
-    → insn_at (drop i xs) left ≡ Some x
-find-here xs i left x h e z = ap (insn_at (drop i xs)) z ∙ ap (λ (l : List Insn). insn_at l 0) (drop-first xs i x h e)
+-- for each slot of instructions the one that starts there
+unfoldable pub by_slot : List Insn → List (Option Insn)
+by_slot [] = []
+by_slot (insn ∷ insns) = insn_slots insn ++ by_slot insns
 
--- inside it
-pub find-inner : (xs : List Insn) (i left : ℕ) (x : Insn) → i < length xs → x ≡ get_or xs i x → 0 < left
-    → left < slots_of x → insn_at (drop i xs) left ≡ None
-find-inner xs i left x h e some inside =
-    ap (λ (l : List Insn). insn_at l left) (drop-first xs i x h e) ∙ insn_at-inner x (drop (i + 1) xs) left some inside
-
--- past it
-pub find-past : (xs : List Insn) (i left : ℕ) (x : Insn) → i < length xs → x ≡ get_or xs i x → slots_of x ≤ left
-    → insn_at (drop i xs) left ≡ insn_at (drop (i + 1) xs) (left - slots_of x)
-find-past xs i left x h e past =
-    ap (λ (l : List Insn). insn_at l left) (drop-first xs i x h e) ∙ insn_at-past_first x (drop (i + 1) xs) left past
+-- one instruction more
+pub by_slot-more : (table : List (Option Insn)) (xs : List Insn) (i : ℕ) (x : Insn) → i < length xs → x ≡ get_or xs i x
+    → (table ++ insn_slots x) ++ by_slot (drop (i + 1) xs) ≡ table ++ by_slot (drop i xs)
+unfolding by_slot
+by_slot-more table xs i x h e =
+    append_assoc table (insn_slots x) (by_slot (drop (i + 1) xs))
+    ∙ ap (λ (l : List Insn). table ++ by_slot l) (sym (drop-first xs i x h e))
 
 -- none is left
-pub find-none : (xs : List Insn) (i left : ℕ) → length xs ≤ i → insn_at (drop i xs) left ≡ None
-find-none xs i left h = ap (λ (l : List Insn). insn_at l left) (drop-whole xs i h) ∙ insn_at-none left
+pub by_slot-all : (table : List (Option Insn)) (xs : List Insn) (i : ℕ) → length xs ≤ i → table ++ by_slot (drop i xs)
+    ≡ table
+unfolding by_slot
+by_slot-all table xs i h = ap (λ (l : List Insn). table ++ by_slot l) (drop-whole xs i h) ∙ append-nil table
+
+-- what is at a slot
+pub by_slot-at : (insns : List Insn) (slot : ℕ) → get_or (by_slot insns) slot None ≡ insn_at insns slot
+unfolding by_slot
+by_slot-at [] zero = refl
+by_slot-at [] (suc slot) = refl
+by_slot-at (LoadImm kind dst imm next_imm ∷ insns) zero = refl
+by_slot-at (LoadImm kind dst imm next_imm ∷ insns) (suc zero) = refl
+by_slot-at (LoadImm kind dst imm next_imm ∷ insns) (suc (suc slot)) =
+    let e : slot ≡ suc (suc slot) - 2 = omega arith in
+    by_slot-at insns slot ∙ ap (insn_at insns) e
+    ∙ sym (insn_at-past_first (LoadImm kind dst imm next_imm) insns (suc (suc slot)) (omega arith))
+by_slot-at (insn ∷ insns) zero = refl
+by_slot-at (insn ∷ insns) (suc slot) =
+    let e : slot ≡ suc slot - 1 = omega arith in
+    by_slot-at insns slot ∙ ap (insn_at insns) e ∙ sym (insn_at-past_first insn insns (suc slot) (omega arith))

@@ -12,7 +12,7 @@ use Rattle.bpf_verify_origin.specs.declared.inflow.Inflow.{Inflow}
 use Rattle.bpf_verify_origin.specs.declared.inflow.Inflow.TheVariants.{Nowhere}
 use Rattle.bpf_verify_origin.specs.declared.fault.Fault.{Fault}
 use Rattle.bpf_verify_origin.specs.Edges.{slots_before, passed_slots}
-use Rattle.bpf_verify_origin.specs.Inspected.{broken_rule, IsPassedTo, is_stop, AreInflows, IsInspection}
+use Rattle.bpf_verify_origin.specs.Inspected.{broken_rule, IsPassedTo, is_stop, AreInsns, AreInflows, IsInspection}
 use Rattle.bpf_verify_origin.proofs.FaultLaws.{passed-fine, passed-stop, passed-up_to, outside-none}
 use Rattle.bpf_verify_origin.proofs.InflowLaws.{all_nowhere, are-inflows_none}
 
@@ -40,13 +40,14 @@ passed-at program fault count is counted =
 
 -- an inspection of a program within the limits
 pub inspection-is : (program : Program) (sizes : List ℕ) (insns : List Insn) (fault : Option Fault) (count last : ℕ)
-    (states : List (Option State)) (inflows : List Inflow) → sizes ≡ program.sizes → insns ≡ program.insns
-    → option_map broken_rule fault ≡ first_fault program → WithinLimits program count
+    (by_slot : List (Option Insn)) (states : List (Option State)) (inflows : List Inflow) → sizes ≡ program.sizes
+    → insns ≡ program.insns → AreInsns program.insns by_slot → option_map broken_rule fault ≡ first_fault program → WithinLimits program count
     → last ≡ slots_before (option_map broken_rule fault) count
     → AreStatesBefore (record { sizes = sizes; insns = insns }) last states
     → AreInflows (record { sizes = sizes; insns = insns }) last inflows → length inflows ≡ count
-    → IsInspection program fault states inflows
-inspection-is program sizes insns fault count last states inflows same_sizes same_insns is within at are from size =
+    → IsInspection program fault by_slot states inflows
+inspection-is program sizes insns fault count last by_slot states inflows same_sizes same_insns found is within at are
+    from size =
     let same : record { sizes = sizes; insns = insns } ≡ program = program-is program sizes insns same_sizes same_insns
     in
     let up_to : last ≡ passed_slots program =
@@ -56,6 +57,7 @@ inspection-is program sizes insns fault count last states inflows same_sizes sam
     (subst (λ (p : Program). AreStatesBefore p last states) same are) in
     record {
       fault_is = is;
+      insns_are = found;
       small = omega (arith, here.size, within.counted, within.few);
       within = λ some. subst (WithinLimits program) (sym within.counted) within;
       states_are = λ w. here;
@@ -65,12 +67,13 @@ inspection-is program sizes insns fault count last states inflows same_sizes sam
     }
 
 -- and of another
-pub inspection-outside : (program : Program) (fault : Option Fault) (states : List (Option State))
-    (inflows : List Inflow) → option_map broken_rule fault ≡ first_fault program
+pub inspection-outside : (program : Program) (fault : Option Fault) (by_slot : List (Option Insn))
+    (states : List (Option State)) (inflows : List Inflow) → AreInsns program.insns by_slot → option_map broken_rule fault ≡ first_fault program
     → (WithinLimits program (slot_count program.insns) → ⊥) → states ≡ [] → inflows ≡ []
-    → IsInspection program fault states inflows
-inspection-outside program fault states inflows is outside no_states no_inflows = record {
+    → IsInspection program fault by_slot states inflows
+inspection-outside program fault by_slot states inflows found is outside no_states no_inflows = record {
   fault_is = is;
+  insns_are = found;
   small = omega (arith, ap length no_states);
   within = λ some. absurd (omega (arith, ap length no_states, some));
   states_are = λ within. absurd (outside within);

@@ -1,7 +1,9 @@
 -- What an inspection of a program has.
-use Rattle.std.specs.Prelude.{◌≡◌, ℕ, ◌<◌, ◌≤◌, ◌==◌, ◌||◌, Bool, true, List, length}
+use Rattle.std.specs.Prelude.{◌≡◌, ℕ, ◌<◌, ◌≤◌, ◌==◌, ◌||◌, Bool, true, List, [], ◌∷◌, length}
 use Rattle.std.specs.Prelude.{slice_index_or, Option, Some, None, is_some, nat_le}
 use Rattle.std.specs.Option.{option_map}
+use Rattle.bpf_insn_types.specs.declared.insn.Insn.{Insn}
+use Rattle.bpf_insn_types.specs.declared.insn.Insn.TheVariants.{LoadImm}
 use Rattle.bpf_insn_types.specs.Program.{Program, insn_at, slot_count}
 use Rattle.bpf_verify_model.specs.declared.state.State.{State}
 use Rattle.bpf_verify_model.specs.Accepted.{BrokenRule, WithinLimits, first_fault, fault_within}
@@ -47,10 +49,21 @@ pub record AreInflows (program : Program) (passed : ℕ) (inflows : List Inflow)
   pub at : (slot : ℕ) → slot < slot_count program.insns
       → slice_index_or inflows slot Nowhere ≡ inflow_from program passed slot
 
--- what an inspection keeps: the first fault, the abstract states before the slots up to it, and where edges come from
-pub record IsInspection (program : Program) (fault : Option Fault) (states : List (Option State))
-    (inflows : List Inflow) : Type 0 where
+-- the slots of an instruction: it starts at the first, and none does at the second of a load of a 64-bit immediate
+abbrev pub insn_slots : Insn → List (Option Insn)
+insn_slots (LoadImm kind dst imm next_imm) = Some (LoadImm kind dst imm next_imm) ∷ None ∷ []
+insn_slots insn = Some insn ∷ []
+
+-- a table has at each slot the instruction that starts there
+pub record AreInsns (insns : List Insn) (table : List (Option Insn)) : Type 0 where
+  pub at : (slot : ℕ) → slice_index_or table slot None ≡ insn_at insns slot
+
+-- what an inspection keeps: the first fault, the instructions by their slots, the abstract states before the slots up to
+-- the fault, and where edges come from
+pub record IsInspection (program : Program) (fault : Option Fault) (by_slot : List (Option Insn))
+    (states : List (Option State)) (inflows : List Inflow) : Type 0 where
   pub fault_is : option_map broken_rule fault ≡ first_fault program
+  pub insns_are : AreInsns program.insns by_slot
   pub small : length states ≤ 4096
   pub within : 0 < length states → WithinLimits program (slot_count program.insns)
   pub states_are : WithinLimits program (slot_count program.insns) → AreStatesBefore program (passed_slots program)

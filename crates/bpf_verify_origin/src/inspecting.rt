@@ -8,6 +8,7 @@ ghost use Rattle.bpf_verify_origin.specs.Edges.{slots_before};
 ghost use Rattle.bpf_verify_origin.specs.Inspected.{broken_rule};
 
 use crate::fault::Fault;
+use crate::finding::insns_by_slot;
 use crate::inflows::inflows;
 use crate::inspection::Inspection;
 use bpf_insn_types::{Insn, Unit, elements_of, slot_count};
@@ -56,10 +57,12 @@ fn with_fault(alloc: Global, unit: Unit, fault: Option<Fault>) -> Result<Inspect
     requires { option_map broken_rule fault ≡ first_fault unit }
     ensures { IfOk result (λ inspection. inspection ≡ unit) }
 {
+    let by_slot = insns_by_slot(alloc, &unit.insns)?;
     let Some(count) = slots_within(&unit) else {
         return Ok(Inspection {
             unit,
             fault,
+            by_slot,
             states: Vec::new(alloc),
             inflows: Vec::new(alloc),
         });
@@ -73,6 +76,7 @@ fn with_fault(alloc: Global, unit: Unit, fault: Option<Fault>) -> Result<Inspect
     Ok(Inspection {
         unit,
         fault,
+        by_slot,
         states,
         inflows,
     })

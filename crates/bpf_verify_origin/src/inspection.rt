@@ -11,9 +11,9 @@ ghost use Rattle.bpf_verify_origin.specs.Inspected.{broken_rule, is_up_to, IsPas
 ghost use Rattle.bpf_verify_origin.specs.Sources.{source_by_insn, source_by_inflow, source_along, source_before, taken};
 
 use crate::fault::Fault;
-use crate::finding::insn_at;
+use crate::finding::insn_in;
 use crate::inflow::Inflow;
-use crate::outflow::{outflow, state_in, state_to};
+use crate::outflow::{may_lead, outflow, state_in, state_to};
 use crate::source::Source;
 use crate::step::Step;
 use crate::writing::source_at;
@@ -26,6 +26,7 @@ use std::marker::Model;
 pub struct Inspection {
     pub(crate) unit: Unit,
     pub(crate) fault: Option<Fault>,
+    pub(crate) by_slot: Vec<Option<Insn>>,
     pub(crate) states: Vec<Option<State>>,
     pub(crate) inflows: Vec<Inflow>,
 }
@@ -38,7 +39,7 @@ impl Model for Inspection {
 
     ghost view = { λ i. i.unit };
 
-    ghost invariant = { λ i. IsInspection i.unit i.fault i.states.items i.inflows.items };
+    ghost invariant = { λ i. IsInspection i.unit i.fault i.by_slot.items i.states.items i.inflows.items };
 }
 
 /// Whether a slot is one up to a fault, if there is one.
@@ -77,7 +78,7 @@ impl Inspection {
     pub fn insn(&self, slot: u32) -> Option<Insn>
         ensures { result ≡ insn_at self.now.insns slot }
     {
-        insn_at(self.unit.insns.as_slice(), slot)
+        insn_in(self.by_slot.as_slice(), slot)
     }
 
     /// The abstract state before a slot, up to the first fault where an instruction starts; None where no edge
@@ -104,14 +105,15 @@ impl Inspection {
         if from > 4096 {
             return None;
         }
-        match self.insn(from) {
-            None => None,
-            Some(insn) => {
-                let before = self.state(from);
-                let out = outflow(self.sizes(), from, &before, insn);
-                state_to(to, &out)
-            }
+        let Some(insn) = self.insn(from) else {
+            return None;
+        };
+        if !may_lead(from, to, &insn) {
+            return None;
         }
+        let before = self.state(from);
+        let out = outflow(self.sizes(), from, &before, insn);
+        state_to(to, &out)
     }
 
     /// Where the edges into a slot come from.

@@ -3,7 +3,7 @@ use Rattle.std.specs.Prelude.{None}
 use Rattle.bpf_verify_model.specs.Inflow.{received_all}
 use Rattle.bpf_verify.specs.Passing.{out_of}
 use Rattle.bpf_verify_origin.proofs.FaultLaws.{starts-within}
-use Rattle.bpf_verify_origin.proofs.InflowLaws.{between-none, between-some}
+use Rattle.bpf_verify_origin.proofs.InflowLaws.{between-none, between-elsewhere, between-some}
 use Rattle.bpf_verify_origin.proofs.PassedLaws.{edge-passed}
 use Rattle.bpf_verify_origin.proofs.inspection.Inspection.edge.Goals as goal
 
@@ -16,21 +16,26 @@ returns-then-from-gt4096-clause-whole c = λ to.
       c.if-from-gt4096.true,
     ))
 
-pub returns-in-None-clause-whole : goal.returns-in-None-clause-whole
-returns-in-None-clause-whole c = λ to. between-none c.args.self.now c.args.from c.args.to (sym c.insn.ensures
-    ∙ c.in-None.is)
+pub returns-in_default-clause-whole : goal.returns-in_default-clause-whole
+returns-in_default-clause-whole c = λ to. between-none c.args.self.now c.args.from c.args.to (sym c.insn.ensures
+    ∙ c.in_default.is)
 
-pub returns-in-Some-clause-whole : goal.returns-in-Some-clause-whole
-returns-in-Some-clause-whole c = λ to.
+pub returns-then-not-may_lead-clause-whole : goal.returns-then-not-may_lead-clause-whole
+returns-then-not-may_lead-clause-whole c = λ to.
+    between-elsewhere c.args.self.now c.args.from c.args.to c.in-Some.insn (sym c.insn.ensures ∙ c.in-Some.is)
+    (sym c.may_lead.ensures ∙ c.if-not-may_lead.true)
+
+pub returns-clause-whole : goal.returns-clause-whole
+returns-clause-whole c = λ to.
     c.state_to.ensures ∙ between-some c.args.self.now c.args.from c.args.to c.in-Some.insn c.state-before.result
     c.outflow-out.result (sym c.insn.ensures ∙ c.in-Some.is) (c.state-before.ensures.whole to)
     (c.outflow-out.ensures ∙ ap (λ (sizes : List ℕ). out_of sizes c.args.from c.in-Some.insn c.state-before.result)
     c.sizes.ensures)
 
-pub returns-in-Some-clause-passed : goal.returns-in-Some-clause-passed
-returns-in-Some-clause-passed c =
+pub returns-clause-passed : goal.returns-clause-passed
+returns-clause-passed c =
     edge-passed c.args.self.now c.args.from c.args.to c.in-Some.insn c.state-before.result c.state_to.result
     c.state-before.ensures.passed
     (c.state_to.ensures ∙ ap (received_all c.args.to None) (c.outflow-out.ensures
     ∙ ap (λ (sizes : List ℕ). out_of sizes c.args.from c.in-Some.insn c.state-before.result) c.sizes.ensures))
-    (returns-in-Some-clause-whole c)
+    (returns-clause-whole c)
