@@ -15,7 +15,7 @@
  *
  * Each call that may fail gives a status: 0 (DONE), or less where it wasn't done. Under each call are the statuses that it
  * may give. EMPTY and HELD come before all others. What a call gives is written at DONE alone, the refusal at MALFORMED
- * and REFUSED alone; else it keeps what stood there.
+ * and REFUSED alone; else it keeps what stood there. Calls that write a text say when they do.
  *
  * What a caller owes:
  *   - no pointer is NULL, also where a count is 0; it is aligned for its type, what it points to is there in full, and it
@@ -57,7 +57,8 @@ enum bpfspec_status {
     BPFSPEC_REFUSED = -13,  /* the program breaks a rule of the verifier: the refusal has it */
     BPFSPEC_HELD = -16,     /* misuse: the handle holds a machine already, and keeps it */
     BPFSPEC_MALFORMED = -22,/* the text or the instructions are none of their form: the refusal has why */
-    BPFSPEC_RANGE = -34     /* there is no such element, map, function or loop call, or a count differs; nothing changed */
+    BPFSPEC_RANGE = -34     /* there is no such element, map, function or loop call, a count differs, or there is too
+                               little room; nothing changed */
 };
 
 /* A machine, or none: 16 bytes, which the library alone reads and writes. */
@@ -77,6 +78,16 @@ struct bpfspec_refusal {
 struct bpfspec_loop {
     uint64_t slot;  /* the slot of the call */
     int64_t answer; /* how many iterations ran; or -22 or -7 where the call was refused, as bpf_loop does */
+};
+
+/* What is asked of bpfspec_explain. Zeroes ask for what `./bpfspec explain` prints without options. */
+struct bpfspec_options {
+    uint64_t argument; /* main's argument, where it runs: --arg */
+    bool hex;          /* the unit is in hex form: --hex */
+    bool lrpd;         /* loops conflict by the test lrpd, and not by flow: --test lrpd */
+    bool states;       /* each instruction is shown with the registers that it reads: --states */
+    bool all;          /* up to 64 elements are told of a loop that conflicts, and not the least alone: --all */
+    bool picture;      /* the first loop that conflicts is drawn as an SVG in place of all, if one does: --picture */
 };
 
 /* The number of the interface that the library has. */
@@ -154,6 +165,25 @@ BPFSPEC_NONNULL int bpfspec_count(struct bpfspec_machine *machine, uint32_t func
  * DONE; EMPTY; RANGE.
  */
 BPFSPEC_NONNULL int bpfspec_report(struct bpfspec_machine *machine, size_t number, struct bpfspec_loop *loop);
+
+/*
+ * Writes what `./bpfspec verify` prints of an input of `length` bytes: an assembler text, and whatever stands behind a
+ * line %%, which isn't read. `answer` has `room` bytes, of which the first `*size` are written; no NUL ends them.
+ * `*size` is written at each status but MEMORY: at RANGE it is the room that is wanted, and nothing else is written.
+ * DONE: it is accepted; REFUSED; MALFORMED: the text is none of its form; RANGE: there is too little room; MEMORY.
+ */
+BPFSPEC_NONNULL int bpfspec_verify(const char *input, size_t length, char *answer, size_t room, size_t *size);
+
+/* The same of `./bpfspec verify --hex`. Bytes that are no instructions ('I') are REFUSED too. */
+BPFSPEC_NONNULL int bpfspec_verify_hex(const char *input, size_t length, char *answer, size_t room, size_t *size);
+
+/*
+ * The same of `./bpfspec explain`: what `verify` prints, and then why the program is refused, what is wrong with the
+ * text, or why loops of an accepted program conflict; for that it is run, on the maps of the input, or on zeroes. Where
+ * there is memory for what `verify` prints but not for the reasons, they are left out. The statuses are the same.
+ */
+BPFSPEC_NONNULL int bpfspec_explain(const char *input, size_t length, const struct bpfspec_options *options,
+                                    char *answer, size_t room, size_t *size);
 
 #ifdef __cplusplus
 }

@@ -1,5 +1,6 @@
 /*
- * Each allocation of a load is refused in turn: it says so, the handle stays empty, and nothing is lost. A run asks for
+ * Each allocation of a load is refused in turn: it says so, the handle stays empty, and nothing is lost. So is each of
+ * a call that prints: it says so and writes nothing, or leaves out the reasons of an explanation alone. A run asks for
  * nothing. The linker puts the functions below in place of malloc, realloc and free (--wrap).
  */
 #include "bpfspec.h"
@@ -114,8 +115,58 @@ static int runs(struct bpfspec_machine *machine)
     return asked != 0 ? fails("a run asked for memory", asked) : 0;
 }
 
+enum { ROOM = 4096 };
+
+/* Each of the calls that print. */
+static int print(int call, char *answer, size_t *size)
+{
+    static const struct bpfspec_options options = {.argument = 4};
+    static const char hex[] = "maps 1\nbf10000000000000\n9500000000000000\n";
+
+    if (call == 0)
+        return bpfspec_verify(program, strlen(program), answer, ROOM, size);
+    if (call == 1)
+        return bpfspec_verify_hex(hex, strlen(hex), answer, ROOM, size);
+    return bpfspec_explain(program, strlen(program), &options, answer, ROOM, size);
+}
+
+static int prints(int call)
+{
+    char whole[ROOM], answer[ROOM], untouched[ROOM];
+    size_t wanted, verdict, size;
+
+    memset(untouched, '?', ROOM);
+    if (print(0, whole, &verdict) != BPFSPEC_DONE || print(call, whole, &wanted) != BPFSPEC_DONE)
+        return fails("a text isn't printed", call);
+    for (long at = 0;; at++) {
+        int status;
+
+        memset(answer, '?', ROOM);
+        size = 7;
+        asked = 0;
+        refused_at = at;
+        status = print(call, answer, &size);
+        refused_at = -1;
+        if (held != 0)
+            return fails("something is left", at);
+        if (status == BPFSPEC_MEMORY && size == 7 && memcmp(answer, untouched, ROOM) == 0)
+            continue;
+        if (status != BPFSPEC_DONE || memcmp(answer, whole, size) != 0)
+            return fails("another text", at);
+        if (memcmp(answer + size, untouched, ROOM - size) != 0)
+            return fails("more than the text", at);
+        if (size == wanted && asked <= at)
+            return at < 5 ? fails("a text asked for little", at) : 0;
+        if (size != wanted && (call != 2 || size != verdict))
+            return fails("a part of a text", at);
+    }
+}
+
 int main(void)
 {
+    for (int call = 0; call < 3; call++)
+        if (prints(call))
+            return 1;
     for (int form = 0; form < 3; form++) {
         struct bpfspec_machine machine = {0};
 

@@ -16,6 +16,10 @@ int __real_bpfspec_words(struct bpfspec_machine *machine, uint32_t map, uint64_t
 int __real_bpfspec_set_words(struct bpfspec_machine *machine, uint32_t map, const uint64_t *words, size_t count);
 int __real_bpfspec_count(struct bpfspec_machine *machine, uint32_t function, uint32_t *count);
 int __real_bpfspec_report(struct bpfspec_machine *machine, size_t number, struct bpfspec_loop *loop);
+int __real_bpfspec_verify(const char *input, size_t length, char *answer, size_t room, size_t *size);
+int __real_bpfspec_verify_hex(const char *input, size_t length, char *answer, size_t room, size_t *size);
+int __real_bpfspec_explain(const char *input, size_t length, const struct bpfspec_options *options, char *answer,
+                           size_t room, size_t *size);
 
 int __wrap_bpfspec_load(struct bpfspec_machine *machine, const char *text, size_t length,
                         struct bpfspec_refusal *refusal)
@@ -81,4 +85,29 @@ int __wrap_bpfspec_count(struct bpfspec_machine *machine, uint32_t function, uin
 int __wrap_bpfspec_report(struct bpfspec_machine *machine, size_t number, struct bpfspec_loop *loop)
 {
     return __real_bpfspec_report(machine, WRONG == 12 ? 0 : number, loop);
+}
+
+int __wrap_bpfspec_verify(const char *input, size_t length, char *answer, size_t room, size_t *size)
+{
+    int status = __real_bpfspec_verify(input, length, answer, room, size);
+    if (WRONG == 13 && status == BPFSPEC_RANGE && room > 0)
+        answer[0] = 'r'; /* a beginning */
+    if (WRONG == 14)
+        *size += 1; /* as if a NUL ended it */
+    return WRONG == 15 && status == BPFSPEC_MALFORMED ? BPFSPEC_REFUSED : status;
+}
+
+int __wrap_bpfspec_verify_hex(const char *input, size_t length, char *answer, size_t room, size_t *size)
+{
+    return (WRONG == 16 ? __real_bpfspec_verify : __real_bpfspec_verify_hex)(input, length, answer, room, size);
+}
+
+int __wrap_bpfspec_explain(const char *input, size_t length, const struct bpfspec_options *options, char *answer,
+                           size_t room, size_t *size)
+{
+    static const struct bpfspec_options none = {0};
+
+    if (WRONG == 17)
+        return __real_bpfspec_verify(input, length, answer, room, size);
+    return __real_bpfspec_explain(input, length, WRONG == 18 ? &none : options, answer, room, size);
 }

@@ -1,3 +1,4 @@
-pub mod Values
-pub mod HeldValues
 pub mod CallLaws
+pub mod HeldValues
+pub mod PrintLaws
+pub mod Values

@@ -7,6 +7,8 @@ mod held;
 mod loaded;
 mod loop_line;
 mod loose;
+mod options;
+mod printing;
 mod refusal;
 mod statuses;
 
@@ -17,4 +19,6 @@ pub use calls::{
 };
 pub use loaded::Loaded;
 pub use loop_line::LoopLine;
+pub use options::Options;
+pub use printing::{bpfspec_explain, bpfspec_verify, bpfspec_verify_hex};
 pub use refusal::Refusal;
