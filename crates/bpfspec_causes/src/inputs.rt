@@ -35,6 +35,7 @@ fn write_loops(
     out: &mut String,
     alloc: Global,
     wish: &Wish,
+    text: &str,
     page: &Page<'_>,
     program: &Verified,
     maps: &mut Maps,
@@ -44,6 +45,7 @@ fn write_loops(
     }
     let told = explain_loops(alloc, program, maps, wish.argument, wish.test, wish.most)?;
     let listing = Listing {
+        text,
         page,
         sizes: program.sizes(),
         insns: program.unit().insns.as_slice(),
@@ -58,6 +60,7 @@ fn write_loops(
 fn causes_of_unit(
     alloc: Global,
     wish: &Wish,
+    text: &str,
     page: &Page<'_>,
     unit: Unit,
     maps: &str,
@@ -68,7 +71,7 @@ fn causes_of_unit(
     };
     match start_maps(alloc, program.sizes(), maps)? {
         Start::From(mut start) => {
-            write_loops(&mut out, alloc, wish, page, &program, &mut start)?;
+            write_loops(&mut out, alloc, wish, text, page, &program, &mut start)?;
         }
         Start::Refused(refusal) => write_refused_maps(&mut out, alloc, refusal)?,
     }
@@ -87,7 +90,7 @@ pub fn causes_of_text(
         return Ok(String::new(alloc));
     };
     let page = Page::of(alloc, text)?;
-    causes_of_unit(alloc, wish, &page, unit, maps)
+    causes_of_unit(alloc, wish, text, &page, unit, maps)
 }
 
 /// The same of a unit in hex form.
@@ -101,5 +104,5 @@ pub fn causes_of_hex(
         return Ok(String::new(alloc));
     };
     let page = Page::none(alloc);
-    causes_of_unit(alloc, wish, &page, unit, maps)
+    causes_of_unit(alloc, wish, "", &page, unit, maps)
 }

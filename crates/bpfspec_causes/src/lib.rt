@@ -3,17 +3,23 @@
 //!
 //! ```text
 //! loop 0 at 5: answer 1000, conflict 32 least 1
-//!   element 1 (map 0 at 1)
+//!   element 1 (map 0 at 1): buckets
 //!     iteration    0 writes it    line 30: stx64 [r2+0], r3
 //!     iteration   16 reads it     line 21: ldx64 r4, [r2+0]    ; 10_tokens.c:13: __u64 t = b->tokens + ..
 //!   and 31 elements more
 //! ```
+//!
+//! Of an element that is reduced, the first access is told too that isn't a reduce by the same operator, and what mends
+//! it.
 #![tactic(auto)]
 
+mod deeds;
 mod drawing;
 mod inputs;
 mod listing;
 mod loops;
+mod mending;
+mod names;
 mod reading;
 
 pub use drawing::{picture_of_events, picture_of_hex, picture_of_text};

@@ -1,13 +1,17 @@
 //! Places of a program in words.
 
+use crate::deeds::{Deed, deed_of};
+use crate::names::write_names;
 use bpf_insn_types::{Insn, slots};
 use bpf_text_mnemonics::print_insn;
 use bpfspec_reasons::Page;
 use std::alloc::{AllocError, Global};
 
-/// A program as it is told: its page, the sizes of its maps, and its instructions.
+/// A program as it is told: its text, which is empty of a unit in hex form; its page, the sizes of its maps, and its
+/// instructions.
 #[derive(Clone, Copy, Drop)]
 pub(crate) struct Listing<'a> {
+    pub(crate) text: &'a str,
     pub(crate) page: &'a Page<'a>,
     pub(crate) sizes: &'a [u32],
     pub(crate) insns: &'a [Insn],
@@ -23,6 +27,11 @@ fn instruction_at(insns: &[Insn], slot: u32) -> Option<Insn> {
         at = at.saturating_add(slots(insn));
     }
     None
+}
+
+/// What the instruction at a slot does at an element.
+pub(crate) fn deed_at(insns: &[Insn], slot: u32) -> Option<Deed> {
+    deed_of(instruction_at(insns, slot)?)
 }
 
 /// Writes a line of a page: its number, its instruction, and its comment.
@@ -78,12 +87,13 @@ fn map_of(sizes: &[u32], element: u32) -> (u32, u32) {
     (map, rest)
 }
 
-/// Writes an element, by its number over all maps and in its own.
+/// Writes an element, by its number over all maps and in its own, and by the names of its variables.
 pub(crate) fn write_element(
     out: &mut String,
-    sizes: &[u32],
+    listing: &Listing<'_>,
     element: u32,
 ) -> Result<(), AllocError> {
-    let (map, at) = map_of(sizes, element);
-    write!(out, "element {element} (map {map} at {at})")
+    let (map, at) = map_of(listing.sizes, element);
+    write!(out, "element {element} (map {map} at {at})")?;
+    write_names(out, listing.text, map, at)
 }

@@ -1,6 +1,8 @@
 //! Loops in words.
 
-use crate::listing::{Listing, write_element, write_slot};
+use crate::deeds::{Deed, words_of};
+use crate::listing::{Listing, deed_at, write_element, write_slot};
+use crate::mending::{reduce_among, write_end_words, write_mend, write_pair_mend};
 use loop_core_model::Verdict;
 use loop_core_witness::Place;
 use spec_run_explain::{Cause, LoopExplained};
@@ -25,8 +27,50 @@ fn write_place(
     what: &str,
 ) -> Result<(), AllocError> {
     let index = place.index;
-    write!(out, "iteration {index:>4} {what:<13}")?;
+    write!(out, "iteration {index:>4} {what:<12} ")?;
     write_slot(out, alloc, listing, place.slot)
+}
+
+/// Writes what an iteration does at an element, and where.
+fn write_access(
+    out: &mut String,
+    alloc: Global,
+    listing: &Listing<'_>,
+    place: Place,
+    deed: Deed,
+) -> Result<(), AllocError> {
+    out.push_str("    ")?;
+    write_place(out, alloc, listing, place, words_of(deed))
+}
+
+/// Writes by which access an element that these two reduce, or one of them, isn't reduction-only; of two that don't
+/// reduce it, what mends them.
+fn write_end(
+    out: &mut String,
+    alloc: Global,
+    listing: &Listing<'_>,
+    cause: &Cause,
+    writer: Deed,
+    reader: Deed,
+) -> Result<(), AllocError> {
+    let is_writer_first = cause.witness.writer.index < cause.witness.reader.index;
+    let (first, second) = if is_writer_first {
+        (writer, reader)
+    } else {
+        (reader, writer)
+    };
+    let Some((width, op)) = reduce_among(first, second) else {
+        return write_pair_mend(out, writer, reader);
+    };
+    let Some(place) = cause.end else {
+        return Ok(());
+    };
+    let Some(deed) = deed_at(listing.insns, place.slot) else {
+        return Ok(());
+    };
+    write_end_words(out, width, op)?;
+    write_access(out, alloc, listing, place, deed)?;
+    write_mend(out, deed)
 }
 
 /// Writes why an element conflicts.
@@ -37,11 +81,17 @@ fn write_cause(
     cause: &Cause,
 ) -> Result<(), AllocError> {
     out.push_str("  ")?;
-    write_element(out, listing.sizes, cause.element)?;
-    out.push_str("\n    ")?;
-    write_place(out, alloc, listing, cause.witness.writer, "writes it")?;
-    out.push_str("    ")?;
-    write_place(out, alloc, listing, cause.witness.reader, "reads it")
+    write_element(out, listing, cause.element)?;
+    out.push_str("\n")?;
+    let Some(writer) = deed_at(listing.insns, cause.witness.writer.slot) else {
+        return Ok(());
+    };
+    let Some(reader) = deed_at(listing.insns, cause.witness.reader.slot) else {
+        return Ok(());
+    };
+    write_access(out, alloc, listing, cause.witness.writer, writer)?;
+    write_access(out, alloc, listing, cause.witness.reader, reader)?;
+    write_end(out, alloc, listing, cause, writer, reader)
 }
 
 /// Writes how many elements more conflict than were told.

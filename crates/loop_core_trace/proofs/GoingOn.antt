@@ -161,7 +161,7 @@ module _ (steps_law : ProgressAndPreservation) (ops_law : EachOpSimulates) {prog
             (subst (λ (o : Option ℕ). EndsByExit (after_access (run program less.0) e request m maps.words o)) there
             less.2));
         slots_are = slots_next program call index first.words element under.accesses access touch slots p.slot made
-            agrees.element_is (agrees.looks word) (agrees.writes word) under.slots_are;
+            agrees.element_is (agrees.looks word) (agrees.writes word) (agrees.reduces word) under.slots_are;
         undoes = undoes_next journal maps first after (record {
           element = touch.element;
           word = slice_index maps.words touch.element;

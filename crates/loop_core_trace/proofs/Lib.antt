@@ -1,4 +1,5 @@
 pub mod TouchLaws
+pub mod OperatorLaws
 pub mod SlotLaws
 pub mod JournalLaws
 pub mod Underway

@@ -11,8 +11,10 @@ use Rattle.loop_core_model.proofs.Turns.{actions_at-append}
 use Rattle.loop_core_trace.specs.declared.touch.Touch.{Touch}
 use Rattle.loop_core_trace.specs.declared.slots.Slots.{Slots}
 use Rattle.loop_core_trace.specs.Touches.{no_slots, first_write_after, exposed_read_after, slots_after, slots_here}
+use Rattle.loop_core_trace.specs.Operators.{operator_of}
 use Rattle.loop_core_trace.specs.Places.{AccessesAt}
 use Rattle.loop_core_trace.specs.Traced.{WriteIs, ReadIs, AreSlots}
+use Rattle.loop_core_trace.proofs.OperatorLaws.{reduce_next, other_next, other_same}
 
 -- an action more
 or_false : (b : Bool) → (b || false) ≡ b
@@ -64,7 +66,7 @@ at_last e xs access here is =
 
 module _ (program : Program) (call : LoopCall) (index : ℕ) (words : List ℕ) (element : ℕ) where
   pub no_slots_yet : AreSlots program call index words element [] no_slots
-  no_slots_yet = record { write = refl; read = refl }
+  no_slots_yet = record { write = refl; read = refl; reduce = tt; other = refl }
 
   module _ (before : List Access) (access : Access) (slot : ℕ) (made : AccessesAt program call index words slot before
       access) (here : access.element ≡ element)
@@ -119,8 +121,12 @@ module _ (program : Program) (call : LoopCall) (index : ℕ) (words : List ℕ) 
   same_actions : (before after : List Access) (slots : Slots) → actions_at element after ≡ actions_at element before
       → AreSlots program call index words element before slots →
       AreSlots program call index words element after slots
-  same_actions before after slots same are =
-      record { write = write_same slots.write are.write; read = read_same slots.read are.read }
+  same_actions before after slots same are = record {
+    write = write_same slots.write are.write;
+    read = read_same slots.read are.read;
+    reduce = are.reduce;
+    other = other_same program call index words element before after same slots.reduce slots.other are.other;
+  }
     where
       write_same : (old : Option ℕ) → WriteIs program call index words element before old
           → WriteIs program call index words element after old
@@ -135,10 +141,10 @@ module _ (program : Program) (call : LoopCall) (index : ℕ) (words : List ℕ) 
   pub slots_next : (before : List Access) (access : Access) (touch : Touch) (slots : Slots) (slot : ℕ)
       → AccessesAt program call index words slot before access →
       touch.element ≡ access.element → is_plain_write access.action ≡ not touch.looks → is_write access.action
-      ≡ touch.writes →
+      ≡ touch.writes → operator_of access.action ≡ touch.reduces →
       AreSlots program call index words element before slots → AreSlots program call index words element (before
       ++ access ∷ []) (slots_here (Some touch) element slot slots)
-  slots_next before access touch slots slot made same looks writing are = go (touch.element == element) refl
+  slots_next before access touch slots slot made same looks writing reducing are = go (touch.element == element) refl
     where
       go : (here : Bool) → (touch.element == element) ≡ here → AreSlots program call index words element (before
           ++ access ∷ []) (if here then slots_after slots touch slot else slots)
@@ -148,6 +154,10 @@ module _ (program : Program) (call : LoopCall) (index : ℕ) (words : List ℕ) 
           record {
             write = write_next before access slot made at now slots.write touch writing are.write;
             read = read_next before access slot made at now slots.write slots.read touch looks are.write are.read;
+            reduce = reduce_next program call index words element before access slot made at now slots.reduce
+                slots.other touch.reduces reducing are.reduce are.other;
+            other = other_next program call index words element before access slot made at now slots.reduce
+                slots.other touch.reduces reducing are.other;
           }
       go false is =
           same_actions before (before ++ access ∷ []) slots

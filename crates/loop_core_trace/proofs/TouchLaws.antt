@@ -4,6 +4,7 @@ use Rattle.std.specs.Prelude.{◌==◌, not, if◌then◌else◌}
 use Rattle.bpf_insn_types.specs.Sizes.{bytes_of, atomic_bytes}
 use Rattle.bpf_insn_types.specs.declared.insn.Width.{Width}
 use Rattle.bpf_insn_types.specs.declared.insn.Width.TheVariants.{W32, W64}
+use Rattle.bpf_insn_types.specs.declared.insn.SimpleOp.{SimpleOp}
 use Rattle.bpf_insn_types.specs.declared.insn.AtomicOp.{AtomicOp}
 use Rattle.bpf_insn_types.specs.declared.insn.AtomicOp.TheVariants.{Simple, Fetch as FetchOp, Xchg as XchgOp, Cmpxchg}
 use Rattle.bpf_insn_types.specs.Words.{holds}
@@ -11,7 +12,7 @@ use Rattle.array_maps.specs.declared.access.Half.TheVariants.{Low, High}
 use Rattle.array_maps.specs.declared.access.Part.{Part}
 use Rattle.array_maps.specs.declared.access.Part.TheVariants.{Whole, Half as Of}
 use Rattle.bpf_step_model.specs.LoopCalls.{Validity, RefusedBy, Valid, call_validity}
-use Rattle.bpf_step_model.specs.Step.{Request, extended, store_of, request_of}
+use Rattle.bpf_step_model.specs.Step.{Request, extended, store_of, half_operator, update_of, request_of}
 use Rattle.bpf_step_model.specs.Run.{action_of}
 use Rattle.bpf_step_ir.specs.declared.plain_op.PlainOp.{PlainOp}
 use Rattle.bpf_step_ir.specs.declared.plain_op.PlainOp.TheVariants.{Stop, Alu, Neg, Movsx, Endian, SetWide, Jump}
@@ -23,13 +24,15 @@ use Rattle.bpf_step_ir.specs.Plain.{Goes, Wants, writes_word, bytes_in, plain_nu
 use Rattle.bpf_step_ir.specs.Plain.{changes_number, byte_named, part_named, plain_loop_call_step, plain_step}
 use Rattle.loop_core_model.specs.Actions.{is_write, is_plain_write}
 use Rattle.loop_core_trace.specs.declared.touch.Touch.{Touch}
-use Rattle.loop_core_trace.specs.Touches.{is_half, touched_by}
+use Rattle.loop_core_trace.specs.Operators.{operator_of}
+use Rattle.loop_core_trace.specs.Touches.{is_half, operator_of_change, touched_by}
 
 -- a request of an element is what was seen
 pub record TouchIs (element : ℕ) (request : Request) (touch : Touch) : Type 0 where
   pub element_is : touch.element ≡ element
   pub looks : (n : ℕ) → is_plain_write (action_of request n) ≡ not touch.looks
   pub writes : (n : ℕ) → is_write (action_of request n) ≡ touch.writes
+  pub reduces : (n : ℕ) → operator_of (action_of request n) ≡ touch.reduces
 
 abbrev pub AsTouched : PlainStepOutcome → Option Touch → Type 0
 AsTouched (Wants element request next) (Some touch) = TouchIs element request touch
@@ -67,6 +70,16 @@ stored_writes : (width : Width) (byte n word : ℕ) → is_write (action_of (sto
 stored_writes W64 byte n word = refl
 stored_writes W32 byte n word = half_writes (byte % 8 == 0) n word
 
+half_reduces_not : (b : Bool) (n word : ℕ) → operator_of (action_of (store_of (if b then Of Low else Of High) n) word)
+    ≡ None
+half_reduces_not true n word = refl
+half_reduces_not false n word = refl
+
+stored_reduces : (width : Width) (byte n word : ℕ) → operator_of (action_of (store_of (part_named width byte) n) word)
+    ≡ None
+stored_reduces W64 byte n word = refl
+stored_reduces W32 byte n word = half_reduces_not (byte % 8 == 0) n word
+
 -- a change looks and writes
 changed_looks : (part : Part) (op : AtomicOp) (src operand compare word : ℕ)
     → is_plain_write (action_of (request_of part op src operand compare) word) ≡ false
@@ -83,6 +96,21 @@ changed_writes (Of half) (Simple op) src operand compare word = refl
 changed_writes part (FetchOp op) src operand compare word = refl
 changed_writes part XchgOp src operand compare word = refl
 changed_writes part Cmpxchg src operand compare word = refl
+
+-- and where it tells nothing, it is a reduce
+half_reduces : (b : Bool) (op : SimpleOp) (operand word : ℕ) →
+    operator_of (action_of (update_of (if b then Of Low else Of High) op operand) word) ≡ Some (half_operator op)
+half_reduces true op operand word = refl
+half_reduces false op operand word = refl
+
+changed_reduces : (width : Width) (byte : ℕ) (op : AtomicOp) (src operand compare word : ℕ)
+    → operator_of (action_of (request_of (part_named width byte) op src operand compare) word)
+    ≡ operator_of_change width op
+changed_reduces W64 byte (Simple op) src operand compare word = refl
+changed_reduces W32 byte (Simple op) src operand compare word = half_reduces (byte % 8 == 0) op operand word
+changed_reduces width byte (FetchOp op) src operand compare word = refl
+changed_reduces width byte XchgOp src operand compare word = refl
+changed_reduces width byte Cmpxchg src operand compare word = refl
 
 pub as_touched : (op : PlainOp) (p : Plain) → AsTouched (plain_step op p) (touched_by op p.registers)
 unfolding plain_step
@@ -112,16 +140,19 @@ as_touched (LoadElement width extension dst base offset) p = record {
   element_is = refl;
   looks = λ n. refl;
   writes = λ n. refl;
+  reduces = λ n. refl;
 }
 as_touched (StoreElement width base offset value) p = record {
   element_is = refl;
   looks = stored_looks width (byte_named (word p base) offset) (plain_operand p value);
   writes = stored_writes width (byte_named (word p base) offset) (plain_operand p value);
+  reduces = stored_reduces width (byte_named (word p base) offset) (plain_operand p value);
 }
 as_touched (ChangeElement width op base offset src) p = record {
   element_is = refl;
   looks = changed_looks (part_named width (byte_named (word p base) offset)) op src _ _;
   writes = changed_writes (part_named width (byte_named (word p base) offset)) op src _ _;
+  reduces = changed_reduces width (byte_named (word p base) offset) op src _ _;
 }
 as_touched (Lookup first count frame position) p =
     either_way (nat_le (position + 4) 512)

@@ -1,3 +1,4 @@
+pub mod Operators
 pub mod Touches
 pub mod Journals
 pub mod Places

@@ -1,11 +1,13 @@
 -- The slots at which an iteration does what it does.
-use Rattle.std.specs.Prelude.{◌≡◌, ℕ, true, false, List, [], ◌∷◌}
+use Rattle.std.specs.Prelude.{◌≡◌, ℕ, true, false, List, [], ◌∷◌, Option, Some}
 use Rattle.array_maps.specs.Accesses.{Access, actions_at}
 use Rattle.bpf_insn_types.specs.Program.{Program}
 use Rattle.bpf_step_model.specs.State.{Machine, LoopCall, callback_entry}
 use Rattle.bpf_step_model.specs.Step.{Exits, step}
 use Rattle.bpf_step_model.specs.Steps.{GoesOn, Steps}
 use Rattle.loop_core_model.specs.Actions.{is_write, writes, is_plain_write}
+use Rattle.loop_core_trace.specs.declared.slots.FirstReduce.{FirstReduce}
+use Rattle.loop_core_trace.specs.Operators.{operator_of, reduces_alike, AreAlike}
 
 -- on these words an iteration comes to the instruction at a slot, after these accesses
 pub record ComesTo (program : Program) (call : LoopCall) (index : ℕ) (words : List ℕ) (slot : ℕ)
@@ -43,6 +45,26 @@ pub record ExposedReadAt (program : Program) (call : LoopCall) (index : ℕ) (wo
     pub here : access.element ≡ element
     pub looking : is_plain_write access.action ≡ false
     pub first : actions_at element before ≡ []
+
+-- it is the iteration's first access of an element, and a reduce by this operator
+pub record FirstReduceAt (program : Program) (call : LoopCall) (index : ℕ) (words : List ℕ) (element : ℕ)
+    (first : FirstReduce) : Type 0 where
+  pub before : List Access
+  pub access : Access
+  pub made : AccessesAt program call index words first.slot before access
+  pub here : access.element ≡ element
+  pub reducing : operator_of access.action ≡ Some first.op
+  pub alone : actions_at element before ≡ []
+
+-- it is the iteration's first access of an element that isn't a reduce by the operator of the first one
+pub record OtherAccessAt (program : Program) (call : LoopCall) (index : ℕ) (words : List ℕ) (element : ℕ)
+    (first : Option FirstReduce) (slot : ℕ) : Type 0 where
+  pub before : List Access
+  pub access : Access
+  pub made : AccessesAt program call index words slot before access
+  pub here : access.element ≡ element
+  pub alike : AreAlike first (actions_at element before)
+  pub other : reduces_alike first (operator_of access.action) ≡ false
 
 -- there the iteration returns
 pub record ReturnsAt (program : Program) (call : LoopCall) (index : ℕ) (words : List ℕ) (slot ret : ℕ) : Type 0 where

@@ -3,33 +3,60 @@ use Rattle.std.specs.Prelude.{ℕ, ℤ, ◌/◌, Bool, true, false, ◌==◌, if
 use Rattle.std.specs.Prelude.{[], ◌∷◌, ◌++◌, slice_index, Option, Some, None}
 use Rattle.bpf_insn_types.specs.declared.insn.Width.{Width}
 use Rattle.bpf_insn_types.specs.declared.insn.Width.TheVariants.{W32, W64}
+use Rattle.bpf_insn_types.specs.declared.insn.SimpleOp.{SimpleOp}
+use Rattle.bpf_insn_types.specs.declared.insn.AtomicOp.{AtomicOp}
+use Rattle.bpf_insn_types.specs.declared.insn.AtomicOp.TheVariants.{Simple, Fetch, Xchg, Cmpxchg}
+use Rattle.array_maps.specs.declared.access.Op.{Op}
+use Rattle.bpf_step_model.specs.Step.{map_operator, half_operator}
 use Rattle.bpf_step_ir.specs.declared.plain_op.PlainOp.{PlainOp}
 use Rattle.bpf_step_ir.specs.declared.plain_op.PlainOp.TheVariants.{LoadElement, StoreElement, ChangeElement}
 use Rattle.bpf_step_ir.specs.Plain.{byte_named}
 use Rattle.loop_core_trace.specs.declared.touch.Touch.{Touch}
+use Rattle.loop_core_trace.specs.declared.slots.FirstReduce.{FirstReduce}
 use Rattle.loop_core_trace.specs.declared.slots.Slots.{Slots}
 use Rattle.loop_core_trace.specs.declared.journal.Note.{Note}
+use Rattle.loop_core_trace.specs.Operators.{reduces_alike}
 
 -- an access of this width is of a half
 abbrev pub is_half : Width → Bool
 is_half W32 = true
 is_half W64 = false
 
+-- the operator of a simple atomic operation of this width
+abbrev pub operator_at : Width → SimpleOp → Op
+operator_at W32 op = half_operator op
+operator_at W64 op = map_operator op
+
+-- the operator of a change, where it tells nothing of what was there
+abbrev pub operator_of_change : Width → AtomicOp → Option Op
+operator_of_change width (Simple op) = Some (operator_at width op)
+operator_of_change width (Fetch op) = None
+operator_of_change width Xchg = None
+operator_of_change width Cmpxchg = None
+
 -- an access at the element that a register and an offset name
-abbrev pub touch_at : List ℕ → ℕ → ℤ → (looks writes : Bool) → Touch
-touch_at registers base offset looks writes =
-    record { element = byte_named (slice_index registers base) offset / 8; looks = looks; writes = writes }
+abbrev pub touch_at : List ℕ → ℕ → ℤ → (looks writes : Bool) → (reduces : Option Op) → Touch
+touch_at registers base offset looks writes reduces =
+    record {
+      element = byte_named (slice_index registers base) offset / 8;
+      looks = looks;
+      writes = writes;
+      reduces = reduces;
+    }
 
 -- the access that an operation makes; a half is stored by a read and a write of its word
 abbrev pub touched_by : PlainOp → List ℕ → Option Touch
-touched_by (LoadElement width extension dst base offset) registers = Some (touch_at registers base offset true false)
-touched_by (StoreElement width base offset value) registers = Some (touch_at registers base offset (is_half width) true)
-touched_by (ChangeElement width op base offset src) registers = Some (touch_at registers base offset true true)
+touched_by (LoadElement width extension dst base offset) registers =
+    Some (touch_at registers base offset true false None)
+touched_by (StoreElement width base offset value) registers =
+    Some (touch_at registers base offset (is_half width) true None)
+touched_by (ChangeElement width op base offset src) registers =
+    Some (touch_at registers base offset true true (operator_of_change width op))
 touched_by _ registers = None
 
 -- no access yet
 abbrev pub no_slots : Slots
-no_slots = record { write = None; read = None }
+no_slots = record { write = None; read = None; reduce = None; other = None }
 
 -- the first write stays; else this may be it
 abbrev pub first_write_after : Option ℕ → Touch → ℕ → Option ℕ
@@ -42,12 +69,29 @@ exposed_read_after None None touch slot = if touch.looks then Some slot else Non
 exposed_read_after (Some first) read touch slot = read
 exposed_read_after None (Some first) touch slot = Some first
 
+-- a reduce at a slot, if there is one
+abbrev pub reduce_at : Option Op → ℕ → Option FirstReduce
+reduce_at None slot = None
+reduce_at (Some op) slot = Some (record { op = op; slot = slot })
+
+-- the first access of all, if it is a reduce
+abbrev pub first_reduce_after : Option FirstReduce → (other : Option ℕ) → Option Op → ℕ → Option FirstReduce
+first_reduce_after (Some first) other reduces slot = Some first
+first_reduce_after None (Some first) reduces slot = None
+first_reduce_after None None reduces slot = reduce_at reduces slot
+
+-- the first access that is no reduce by the operator of the first one stays; else this may be it
+abbrev pub other_after : Option FirstReduce → (other : Option ℕ) → Option Op → ℕ → Option ℕ
+other_after first (Some slot) reduces at = Some slot
+other_after first None reduces at = if reduces_alike first reduces then None else Some at
+
 abbrev pub slots_after : Slots → Touch → ℕ → Slots
 slots_after slots touch slot =
     record {
       write = first_write_after slots.write touch slot;
-      read = exposed_read_after slots.write slots.read touch
-          slot;
+      read = exposed_read_after slots.write slots.read touch slot;
+      reduce = first_reduce_after slots.reduce slots.other touch.reduces slot;
+      other = other_after slots.reduce slots.other touch.reduces slot;
     }
 
 -- the slots at one element after an operation at a slot

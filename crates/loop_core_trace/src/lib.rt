@@ -14,4 +14,4 @@ mod slots;
 mod touch;
 
 pub use following::{Trace, trace_iteration};
-pub use slots::Slots;
+pub use slots::{FirstReduce, Slots};

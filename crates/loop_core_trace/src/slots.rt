@@ -1,9 +1,21 @@
 //! The slots at which an iteration accesses one element.
 
 ghost use Rattle.std.specs.Prelude.{◌≡◌, if◌then◌else◌, Some, None};
-ghost use Rattle.loop_core_trace.specs.Touches.{first_write_after, exposed_read_after};
+ghost use Rattle.loop_core_trace.specs.Operators.{reduces_alike};
+ghost use Rattle.loop_core_trace.specs.Touches.{first_write_after, exposed_read_after, reduce_at};
+ghost use Rattle.loop_core_trace.specs.Touches.{first_reduce_after, other_after};
 
 use crate::touch::Touch;
+use array_maps::Op;
+
+/// A reduce that is an iteration's first access of an element.
+#[derive(Clone, Copy, Debug, PartialEq)]
+pub struct FirstReduce {
+    /// Its operator.
+    pub op: Op,
+    /// Its slot.
+    pub slot: u32,
+}
 
 /// At which slots an iteration accesses one element.
 #[derive(Clone, Copy, Debug, PartialEq)]
@@ -12,6 +24,10 @@ pub struct Slots {
     pub write: Option<u32>,
     /// The slot of its exposed read of the element: it reads or reduces it before it wrote or reduced it itself.
     pub read: Option<u32>,
+    /// Its first access of the element, where that is a reduce.
+    pub reduce: Option<FirstReduce>,
+    /// The slot of its first access of the element that isn't a reduce by the operator of the first one.
+    pub other: Option<u32>,
 }
 
 impl Slots {
@@ -25,6 +41,8 @@ impl Slots {
         Slots {
             write: None,
             read: None,
+            reduce: None,
+            other: None,
         }
     }
 
@@ -35,6 +53,8 @@ impl Slots {
         Slots {
             write: write_after(self.write, touch, slot),
             read: read_after(self, touch, slot),
+            reduce: first_reduce_after(self, touch.reduces, slot),
+            other: other_after(self, touch.reduces, slot),
         }
     }
 }
@@ -65,6 +85,56 @@ fn read_after(slots: Slots, touch: Touch, slot: u32) -> Option<u32>
         None => match slots.read {
             Some(first) => Some(first),
             None => slot_if(touch.looks, slot),
+        },
+    }
+}
+
+/// A reduce at a slot, if there is one.
+fn reduce_at(reduces: Option<Op>, slot: u32) -> Option<FirstReduce>
+    ensures { result ≡ reduce_at reduces slot }
+{
+    match reduces {
+        Some(op) => Some(FirstReduce { op, slot }),
+        None => None,
+    }
+}
+
+/// The first access, where it is a reduce, after one access more.
+fn first_reduce_after(slots: Slots, reduces: Option<Op>, slot: u32) -> Option<FirstReduce>
+    ensures { result ≡ first_reduce_after slots.reduce slots.other reduces slot }
+{
+    match slots.reduce {
+        Some(first) => Some(first),
+        None => match slots.other {
+            Some(_) => None,
+            None => reduce_at(reduces, slot),
+        },
+    }
+}
+
+/// Whether an access is a reduce, and by the operator of the first one, if there was one.
+fn reduces_alike(first: Option<FirstReduce>, reduces: Option<Op>) -> bool
+    ensures { result ≡ reduces_alike first reduces }
+{
+    match reduces {
+        None => false,
+        Some(op) => match first {
+            None => true,
+            Some(reduce) => reduce.op == op,
+        },
+    }
+}
+
+/// The slot of the first access that isn't so, after one access more.
+fn other_after(slots: Slots, reduces: Option<Op>, slot: u32) -> Option<u32>
+    ensures { result ≡ other_after slots.reduce slots.other reduces slot }
+{
+    match slots.other {
+        Some(first) => Some(first),
+        None => if reduces_alike(slots.reduce, reduces) {
+            None
+        } else {
+            Some(slot)
         },
     }
 }

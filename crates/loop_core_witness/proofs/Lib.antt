@@ -3,3 +3,5 @@ pub mod Searches
 pub mod BreakLaws
 pub mod PairLaws
 pub mod Explaining
+pub mod ReductionLaws
+pub mod EndLaws

@@ -1,4 +1,5 @@
 pub mod Firsts
 pub mod Breaks
 pub mod Witnesses
+pub mod Reductions
 pub mod Searches

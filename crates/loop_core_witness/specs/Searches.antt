@@ -8,6 +8,7 @@ use Rattle.loop_core_witness.specs.declared.place.Place.{Place}
 use Rattle.loop_core_witness.specs.declared.witness.Witness.{Witness}
 use Rattle.loop_core_witness.specs.Breaks.{AreCounted}
 use Rattle.loop_core_witness.specs.Firsts.{FirstIs}
+use Rattle.loop_core_witness.specs.Reductions.{TellsEnd}
 use Rattle.loop_core_witness.specs.Witnesses.{Explains}
 
 -- main of the program made the call, the start maps are of its sizes, and it is the call's count of iterations
@@ -25,3 +26,7 @@ FindsFirst search kind from found = FirstIs kind search.program.now search.call.
 abbrev pub FindsPair : Search → Test → Option Witness → Type 0
 FindsPair search test found = Explains test search.program.now search.call.now search.start.now.words search.element
     found
+
+-- the access by which the element isn't reduction-only, where there is one
+abbrev pub FindsEnd : Search → Option Place → Type 0
+FindsEnd search found = TellsEnd search.program.now search.call.now search.start.now.words search.element found

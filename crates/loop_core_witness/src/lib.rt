@@ -1,6 +1,7 @@
 //! Why a loop conflicts: of an element the two iterations that fail a test there, with the slots at which the one first
-//! writes it and the other has its exposed read; and the iteration that breaks the loop. Of the pairs that fail it is
-//! the one with the least reader, and of these the one with the least writer.
+//! writes it and the other has its exposed read; the access by which it isn't reduction-only; and the iteration that
+//! breaks the loop. Of the pairs that fail it is the one with the least reader, and of these the one with the least
+//! writer.
 //!
 //! ```text
 //! let broke = find_break(alloc, &program, &call, &start)?;
@@ -10,6 +11,7 @@
 #![tactic(auto)]
 
 mod breaking;
+mod ending;
 mod finding;
 mod kind;
 mod pairing;
@@ -17,6 +19,7 @@ mod place;
 mod witness;
 
 pub use breaking::find_break;
+pub use ending::find_end_of_reduction;
 pub use pairing::find_pair;
 pub use place::Place;
 pub use witness::Witness;

@@ -21,7 +21,7 @@ use loop_core_model::Test;
 use std::alloc::{AllocError, Global};
 
 /// How many iterations count: up to the break, or all.
-fn counted_by(call: &LoopCall, broke: Option<Place>) -> u32
+pub(crate) fn counted_by(call: &LoopCall, broke: Option<Place>) -> u32
     requires within { (place : At) → broke ≡ Some place → place.index < call.now.n }
     ensures { result ≡ count_to call.now.n (index_of broke) }
 {

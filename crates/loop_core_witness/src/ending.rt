@@ -1,0 +1,105 @@
+//! Finding the access by which an element isn't reduction-only.
+
+ghost use Rattle.std.specs.Prelude.{◌≡◌, IfOk};
+ghost use Rattle.bpf_verify_sound.specs.Soundness.{OverApproximatesCall};
+ghost use Rattle.loop_core_witness.specs.Breaks.{IsBreak};
+ghost use Rattle.loop_core_witness.specs.Reductions.{operator_after, end_slot, TellsEnd};
+ghost use Rattle.loop_core_witness.specs.Searches.{IsSearch, FindsEnd};
+
+use crate::finding::Search;
+use crate::pairing::counted_by;
+use crate::place::Place;
+use array_maps::{Maps, Op, Store};
+use bpf_step::LoopCall;
+use bpf_verify::Verified;
+use bpf_verify_sound::{law_of_accepted_programs, law_of_accepted_runs};
+use loop_core_trace::{FirstReduce, Slots, trace_iteration};
+use std::alloc::{AllocError, Global};
+
+/// The operator of the reduces so far, after an iteration that begins with this one.
+fn operator_after(op: Option<Op>, first: Option<FirstReduce>) -> Option<Op>
+    ensures { result ≡ operator_after op first }
+{
+    match op {
+        Some(kept) => Some(kept),
+        None => match first {
+            Some(reduce) => Some(reduce.op),
+            None => None,
+        },
+    }
+}
+
+/// The slot at which an iteration ends a reduction by an operator.
+fn end_slot(op: Option<Op>, slots: Slots) -> Option<u32>
+    ensures { result ≡ end_slot op slots.reduce slots.other }
+{
+    match op {
+        None => slots.other,
+        Some(kept) => match slots.reduce {
+            None => slots.other,
+            Some(first) => if kept == first.op {
+                slots.other
+            } else {
+                Some(first.slot)
+            },
+        },
+    }
+}
+
+/// The first counted access of the element that isn't a reduce by the operator of the first one.
+fn end_of_reduction(search: &Search<'_>) -> Result<Option<Place>, AllocError>
+    requires { IsSearch search.now }
+    ensures { IfOk result (FindsEnd search.now) }
+{
+    let mut maps = search.start.try_copy(search.alloc)?;
+    let mut op = None;
+    for index in 0..search.count {
+        let trace = trace_iteration(
+            search.alloc,
+            search.program,
+            search.call,
+            &mut maps,
+            index,
+            search.element,
+        )?;
+        if let Some(slot) = end_slot(op, trace.slots) {
+            return Ok(Some(Place { index, slot }));
+        }
+        op = operator_after(op, trace.slots.reduce);
+    }
+    Ok(None)
+}
+
+/// The access by which an element isn't reduction-only: of the counted iterations of a loop call that main of this
+/// program made, each run on the start maps, the first access of the element that isn't a reduce by the operator of the
+/// first one. `None` where the element is reduction-only, or isn't accessed. The start maps are of the program's sizes,
+/// and `broke` is what `find_break` told of them.
+pub fn find_end_of_reduction(
+    alloc: Global,
+    program: &Verified,
+    call: &LoopCall,
+    start: &Maps,
+    element: u32,
+    broke: Option<Place>,
+) -> Result<Option<Place>, AllocError>
+    requires known { OverApproximatesCall program.now call.now }
+    requires sizes { start.now.sizes ≡ program.now.sizes }
+    requires broke { IsBreak program.now call.now start.now.words broke }
+    ensures end { IfOk result (TellsEnd program.now call.now start.now.words element) }
+{
+    law_of_accepted_programs();
+    law_of_accepted_runs();
+    // These tell the proof that the program is accepted, and what words the maps have.
+    let _unit = program.unit();
+    let _sizes = start.sizes();
+    Store::words_fit(start);
+    let search = Search {
+        alloc,
+        program,
+        call,
+        start,
+        element,
+        count: counted_by(call, broke),
+    };
+    end_of_reduction(&search)
+}
