@@ -5,6 +5,8 @@
     with Machine("maps 1\\nmov64 r0, r1\\nadd64 r0, 1\\nexit\\n") as machine:
         print(machine.run(41))          # 42
 
+`verify` and `explain` give what the programs print of an input.
+
 The library is searched beside this file, in the folder that BPFSPEC_LIBRARY names, and where the system has its
 libraries. As in C a machine is used by one thread at a time; ctypes lets other threads run during a call.
 """
@@ -15,11 +17,12 @@ import ctypes
 import os
 from pathlib import Path
 from types import TracebackType
-from typing import Iterable, Optional, Sequence, Type, Union
+from typing import Callable, Iterable, NamedTuple, Optional, Sequence, Type, Union
 
 VERSION = 1
 DONE, EMPTY, MEMORY, REFUSED, HELD, MALFORMED, RANGE = 0, -9, -12, -13, -16, -22, -34
 WORD = 2**64
+FIRST_ROOM = 4096  # bytes of a text; it is asked for again where it is longer
 
 
 class Refused(ValueError):
@@ -33,6 +36,13 @@ class Refused(ValueError):
         self.place = place
 
 
+class Printed(NamedTuple):
+    """What is printed of an input, and whether its program is accepted."""
+
+    accepted: bool
+    text: str
+
+
 class _Handle(ctypes.Structure):
     _fields_ = [("loaded", ctypes.c_bool), ("at", ctypes.c_void_p)]
 
@@ -43,6 +53,11 @@ class _Refusal(ctypes.Structure):
 
 class _Loop(ctypes.Structure):
     _fields_ = [("slot", ctypes.c_uint64), ("answer", ctypes.c_int64)]
+
+
+class _Options(ctypes.Structure):
+    _fields_ = [("argument", ctypes.c_uint64),
+                *((name, ctypes.c_bool) for name in ("hex", "lrpd", "states", "all", "picture"))]
 
 
 def _folders() -> list[str]:
@@ -78,6 +93,10 @@ def _declared(library: ctypes.CDLL) -> ctypes.CDLL:
     library.bpfspec_set_words.argtypes = [handle, number, *words]
     library.bpfspec_count.argtypes = [handle, number, ctypes.POINTER(number)]
     library.bpfspec_report.argtypes = [handle, count, ctypes.POINTER(_Loop)]
+    room = [ctypes.c_char_p, count, ctypes.POINTER(count)]
+    library.bpfspec_verify.argtypes = [*text, *room]
+    library.bpfspec_verify_hex.argtypes = [*text, *room]
+    library.bpfspec_explain.argtypes = [*text, ctypes.POINTER(_Options), *room]
     if library.bpfspec_version() != VERSION:
         raise ImportError(f"libbpfspec.so has interface {library.bpfspec_version()}, not {VERSION}")
     return library
@@ -211,3 +230,29 @@ def _place(number: int) -> int:
     if not 0 <= number < 2**32:
         raise IndexError("there is no such element")
     return number
+
+
+def verify(text: Union[str, bytes], hexadecimal: bool = False) -> Printed:
+    """What `bpfspec verify` prints of an input. Raises MemoryError."""
+    data = text.encode() if isinstance(text, str) else text
+    call = _library.bpfspec_verify_hex if hexadecimal else _library.bpfspec_verify
+    return _printed(lambda *room: call(data, len(data), *room))
+
+
+def explain(text: Union[str, bytes], hexadecimal: bool = False, argument: int = 0, lrpd: bool = False,
+            states: bool = False, every: bool = False, picture: bool = False) -> Printed:
+    """What `bpfspec explain` prints of an input, `every` being its option --all. Raises MemoryError."""
+    data = text.encode() if isinstance(text, str) else text
+    options = _Options(_fits(argument, WORD, "argument"), hexadecimal, lrpd, states, every, picture)
+    return _printed(lambda *room: _library.bpfspec_explain(data, len(data), options, *room))
+
+
+def _printed(call: Callable[..., int]) -> Printed:
+    room, size, status = FIRST_ROOM, ctypes.c_size_t(), RANGE
+    while status == RANGE:
+        answer = ctypes.create_string_buffer(room)
+        status = call(answer, room, size)
+        room = size.value
+    if status not in (REFUSED, MALFORMED):
+        _check(status)
+    return Printed(status == DONE, answer.raw[: size.value].decode())

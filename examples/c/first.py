@@ -1,6 +1,6 @@
-"""Loads a program, runs it a hundred times, and prints what it left in its map."""
+"""Loads a program, runs it a hundred times, and prints what it left in its map; then why another one is refused."""
 
-from bpfspec import Machine, Refused
+from bpfspec import Machine, Refused, explain
 
 PROGRAM = """
 maps 1
@@ -15,7 +15,9 @@ with Machine(PROGRAM) as machine:
     print(sum(answers), machine.get(0, 0))
     machine.set_words(0, [7])
     print(machine.run_each([1, 2, 3]), machine.words(0), machine.count(0), machine.loops())
+REFUSED = "maps 1\nexit\n"
 try:
-    Machine("maps 1\nexit\n")
+    Machine(REFUSED)
 except Refused as refused:
     print(refused)
+    print(explain(REFUSED).text.splitlines()[2])

@@ -9,7 +9,7 @@ from .lines import Writer
 from .live import writes_of
 from .plans import Touch, Where
 from .ranges import LOW, Range, signed
-from .refusal import Refused
+from .refusal import NoRoom, Refused
 from .uneven_lines import UnevenLines
 from .values import Value
 
@@ -36,7 +36,7 @@ class Scratch:
         """The place of the frame for a register that is put aside, counted from 0."""
         byte = self.lowest - 8 * (number + 1)
         if byte < 0:
-            raise Refused("a function's frame has no free bytes for the numbers that the loader needs")
+            raise NoRoom("a function's frame has no free bytes for the numbers that the loader needs")
         return byte - FRAME_BYTES
 
 

@@ -266,16 +266,18 @@ def order_of(function: Function) -> list[int]:
     """
     done: list[int] = []
     seen = {function.entry}
-    stack = [(function.entry, iter(successors(function.blocks[function.entry].end)))]
+    stack = [(function.entry, [*successors(function.blocks[function.entry].end)][::-1])]
     while stack:
-        label, rest = stack[-1]
-        following = next((n for n in rest if n not in seen), None)
-        if following is None:
+        label, waiting = stack[-1]
+        while waiting and waiting[-1] in seen:
+            waiting.pop()
+        if waiting:
+            following = waiting.pop()
+            seen.add(following)
+            stack.append((following, [*successors(function.blocks[following].end)][::-1]))
+        else:
             done.append(label)
             stack.pop()
-        else:
-            seen.add(following)
-            stack.append((following, iter(successors(function.blocks[following].end))))
     return done[::-1]
 
 

@@ -10,11 +10,12 @@ from .code import Function
 from .layout import Layout
 from .lines import Line
 from .loaded import Loaded
+from .least import least_slots
 from .lower import Lowering, callback_order
 from .memory import FLAG, Kind, Memory
 from .mend import Rewritten
 from .rewrites import rewrites_of
-from .sums import sum_up
+from .sums import sum_up, summed_bytes
 from .unit import printable
 from .webs import Webs
 
@@ -32,21 +33,53 @@ class Slots:
 
 
 class Emitted:
-    """A unit, and what it is made of."""
+    """A unit, and what it is made of. Its lines are written where they are asked for."""
 
-    def __init__(self, memory: Memory, rewritten: Rewritten, parts: Dict[int, List[Line]], has_traps: bool) -> None:
+    def __init__(self, memory: Memory, rewritten: Rewritten) -> None:
         self._memory = memory
         self._rewritten = rewritten
-        self._lines = [line for number in sorted(parts) for line in parts[number]]
-        self._has_traps = has_traps
-        self.slots = sum(line.slots for line in self._lines)  # which may be more than there are
-        self.callback_slots = self.slots - sum(line.slots for line in parts[0])
+        self._names = label_names(rewritten.functions)
+        self._parts: Dict[int, List[Line]] = {}
+        self._can_trap: Dict[int, bool] = {}
+        summed = summed_bytes(rewritten)
+        functions = rewritten.functions.items()
+        self._least = {n: least_slots(function, summed if n else range(0)) for n, function in functions}
+
+    @property
+    def slots(self) -> int:
+        """The slots that it takes, which may be more than there are."""
+        return sum(self._slots_of(number) for number in callback_order(self._rewritten))
+
+    def is_within(self, limit: int) -> bool:
+        """Whether it takes so many slots at most."""
+        return sum(self._least.values()) <= limit and self.slots <= limit
+
+    def callbacks_within(self, limit: float) -> bool:
+        """Whether its callbacks take fewer slots than that."""
+        callbacks = callback_order(self._rewritten)[:-1]
+        is_perhaps = sum(self._least[number] for number in callbacks) < limit
+        return is_perhaps and sum(self._slots_of(number) for number in callbacks) < limit
+
+    def _slots_of(self, number: int) -> int:
+        return sum(line.slots for line in self._lines_of(number))
+
+    def _lines_of(self, number: int) -> List[Line]:
+        """The lines of a function; main's are written behind those of all callbacks."""
+        if number not in self._parts:
+            Webs(self._rewritten.functions[number]).apply()
+            if number:
+                sum_up(self._rewritten, number)
+            lowering = Lowering(self._rewritten, number, self._names[number], self._names)
+            self._parts[number] = lowering.lines(self._can_trap)
+        return self._parts[number]
 
     def loaded(self, programs: List[str]) -> Loaded:
         """All that is known of it."""
         rewritten = self._rewritten
-        text, slots = text_of(self._lines)
-        header = _header(self._memory, rewritten.layout, rewritten, self._has_traps)
+        lines = {number: self._lines_of(number) for number in callback_order(rewritten)}
+        text, slots = text_of([line for number in sorted(lines) for line in lines[number]])
+        has_traps = any(self._can_trap.values())
+        header = _header(self._memory, rewritten.layout, rewritten, has_traps)
         return Loaded(
             unit="".join(f"{line}\n" for line in [*header, *text]),
             sizes=(rewritten.layout.elements,),
@@ -55,24 +88,11 @@ class Emitted:
             lines=slots.lines,
             loops=slots.loops,
             traps=rewritten.traps.all,
-            trap_element=FLAG_ELEMENT if self._has_traps else None,
+            trap_element=FLAG_ELEMENT if has_traps else None,
             rewrites=rewrites_of(self._memory, rewritten, rewritten.sources),
             programs=programs,
             btf=self._memory.btf,
         )
-
-
-def emit(memory: Memory, rewritten: Rewritten) -> Emitted:
-    """The unit of a rewritten program."""
-    names = label_names(rewritten.functions)
-    can_trap: Dict[int, bool] = {}
-    parts: Dict[int, List[Line]] = {}
-    for function in rewritten.functions.values():
-        Webs(function).apply()
-    sum_up(rewritten)
-    for number in callback_order(rewritten):
-        parts[number] = Lowering(rewritten, number, names[number], names).lines(can_trap)
-    return Emitted(memory, rewritten, parts, any(can_trap.values()))
 
 
 def label_names(functions: Dict[int, Function]) -> Dict[int, str]:

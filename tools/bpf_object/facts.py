@@ -30,6 +30,21 @@ class Facts:
     _groups: dict[int, int] = field(default_factory=dict)
     version: int = 0  # rises with each new fact
 
+    def copy(self) -> Facts:
+        """The facts as they are now, which don't grow with these."""
+        known = {name: value.copy() for name, value in vars(self).items() if isinstance(value, (set, dict))}
+        found = Facts(**{name: value for name, value in known.items() if not name.startswith("_")})
+        found._groups, found.version = known["_groups"], self.version
+        return found
+
+    def forget(self, functions: set[int], things: set[int]) -> None:
+        """Functions are other ones now, and things are gone."""
+        self.hidden -= functions
+        self.undefined = {fact for fact in self.undefined if fact[0] not in functions}
+        self.unwritten = {fact for fact in self.unwritten if fact[0] not in functions}
+        for known in (self.escaped, self.moved, self.used):
+            known -= things
+
     def followed(self) -> Followed:
         """The facts that change how a program is followed, where its layout is the same."""
         sets = (self.escaped, self.undefined, self.unwritten, self.hidden)

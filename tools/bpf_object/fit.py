@@ -6,13 +6,15 @@ from collections.abc import Iterable
 from typing import Callable, Dict, List, Optional, Set, Tuple
 
 from .bounds import Bounds
-from .code import Function
-from .emit import Emitted, emit
+from .btf import SourceLine
+from .code import Alu, Block, Branch, Function, order_of, successors, writes
+from .emit import Emitted
 from .inline import callbacks_in, inline_loop
 from .memory import Memory
 from .mend import Mender, Rewritten
-from .outline import loop_of, outline, part
-from .refusal import Refused
+from .outline import MOST_ROUNDS, loop_of, outline, part
+from .refusal import NoRoom, Refused
+from .trips import FALLING, RISING
 from .unit import SLOTS_LIMIT
 from .unroll import Loop, TooMany
 
@@ -25,19 +27,15 @@ TRIES = 8
 Try = Callable[[Dict[Loop, int]], Tuple[Rewritten, Emitted]]
 
 
-class TooLong(Refused):
-    """The code takes more slots than there are."""
-
-
 def fit(memory: Memory, functions: Dict[int, Function], choices: Iterable[Set[int]]) -> Emitted:
     """The unit by the first of some choices of what is spread that has room for its loops, or for the most of them."""
-    first: Optional[TooLong] = None
+    first: Optional[NoRoom] = None
     best: Optional[Tuple[int, Emitted]] = None
     for sizes in choices:
         fitting = _Fit(memory, functions, sizes)
         try:
             done, emitted = fitting.run()
-        except TooLong as reason:
+        except NoRoom as reason:
             first = first or reason
             continue
         if fitting.is_enough(done) or not fitting.is_spread:
@@ -46,7 +44,7 @@ def fit(memory: Memory, functions: Dict[int, Function], choices: Iterable[Set[in
         if best is None or rounds > best[0]:
             best = rounds, emitted
     if best is None:
-        raise first or TooLong("the code is too long")
+        raise first or NoRoom("the code is too long")
     return best[1]
 
 
@@ -62,6 +60,7 @@ class _Fit:
         self._given = functions  # before any loop of main is made a callback
         self._bounds = Bounds(functions[0])  # of the loops of main as it is given
         self._headers: List[int] = []  # of the loops that are made callbacks, of which none is in another
+        self._parted: Set[int] = set()  # the headers of loops in callbacks that were parted
         self._mender = Mender(memory, functions, sizes)
 
     @property
@@ -71,7 +70,7 @@ class _Fit:
 
     def _attempt(self, rounds: Dict[Loop, int]) -> Tuple[Rewritten, Emitted]:
         done = self._mender.run(BUDGET, rounds)
-        return done, emit(self._memory, done)
+        return done, Emitted(self._memory, done)
 
     def run(self) -> Tuple[Rewritten, Emitted]:
         """The unit with all rounds of all loops, or else with as many as there is room for of those that go on."""
@@ -83,7 +82,7 @@ class _Fit:
             return self._with_loops_of_main(best[0].cut)
         except Refused:
             if best[0].endless is not None:
-                raise TooLong(best[0].endless) from None
+                raise NoRoom(best[0].endless) from None
             return best
 
     def _fitting(self) -> Tuple[Rewritten, Emitted]:
@@ -92,48 +91,102 @@ class _Fit:
             try:
                 done, emitted = self._attempt(dict.fromkeys(self._limited, FIRST_ROUNDS))
             except TooMany as reason:
-                self._limit(reason.loop, f"the code takes more than {SLOTS_LIMIT} slots")
+                alike = self._alike(reason.loop)
+                if not alike:
+                    raise NoRoom(f"the code takes more than {SLOTS_LIMIT} slots") from None
+                self._limit(alike)
                 continue
-            if emitted.slots <= SLOTS_LIMIT:
+            if emitted.is_within(SLOTS_LIMIT):
                 return done, emitted
             self._rounds.update((loop, rounds) for loop, rounds in done.copied.items() if loop not in self._limited)
-            counts = [(n, loop) for loop, n in done.copied.items() if loop not in self._limited and n >= FIRST_ROUNDS]
-            of_main = [one for one in counts if not one[1][0] and emitted.callback_slots < ENOUGH * SLOTS_LIMIT]
-            longest = max(of_main or counts, default=(0, None))[1]
-            self._limit(longest, f"the code takes {emitted.slots} slots, of at most {SLOTS_LIMIT}")
+            longest = self._longest(done, emitted)
+            if not longest:
+                raise NoRoom(f"the code takes {emitted.slots} slots, of at most {SLOTS_LIMIT}")
+            self._limit(longest)
+
+    def _alike(self, loop: Optional[Loop]) -> List[Loop]:
+        """A loop of main that takes too many rounds, and the copies of it behind: they likely do so too."""
+        if loop is None or loop[0]:
+            return [loop] if loop else []
+        main = self._functions[0]
+        place = {label: at for at, label in enumerate(order_of(main))}
+        line = _line_of(main, loop[1])
+        inside = loop_of(main, loop[1])
+        headers = {
+            to
+            for label in place
+            for to in successors(main.blocks[label].end)
+            if place[loop[1]] < place[to] <= place[label]
+        }
+        others = [header for header in headers if header not in inside and line and _line_of(main, header) == line]
+        return [loop, *((0, header) for header in sorted(others) if not loop_of(main, header) & inside)]
+
+    def _longest(self, done: Rewritten, emitted: Emitted) -> List[Loop]:
+        """The loops with the most rounds, main's before all others, as many as have to be shorter."""
+        counts = [(n, loop) for loop, n in done.copied.items() if loop not in self._limited and n >= FIRST_ROUNDS]
+        of_main = [one for one in counts if not one[1][0]]
+        if len(of_main) not in (0, len(counts)) and not emitted.callbacks_within(ENOUGH * SLOTS_LIMIT):
+            of_main = []
+        if not of_main:
+            return [max(counts)[1]] if counts else []
+        insns = sum(len(block.insns) + 1 for function in done.functions.values() for block in function.blocks.values())
+        left: float = emitted.slots
+        chosen: List[Loop] = []
+        inside: Set[int] = set()
+        for rounds, loop in sorted(of_main, reverse=True):
+            labels = loop_of(self._functions[0], loop[1])
+            if labels & inside:
+                continue
+            chosen.append(loop)
+            inside |= labels
+            left -= emitted.slots / insns * done.spent.get(loop, 0) * (1 - 1 / rounds)
+            if left <= ENOUGH * SLOTS_LIMIT:
+                break
+        return chosen
 
     def is_enough(self, done: Rewritten) -> bool:
         """Whether each loop that is cut likely ends by itself before."""
-        most = {loop: self._rounds.get(loop, ENOUGH_ROUNDS) for loop in done.cut}
+        most = {loop: self._rounds.get(loop, self._enough(loop)) for loop in done.cut}
         is_long = all(done.copied[loop] >= rounds for loop, rounds in most.items())
         return done.endless is None and not done.counted and is_long
+
+    def _enough(self, loop: Loop) -> int:
+        """The rounds that are likely enough of a loop: those of one that counts to a number may be all of its."""
+        number, header = loop
+        return MOST_ROUNDS if number and _counts(self._functions[number], header) else ENOUGH_ROUNDS
 
     def _with_loops_of_main(self, cut: Set[Loop]) -> Tuple[Rewritten, Emitted]:
         """The unit in which the callbacks of some loops, or in them, are loops of main: these can be parted."""
         changed = self._given
         headers = sorted(header for number, header in cut if not number)
+        if any(header not in changed[0].blocks for header in headers):
+            raise NoRoom("a loop is too long")
         callbacks = {number for number, _ in cut if number}
         for header in headers:
             callbacks |= callbacks_in(changed[0], loop_of(changed[0], header))
         for number in sorted(callbacks & changed.keys()):
             found = inline_loop(changed, number)
             if found is None:
-                raise TooLong("a loop is too long")
+                raise NoRoom("a loop is too long")
             changed = found[0]
             headers += found[1]
         self._given, self._bounds, self._headers = changed, Bounds(changed[0]), []
         for header in headers:
             if not any(header in loop_of(changed[0], outer) for outer in self._headers):
-                outlined = self._outlined(header)
+                outlined = self._outlined([header])
                 if outlined is None:
-                    raise TooLong("a loop is too long")
+                    raise NoRoom("a loop is too long")
                 self._begin_with(outlined)
         return self.run()
 
-    def _outlined(self, header: int) -> Optional[Dict[int, Function]]:
-        """The functions with one more loop of main as a callback, instead of those in it."""
-        inside = loop_of(self._given[0], header)
-        headers = [*(other for other in self._headers if other not in inside), header]
+    def _outlined(self, more: List[int]) -> Optional[Dict[int, Function]]:
+        """The functions with more loops of main as callbacks, instead of those in them."""
+        headers = self._headers
+        if any(header not in self._given[0].blocks for header in more):
+            raise NoRoom("a loop around another one that begins where it does is too long")
+        for header in more:
+            inside = loop_of(self._given[0], header)
+            headers = [*(other for other in headers if other not in inside), header]
         functions: Optional[Dict[int, Function]] = self._given
         for one in headers:
             functions = outline(functions, one, self._bounds.visits(one)) if functions else None
@@ -141,27 +194,67 @@ class _Fit:
             self._headers = headers
         return functions
 
-    def _limit(self, loop: Optional[Loop], reason: str) -> None:
-        """A loop is made a callback, where it is main's, or parted; or else fewer rounds of it are copied."""
-        if loop is None:
-            raise TooLong(reason)
-        number, header = loop
+    def _limit(self, loops: List[Loop]) -> None:
+        """Loops are made callbacks, where they are main's, or parted; or else fewer rounds of one are copied."""
+        number, header = loop = loops[0]
+        changed = None
         if number == 0:
-            changed = self._outlined(header)
+            changed = (len(loops) > 1 and self._outlined([other for _, other in loops])) or self._outlined([header])
         elif self._functions[number].kept is not None:
             changed = part(self._functions, number, header)
-        else:
-            changed = None
+            self._parted.add(header)
         if changed is None:
             self._limited.add(loop)
         else:
-            self._begin_with(changed)
+            self._begin_with(changed if number else self._with_parts(changed))
+
+    def _with_parts(self, functions: Dict[int, Function]) -> Dict[int, Function]:
+        """The functions, where the loops of callbacks are parted that were so before."""
+        for header in sorted(self._parted):
+            for number, function in functions.items():
+                if number and function.kept is not None and _is_loop(function, header):
+                    functions = part(functions, number, header)
+                    break
+        return functions
 
     def _begin_with(self, functions: Dict[int, Function]) -> None:
         self._functions = functions
-        self._mender = Mender(self._memory, functions, self._sizes)
+        self._mender.begin_with(functions)
         self._rounds.clear()
         self._limited.clear()
+
+
+def _line_of(function: Function, header: int) -> Optional[SourceLine]:
+    block = function.blocks[header]
+    return block.insns[0].line if block.insns else block.end.line
+
+
+def _counts(function: Function, header: int) -> bool:
+    """Whether a loop goes on while what changes in it is below or above a register that doesn't."""
+    blocks = [function.blocks[label] for label in loop_of(function, header)]
+    changed = {register for block in blocks for insn in block.insns for register in writes(insn)}
+    for block in blocks:
+        test = block.end
+        if isinstance(test, Branch) and test.src is not None and test.op in RISING + FALLING:
+            if (_origin(block, test.dst) in changed) != (_origin(block, test.src) in changed):
+                return True
+    return False
+
+
+def _origin(block: Block, register: int) -> int:
+    """The register that what one holds at the end of a block was copied from."""
+    for insn in reversed(block.insns):
+        if register in writes(insn):
+            if not isinstance(insn, Alu) or insn.op != "mov" or insn.src is None:
+                break
+            register = insn.src
+    return register
+
+
+def _is_loop(function: Function, header: int) -> bool:
+    return header in function.blocks and any(
+        header in successors(function.blocks[label].end) for label in loop_of(function, header)
+    )
 
 
 def _most_rounds(attempt: Try, limited: Set[Loop], done: Rewritten, emitted: Emitted) -> Tuple[Rewritten, Emitted]:
@@ -178,7 +271,7 @@ def _most_rounds(attempt: Try, limited: Set[Loop], done: Rewritten, emitted: Emi
         except TooMany:
             over = rounds
             continue
-        if found.slots > SLOTS_LIMIT:
+        if not found.is_within(SLOTS_LIMIT):
             over = rounds
             continue
         known.append((rounds, found.slots))

@@ -36,10 +36,11 @@ from .code import (
     successors,
     writes,
 )
-from .refusal import Refused
+from .refusal import NoRoom, Refused
 
 SIZE_LIMIT = 20000  # instructions of a function, with all that is put in
 COUNT_LIMIT = 1 << 23  # iterations of a loop call
+ALL_REGISTERS = (1 << 11) - 1
 TOO_BIG, INVALID = -7, -22  # answers of a loop call that isn't done
 
 
@@ -187,7 +188,7 @@ class _Site:
         under = FRAME_BYTES if shares else bottom  # where the body's frame ends
         if min(bottom, under - (FRAME_BYTES - lowest_byte(self._body))) < 0:
             name = self._function.name
-            raise Refused(f"{line_text(self._line)}the frames of {name} and what it calls pass 512 bytes")
+            raise NoRoom(f"{line_text(self._line)}the frames of {name} and what it calls pass 512 bytes")
         places = [self._lowest - 8 * (n + 1) - FRAME_BYTES for n in range(words)]
         keep = [Store(8, FRAME, place, register, 0, self._line) for register, place in zip(self._kept, places)]
         restore = [Load(8, False, register, FRAME, place, self._line) for register, place in zip(self._kept, places)]
@@ -272,16 +273,27 @@ def _saved_used(function: Function) -> Set[int]:
 def live_in_of(function: Function) -> Dict[int, int]:
     """The registers that are read from each block on, before they are written."""
     live_in: Dict[int, int] = dict.fromkeys(function.blocks, 0)
-    order = order_of(function)[::-1]
+    blocks = [(label, *_effect(function, label)) for label in order_of(function)[::-1]]
     is_changed = True
     while is_changed:
         is_changed = False
-        for block in order:
-            live = _live_before(function, block, 0, live_in)
-            if live != live_in[block]:
-                live_in[block] = live
+        for label, read, kept, followings in blocks:
+            live = 0
+            for following in followings:
+                live |= live_in[following]
+            live = read | live & kept
+            if live != live_in[label]:
+                live_in[label] = live
                 is_changed = True
     return live_in
+
+
+def _effect(function: Function, label: int) -> Tuple[int, int, Tuple[int, ...]]:
+    """The registers that a block reads before it writes them, those that it leaves as they are, and where it leads."""
+    followings = successors(function.blocks[label].end)
+    read = _live_before(function, label, 0, dict.fromkeys(followings, 0))
+    all_live = dict.fromkeys(followings, ALL_REGISTERS)
+    return read, _live_before(function, label, 0, all_live) if followings else 0, followings
 
 
 def _live_before(function: Function, label: int, at: int, live_in: Dict[int, int]) -> int:
@@ -289,7 +301,9 @@ def _live_before(function: Function, label: int, at: int, live_in: Dict[int, int
     live = 0
     for following in successors(block.end):
         live |= live_in[following]
-    for insn in [block.end, *reversed(block.insns[at:])]:
+    for register in reads(block.end):
+        live |= 1 << register
+    for insn in reversed(block.insns[at:]):
         for register in writes(insn):
             live &= ~(1 << register)
         for register in reads(insn):

@@ -23,6 +23,9 @@ def bits(registers: Tuple[int, ...]) -> int:
 
 def reads_of(insn: object) -> int:
     """The registers that a planned instruction reads."""
+    if isinstance(insn, Alu):
+        own = 0 if insn.op.startswith("mov") else 1 << insn.dst
+        return own if insn.src is None else own | 1 << insn.src
     if isinstance(insn, Touch):
         access = insn.insn
         found = 0
@@ -42,6 +45,8 @@ def reads_of(insn: object) -> int:
 
 def writes_of(insn: object) -> int:
     """The registers that a planned instruction writes."""
+    if isinstance(insn, (Alu, Address, Number)):
+        return 1 << insn.dst
     if isinstance(insn, (Touch, Moved)):
         return bits(writes(insn.insn))
     if isinstance(insn, LoopCall):

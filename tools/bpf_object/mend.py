@@ -3,7 +3,7 @@
 from __future__ import annotations
 
 from dataclasses import dataclass
-from typing import Dict, List, Optional, Set
+from typing import Dict, List, Optional, Set, Tuple
 
 from .access import Planner, Traps
 from .analysis import Analysis, Entry, Results
@@ -34,6 +34,7 @@ class Rewritten:
     cut: Set[Loop]
     counted: Set[Loop]
     copied: Dict[Loop, int]
+    spent: Dict[Loop, int]
     sources: Dict[int, Function]
     endless: Optional[str] = None
 
@@ -45,10 +46,8 @@ class Mender:
         self._memory = memory
         self._sizes = sizes  # of values that may have an element each
         self._functions = functions
-        self._frames = {n: memory.add(Kind.FRAME, f.name, FRAME_BYTES, n) for n, f in functions.items()}
-        self._contexts = {n: memory.add(Kind.HIDDEN, f"ctx of {f.name}", 8, n) for n, f in functions.items()}
-        for number, thing in self._frames.items():
-            thing.line = functions[number].line
+        self._known: Dict[Tuple[int, str], Tuple[Thing, Thing]] = {}  # of functions, the frames and words of ctx
+        self._frames, self._contexts = self._things(functions)
         self.facts = Facts()
         for thing in memory.things:
             for target, _ in thing.pointers.values():
@@ -58,6 +57,27 @@ class Mender:
         self._is_tried = False
         self._layout: Optional[Layout] = None  # of the round before
         self._results: Dict[int, Results] = {}  # of the functions, by that layout
+
+    def begin_with(self, functions: Dict[int, Function]) -> None:
+        """Goes on with other functions, and with what was met of all things that are left."""
+        changed = {number for number, function in self._functions.items() if functions.get(number) is not function}
+        gone = {self._frames[number].number for number in self._functions.keys() - functions.keys()}
+        self.facts.forget(changed, gone | {self._contexts[number].number for number in changed})
+        self._functions = functions
+        self._frames, self._contexts = self._things(functions)
+        self._is_tried = False
+        self._layout = None
+
+    def _things(self, functions: Dict[int, Function]) -> Tuple[Dict[int, Thing], Dict[int, Thing]]:
+        """The frames of functions, and the words in which their ctx is handed on."""
+        for number, function in functions.items():
+            key = (number, function.name)
+            if key not in self._known:
+                frame = self._memory.add(Kind.FRAME, function.name, FRAME_BYTES, number)
+                frame.line = function.line
+                self._known[key] = frame, self._memory.add(Kind.HIDDEN, f"ctx of {function.name}", 8, number)
+        found = {number: self._known[number, function.name] for number, function in functions.items()}
+        return {number: one[0] for number, one in found.items()}, {number: one[1] for number, one in found.items()}
 
     @property
     def is_spread(self) -> bool:
@@ -79,6 +99,7 @@ class Mender:
             if self.facts.version == version or self._is_settled(layout, followed):
                 spread = spread_groups(self._memory, self.facts, self._sizes)
                 if spread == self._spread:
+                    done.facts = self.facts.copy()
                     return done
                 self._spread = spread
         raise Refused("the program's variables have no layout that all its accesses agree with")
@@ -93,7 +114,7 @@ class Mender:
         traps = Traps()
         planner = Planner(self._memory, layout, self.facts, traps)
         known = (self._frames, self._contexts, layout, self.facts, traps)
-        done = Rewritten({}, {}, *known, set(), set(), {}, self._functions)
+        done = Rewritten({}, {}, *known, set(), set(), {}, {}, self._functions)
         waiting: List[int] = [0]
         while waiting:
             number = waiting.pop(0)
@@ -107,6 +128,7 @@ class Mender:
             done.cut |= unroller.cut
             done.counted |= unroller.counted
             done.copied.update(unroller.copied)
+            done.spent.update(unroller.spent)
             done.endless = done.endless or unroller.endless
             for callback, entry in analysis.entries.items():
                 done.entries[callback] = entry

@@ -48,7 +48,8 @@ def outline(functions: Dict[int, Function], header: int, visits: Visits) -> Opti
     labels = loop_of(main, header)
     order = order_of(main)
     enters = [label for label in order if label not in labels and set(successors(main.blocks[label].end)) & labels]
-    if any(set(successors(main.blocks[label].end)) & (labels - {header}) for label in enters):
+    inner = labels - {header}
+    if main.entry in inner or any(set(successors(main.blocks[label].end)) & inner for label in enters):
         return None
     named = [insn.function for label in labels for insn in main.blocks[label].insns if isinstance(insn, CodeOf)]
     if any(functions[callback].frame_of is None for callback in named):

@@ -26,22 +26,28 @@ class Sum(NamedTuple):
     size: int
 
 
-def sum_up(rewritten: Rewritten) -> None:
-    """Rewrites the sums of all callbacks."""
+def sum_up(rewritten: Rewritten, number: int) -> None:
+    """Rewrites the sums of a callback."""
+    summed = summed_bytes(rewritten)
+    words = range(summed.start, summed.stop, 8)
+    if not words:
+        return
+    function = rewritten.functions[number]
+    lives, _ = without_dead(function)
+    for found in _sums(function.blocks, lives, words).values():
+        for one in found:
+            _replace(function.blocks[one.label], one)
+    for block in function.blocks.values():
+        block.insns = [insn for insn in block.insns if insn is not None]
+
+
+def summed_bytes(rewritten: Rewritten) -> range:
+    """The bytes of the map in which sums are looked for: main's frame, where no access may lead to any word of it."""
     frame = rewritten.frames[0].number
     spot = rewritten.layout.spots[frame]
-    if spot.low == spot.size or frame in rewritten.facts.varied:
-        return  # it isn't in the map, or an access may lead to any word of it
-    words = range(spot.element * 8, spot.element * 8 + spot.size - spot.low, 8)
-    for number, function in rewritten.functions.items():
-        if not number:
-            continue
-        lives, _ = without_dead(function)
-        for found in _sums(function.blocks, lives, words).values():
-            for one in found:
-                _replace(function.blocks[one.label], one)
-        for block in function.blocks.values():
-            block.insns = [insn for insn in block.insns if insn is not None]
+    if frame in rewritten.facts.varied:
+        return range(0)
+    return range(spot.element * 8, spot.element * 8 + spot.size - spot.low)
 
 
 def _sums(blocks: Dict[int, Block], lives: Lives, words: range) -> Dict[int, List[Sum]]:

@@ -9,12 +9,30 @@ from __future__ import annotations
 from dataclasses import dataclass
 from typing import Dict, FrozenSet, List, Optional, Sequence, Tuple
 
-from .access import Planner
+from .access import Access, Planner
 from .analysis import LOOP_LIMIT, Analysis, constant
-from .code import FRAME, LOOKUP, RESULT, Alu, Block, Branch, Call, End, Exit, Function, Goto, Load, Stop, line_text
+from .code import (
+    FRAME,
+    LOOKUP,
+    RESULT,
+    Alu,
+    Atomic,
+    Block,
+    Branch,
+    Call,
+    End,
+    Exit,
+    Function,
+    Goto,
+    Load,
+    Stop,
+    Store,
+    line_text,
+)
+from .course import WITHIN, Course, Way
 from .graph import Graph
 from .loaded import Trap
-from .ranges import exact
+from .ranges import OPPOSITE, Range, exact
 from .refusal import Refused
 from .values import EXACT_ZERO, Handle, Held, State, Value, join_states
 
@@ -69,10 +87,13 @@ class Unroller:
         self._graph = Graph(function)
         self._limits = limits
         self._open: List[_Open] = []
+        self._ways: List[Way] = []  # that the copied rounds go, where a loop is open that has all its rounds copied
+        self._whole_loops = 0  # that are open
         self.cut: set[Loop] = set()
         self.counted: set[Loop] = set()  # those of them that surely have more rounds, or may by a known count
         self.endless: Optional[str] = None  # why a loop never comes to its end
         self.copied: Dict[Loop, int] = {}  # the most rounds of each loop
+        self.spent: Dict[Loop, int] = {}  # the instructions that all its rounds took
         self.result = Function(function.name, 0, {}, function.line)
 
     def run(self, entry: State) -> Function:
@@ -110,6 +131,8 @@ class Unroller:
         exits: Exits = []
         this = _Open(loop, labels)
         self._open.append(this)
+        course = Course()
+        self._whole_loops += limit is None
         while incoming:
             if limit is not None and this.rounds >= limit:
                 self._cut(header, incoming, limit, not exits)
@@ -117,6 +140,7 @@ class Unroller:
                     self.counted.add(loop)
                 break
             this.is_counted = False
+            budget, ways = self._limits.budget, len(self._ways)
             again: List[Arrival] = []
             for target, edge, state in self._region(labels, incoming, header):
                 if target == header:
@@ -125,9 +149,19 @@ class Unroller:
                     exits.append((target, edge, state))
             incoming = {header: again} if again else {}
             this.rounds += 1
+            if again and limit is None:
+                course.end_round(budget - self._limits.budget, self._ways[ways:])
+                self._pass_over(this, course)
         self._open.pop()
+        self._whole_loops -= limit is None
         self.copied[loop] = max(self.copied.get(loop, 0), this.rounds)
         return exits
+
+    def _pass_over(self, this: _Open, course: Course) -> None:
+        """Counts the rounds of a loop that surely goes on for longer than there is room, as if they were copied."""
+        more = course.rounds_within(self._limits.budget)
+        this.rounds += more
+        self._limits.budget -= more * course.size
 
     def _cut(self, header: int, incoming: Dict[int, List[Arrival]], rounds: int, is_always: bool) -> None:
         insns = self._source.blocks[header].insns
@@ -201,6 +235,8 @@ class Unroller:
                 continue
             if isinstance(insn, Call) and insn.helper == LOOKUP:
                 return self._lookup(insn, target, at + 1, state)
+            if self._whole_loops and isinstance(insn, (Load, Store, Atomic)):
+                self._note_access(insn, state.regs[insn.base])
             done = self._analysis.step(insn, state)
             if done and isinstance(done[-1], Stop):
                 block.insns += done[:-1]
@@ -213,6 +249,8 @@ class Unroller:
 
     def _count(self, insns: int) -> None:
         self._limits.budget -= insns + 1
+        for one in self._open:
+            self.spent[one.loop] = self.spent.get(one.loop, 0) + insns + 1
         if self._limits.budget < 0:
             unlimited = [(one.rounds, one.loop) for one in self._open if one.loop not in self._limits.rounds]
             raise TooMany(max(unlimited)[1] if unlimited else None)
@@ -228,7 +266,10 @@ class Unroller:
             trap = self._planner.traps.number(Trap(end.line, f"the loop goes on after {LOOP_LIMIT} rounds"))
             block.end = end._replace(trap=trap)
         elif isinstance(end, Branch):
+            a, b = state.regs[end.dst], EXACT_ZERO if end.src is None else state.regs[end.src]
             taken, other = self._analysis.compare(end, state)
+            if self._whole_loops:
+                self._note_test(end, a, b, taken is not None, other is not None)
             if taken is None or other is None or end.taken == end.other:
                 following = end.other if taken is None else end.taken
                 if self._open and end.taken + end.other - following not in self._open[-1].labels:
@@ -239,6 +280,28 @@ class Unroller:
                 block.end = end
                 exits.append((end.taken, (target, "taken"), taken))
                 exits.append((end.other, (target, "other"), other))
+
+    def _note_test(self, end: Branch, a: Held, b: Held, is_taken: bool, is_other: bool) -> None:
+        """Keeps what a branch compares, and where it can lead."""
+        if not isinstance(a, Value) or not isinstance(b, Value):
+            return
+        operands = end.width, a.range, exact(end.imm) if end.src is None else b.range
+        if is_taken:
+            self._ways.append(Way(end.op, *operands))
+        if is_other:
+            self._ways.append(Way(OPPOSITE[end.op], *operands))
+
+    def _note_access(self, insn: Access, base: Held) -> None:
+        """Keeps an access, which is a trap where it leads outside the variables that it is of."""
+        if not isinstance(base, Value) or not base.things or base.things != base.real:
+            return
+        spots = [self._planner.layout.spots.get(thing) for thing in base.real]
+        if None in spots:
+            return
+        first = min([spot.address for spot in spots])
+        last = max([spot.address + spot.size for spot in spots]) - insn.size
+        bounds = Range(max(first - insn.offset, 0), max(last - insn.offset, 0), 0)
+        self._ways.append(Way(WITHIN, 64, base.range, bounds))
 
     def _exit(self, end: Exit, block: Block, state: State) -> None:
         """A callback ends with 0 or 1, where all but 0 ends the loop."""

@@ -1,47 +1,56 @@
-"""clang: where it is, with which words it compiles a program, and what it says."""
+"""Has a program in C compiled: at once where clang's back end takes it, else by its IR."""
 
 from __future__ import annotations
 
-import os
-import platform
 import re
-import shutil
 import sys
 import tempfile
+from collections.abc import Iterator
 from dataclasses import dataclass
-from pathlib import Path
 
+from bpf_ir.lower import STEPS
+from bpf_ir.text import NotRead
 from bpf_object.elf import OBJECT_LIMIT
 from bpf_object.refusal import Refused
 
-from .programs import TOOLS, Clock, run
+from .clang import LOWER, Files, Said, Step, Way, say
+from .programs import Clock
 
-FLAGS = ("-O2", "-g", "-target", "bpf", "-fno-strict-aliasing")  # as kernels are built
-TRIES = ((), ("-mcpu=v3",), ("-mcpu=v4",))  # v3 has atomics of 4 bytes, and v4 signed division
-QUIET = "-fno-crash-diagnostics"
-UNSUPPORTED = re.compile("error in backend|[Uu]nsupported (atomic|signed division)|usage of the XADD return value")
-LIBRARY = re.compile("built-in function 'mem")  # clang makes a call of a function of C's library of a loop
-NO_LIBRARY = ("-fno-builtin",)
+ATOMICS = ("-mcpu=v3",)  # it has atomics of 4 bytes, and such as give the old value
+DIVISION = ("-mcpu=v4",)  # signed, from clang 18 on
+NEEDS = {
+    DIVISION: re.compile("unsupported signed division"),
+    ATOMICS: re.compile("[Uu]nsupported atomic|usage of the XADD return value|Cannot select.*[Aa]tomic"),
+}
+OPERATIONS, SMALL_FRAMES = "operations", "small-frames"
+NOT_UNROLLED = ("-fno-unroll-loops",)
+CALLED = re.compile(rb"\0(?:mem(?:cpy|move|set|cmp)|bcmp|strlen)\0")  # a symbol of C's library
 DUMP = "PLEASE submit a bug report"
 CRASHED = re.compile("on function '@([^']+)'")
-NUMBERED = re.compile(r"clang-(\d+)")
+PLACE = r"(?:(?P<line>[^\s:]+\.[ch]:\d+)\S* )?"
+REASONS = (  # what the back end says of what isn't taken, and what to write
+    (r"built-in function '__\w+[sd]f\w*'|floating|soft.?float", "floating point isn't taken: use fixed point"),
+    (r"dynamic stack allocation", "an array of a length that isn't constant isn't taken: give it its greatest length"),
+    (r"VarArgs", "a function of your own with `...` isn't taken: give it its arguments by number"),
+    (r"too many arg|stack arguments|defined with too many args", "a call with more than five arguments isn't taken"),
+    (r"BPF stack limit", "the frame has more than 512 bytes: make a large local variable a global one"),
+    (r"built-in function '(?P<name>\w+)'", "a call of {name} isn't taken: write a function of your own"),
+)
 SOURCES = (".c", ".i")
-HEADERS = TOOLS.parent / "examples" / "from_c"  # bpf.h
-SYSTEM = Path("/usr/include") / f"{platform.machine()}-linux-gnu"  # where Debian has <asm/types.h>
-STAND_INS = TOOLS / "include"  # for those of libbpf and of Linux, where there are none
 MAGIC = b"\x7fELF"
 
 
 @dataclass(frozen=True)
 class Compiled:
-    """An object, and the words that it took beside those that all take."""
+    """An object, the way that it was made by, and what clang said."""
 
     data: bytes
-    more: tuple[str, ...]
+    way: Way
+    warnings: str
 
 
 class NotCompiled(Exception):
-    """clang has said why on standard error."""
+    """clang makes no object of a source; the text says why."""
 
 
 def is_object(data: bytes) -> bool:
@@ -64,67 +73,83 @@ def read_file(path: str) -> bytes:
         return file.read(OBJECT_LIMIT + 1)
 
 
-def find_clang() -> str:
-    """$CLANG, else `clang`, else the clang of the greatest number on the path."""
-    own = os.environ.get("CLANG")
-    found = shutil.which(own) if own else shutil.which("clang") or _numbered_clang()
-    if not found:
-        raise Refused(f"there is no {own or 'clang'} on the path: install clang, or name it by $CLANG")
-    return found
-
-
-def words_of(source: str, target: str, more: tuple[str, ...] = ()) -> tuple[str, ...]:
-    """The words that compile a source."""
-    behind = [word for place in (SYSTEM, STAND_INS) if place.is_dir() for word in ("-idirafter", str(place))]
-    return (find_clang(), *FLAGS, *more, "-I", str(HEADERS), *behind, "-c", source, "-o", target)
-
-
 def compiled(source: str, clock: Clock) -> Compiled:
-    """The object that clang makes of a source; where it has no instruction for an operation, newer ones are tried."""
-    errors = ""
-    for more in TRIES:
-        data, said = _tried(source, more, clock)
-        if data is None and LIBRARY.search(said):
-            more = (*more, *NO_LIBRARY)
-            data, said = _tried(source, more, clock)
-        if data is not None:
-            sys.stderr.write(said)
-            return Compiled(data, more)
-        errors = errors or said
-        if not UNSUPPORTED.search(said):
-            break
-    sys.stderr.write(_reason(errors))
-    raise NotCompiled(source)
-
-
-def _tried(source: str, more: tuple[str, ...], clock: Clock) -> tuple[bytes | None, str]:
-    """The object, or None, and what clang said."""
+    """The object that clang makes of a source; what clang says goes to standard error."""
     with tempfile.TemporaryDirectory(prefix="bpfrun-") as folder:
-        target = os.path.join(folder, "x.o")
-        with open(os.path.join(folder, "errors"), "w+b") as errors:
-            answer = run(words_of(source, target, (*more, QUIET)), "", clock, errors=errors)
-            errors.seek(0)
-            said = errors.read().decode(errors="replace")
-        is_made = answer is not None and answer.status == 0 and os.path.exists(target)
-        return read_file(target) if is_made else None, said
+        try:
+            made = make(Files(source, folder), (), clock)
+        except NotCompiled as reason:
+            sys.stderr.write(str(reason))
+            raise
+    sys.stderr.write(made.warnings)
+    return made
+
+
+def shorter(source: str, way: Way, clock: Clock) -> Iterator[Compiled]:
+    """Objects with less code or smaller frames, for a program that there is no room for."""
+    for lowering in (OPERATIONS, SMALL_FRAMES):
+        other = Way((*way.more, *NOT_UNROLLED), lowering)
+        with tempfile.TemporaryDirectory(prefix="bpfrun-") as folder:
+            files = Files(source, folder)
+            said = _said(files, other, clock)
+            if said.is_made:
+                yield Compiled(read_file(files.target), other, said.text)
+
+
+def make(files: Files, words: tuple[str, ...], clock: Clock) -> Compiled:
+    """The object that clang makes of a source by some words more, by the first way on which it makes one."""
+    way = Way(words)
+    said = _said(files, way, clock)
+    for more, need in NEEDS.items():
+        if not said.is_made and need.search(said.text):
+            newer = Way((*words, *more))
+            again = _said(files, newer, clock)
+            said, way = (again, newer) if again.is_made else (said, way)
+    if not said.is_made or CALLED.search(read_file(files.target)):
+        for more in dict.fromkeys((way.more, (*words, *ATOMICS))):
+            way = Way(more, OPERATIONS)
+            said = _said(files, way, clock)
+            if said.is_made or not NEEDS[ATOMICS].search(said.text):
+                break
+    if not said.is_made:
+        raise NotCompiled(_reason(said.text))
+    return Compiled(read_file(files.target), way, said.text)
+
+
+def _said(files: Files, way: Way, clock: Clock) -> Said:
+    """What comes of a way; what the front end warns of is said once."""
+    warnings: list[str] = []
+    for step in way.steps(files):
+        if step.words[0] == LOWER:
+            try:
+                _rewrite(step)
+            except NotRead as reason:
+                return Said(False, f"{step.words[0]}: {reason}\n")
+        else:
+            said = say(step, files.folder, clock)
+            if not said.is_made:
+                return said
+            warnings.append(said.text)
+    return Said(True, warnings[0])
+
+
+def _rewrite(step: Step) -> None:
+    """Does what tools/lower_ir does, here."""
+    with open(step.source or "", encoding="utf-8", errors="surrogateescape") as source:
+        text = STEPS[step.words[1]](source.read())
+    with open(step.target or "", "w", encoding="utf-8", errors="surrogateescape") as target:
+        target.write(text)
 
 
 def _reason(said: str) -> str:
-    """What clang said without the dump of its stack; where that is all, it crashed, and the dump names a function."""
+    """What clang said; of its back end the line of C, and what to write."""
+    for pattern, words in REASONS:
+        if found := re.search(f"{PLACE}.*?(?:{pattern})", said):
+            place = f"{found['line']}: " if found["line"] else ""
+            return f"{place}{words.format(**found.groupdict())}\n"
     reason, dump, stack = said.partition(DUMP)
     if not dump or "error" in reason.lower():
         return reason
     place = CRASHED.search(stack)
     where = f" at function {place[1]}" if place else ""
-    return f"{reason}clang crashes{where}: clang 14 and 16 do so at __builtin_clz and __builtin_ctz\n"
-
-
-def _numbered_clang() -> str | None:
-    names = {
-        int(match[1]): os.path.join(folder, match[0])
-        for folder in os.get_exec_path()
-        if os.path.isdir(folder)
-        for match in map(NUMBERED.fullmatch, os.listdir(folder))
-        if match
-    }
-    return names[max(names)] if names else None
+    return f"{reason}clang crashes{where}: no line tells why, and less code may help to find it\n"

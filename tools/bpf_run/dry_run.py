@@ -7,26 +7,23 @@ import shlex
 import shutil
 from collections.abc import Iterable, Iterator
 
-from . import compiler, programs
+from . import programs
+from .clang import Files, Step
+from .loading import load_file
 from .options import Options
 from .programs import TOOLS, Clock
 
-FOLDER, OBJECT, UNIT = "$d", "$d/x.o", "$d/unit"
-PLACES = {OBJECT, UNIT}  # words that the shell expands
+FOLDER, UNIT = "$d", "$d/unit"
 
 
 def lines_of(options: Options, clock: Clock) -> Iterator[str]:
     """The lines of a shell script."""
     found = programs.find_programs()
-    data = compiler.read_file(options.file)
+    way = load_file(options, clock)[1]
     yield "d=$(mktemp -d)"
-    if compiler.is_object(data):
-        yield f"{_line(_unit_words(options, options.file))} > {UNIT}"
-    else:
-        compiler.test_source(options.file, data)
-        more = compiler.compiled(options.file, clock).more
-        yield _line(compiler.words_of(options.file, OBJECT, more))
-        yield f"{_line(_unit_words(options, OBJECT))} > {UNIT}"
+    files = Files(options.file, FOLDER)
+    yield from map(_step, way.steps(files) if way else ())
+    yield f"{_line(_unit_words(options, files.target if way else options.file))} > {UNIT}"
     yield f"{_line((*found.bpfspec, 'verify'))} < {UNIT}"
     if options.command == "explain":
         yield f"{_line((*found.explain, *options.explain_words(options.arguments[0])))} < {UNIT}"
@@ -56,8 +53,14 @@ def _runs(options: Options, bpfspec: tuple[str, ...]) -> Iterator[str]:
         yield line if number == last else f"{line} | tee {FOLDER}/{number}"
 
 
+def _step(step: Step) -> str:
+    streams = f" < {step.source} > {step.target}" if step.source else ""
+    return f"{_line(step.words)}{streams}"
+
+
 def _line(words: Iterable[str]) -> str:
-    return " ".join(word if word in PLACES else shlex.quote(_short(word)) for word in words)
+    """A line of the shell, which expands the folder."""
+    return " ".join(word if word.startswith(f"{FOLDER}/") else shlex.quote(_short(word)) for word in words)
 
 
 def _short(word: str) -> str:

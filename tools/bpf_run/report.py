@@ -114,7 +114,7 @@ class AccessReport:
 
 @dataclass(frozen=True)
 class ConflictReport:
-    """An element that conflicts: what C calls it, and two accesses that show it."""
+    """An element that conflicts: what C calls it, and the accesses that show it."""
 
     name: str
     element: int

@@ -16,8 +16,9 @@ MAP = re.compile(r"map \d+: ([\d ]+)")
 FUNCTION = re.compile(r"function (\d+) at (\d+) count (\d+)")
 REFUSAL = re.compile(r"refused (\S+)(?: at (?:slot|unit line) (\d+))?")
 
-ELEMENT = re.compile(r"  element (\d+) \(map \d+ at \d+\)")
-ITERATION = re.compile(r"( +)iteration +(\d+) (\w+) it +line (\d+): (.*)")
+ELEMENT = re.compile(r"  element (\d+) \(map \d+ at \d+\)(?:: .*)?")
+ITERATION = re.compile(r"( +)iteration +(\d+) (\w[\w, ]*?) +line (\d+): (.*)")
+ACCESS_INDENT = "    "  # of an iteration that accesses an element, where one that breaks the loop has less
 STATE_LINE = re.compile(r"  line (\d+): (.*)")
 STATE = re.compile(r"    slot (\d+): (.*)")
 
@@ -71,7 +72,7 @@ class Access:
 
 @dataclass(frozen=True)
 class Conflict:
-    """An element that conflicts, and two iterations that show it."""
+    """An element that conflicts, and the accesses that show it."""
 
     element: int
     accesses: list[Access]
@@ -130,8 +131,8 @@ def read_explanation(output: str) -> Explanation:
             conflicts = explanation.conflicts.setdefault(int(match[1]), [])
         elif match := ELEMENT.fullmatch(line):
             conflicts.append(Conflict(int(match[1]), []))
-        elif (match := ITERATION.fullmatch(line)) and conflicts:
-            conflicts[-1].accesses.append(Access(int(match[2]), match[3], int(match[4])))
+        elif (match := ITERATION.fullmatch(line)) and conflicts and match[1] == ACCESS_INDENT:
+            conflicts[-1].accesses.append(Access(int(match[2]), match[3].removesuffix(" it"), int(match[4])))
         elif match := STATE.fullmatch(line):
             explanation.states[int(match[1])] = match[2]
     return explanation

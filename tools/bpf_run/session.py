@@ -6,13 +6,13 @@ import struct
 import sys
 from collections.abc import Iterator
 
-from bpf_object.load import Loaded, load
-from bpf_object.loaded import refuse_long_values
+from bpf_object.loaded import Loaded, refuse_long_values
 from bpf_object.program import Fault
 from bpf_object.refusal import Refused
 
-from . import compiler, programs, state
+from . import programs, state
 from .library import Machine, find_library
+from .loading import load_file
 from .most import NO_VALUES, most_of
 from .options import Options
 from .programs import Answer, Clock
@@ -55,7 +55,7 @@ class Session:
             words = ["--states"] if self.options.states else []
             self.report.refused_lines = self._explain(words, self.program.unit.text + NO_VALUES).lines
             if self.options.page is not None:
-                self.report.states = self._explain(["--states"], self.program.unit.text + NO_VALUES).states
+                self.report.states = self._states()
             return False
         self.report.functions = [
             FunctionReport(self._name(f.slot, k), self.program.line_at(f.slot), f.slot, f.count)
@@ -66,7 +66,7 @@ class Session:
     def find_most(self) -> bool:
         """Finds the most instructions of a run; whether they are within the limit."""
         if self.program.unit.loop_slots or self.options.page is not None:
-            self.report.states = self._explain(["--states"], self.program.unit.text + NO_VALUES).states
+            self.report.states = self._states()
         counts = [Function(function.slot, function.count) for function in self.report.functions]
         self.report.most = most = most_of(self.program.unit, counts, self.report.states)
         limit = self.options.limit
@@ -105,13 +105,8 @@ class Session:
         return answer.output if answer and answer.output.startswith("<svg") else None
 
     def _load(self) -> Loaded:
-        path = self.options.file
-        data = compiler.read_file(path)
-        if not compiler.is_object(data):
-            compiler.test_source(path, data)
-            data = compiler.compiled(path, self._clock).data
         try:
-            return load(data, self.options.main, self.options.as_is, self._judge)
+            return load_file(self.options, self._clock, self._judge)[0]
         except UNFORESEEN as reason:
             raise Refused(f"no object of clang: {type(reason).__name__}: {reason}") from None
 
@@ -160,6 +155,10 @@ class Session:
         if answer is None or not answer.output:
             raise Failed(programs.NO_STREAM, "bpfspec explain printed nothing")
         return read_explanation(answer.output)
+
+    def _states(self) -> dict[int, str]:
+        """What the verifier knows at each slot."""
+        return self._explain(["--states"], self.program.unit.text + NO_VALUES).states
 
     def _values(self) -> str:
         """The unit with the values that the run begins with."""

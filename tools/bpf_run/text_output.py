@@ -114,7 +114,7 @@ def explained_lines(report: Report, lines: list[str]) -> Iterator[str]:
             yield f"    {match[2]}"
         elif match := ITERATION.fullmatch(line):
             slot = slots.get(int(match[4]), 0)
-            yield f"{match[1]}iteration {match[2]} {match[3]} it at {program.place_at(slot)}{_text_at(program, slot)}"
+            yield f"{match[1]}iteration {match[2]} {match[3]} at {program.place_at(slot)}{_text_at(program, slot)}"
         elif match := STATE_LINE.fullmatch(line):
             yield f"  {program.place_at(slots.get(int(match[1]), 0))}  {match[2].partition(';')[0].rstrip()}"
         elif match := ELEMENT.fullmatch(line):

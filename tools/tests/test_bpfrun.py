@@ -24,7 +24,7 @@ from pathlib import Path
 TOP = Path(__file__).resolve().parents[2]
 sys.path.insert(0, str(TOP / "tools"))
 
-from bpf_run import compiler  # noqa: E402
+from bpf_run import clang, compiler  # noqa: E402
 from bpf_run.programs import Clock  # noqa: E402
 
 BPFRUN = TOP / "tools" / "bpfrun"
@@ -214,21 +214,23 @@ class Refusals(InFolder):
 
     def test_newer_instructions(self) -> None:
         for said, word in (
-            ("fatal error: error in backend: Cannot select: i64 = sdiv", "-mcpu=v4"),  # clang 16
             ("x.c:1:9: error: unsupported signed division, please convert to unsigned div/mod.", "-mcpu=v4"),  # 19
             ("x.c:1:9: error: Invalid usage of the XADD return value", "-mcpu=v3"),
             ("x.c:1:9: error: unsupported atomic operation, please use 64 bit version", "-mcpu=v3"),
         ):
             with self.subTest(said=said), self.clang_says(said, unless=word):
-                self.assertEqual(compiler.compiled("x.c", Clock()).more, (word,))
+                self.assertEqual(compiler.compiled("x.c", Clock()).way.more, (word,))
 
     def clang_says(self, said: str, unless: str = "") -> contextlib.AbstractContextManager[object]:
         """A clang that says something, and makes no object unless it is given a word."""
 
-        def tried(source: str, more: tuple[str, ...], clock: Clock) -> tuple[bytes | None, str]:
-            return (b"", "") if unless in more else (None, said)
+        def say(step: clang.Step, folder: str, clock: Clock) -> clang.Said:
+            is_made = unless in step.words
+            if is_made:
+                Path(step.words[-1]).write_bytes(b"")
+            return clang.Said(is_made, "" if is_made else said)
 
-        return unittest.mock.patch.object(compiler, "_tried", tried)
+        return unittest.mock.patch.object(compiler, "say", say)
 
     def test_usage(self) -> None:
         for words in ([], ["walk", "x.c"], ["run"], ["run", "--arg", "x", "x.c"], ["run", "--workers", "17", "x.c"]):

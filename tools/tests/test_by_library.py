@@ -114,7 +114,7 @@ class ByLibrary(InFolder):
 
     def test_of_an_installation(self) -> None:
         place = self.folder / "bpfspec"
-        for name in "bpf_object", "bpf_run":
+        for name in "bpf_ir", "bpf_object", "bpf_run":
             shutil.copytree(TOP / "tools" / name, place / "tools" / name)
         shutil.copytree(FOLDER, place / "library")
         shutil.copy(BPFRUN, place / "tools")

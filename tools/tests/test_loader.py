@@ -30,7 +30,7 @@ from bpf_object.code import (  # noqa: E402
     backward,
 )
 from bpf_object.bounds import Bounds  # noqa: E402
-from bpf_object.emit import emit  # noqa: E402
+from bpf_object.emit import Emitted  # noqa: E402
 from bpf_object.fit import fit  # noqa: E402
 from bpf_object.inline import inline, lowest_byte  # noqa: E402
 from bpf_object.memory import Kind, Memory  # noqa: E402
@@ -304,7 +304,7 @@ class Steps(Same):
         memory = memory_of(a=64)
         functions = {0: Function("main", 0, {0: Block(insns, Exit())})}
         self.compare(memory, functions, 7)
-        loaded = emit(memory, Mender(memory, functions, set()).run(100, {})).loaded(["main"])
+        loaded = Emitted(memory, Mender(memory, functions, set()).run(100, {})).loaded(["main"])
         for argument in (8, 1 << 40, ALL):
             after = After(loaded.unit, loaded.initial[0])
             after.run(0, [argument])

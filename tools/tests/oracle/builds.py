@@ -6,9 +6,14 @@ import functools
 import os
 import shutil
 import subprocess
+import tempfile
 from collections.abc import Iterator
 from dataclasses import dataclass
 from pathlib import Path
+
+from bpf_run import compiler
+from bpf_run.clang import Files
+from bpf_run.programs import Clock
 
 TESTS = Path(__file__).resolve().parents[1]
 REPOSITORY = TESTS.parents[1]
@@ -20,7 +25,13 @@ CPUS = ("v2", "v3", "v4")
 QUICK_CPUS = ("v2", "v3")
 CLANG_SECONDS = 60
 PROCESSES = 4
-LIBRARY = "built-in function 'mem"  # in what clang says where it makes a call of C's library of a loop
+
+
+class _Silent(Clock):
+    """A clock that tells nothing."""
+
+    def tell(self) -> None:
+        """Nothing."""
 
 
 class ClangFailed(Exception):
@@ -39,18 +50,14 @@ class Build:
 
     def compile(self, source: Path, target: Path) -> bytes:
         """The object that clang makes of a source file, which it leaves at the target."""
-        words = ["clang", self.level, "-g", "-target", "bpf", "-fno-strict-aliasing", f"-mcpu={self.cpu}", "-w"]
-        words += [f"-I{folder}" for folder in HEADERS]
-        words += ["-c", str(source), "-o", str(target)]
-        for more in ([], ["-fno-builtin"]):  # as bpfrun does it
-            done = subprocess.run(
-                words + more, capture_output=True, text=True, errors="replace", timeout=CLANG_SECONDS
-            )
-            if LIBRARY not in done.stderr:
-                break
-        if done.returncode:
-            raise ClangFailed(next(iter(done.stderr.splitlines()), f"clang ended with {done.returncode}"))
-        return target.read_bytes()
+        words = (self.level, f"-mcpu={self.cpu}", "-w", *(f"-I{folder}" for folder in HEADERS))
+        with tempfile.TemporaryDirectory(prefix="build-") as folder:
+            try:
+                data = compiler.make(Files(str(source), folder), words, _Silent()).data
+            except compiler.NotCompiled as reason:
+                raise ClangFailed(next(iter(str(reason).splitlines()), "clang makes nothing of it")) from None
+        target.write_bytes(data)
+        return data
 
 
 def has_clang() -> bool:

@@ -11,6 +11,8 @@ BYTES = {"_Bool": 1, "u8": 1, "s8": 1, "u16": 2, "s16": 2, "u32": 4, "s32": 4, "
 LENGTHS = (2, 3, 4, 5, 7, 8, 10, 16, 24, 32)
 SHORT_LENGTHS = LENGTHS[:5]
 CONSTANTS = (0, 1, 2, 3, 5, 7, 8, 15, 31, 64, 100, 127, 128, 255, 256, 1000, 32767, 32768, 65535, 65536, 0x7FFFFFFF)
+DIVISORS = (-1, 2, -2, 3, -3, 7, 8, -10, 100, -1000, 4096, 32767)
+TURNS, LOWERED = 15, 5  # of so many seeds, the first ones have operations that clang's back end may not have
 ASSIGNMENTS = ("=", "=", "=", "+=", "-=", "^=", "|=", "&=", "*=")
 INDENT = "    "
 TYPEDEFS = """
@@ -80,6 +82,7 @@ class Writer:
 
     def __init__(self, seed: int, tag: str) -> None:
         self._random = random.Random(seed)
+        self._is_lowered = seed % TURNS < LOWERED
         self._tag = tag
         self._lines: list[str] = []
         self._depth = 0
@@ -122,6 +125,8 @@ class Expressions(Writer):
         if depth <= 0 or kind < 0.15:
             return self._leaf(scope, width)
         left, right = (self._number(scope, width, depth - 1) for _ in range(2))
+        if self._is_lowered and self._chance(0.15):
+            return self._lowered(left, right, width)
         if kind < 0.5:
             return f"({left} {self._random.choice('+-*&|^')} {right})"
         if kind < 0.62:
@@ -141,6 +146,22 @@ class Expressions(Writer):
         if kind < 0.96 or not scope.functions:
             return f"__builtin_bswap{width}({left})"
         return f"(u{width}){self._random.choice(scope.functions)}((u32){left}, (u32){right})"
+
+    def _lowered(self, left: str, right: str, width: int) -> str:
+        """Signed division without overflow, a count of bits, or a part of a long product or quotient."""
+        kind = self._random.random()
+        long = "ll" if width == 64 else ""
+        if kind < 0.6:
+            of = self._random.choice(("s8", "s16", f"s{width}", f"s{width}"))
+            divisor = self._random.choice((f"({of})({right} | 1)", str(self._random.choice(DIVISORS))))
+            return f"(u{width})(({of})({left} | 1) {self._random.choice('/%')} {divisor})"
+        if kind < 0.8:
+            return f"(u{width})__builtin_{self._random.choice(('clz', 'ctz', 'popcount'))}{long}({left} | 1)"
+        if kind < 0.9:
+            return f"(u{width})((unsigned __int128){left} * {right} >> {self._random.choice((1, 32, 64, 90))})"
+        if kind < 0.95:
+            return f"(u{width})((__int128)(s64){left} * (s64){right} >> ({right} & 63))"
+        return f"(u{width})((unsigned __int128){left} * 0x9e3779b97f4a7c15 {self._random.choice('/%')} ({right} | 1))"
 
     def _leaf(self, scope: Scope, width: int) -> str:
         if not scope.places or self._chance(0.3):
