@@ -1,4 +1,4 @@
-//! The text of a unit, and the line of each of its slots.
+//! The lines of a unit's text, and the line of each of its slots.
 
 ghost use Rattle.std.specs.Prelude.{◌≡◌, ◌≤◌, [], length, slice_get, IfOk};
 ghost use Rattle.bpf_text_lex.specs.Lines.{contents_of};
@@ -7,7 +7,7 @@ ghost use Rattle.bpf_text_lines.specs.SlotLines.{lines_by_slot};
 use crate::files::before_comment;
 use crate::shown::Shown;
 use bpf_text_lex::MAX_TEXT;
-use bpf_text_lines::{comment_of, line_at, line_numbers};
+use bpf_text_lines::{Listing, line_numbers};
 use std::alloc::{AllocError, Global};
 use std::marker::Model;
 
@@ -22,11 +22,11 @@ fn without_slot(comment: &str) -> &str {
     }
 }
 
-/// The text of a unit, and for each slot the number of the line whose instruction takes it. Of a unit in hex form the
-/// text is empty, and places are slots. In contracts it is the list of these numbers.
+/// The lines of a unit's text, and for each slot the number of the line whose instruction takes it. Of a unit in hex
+/// form there are no lines, and places are slots. In contracts it is the list of these numbers.
 #[derive(Drop)]
 pub struct Page<'a> {
-    text: &'a str,
+    lines: Listing<'a>,
     numbers: Vec<u32>,
 }
 
@@ -46,8 +46,9 @@ impl<'a> Page<'a> {
         if text.len() > MAX_TEXT {
             return Ok(Page::none(alloc));
         }
+        let lines = Listing::of(alloc, text)?;
         let numbers = line_numbers(alloc, text)?;
-        Ok(Page { text, numbers })
+        Ok(Page { lines, numbers })
     }
 
     /// The page of no text.
@@ -55,7 +56,7 @@ impl<'a> Page<'a> {
         ensures { result ≡ [] }
     {
         Page {
-            text: "",
+            lines: Listing::none(alloc),
             numbers: Vec::new(alloc),
         }
     }
@@ -69,11 +70,11 @@ impl<'a> Page<'a> {
 
     /// The instruction of a line as it is written, without its comment.
     pub fn instruction(&self, number: u32) -> Shown<'_> {
-        Shown::of(before_comment(line_at(self.text, number)).trim())
+        Shown::of(before_comment(self.lines.line(number)).trim())
     }
 
     /// The comment of a line, without the slot that the loader from C writes at its front.
     pub fn comment(&self, number: u32) -> Shown<'_> {
-        Shown::of(without_slot(comment_of(self.text, number)))
+        Shown::of(without_slot(self.lines.comment(number)))
     }
 }

@@ -15,6 +15,7 @@ use Rattle.loop_core_model.specs.Conflict.{fails, at_element, conflicting}
 use Rattle.loop_core_model.specs.LeastBreak.{counted_runs}
 use Rattle.loop_core_model.specs.Report.{verdict}
 use Rattle.loop_core_witness.specs.Breaks.{IsBreak}
+use Rattle.loop_core_witness.specs.Reductions.{TellsEnd}
 use Rattle.loop_core_witness.specs.Witnesses.{Explains}
 use Rattle.spec_run_explain.specs.declared.explained.Cause.{Cause}
 use Rattle.spec_run_explain.specs.declared.explained.LoopExplained.{LoopExplained}
@@ -29,10 +30,15 @@ pub record FailsAt (test : Test) (program : Program) (call : LoopCall) (words : 
 abbrev pub cause_elements : List Cause → List ℕ
 cause_elements causes = map (λ (c : Cause). c.element) causes
 
--- the iterations of each cause are the least pair that fails the test at its element
+-- the iterations of a cause are the least pair that fails the test at its element, and its end is the access by which
+-- the element isn't reduction-only
+pub record IsCause (test : Test) (program : Program) (call : LoopCall) (words : List ℕ) (cause : Cause) : Type 0 where
+  pub pair : Explains test program call words cause.element (Some cause.witness)
+  pub end : TellsEnd program call words cause.element cause.end
+
+-- each cause is so
 abbrev pub AreCauses : Test → Program → LoopCall → List ℕ → List Cause → Type 0
-AreCauses test program call words causes =
-    AllByRecursion (λ (c : Cause). Explains test program call words c.element (Some c.witness)) causes
+AreCauses test program call words causes = AllByRecursion (IsCause test program call words) causes
 
 -- these are the elements that conflict, or the least of them, at most so many
 pub record AreLeast (test : Test) (program : Program) (call : LoopCall) (words : List ℕ) (most : ℕ)

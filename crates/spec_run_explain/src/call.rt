@@ -4,6 +4,7 @@ ghost use Rattle.std.specs.Prelude.{◌≡◌, Some, IfOk};
 ghost use Rattle.std.specs.List.{All};
 ghost use Rattle.bpf_verify_sound.specs.Soundness.{OverApproximatesCall};
 ghost use Rattle.loop_core_witness.specs.Breaks.{IsBreak};
+ghost use Rattle.loop_core_witness.specs.Reductions.{TellsEnd};
 ghost use Rattle.loop_core_witness.specs.Witnesses.{Explains};
 ghost use Rattle.spec_run_explain.specs.Causes.{AreCauses, FailsAt, IsExplained, cause_elements};
 
@@ -13,7 +14,7 @@ use bpf_step::LoopCall;
 use bpf_verify::Verified;
 use loop_core_conflicts::find_conflicts;
 use loop_core_model::{LoopReport, Test};
-use loop_core_witness::{Place, find_break, find_pair};
+use loop_core_witness::{Place, find_break, find_end_of_reduction, find_pair};
 use std::alloc::{AllocError, Global};
 
 /// The cause of an element at which the loop fails the test.
@@ -34,9 +35,15 @@ fn cause_of(
     ensures element { IfOk result (λ cause. cause.element ≡ element) }
     ensures pair { IfOk result (λ cause.
         Explains test program.now call.now start.now.words cause.element (Some cause.witness)) }
+    ensures end { IfOk result (λ cause. TellsEnd program.now call.now start.now.words cause.element cause.end) }
 {
+    let end = find_end_of_reduction(alloc, program, call, start, element, broke)?;
     match find_pair(alloc, program, call, start, test, element, broke)? {
-        Some(witness) => Ok(Cause { element, witness }),
+        Some(witness) => Ok(Cause {
+            element,
+            witness,
+            end,
+        }),
         None => unreachable!(),
     }
 }
@@ -56,7 +63,7 @@ fn causes_of(
     requires broke { IsBreak program.now call.now start.now.words broke }
     requires failing { All (FailsAt test program.now call.now start.now.words) elements.now }
     ensures elements { IfOk result (λ causes. cause_elements causes.items ≡ elements.now) }
-    ensures pairs { IfOk result (λ causes. AreCauses test program.now call.now start.now.words causes.items) }
+    ensures causes { IfOk result (λ causes. AreCauses test program.now call.now start.now.words causes.items) }
 {
     let mut causes = Vec::new(alloc);
     for element in elements {

@@ -11,6 +11,9 @@ pub struct Cause {
     pub element: u32,
     /// The two iterations that fail the test there.
     pub witness: Witness,
+    /// The first access of it, in order, that isn't a reduce by the operator of the first one: it is what keeps the
+    /// element from being reduction-only.
+    pub end: Option<Place>,
 }
 
 /// What is told of a loop call.

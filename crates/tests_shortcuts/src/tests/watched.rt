@@ -4,7 +4,7 @@ use crate::tests::cases::{Case, are_run_in_each_way};
 use loop_core_model::Verdict;
 use std::test::Fail;
 
-const CASES: [Case; 8] = [
+const CASES: [Case; 10] = [
     // No element is read.
     Case {
         row: "maps 4 | mov64 r1, 3000 | LOOP | mov64 r2, r1 | and64 r2, 3 | lsh64 r2, 3 | ldmapval r3, 0, 0 | \
@@ -37,6 +37,24 @@ const CASES: [Case; 8] = [
         verdict: Verdict::Conflict { count: 1, least: 0 },
         answer: 3000,
         left: &[2999, 2899],
+    },
+    // It breaks too.
+    Case {
+        row: "maps 2 | mov64 r1, 3000 | LOOP | ldmapval r3, 0, 0 | mov64 r0, 0 | jeq64 r1, 2900, late | \
+            stx64 [r3+0], r1 | exit | late: | ldx64 r4, [r3+0] | stx64 [r3+8], r4 | mov64 r0, 1 | exit | %% | \
+            map 0: 5 6",
+        verdict: Verdict::Conflict { count: 1, least: 0 },
+        answer: 2901,
+        left: &[2899, 2899],
+    },
+    // The second iteration reads what the first one wrote, and each writes.
+    Case {
+        row: "maps 3 | mov64 r1, 3000 | LOOP | ldmapval r3, 0, 0 | mov64 r0, 0 | jeq64 r1, 1, early | \
+            stx64 [r3+0], r1 | exit | early: | ldx64 r4, [r3+0] | add64 r4, 40 | stx64 [r3+16], r4 | exit | %% | \
+            map 0: 5 6 7",
+        verdict: Verdict::Conflict { count: 1, least: 0 },
+        answer: 3000,
+        left: &[2999, 6, 40],
     },
     // Each iteration reads what it wrote itself.
     Case {

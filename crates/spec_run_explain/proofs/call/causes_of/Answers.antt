@@ -8,13 +8,14 @@ loop-element-preserved c = record {
   elements = one_more c.loop-element.causes.items c.push.new.self.items c.in_ok-cause.cause c.args.elements.now
       c.loop-element.element-index _ c.loop-element-test.true c.in_ok-push.ensures.items c.in_ok-cause.ensures.element
       c.loop-element.invariant.elements;
-  pairs = all_last _ c.loop-element.causes.items c.push.new.self.items c.in_ok-cause.cause
-      c.in_ok-push.ensures.items c.loop-element.invariant.pairs c.in_ok-cause.ensures.pair;
+  causes_are = all_last _ c.loop-element.causes.items c.push.new.self.items c.in_ok-cause.cause
+      c.in_ok-push.ensures.items c.loop-element.invariant.causes_are
+      (record { pair = c.in_ok-cause.ensures.pair; end = c.in_ok-cause.ensures.end });
 }
 
 pub returns : goal.returns
 returns c = record {
   elements = all_told c.loop-element.causes.items c.args.elements.now c.loop-element.element-index
       (omega (arith, c.loop-element-test.false)) c.loop-element.invariant.elements;
-  pairs = c.loop-element.invariant.pairs;
+  causes = c.loop-element.invariant.causes_are;
 }

@@ -5,5 +5,5 @@ use Rattle.spec_run_explain.proofs.call.causes_of.Given as goal
 abbrev pub invariant-loop-element : goal.invariant-loop-element
 invariant-loop-element l = record {
   elements : cause_elements l.causes.items ≡ take l.element-index l.elements;
-  pairs : AreCauses l.test l.program l.call l.start.words l.causes.items;
+  causes_are : AreCauses l.test l.program l.call l.start.words l.causes.items;
 }
