@@ -1,7 +1,8 @@
 //! What words say.
 
 ghost use Rattle.std.specs.Prelude.{◌≡◌, ◌-◌, length, take, drop};
-ghost use Rattle.bpf_text_operands.specs.Stems.{stem_word, stems, first_stem, whole, sized, front, ending, sized_at};
+ghost use Rattle.std.specs.Str.{bytes_eq};
+ghost use Rattle.bpf_text_operands.specs.Stems.{stems, first_stem, whole, sized, front, ending, sized_at};
 ghost use Rattle.bpf_text_operands.specs.Stems.{mnemonic_at, atomic_width, atomics, first_atomic};
 
 use crate::stem::Stem;
@@ -9,25 +10,29 @@ use bpf_insn_types::{
     AluOp, AtomicOp, ByteOrder, Callee, Compare, EndianBits, ImmKind, MovsxBits, SimpleOp, Size,
     Width,
 };
-use bpf_text_mnemonics::{
-    Mnemonic, alu_word, atomic_word, callee_word, compare_word, kind_word, order_word,
-};
+use bpf_text_mnemonics::{Mnemonic, atomic_word};
 
-/// All stems.
+/// All stems, each with its word.
 #[rattlefmt::skip]
-const STEMS: [Stem; 48] = [
-    Stem::Ja, Stem::Ja32, Stem::Exit, Stem::Call(Callee::Helper), Stem::Call(Callee::Local), Stem::Call(Callee::Btf),
-    Stem::LoadImm(ImmKind::Number), Stem::LoadImm(ImmKind::MapFd), Stem::LoadImm(ImmKind::MapFdValue),
-    Stem::LoadImm(ImmKind::Variable), Stem::LoadImm(ImmKind::Code), Stem::LoadImm(ImmKind::Map), Stem::LoadImm(ImmKind::MapValue),
-    Stem::Alu(AluOp::Add), Stem::Alu(AluOp::Sub), Stem::Alu(AluOp::Mul), Stem::Alu(AluOp::Div), Stem::Alu(AluOp::Sdiv),
-    Stem::Alu(AluOp::Or), Stem::Alu(AluOp::And), Stem::Alu(AluOp::Lsh), Stem::Alu(AluOp::Rsh), Stem::Alu(AluOp::Mod),
-    Stem::Alu(AluOp::Smod), Stem::Alu(AluOp::Xor), Stem::Alu(AluOp::Mov), Stem::Alu(AluOp::Arsh),
-    Stem::Neg, Stem::Movsx(Width::W32), Stem::Movsx(Width::W64),
-    Stem::Endian(ByteOrder::Le), Stem::Endian(ByteOrder::Be), Stem::Endian(ByteOrder::Swap),
-    Stem::Jump(Compare::Eq), Stem::Jump(Compare::Gt), Stem::Jump(Compare::Ge), Stem::Jump(Compare::Set), Stem::Jump(Compare::Ne),
-    Stem::Jump(Compare::Sgt), Stem::Jump(Compare::Sge), Stem::Jump(Compare::Lt), Stem::Jump(Compare::Le),
-    Stem::Jump(Compare::Slt), Stem::Jump(Compare::Sle),
-    Stem::Load, Stem::LoadSx, Stem::StoreImm, Stem::Store,
+const STEMS: [(&[u8], Stem); 48] = [
+    (b"ja", Stem::Ja), (b"ja32", Stem::Ja32), (b"exit", Stem::Exit), (b"call", Stem::Call(Callee::Helper)),
+    (b"call_local", Stem::Call(Callee::Local)), (b"call_btf", Stem::Call(Callee::Btf)),
+    (b"lddw", Stem::LoadImm(ImmKind::Number)), (b"ldmapfd", Stem::LoadImm(ImmKind::MapFd)),
+    (b"ldmapfdval", Stem::LoadImm(ImmKind::MapFdValue)), (b"ldvar", Stem::LoadImm(ImmKind::Variable)),
+    (b"ldcode", Stem::LoadImm(ImmKind::Code)), (b"ldmap", Stem::LoadImm(ImmKind::Map)),
+    (b"ldmapval", Stem::LoadImm(ImmKind::MapValue)), (b"add", Stem::Alu(AluOp::Add)),
+    (b"sub", Stem::Alu(AluOp::Sub)), (b"mul", Stem::Alu(AluOp::Mul)), (b"div", Stem::Alu(AluOp::Div)),
+    (b"sdiv", Stem::Alu(AluOp::Sdiv)), (b"or", Stem::Alu(AluOp::Or)), (b"and", Stem::Alu(AluOp::And)),
+    (b"lsh", Stem::Alu(AluOp::Lsh)), (b"rsh", Stem::Alu(AluOp::Rsh)), (b"mod", Stem::Alu(AluOp::Mod)),
+    (b"smod", Stem::Alu(AluOp::Smod)), (b"xor", Stem::Alu(AluOp::Xor)), (b"mov", Stem::Alu(AluOp::Mov)),
+    (b"arsh", Stem::Alu(AluOp::Arsh)), (b"neg", Stem::Neg), (b"mov32s", Stem::Movsx(Width::W32)),
+    (b"mov64s", Stem::Movsx(Width::W64)), (b"le", Stem::Endian(ByteOrder::Le)),
+    (b"be", Stem::Endian(ByteOrder::Be)), (b"swap", Stem::Endian(ByteOrder::Swap)),
+    (b"jeq", Stem::Jump(Compare::Eq)), (b"jgt", Stem::Jump(Compare::Gt)), (b"jge", Stem::Jump(Compare::Ge)),
+    (b"jset", Stem::Jump(Compare::Set)), (b"jne", Stem::Jump(Compare::Ne)), (b"jsgt", Stem::Jump(Compare::Sgt)),
+    (b"jsge", Stem::Jump(Compare::Sge)), (b"jlt", Stem::Jump(Compare::Lt)), (b"jle", Stem::Jump(Compare::Le)),
+    (b"jslt", Stem::Jump(Compare::Slt)), (b"jsle", Stem::Jump(Compare::Sle)), (b"ldx", Stem::Load),
+    (b"ldxs", Stem::LoadSx), (b"st", Stem::StoreImm), (b"stx", Stem::Store),
 ];
 
 /// All atomic operations.
@@ -44,36 +49,20 @@ const ATOMICS: [AtomicOp; 10] = [
     AtomicOp::Cmpxchg,
 ];
 
-/// The word of a stem.
-fn stem_word(stem: Stem) -> &'static str
-    ensures { result.now ≡ stem_word stem }
+/// Whether two words are the same: most aren't as long, which is compared first.
+fn is_same(word: &[u8], other: &[u8]) -> bool
+    ensures { result ≡ bytes_eq word.now other.now }
 {
-    match stem {
-        Stem::Ja => "ja",
-        Stem::Ja32 => "ja32",
-        Stem::Exit => "exit",
-        Stem::Call(callee) => callee_word(callee),
-        Stem::LoadImm(kind) => kind_word(kind),
-        Stem::Alu(op) => alu_word(op),
-        Stem::Neg => "neg",
-        Stem::Movsx(Width::W32) => "mov32s",
-        Stem::Movsx(Width::W64) => "mov64s",
-        Stem::Endian(order) => order_word(order),
-        Stem::Jump(compare) => compare_word(compare),
-        Stem::Load => "ldx",
-        Stem::LoadSx => "ldxs",
-        Stem::StoreImm => "st",
-        Stem::Store => "stx",
-    }
+    word.len() == other.len() && word == other
 }
 
 /// The stem that a word is.
 fn stem_at(word: &[u8]) -> Option<Stem>
     ensures { result ≡ first_stem word.now stems }
 {
-    for stem in &STEMS {
-        if word == stem_word(*stem).as_bytes() {
-            return Some(*stem);
+    for entry in &STEMS {
+        if is_same(word, entry.0) {
+            return Some(entry.1);
         }
     }
     None
