@@ -1,5 +1,6 @@
 -- Sites that commute are applied one after another.
 use Rattle.std.proofs.Common.{◌≡◌, ℕ, zero, suc, ◌+◌, ◌<◌, Bool, true, false, List}
+use Rattle.std.specs.Prelude.{Option, Some, None, IfSome}
 use Rattle.std.proofs.Common.{[], ◌∷◌, refl, sym, ◌∙◌, ap, subst, arith}
 use Rattle.std.specs.List.{AllByRecursion, AllPairs}
 use Rattle.std.proofs.lemmas.List.Elements.{recursion_from_All}
@@ -13,8 +14,9 @@ use Rattle.loop_core_model.specs.Flags.{kind_of}
 use Rattle.loop_core_model.specs.Kept.{OperatorsAssociate}
 use Rattle.loop_core_batch.specs.declared.site.Site.{Site}
 use Rattle.loop_core_batch.specs.Lanes.{words_after_lanes}
-use Rattle.loop_core_batch.specs.Sites.{Log, of_lane, MayAccess, kind_leaves, IsAtSite, IsLogOf}
-use Rattle.loop_core_batch.specs.BySite.{words_after_site, words_after_sites, by_one_operator, Commute, SitesApply}
+use Rattle.loop_core_batch.specs.Sites.{Log, with_access, of_lane, MayAccess, kind_leaves, IsAtSite, IsLogOf}
+use Rattle.loop_core_batch.specs.BySite.{words_after_any, words_after_some, words_after_sites, by_one_operator, Commute}
+use Rattle.loop_core_batch.specs.BySite.{SitesApply}
 use Rattle.loop_core_batch.specs.LoopByBatch.{LoopBySites}
 use Rattle.loop_core_batch.proofs.BatchLaws.{loop_by_batch}
 use Rattle.loop_core_batch.proofs.SiteLaws.{sites_tell}
@@ -28,15 +30,21 @@ past_all a (other ∷ others) all words = ap (words_after_all others) (sym (all.
     ∙ past_all a others all.1 (words_after other words)
 
 -- so of a lane's accesses
-swap_each : (a : Access) (log : Log) (lane : ℕ) → AllByRecursion (λ (at : ℕ → Access). Swap a (at lane)) log
+with_swap : (a : Access) (made : Option Access) (rest : List Access) → IfSome made (Swap a)
+    → AllByRecursion (Swap a) rest → AllByRecursion (Swap a) (with_access made rest)
+with_swap a None rest one all = all
+with_swap a (Some other) rest one all = (one, all)
+
+swap_each : (a : Access) (log : Log) (lane : ℕ)
+    → AllByRecursion (λ (at : ℕ → Option Access). IfSome (at lane) (Swap a)) log
     → AllByRecursion (Swap a) (of_lane log lane)
 swap_each a [] lane all = tt
-swap_each a (at ∷ log) lane all = (all.0, swap_each a log lane all.1)
+swap_each a (at ∷ log) lane all = with_swap a (at lane) (of_lane log lane) all.0 (swap_each a log lane all.1)
 
 past_lanes : (a : Access) (log : Log) (lanes : ℕ)
-    → ((lane : ℕ) → lane < lanes → AllByRecursion (λ (at : ℕ → Access). Swap a (at lane)) log) → (words : List ℕ) →
-    words_after_lanes (of_lane log) lanes (words_after a words) ≡ words_after a (words_after_lanes (of_lane log) lanes
-    words)
+    → ((lane : ℕ) → lane < lanes → AllByRecursion (λ (at : ℕ → Option Access). IfSome (at lane) (Swap a)) log)
+    → (words : List ℕ) → words_after_lanes (of_lane log) lanes (words_after a words)
+    ≡ words_after a (words_after_lanes (of_lane log) lanes words)
 past_lanes a log zero each words = refl
 past_lanes a log (suc lanes) each words =
     ap (words_after_all (of_lane log lanes)) (past_lanes a log lanes (λ lane within. each lane (omega arith)) words)
@@ -44,21 +52,39 @@ past_lanes a log (suc lanes) each words =
     lanes words)
 
 -- each later lane's access at a site may change places with earlier lanes' at the sites after it
-abbrev pub GoesFirst : (ℕ → Access) → Log → ℕ → Type 0
+abbrev pub GoesFirst : (ℕ → Option Access) → Log → ℕ → Type 0
 GoesFirst at log lanes = (later earlier : ℕ) → earlier < later → later < lanes
-    → AllByRecursion (λ (other : ℕ → Access). Swap (at later) (other earlier)) log
+    → IfSome (at later) (λ access. AllByRecursion (λ (other : ℕ → Option Access). IfSome (other earlier) (Swap access))
+    log)
 
-first_site : (at : ℕ → Access) (log : Log) (lanes : ℕ) → GoesFirst at log lanes → (words : List ℕ) →
-    words_after_lanes (of_lane log) lanes (words_after_site at lanes words) ≡ words_after_lanes (of_lane (at ∷ log))
-    lanes words
+-- a lane's access at a site, if it made one, goes before those of earlier lanes at the sites after it
+one_first : (made : Option Access) (log : Log) (lanes : ℕ)
+    → IfSome made (λ access. (lane : ℕ) → lane < lanes
+    → AllByRecursion (λ (other : ℕ → Option Access). IfSome (other lane) (Swap access)) log) → (words : List ℕ)
+    → words_after_all (of_lane log lanes) (words_after_lanes (of_lane log) lanes (words_after_any made words))
+    ≡ words_after_all (with_access made (of_lane log lanes)) (words_after_lanes (of_lane log) lanes words)
+one_first None log lanes first words = refl
+one_first (Some access) log lanes first words =
+    ap (words_after_all (of_lane log lanes)) (past_lanes access log lanes first words)
+
+-- what is so for each lane of an access that may not be there
+for_each : (made : Option Access) (lanes : ℕ) (P : Access → ℕ → Type 0)
+    → ((lane : ℕ) → lane < lanes → IfSome made (λ access. P access lane))
+    → IfSome made (λ access. (lane : ℕ) → lane < lanes → P access lane)
+for_each None lanes P each = tt
+for_each (Some access) lanes P each = each
+
+first_site : (at : ℕ → Option Access) (log : Log) (lanes : ℕ) → GoesFirst at log lanes → (words : List ℕ) →
+    words_after_lanes (of_lane log) lanes (words_after_some at lanes words)
+    ≡ words_after_lanes (of_lane (at ∷ log)) lanes words
 first_site at log zero first words = refl
 first_site at log (suc lanes) first words =
-    ap (words_after_all (of_lane log lanes)) (
-    past_lanes (at lanes) log lanes (λ lane within. first lanes lane within (omega arith))
-    (words_after_site at lanes words)
-    ∙ ap (words_after (at lanes)) (first_site at log lanes (λ later earlier order within. first later earlier order
-    (omega arith)) words)
-    )
+    one_first (at lanes) log lanes
+    (for_each (at lanes) lanes (λ access lane.
+    AllByRecursion (λ (other : ℕ → Option Access). IfSome (other lane) (Swap access)) log)
+    (λ lane within. first lanes lane within (omega arith))) (words_after_some at lanes words)
+    ∙ ap (words_after_all (with_access (at lanes) (of_lane log lanes)))
+    (first_site at log lanes (λ later earlier order within. first later earlier order (omega arith)) words)
 
 -- no site, no access
 nothing_left : (lanes : ℕ) (words : List ℕ) → words ≡ words_after_lanes (of_lane []) lanes words
@@ -73,7 +99,7 @@ EachGoesFirst (at ∷ log) lanes = GoesFirst at log lanes × EachGoesFirst log l
 site_by_site : (log : Log) (lanes : ℕ) → EachGoesFirst log lanes → (words : List ℕ) → words_after_sites log lanes words
     ≡ words_after_lanes (of_lane log) lanes words
 site_by_site [] lanes each words = nothing_left lanes words
-site_by_site (at ∷ log) lanes each words = site_by_site log lanes each.1 (words_after_site at lanes words)
+site_by_site (at ∷ log) lanes each words = site_by_site log lanes each.1 (words_after_some at lanes words)
     ∙ first_site at log lanes each.0 words
 
 -- what leaves no word by its kind writes nothing
@@ -123,18 +149,40 @@ module _ (laws : OperatorsAssociate) (lanes : ℕ) where
             by_second = subst (λ (e : ℕ). MayAccess first.elements later e) same at_first.element;
           }))
 
+  -- so of those that may not be there
+  any_swap : (first second : Site) (a b : Option Access) (later earlier : ℕ) → Commute lanes first second
+      → earlier < later → later < lanes → IfSome a (IsAtSite first later) → IfSome b (IsAtSite second earlier)
+      → IfSome a (λ access. IfSome b (Swap access))
+  any_swap first second None b later earlier commute order within at_first at_second = tt
+  any_swap first second (Some a) None later earlier commute order within at_first at_second = tt
+  any_swap first second (Some a) (Some b) later earlier commute order within at_first at_second =
+      sites_swap first second a b later earlier commute order within at_first at_second
+
+  -- an access before which there is nothing goes first, and so does one that may change places with each
+  both_first : (made : Option Access) (other : Option Access) (Q : Access → Type 0)
+      → IfSome made (λ access. IfSome other (Swap access)) → IfSome made Q
+      → IfSome made (λ access. IfSome other (Swap access) × Q access)
+  both_first None other Q swap rest = tt
+  both_first (Some access) other Q swap rest = (swap, rest)
+
+  none_behind : (made : Option Access) → IfSome made (λ access. Unit {0})
+  none_behind None = tt
+  none_behind (Some access) = tt
+
   -- so a site that commutes with those after it goes first
-  goes_first : (site : Site) (at : ℕ → Access) → ((lane : ℕ) → lane < lanes → IsAtSite site lane (at lane))
+  goes_first : (site : Site) (at : ℕ → Option Access)
+      → ((lane : ℕ) → lane < lanes → IfSome (at lane) (IsAtSite site lane))
       → (sites : List Site) (log : Log) → IsLogOf lanes sites log →
       AllByRecursion (Commute lanes site) sites → GoesFirst at log lanes
-  goes_first site at told [] [] tells all later earlier order within = tt
+  goes_first site at told [] [] tells all later earlier order within = none_behind (at later)
   goes_first site at told [] (other ∷ log) tells all later earlier order within = absurd tells
   goes_first site at told (other ∷ sites) [] tells all later earlier order within = absurd tells
-  goes_first site at told (other ∷ sites) (by ∷ log) tells all later earlier order within = (
-    sites_swap site other (at later) (by earlier) later earlier all.0 order within (told later within)
-        (tells.0 earlier (omega arith)),
-    goes_first site at told sites log tells.1 all.1 later earlier order within,
-  )
+  goes_first site at told (other ∷ sites) (by ∷ log) tells all later earlier order within =
+      both_first (at later) (by earlier)
+      (λ access. AllByRecursion (λ (o : ℕ → Option Access). IfSome (o earlier) (Swap access)) log)
+      (any_swap site other (at later) (by earlier) later earlier all.0 order within (told later within)
+      (tells.0 earlier (omega arith)))
+      (goes_first site at told sites log tells.1 all.1 later earlier order within)
 
   each_goes_first : (sites : List Site) (log : Log) → IsLogOf lanes sites log → AllPairs (Commute lanes) sites
       → EachGoesFirst log lanes

@@ -1,16 +1,18 @@
 -- What sites tell of lanes.
-use Rattle.std.proofs.Common.{◌≡◌, ℕ, ◌<◌, Bool, true, false, ◌||◌, ◌⊎◌, inl, inr, List, [], ◌∷◌, refl, subst, arith}
-use Rattle.std.specs.Prelude.{if◌then◌else◌, ◌==◌}
+use Rattle.std.proofs.Common.{◌≡◌, ℕ, ◌<◌, Bool, true, false, ◌||◌, ◌⊎◌, inl, inr, List, [], ◌∷◌}
+use Rattle.std.proofs.Common.{Option, Some, None, refl, subst, arith}
+use Rattle.std.specs.Prelude.{if◌then◌else◌, ◌==◌, IfSome}
 use Rattle.std.specs.List.{list_any, All}
 use Rattle.std.proofs.lemmas.Bool.{eqb-true}
 use Rattle.std.proofs.lemmas.List.Elements.{All-head, All-tail}
-use Rattle.array_maps.specs.Accesses.{Action, Read, Write, ReadWrite, Reduce, actions_at}
+use Rattle.array_maps.specs.Accesses.{Action, Read, Write, ReadWrite, Reduce, Access, actions_at}
 use Rattle.loop_core_model.specs.Actions.{is_write}
 use Rattle.loop_core_model.specs.declared.access.Access.{Access as Kind}
 use Rattle.loop_core_model.specs.Flags.{kind_of}
 use Rattle.loop_core_batch.specs.declared.site.Site.{Site}
 use Rattle.loop_core_batch.specs.Lanes.{sees}
-use Rattle.loop_core_batch.specs.Sites.{Log, of_lane, MayAccess, kind_sees, kind_leaves, Unseen, IsLogOf, SitesTell}
+use Rattle.loop_core_batch.specs.Sites.{Log, with_access, of_lane, MayAccess, kind_sees, kind_leaves, Unseen}
+use Rattle.loop_core_batch.specs.Sites.{IsAtSite, IsLogOf, SitesTell}
 
 -- one of the sites is so
 abbrev pub AnySite : (Site → Type 0) → List Site → Type 0
@@ -30,31 +32,40 @@ module _ (test : Action → Bool) (passes : Kind → Bool) (agrees : (action : A
   abbrev pub Here : Site → Type 0
   Here site = (passes site.kind ≡ true) × MayAccess site.elements lane element
 
+  -- so of an access before others
+  at_first : (site : Site) (sites : List Site) (access : Access) (rest : List Access) → IsAtSite site lane access
+      → (list_any test (actions_at element rest) ≡ true → AnySite Here sites)
+      → list_any test (actions_at element (access ∷ rest)) ≡ true → AnySite Here (site ∷ sites)
+  at_first site sites access rest is later hit = go (access.element == element) refl hit
+    where
+      at_head : (b : Bool) → test access.action ≡ b → access.element ≡ element
+          → (b || list_any test (actions_at element rest)) ≡ true → AnySite Here (site ∷ sites)
+      at_head true hits same h = inl (
+        subst (λ (kind : Kind). passes kind ≡ true) is.kind (agrees access.action hits),
+        subst (λ (e : ℕ). MayAccess site.elements lane e) same is.element,
+      )
+      at_head false misses same h = inr (later h)
+
+      go : (here : Bool) → (access.element == element) ≡ here
+          → list_any test (if here then access.action ∷ actions_at element rest else actions_at element rest) ≡ true
+          → AnySite Here (site ∷ sites)
+      go false other h = inr (later h)
+      go true same h = at_head (test access.action) refl (eqb-true access.element element same) h
+
+  -- or of none
+  at_any : (site : Site) (sites : List Site) (made : Option Access) (rest : List Access)
+      → IfSome made (IsAtSite site lane) → (list_any test (actions_at element rest) ≡ true → AnySite Here sites)
+      → list_any test (actions_at element (with_access made rest)) ≡ true → AnySite Here (site ∷ sites)
+  at_any site sites None rest is later hit = inr (later hit)
+  at_any site sites (Some access) rest is later hit = at_first site sites access rest is later hit
+
   pub site_of : (sites : List Site) (log : Log) → IsLogOf lanes sites log
       → list_any test (actions_at element (of_lane log lane)) ≡ true → AnySite Here sites
   site_of [] [] told hit = absurd (cc)
   site_of [] (at ∷ log) told hit = absurd told
   site_of (site ∷ sites) [] told hit = absurd told
-  site_of (site ∷ sites) (at ∷ log) told hit = go ((at lane).element == element) refl (site_of sites log told.1) hit
-    where
-      at_head : (b : Bool) → test (at lane).action ≡ b → (at lane).element ≡ element
-          → (list_any test (actions_at element (of_lane log lane)) ≡ true → AnySite Here sites) →
-          (b || list_any test (actions_at element (of_lane log lane))) ≡ true → AnySite Here (site ∷ sites)
-      at_head true hits same later h =
-          let is = told.0 lane within in
-          inl (
-            subst (λ (kind : Kind). passes kind ≡ true) is.kind (agrees (at lane).action hits),
-            subst (λ (e : ℕ). MayAccess site.elements lane e) same is.element,
-          )
-      at_head false misses same later h = inr (later h)
-
-      go : (here : Bool) → ((at lane).element == element) ≡ here
-          → (list_any test (actions_at element (of_lane log lane)) ≡ true → AnySite Here sites) →
-          list_any test (if here then (at lane).action ∷ actions_at element (of_lane log lane)
-          else actions_at element (of_lane log lane)) ≡ true →
-          AnySite Here (site ∷ sites)
-      go false other later h = inr (later h)
-      go true same later h = at_head (test (at lane).action) refl (eqb-true (at lane).element element same) later h
+  site_of (site ∷ sites) (at ∷ log) told hit =
+      at_any site sites (at lane) (of_lane log lane) (told.0 lane within) (site_of sites log told.1) hit
 
 leaves_agrees : (action : Action) → is_write action ≡ true → kind_leaves (kind_of action) ≡ true
 leaves_agrees (Read saw) h = absurd (cc)

@@ -1,5 +1,6 @@
 -- What a batch leaves, when its accesses are applied site by site: at each site those of all lanes, in their order.
 use Rattle.std.specs.Prelude.{◌≡◌, ℕ, zero, suc, Bool, true, false, List, [], ◌∷◌}
+use Rattle.std.specs.Prelude.{Option, Some, None}
 use Rattle.std.specs.List.{AllPairs}
 use Rattle.array_maps.specs.declared.access.Op.{Op}
 use Rattle.array_maps.specs.Accesses.{Access, Reduce as Reduces, combined, words_after}
@@ -10,15 +11,25 @@ use Rattle.loop_core_batch.specs.declared.site.Site.{Site}
 use Rattle.loop_core_batch.specs.Lanes.{words_after_lanes}
 use Rattle.loop_core_batch.specs.Sites.{Log, of_lane, MayMeet, kind_leaves, IsLogOf}
 
--- the words after one site's accesses of n lanes
+-- the words after one site's accesses of n lanes, each of which made one
 abbrev pub words_after_site : (site : ℕ → Access) (lanes : ℕ) → List ℕ → List ℕ
 words_after_site site zero words = words
 words_after_site site (suc lanes) words = words_after (site lanes) (words_after_site site lanes words)
 
+-- the words after an access, if there is one
+abbrev pub words_after_any : Option Access → List ℕ → List ℕ
+words_after_any None words = words
+words_after_any (Some access) words = words_after access words
+
+-- the words after one site's accesses of n lanes, some of which made one
+abbrev pub words_after_some : (site : ℕ → Option Access) (lanes : ℕ) → List ℕ → List ℕ
+words_after_some site zero words = words
+words_after_some site (suc lanes) words = words_after_any (site lanes) (words_after_some site lanes words)
+
 -- the words after all sites, one after another
 abbrev pub words_after_sites : Log → (lanes : ℕ) → List ℕ → List ℕ
 words_after_sites [] lanes words = words
-words_after_sites (site ∷ sites) lanes words = words_after_sites sites lanes (words_after_site site lanes words)
+words_after_sites (site ∷ sites) lanes words = words_after_sites sites lanes (words_after_some site lanes words)
 
 -- both kinds are reduces, by one operator
 abbrev pub by_one_operator : Kind → Kind → Bool

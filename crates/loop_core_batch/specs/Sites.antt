@@ -1,5 +1,5 @@
--- The accesses of a batch, site by site. All lanes went one way, so each lane made one access at each site.
-use Rattle.std.specs.Prelude.{◌≡◌, ℕ, ◌+◌, ◌<◌, ◌≤◌, Bool, true, false, List, map}
+-- The accesses of a batch, site by site. Each lane made one access at each site, or none where it went another way.
+use Rattle.std.specs.Prelude.{◌≡◌, ℕ, ◌+◌, ◌<◌, ◌≤◌, Bool, true, false, List, [], ◌∷◌, Option, Some, None, IfSome}
 use Rattle.std.specs.List.{All, AllZip, Contains}
 use Rattle.array_maps.specs.Accesses.{Access}
 use Rattle.loop_core_model.specs.declared.access.Access.{Access as Kind}
@@ -10,13 +10,19 @@ use Rattle.loop_core_batch.specs.declared.elements.Elements.TheVariants.{One, Ru
 use Rattle.loop_core_batch.specs.declared.site.Site.{Site}
 use Rattle.loop_core_batch.specs.Lanes.{NoneSees}
 
--- what lanes did: at each site each lane's access, by its number
+-- what lanes did: at each site each lane's access, by its number, if it made one
 abbrev pub Log : Type 0
-Log = List (ℕ → Access)
+Log = List (ℕ → Option Access)
+
+-- an access, if there is one, and others after it
+abbrev pub with_access : Option Access → List Access → List Access
+with_access None accesses = accesses
+with_access (Some access) accesses = access ∷ accesses
 
 -- a lane's accesses, site by site
 abbrev pub of_lane : Log → ℕ → List Access
-of_lane log lane = map (λ (site : ℕ → Access). site lane) log
+of_lane [] lane = []
+of_lane (site ∷ sites) lane = with_access (site lane) (of_lane sites lane)
 
 -- a lane may access the element: all lanes the same, each the one that is its number after the base, or each any from
 -- the low one to the high one
@@ -85,8 +91,8 @@ pub record IsAtSite (site : Site) (lane : ℕ) (access : Access) : Type 0 where
 
 -- the sites tell of each access of n lanes
 abbrev pub IsLogOf : (lanes : ℕ) → List Site → Log → Type 0
-IsLogOf lanes sites log = AllZip (λ site (at : ℕ → Access). (lane : ℕ) → lane < lanes → IsAtSite site lane (at lane))
-    sites log
+IsLogOf lanes sites log = AllZip (λ site (at : ℕ → Option Access). (lane : ℕ) → lane < lanes
+    → IfSome (at lane) (IsAtSite site lane)) sites log
 
 -- where no site's writes may be seen, no lane sees an element that an earlier one writes
 abbrev pub SitesTell : Type 0

@@ -22,17 +22,24 @@ use Rattle.private_copy.specs.Copies.{PrivateCopy}
 use Rattle.private_copy.specs.Noting.{last_by_lane, reduction_by_lane, NotesSite}
 use Rattle.loop_core_batch.specs.declared.elements.Elements.{Elements}
 use Rattle.loop_core_batch.specs.declared.elements.Elements.TheVariants.{One, Between}
+use Rattle.bpf_step_batch.specs.declared.mask.Mask.TheVariants.{All as AllLanes}
 use Rattle.bpf_step_batch.specs.declared.entry.Entry.{Entry}
-use Rattle.bpf_step_batch.specs.Logs.{element_by, action_by, access_by, log_by, site_of}
+use Rattle.bpf_step_batch.specs.Logs.{element_by, action_by, access_by, site_of}
 use Rattle.loop_core_block.specs.Batches.{HasElement, IsRow}
 use Rattle.loop_core_block.specs.Folding.{by_site, lead_of, leads_of, marks_by_flags, marks_by_lead}
 use Rattle.loop_core_block.specs.Folding.{EndsSite, PlanesFold, CopyFolds}
 use Rattle.loop_core_block.specs.Placing.{HasPlace}
 use Rattle.loop_core_block.proofs.Grid.{over_same}
+use Rattle.loop_core_block.specs.Whole.{sites_by}
 
 -- what stands past the end of entries
 abbrev pub no_entry : Entry
-no_entry = record { site = record { kind = Reads; elements = One 0 }; elements = []; values = [] }
+no_entry = record {
+  site = record { kind = Reads; elements = One 0 };
+  mask = AllLanes;
+  elements = [];
+  values = [];
+}
 
 -- a row of one element is that of a site of it, and a site of any elements has its own
 pub one_row : (row : List ℕ) (entry : Entry) (only lanes : ℕ) → entry.site.elements ≡ One only → lanes ≤ 128
@@ -150,11 +157,11 @@ module _ (old new : PrivateCopy) (words : List ℕ) (entry : Entry) (at : ℕ �
 pub record CopyComesTo (old now : PrivateCopy) (entries : List Entry) (lanes index : ℕ) : Type 0 where
   pub start : now.start ≡ old.start
   pub last : (e : ℕ) → by_site (λ (site : ℕ → Access). last_by_lane site old.start e)
-      (log_by old.start (drop index entries)) lanes (now.last e)
-      ≡ by_site (λ (site : ℕ → Access). last_by_lane site old.start e) (log_by old.start entries) lanes (old.last e)
+      (sites_by old.start (drop index entries)) lanes (now.last e)
+      ≡ by_site (λ (site : ℕ → Access). last_by_lane site old.start e) (sites_by old.start entries) lanes (old.last e)
   pub reduction : (e : ℕ) → by_site (λ (site : ℕ → Access). reduction_by_lane site e)
-      (log_by old.start (drop index entries)) lanes (now.reduction e)
-      ≡ by_site (λ (site : ℕ → Access). reduction_by_lane site e) (log_by old.start entries) lanes (old.reduction e)
+      (sites_by old.start (drop index entries)) lanes (now.reduction e)
+      ≡ by_site (λ (site : ℕ → Access). reduction_by_lane site e) (sites_by old.start entries) lanes (old.reduction e)
   pub pages : now.pages ≡ old.pages
   pub under_way : now.under_way ≡ old.under_way
   pub begun : now.begun ≡ old.begun
@@ -175,7 +182,7 @@ pub site_noted : (old now next : PrivateCopy) (entries : List Entry) (lanes inde
     → CopyComesTo old next entries lanes (index + 1)
 site_noted old now next entries lanes index d so_far below noted =
     let site : ℕ → Access = access_by old.start (slice_index_or entries index d) in
-    let rest : List (ℕ → Access) = log_by old.start (drop (index + 1) entries) in
+    let rest : List (ℕ → Access) = sites_by old.start (drop (index + 1) entries) in
     record {
       start = noted.start ∙ so_far.start;
       last = λ e.
@@ -183,12 +190,12 @@ site_noted old now next entries lanes index d so_far below noted =
           (noted.last e ∙ ap (λ (start : List ℕ). over_lanes (last_by_lane site start e) lanes (now.last e))
           so_far.start)
           ∙ sym (ap (λ (es : List Entry). by_site (λ (s : ℕ → Access). last_by_lane s old.start e)
-          (log_by old.start es) lanes (now.last e)) (drop_more entries index d below))
+          (sites_by old.start es) lanes (now.last e)) (drop_more entries index d below))
           ∙ so_far.last e;
       reduction = λ e.
           ap (by_site (λ (s : ℕ → Access). reduction_by_lane s e) rest lanes) (noted.reduction e)
           ∙ sym (ap (λ (es : List Entry). by_site (λ (s : ℕ → Access). reduction_by_lane s e)
-          (log_by old.start es) lanes (now.reduction e)) (drop_more entries index d below))
+          (sites_by old.start es) lanes (now.reduction e)) (drop_more entries index d below))
           ∙ so_far.reduction e;
       pages = noted.pages ∙ so_far.pages;
       under_way = noted.under_way ∙ so_far.under_way;
@@ -201,11 +208,11 @@ all_noted old now entries lanes index past so_far = record {
   start = so_far.start;
   last = λ e.
       sym (ap (λ (es : List Entry). by_site (λ (s : ℕ → Access). last_by_lane s old.start e)
-      (log_by old.start es) lanes (now.last e)) (drop_of_length-le entries past))
+      (sites_by old.start es) lanes (now.last e)) (drop_of_length-le entries past))
       ∙ so_far.last e;
   reduction = λ e.
       sym (ap (λ (es : List Entry). by_site (λ (s : ℕ → Access). reduction_by_lane s e)
-      (log_by old.start es) lanes (now.reduction e)) (drop_of_length-le entries past))
+      (sites_by old.start es) lanes (now.reduction e)) (drop_of_length-le entries past))
       ∙ so_far.reduction e;
   pages = so_far.pages;
   under_way = so_far.under_way;

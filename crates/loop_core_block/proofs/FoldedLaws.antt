@@ -2,7 +2,7 @@
 use Rattle.std.proofs.Common.{◌≡◌, ℕ, zero, suc, ◌+◌, ◌-◌, ◌≤◌, Bool, false, List, [], ◌∷◌, ◌++◌, length, Option}
 use Rattle.std.proofs.Common.{Some, None, is_some, refl, sym, ◌∙◌, ap, subst, arith, length-append}
 use Rattle.std.specs.Prelude.{slice_index, if◌then◌else◌, ◌==◌}
-use Rattle.std.specs.List.{AllByRecursion}
+use Rattle.std.specs.List.{All, AllByRecursion}
 use Rattle.std.proofs.lemmas.List.{map-append, length-map}
 use Rattle.array_maps.specs.Accesses.{Access}
 use Rattle.bpf_step_model.specs.Run.{BoundedResult, Ended, followed}
@@ -24,17 +24,19 @@ use Rattle.private_copy.specs.Noting.{HavePassed, last_by_lane, reduction_by_lan
 use Rattle.private_copy.specs.Shown.{copy_of}
 use Rattle.private_copy.specs.Visits.{visits_of}
 use Rattle.bpf_step_batch.specs.declared.entry.Entry.{Entry}
-use Rattle.bpf_step_batch.specs.Logs.{log_by, IsLogged}
+use Rattle.bpf_step_batch.specs.Logs.{IsLogged}
 use Rattle.loop_core_block.specs.declared.runner.Runner.{Runner}
 use Rattle.loop_core_block.specs.Batches.{AreIterations}
 use Rattle.loop_core_block.specs.Folding.{by_site, MayFold, leads_of, marks_by_lead, PlanesFold, CopyFolds}
 use Rattle.loop_core_block.specs.Placing.{pages_by_lane, PlacesLanes}
 use Rattle.loop_core_block.specs.Runs.{start_words, RanMore}
 use Rattle.loop_core_block.proofs.Grid.{either_order}
+use Rattle.loop_core_block.proofs.WholeLaws.{each_is}
 use Rattle.loop_core_block.proofs.KeptLanes.{runs_of, last_lanes, reduction_lanes, pages_lanes, all_swap}
 use Rattle.loop_core_block.proofs.MarkedLanes.{leads_swap, marks_lanes}
 use Rattle.loop_core_block.proofs.OneMoreLaws.{accesses_more}
 use Rattle.loop_core_block.proofs.RunLaws.{block_by, iterate_by, parts, either_way, break_behind}
+use Rattle.loop_core_block.specs.Whole.{IsWhole, sites_by}
 
 -- the iterations of the first n lanes
 record RanLanes (r : Runner) (entries : List Entry) (index n : ℕ) : Type 0 where
@@ -45,7 +47,8 @@ record RanLanes (r : Runner) (entries : List Entry) (index n : ℕ) : Type 0 whe
   pub accesses : accesses_of_each ran ≡ runs_of (start_words r) entries n
 
 module _ (r : Runner) (entries : List Entry) (index lanes : ℕ)
-    (are : AreIterations r.callback.program r.callback.call (start_words r) entries index lanes) where
+    (are : AreIterations r.callback.program r.callback.call (start_words r) entries index lanes)
+    (whole : All IsWhole entries) where
   ran_lanes : (n : ℕ) → n ≤ lanes → RanLanes r entries index n
   ran_lanes zero within = record {
     ran = [];
@@ -81,7 +84,8 @@ module _ (r : Runner) (entries : List Entry) (index lanes : ℕ)
         accesses =
             accesses_more before.ran it
             ∙ ap (λ (l : List (List Access)). l ++ it.accesses ∷ []) before.accesses
-            ∙ ap (λ (l : List Access). runs_of (start_words r) entries n ++ l ∷ []) goes.made;
+            ∙ ap (λ (l : List Access). runs_of (start_words r) entries n ++ l ∷ [])
+            (goes.made ∙ each_is (start_words r) entries n whole);
       }
 
 -- what a copy keeps, after the pages of n lanes were placed, n iterations counted, and their accesses noted
@@ -103,10 +107,11 @@ module _ (old placed passed new : PrivateCopy) (entries : List Entry) (lanes : �
   last_is runs e was =
       let step : (ℕ → Access) → ℕ → Option ℕ → Option ℕ = λ site. last_by_lane site old.start e in
       folds.last e
-      ∙ ap (λ (words : List ℕ). by_site (λ (site : ℕ → Access). last_by_lane site words e) (log_by words entries) lanes
+      ∙ ap (λ (words : List ℕ). by_site (λ (site : ℕ → Access). last_by_lane site words e) (sites_by words entries)
+      lanes
       (passed.last e)) passed_start
-      ∙ ap (by_site step (log_by old.start entries) lanes) (passes.last e ∙ places.last e ∙ was)
-      ∙ either_order step lanes (log_by old.start entries) (all_swap lanes old.start e entries may logged).0
+      ∙ ap (by_site step (sites_by old.start entries) lanes) (passes.last e ∙ places.last e ∙ was)
+      ∙ either_order step lanes (sites_by old.start entries) (all_swap lanes old.start e entries may logged).0
       (last_value (at_element e runs) (slice_index old.start e))
       ∙ last_lanes lanes old.start entries may logged runs e lanes (omega arith)
 
@@ -115,9 +120,9 @@ module _ (old placed passed new : PrivateCopy) (entries : List Entry) (lanes : �
   reduction_is runs e was =
       let step : (ℕ → Access) → ℕ → Reduction → Reduction = λ site. reduction_by_lane site e in
       folds.reduction e
-      ∙ ap (λ (words : List ℕ). by_site step (log_by words entries) lanes (passed.reduction e)) passed_start
-      ∙ ap (by_site step (log_by old.start entries) lanes) (passes.reduction e ∙ places.reduction e ∙ was)
-      ∙ either_order step lanes (log_by old.start entries) (all_swap lanes old.start e entries may logged).1
+      ∙ ap (λ (words : List ℕ). by_site step (sites_by words entries) lanes (passed.reduction e)) passed_start
+      ∙ ap (by_site step (sites_by old.start entries) lanes) (passes.reduction e ∙ places.reduction e ∙ was)
+      ∙ either_order step lanes (sites_by old.start entries) (all_swap lanes old.start e entries may logged).1
       (reduction_of (at_element e runs))
       ∙ reduction_lanes old.start entries runs e lanes
 
@@ -143,6 +148,7 @@ module _ (old placed passed new : PrivateCopy) (entries : List Entry) (lanes : �
 -- a runner into which all lanes were folded
 module _ (old new : Runner) (placed passed : Private) (entries : List Entry) (index lanes : ℕ)
     (are : AreIterations old.callback.program old.callback.call (start_words old) entries index lanes)
+    (whole : All IsWhole entries)
     (logged : AllByRecursion (IsLogged lanes (start_words old)) entries) (may : MayFold lanes entries)
     (places : PlacesLanes (copy_of old.copy) (copy_of placed) entries lanes)
     (passes : HavePassed (copy_of placed) lanes (copy_of passed))
@@ -150,7 +156,7 @@ module _ (old new : Runner) (placed passed : Private) (entries : List Entry) (in
     (ends : PlanesFold old.planes new.planes entries lanes index) (callback : new.callback ≡ old.callback)
     (most : new.most ≡ old.most) where
   all_lanes : RanLanes old entries index lanes
-  all_lanes = ran_lanes old entries index lanes are lanes (omega arith)
+  all_lanes = ran_lanes old entries index lanes are whole lanes (omega arith)
 
   start : start_words new ≡ start_words old
   start = same_start (copy_of old.copy) (copy_of placed) (copy_of passed) (copy_of new.copy) entries lanes logged may
@@ -189,7 +195,8 @@ module _ (old new : Runner) (placed passed : Private) (entries : List Entry) (in
         let reached = has.reached in
         let was = has.begun in
         let both = length-append before all_lanes.ran in
-        let begun = more_begun (copy_of old.copy) (copy_of placed) (copy_of passed) (copy_of new.copy) entries lanes logged
+        let begun = more_begun (copy_of old.copy) (copy_of placed) (copy_of passed) (copy_of new.copy) entries lanes
+        logged
         may places passes folds in
         let many = length-map before (λ (it : Iterated). it.accesses) in
         record {

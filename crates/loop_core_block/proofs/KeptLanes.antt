@@ -14,7 +14,7 @@ use Rattle.loop_core_model.specs.Actions.{is_write, joined}
 use Rattle.loop_core_model.specs.Committed.{last_value}
 use Rattle.loop_core_model.specs.Conflict.{at_element}
 use Rattle.loop_core_model.proofs.OneElement.{left_by_all-append}
-use Rattle.loop_core_batch.specs.Sites.{Log, of_lane, kind_leaves}
+use Rattle.loop_core_batch.specs.Sites.{kind_leaves}
 use Rattle.shadow_marks.specs.Lanes.{over_lanes}
 use Rattle.private_copy.specs.declared.reduction.Reduction.{Reduction}
 use Rattle.private_copy.specs.declared.reduction.Reduction.TheVariants.{Mixed}
@@ -25,11 +25,12 @@ use Rattle.private_copy.specs.Noting.{last_by_lane, reduction_by_lane}
 use Rattle.private_copy.proofs.IterationLaws.{last_more, last_none, reduction_more, reduction_none}
 use Rattle.private_copy.proofs.IterationLaws.{at_last, joined_last, pages_after-append}
 use Rattle.bpf_step_batch.specs.declared.entry.Entry.{Entry}
-use Rattle.bpf_step_batch.specs.Logs.{element_by, action_by, access_by, log_by, accesses_by, IsLogged}
+use Rattle.bpf_step_batch.specs.Logs.{element_by, action_by, access_by, IsLogged}
 use Rattle.loop_core_block.specs.Folding.{over_sites, FoldBoth, MayFold}
 use Rattle.loop_core_block.specs.Placing.{pages_by_lane}
 use Rattle.loop_core_block.proofs.Grid.{Swap, AllSwap}
 use Rattle.loop_core_block.proofs.PairLaws.{pairs_first, pairs_behind}
+use Rattle.loop_core_block.specs.Whole.{each_access, of_each, sites_by}
 
 -- an access of its kind writes
 by_kind : (kind : Kind) (saw value : ℕ) → is_write (action_by kind saw value) ≡ kind_leaves kind
@@ -149,22 +150,22 @@ reduction_run xs actions (a ∷ accesses) e =
     reduction_step xs actions a accesses e (λ done. reduction_run xs done accesses e) (eqb a.element e)
 
 -- sites in turn are a lane's accesses
-last_sites : (start : List ℕ) (e lane : ℕ) (log : Log) (before : Option ℕ)
+last_sites : (start : List ℕ) (e lane : ℕ) (log : List (ℕ → Access)) (before : Option ℕ)
     → over_sites (λ (site : ℕ → Access). last_by_lane site start e) log lane before
-    ≡ last_over e (slice_index start e) (of_lane log lane) before
+    ≡ last_over e (slice_index start e) (of_each log lane) before
 last_sites start e lane [] before = refl
 last_sites start e lane (site ∷ log) before = last_sites start e lane log (last_by_lane site start e lane before)
 
-reduction_sites : (e lane : ℕ) (log : Log) (before : Reduction)
+reduction_sites : (e lane : ℕ) (log : List (ℕ → Access)) (before : Reduction)
     → over_sites (λ (site : ℕ → Access). reduction_by_lane site e) log lane before
-    ≡ reduction_over e (of_lane log lane) before
+    ≡ reduction_over e (of_each log lane) before
 reduction_sites e lane [] before = refl
 reduction_sites e lane (site ∷ log) before = reduction_sites e lane log (reduction_by_lane site e lane before)
 
 -- the accesses of the first n lanes
 abbrev pub runs_of : List ℕ → List Entry → (lanes : ℕ) → List (List Access)
 runs_of words entries zero = []
-runs_of words entries (suc lanes) = runs_of words entries lanes ++ accesses_by words entries lanes ∷ []
+runs_of words entries (suc lanes) = runs_of words entries lanes ++ each_access words entries lanes ∷ []
 
 -- a lane's access at an entry writes as its kind says
 writes_as : (words : List ℕ) (entry : Entry) (lane : ℕ)
@@ -196,7 +197,7 @@ module _ (lanes : ℕ) (words : List ℕ) where
       → AllByRecursion (IsLogged lanes words) entries
       → AllByRecursion (λ (other : Entry). FoldBoth lanes entry.site other.site) entries
       → kind_leaves entry.site.kind ≡ true → eqb (access_by words entry lane).element e ≡ true
-      → NoneWrite e (accesses_by words entries lane)
+      → NoneWrite e (each_access words entries lane)
   others_read entry [] e lane below of_entry logged all writes here = tt
   others_read entry (other ∷ entries) e lane below of_entry logged all writes here = (
     other_reads entry other all.0 of_entry logged.0 e lane below writes here (kind_leaves other.site.kind) refl,
@@ -204,7 +205,7 @@ module _ (lanes : ℕ) (words : List ℕ) where
   )
 
   pub one_writes : (entries : List Entry) (e lane : ℕ) → lane < lanes → MayFold lanes entries
-      → AllByRecursion (IsLogged lanes words) entries → OneWrites e (accesses_by words entries lane)
+      → AllByRecursion (IsLogged lanes words) entries → OneWrites e (each_access words entries lane)
   one_writes [] e lane below may logged = tt
   one_writes (entry ∷ entries) e lane below may logged = (
     λ here writes. others_read entry entries e lane below logged.0 logged.1
@@ -217,7 +218,7 @@ module _ (lanes : ℕ) (words : List ℕ) where
   -- so the last values after n lanes are those of their iterations
   pub last_lanes : (entries : List Entry) → MayFold lanes entries → AllByRecursion (IsLogged lanes words) entries
       → (runs : List (List Access)) (e n : ℕ) → n ≤ lanes
-      → over_lanes (over_sites (λ (site : ℕ → Access). last_by_lane site words e) (log_by words entries)) n
+      → over_lanes (over_sites (λ (site : ℕ → Access). last_by_lane site words e) (sites_by words entries)) n
       (last_value (at_element e runs) (slice_index words e))
       ≡ last_value (at_element e (runs ++ runs_of words entries n)) (slice_index words e)
   last_lanes entries may logged runs e zero within =
@@ -225,10 +226,10 @@ module _ (lanes : ℕ) (words : List ℕ) where
   last_lanes entries may logged runs e (suc n) within =
       let word : ℕ = slice_index words e in
       let before : List (List Access) = runs ++ runs_of words entries n in
-      let accesses : List Access = accesses_by words entries n in
-      ap (over_sites (λ (site : ℕ → Access). last_by_lane site words e) (log_by words entries) n)
+      let accesses : List Access = each_access words entries n in
+      ap (over_sites (λ (site : ℕ → Access). last_by_lane site words e) (sites_by words entries) n)
       (last_lanes entries may logged runs e n (omega (arith, within)) ∙ sym (last_none (at_element e before) word))
-      ∙ last_sites words e n (log_by words entries) (last_value (at_element e before ++ [] ∷ []) word)
+      ∙ last_sites words e n (sites_by words entries) (last_value (at_element e before ++ [] ∷ []) word)
       ∙ last_run (at_element e before) [] accesses word e
       (one_writes entries e n (omega (arith, within)) may logged) (inl refl)
       ∙ ap (λ (l : List (List Action)). last_value l word) (sym (at_last e before accesses))
@@ -237,17 +238,17 @@ module _ (lanes : ℕ) (words : List ℕ) where
 
 -- and what they combine
 pub reduction_lanes : (words : List ℕ) (entries : List Entry) (runs : List (List Access)) (e n : ℕ)
-    → over_lanes (over_sites (λ (site : ℕ → Access). reduction_by_lane site e) (log_by words entries)) n
+    → over_lanes (over_sites (λ (site : ℕ → Access). reduction_by_lane site e) (sites_by words entries)) n
     (reduction_of (at_element e runs))
     ≡ reduction_of (at_element e (runs ++ runs_of words entries n))
 reduction_lanes words entries runs e zero =
     ap (λ (l : List (List Access)). reduction_of (at_element e l)) (sym (append-nil runs))
 reduction_lanes words entries runs e (suc n) =
     let before : List (List Access) = runs ++ runs_of words entries n in
-    let accesses : List Access = accesses_by words entries n in
-    ap (over_sites (λ (site : ℕ → Access). reduction_by_lane site e) (log_by words entries) n)
+    let accesses : List Access = each_access words entries n in
+    ap (over_sites (λ (site : ℕ → Access). reduction_by_lane site e) (sites_by words entries) n)
     (reduction_lanes words entries runs e n ∙ sym (reduction_none (at_element e before)))
-    ∙ reduction_sites e n (log_by words entries) (reduction_of (at_element e before ++ [] ∷ []))
+    ∙ reduction_sites e n (sites_by words entries) (reduction_of (at_element e before ++ [] ∷ []))
     ∙ reduction_run (at_element e before) [] accesses e
     ∙ ap reduction_of (sym (at_last e before accesses))
     ∙ ap (λ (l : List (List Access)). reduction_of (at_element e l))
@@ -261,7 +262,7 @@ pages_lanes words entries runs zero =
     ap (λ (l : List (List Access)). pages_after [] (joined l)) (sym (append-nil runs))
 pages_lanes words entries runs (suc n) =
     let before : List (List Access) = runs ++ runs_of words entries n in
-    let accesses : List Access = accesses_by words entries n in
+    let accesses : List Access = each_access words entries n in
     ap (pages_by_lane words entries n) (pages_lanes words entries runs n)
     ∙ sym (pages_after-append [] (joined before) accesses)
     ∙ ap (pages_after []) (sym (joined_last before accesses))
@@ -371,9 +372,9 @@ module _ (lanes : ℕ) (words : List ℕ) (e : ℕ) where
       → AllByRecursion (IsLogged lanes words) entries
       → AllByRecursion (λ (other : Entry). FoldBoth lanes a.site other.site) entries
       → AllByRecursion (Swap (λ (site : ℕ → Access). last_by_lane site words e) lanes (access_by words a))
-      (log_by words entries)
+      (sites_by words entries)
       × AllByRecursion (Swap (λ (site : ℕ → Access). reduction_by_lane site e) lanes (access_by words a))
-      (log_by words entries)
+      (sites_by words entries)
   first_swaps a [] of_a logged all = (tt, tt)
   first_swaps a (b ∷ entries) of_a logged all =
       let here = entries_swap a b all.0 of_a logged.0 (kind_leaves a.site.kind) refl (kind_leaves b.site.kind) refl in
@@ -382,8 +383,8 @@ module _ (lanes : ℕ) (words : List ℕ) (e : ℕ) where
 
   -- so all sites may change places
   pub all_swap : (entries : List Entry) → MayFold lanes entries → AllByRecursion (IsLogged lanes words) entries
-      → AllSwap (λ (site : ℕ → Access). last_by_lane site words e) lanes (log_by words entries)
-      × AllSwap (λ (site : ℕ → Access). reduction_by_lane site e) lanes (log_by words entries)
+      → AllSwap (λ (site : ℕ → Access). last_by_lane site words e) lanes (sites_by words entries)
+      × AllSwap (λ (site : ℕ → Access). reduction_by_lane site e) lanes (sites_by words entries)
   all_swap [] may logged = (tt, tt)
   all_swap (a ∷ entries) may logged =
       let here = first_swaps a entries logged.0 logged.1

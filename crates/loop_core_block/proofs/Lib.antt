@@ -13,3 +13,4 @@ pub mod RunLaws
 pub mod SiteLaws
 pub mod SplitEnds
 pub mod RunSites
+pub mod WholeLaws

@@ -23,12 +23,13 @@ use Rattle.shadow_marks.proofs.EndLaws.{merged-none}
 use Rattle.private_copy.specs.Visits.{visits_of}
 use Rattle.private_copy.proofs.VisitLaws.{visits_more}
 use Rattle.bpf_step_batch.specs.declared.entry.Entry.{Entry}
-use Rattle.bpf_step_batch.specs.Logs.{element_by, action_by, access_by, accesses_by, site_of, IsLogged}
+use Rattle.bpf_step_batch.specs.Logs.{element_by, action_by, access_by, site_of, IsLogged}
 use Rattle.loop_core_block.specs.Folding.{over_sites, are_same, FoldBoth, MayFold, flags_over, has_elements}
 use Rattle.loop_core_block.specs.Folding.{lead_of, Lead, leads_of, marks_by_flags, marks_by_lead}
 use Rattle.loop_core_block.proofs.Grid.{Swap, AllSwap}
 use Rattle.loop_core_block.proofs.PairLaws.{pairs_first, pairs_behind}
 use Rattle.loop_core_block.proofs.KeptLanes.{runs_of}
+use Rattle.loop_core_block.specs.Whole.{each_access}
 
 -- leads may change places
 merged_swap : (m a b : Marks) → merged (merged m a) b ≡ merged (merged m b) a
@@ -144,7 +145,7 @@ module _ (words : List ℕ) (lane e index : ℕ) where
   action_of entry = (access_by words entry lane).action
 
   abbrev actions_of : List Entry → List Action
-  actions_of entries = actions_at e (accesses_by words entries lane)
+  actions_of entries = actions_at e (each_access words entries lane)
 
   kind_is : (entry : Entry) → kind_of (action_of entry) ≡ entry.site.kind
   kind_is entry =
@@ -331,7 +332,7 @@ pub length-runs_of : (words : List ℕ) (entries : List Entry) (n : ℕ) → len
 length-runs_of words entries zero = refl
 length-runs_of words entries (suc n) =
     let before = length-runs_of words entries n in
-    let long = length-append (runs_of words entries n) (accesses_by words entries n ∷ []) in
+    let long = length-append (runs_of words entries n) (each_access words entries n ∷ []) in
     omega (arith, before, long)
 
 -- a visit more
@@ -350,7 +351,7 @@ marks_lanes lanes words entries may logged first index e runs at zero within =
     ap (λ (l : List (List Access)). marks_of (visits_of first l e)) (sym (append-nil runs))
 marks_lanes lanes words entries may logged first index e runs at (suc n) within =
     let before : List (List Access) = runs ++ runs_of words entries n in
-    let accesses : List Access = accesses_by words entries n in
+    let accesses : List Access = each_access words entries n in
     let long = length-runs_of words entries n in
     let both = length-append runs (runs_of words entries n) in
     let here : index + n ≡ first + length before = omega (arith, at, long, both) in

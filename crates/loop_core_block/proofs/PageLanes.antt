@@ -17,8 +17,9 @@ use Rattle.private_copy.specs.Noting.{PlacesPages}
 use Rattle.loop_core_batch.specs.declared.elements.Elements.{Elements}
 use Rattle.loop_core_batch.specs.declared.elements.Elements.TheVariants.{One, Run}
 use Rattle.bpf_step_batch.specs.declared.entry.Entry.{Entry}
-use Rattle.bpf_step_batch.specs.Logs.{element_by, accesses_by}
+use Rattle.bpf_step_batch.specs.Logs.{element_by}
 use Rattle.loop_core_block.specs.Placing.{pages_by_lane, HasPlace, HasPlaces, KeepsPage, PlacesLanes, PlacesLane}
+use Rattle.loop_core_block.specs.Whole.{each_access}
 
 or_true : (b : Bool) → (b || true) ≡ true
 or_true true = refl
@@ -66,7 +67,7 @@ module _ (words : List ℕ) where
   all_there [] lane pages = tt
   all_there (entry ∷ entries) lane pages =
       let page : ℕ = page_of (element_by entry.site.elements entry.elements lane) in (
-        kept_after (with_page pages page) page (accesses_by words entries lane) (placed_with pages page),
+        kept_after (with_page pages page) page (each_access words entries lane) (placed_with pages page),
         all_there entries lane (with_page pages page),
       )
 
@@ -136,7 +137,7 @@ module _ (words : List ℕ) where
       let before : List ℕ = over_lanes (pages_by_lane words entries) lanes pages in
       elim (cases_lt lane lanes) [
         | inl earlier ↦
-            kept_all entries lane before (accesses_by words entries lanes) (all_placed entries pages lanes lane earlier)
+            kept_all entries lane before (each_access words entries lanes) (all_placed entries pages lanes lane earlier)
         | inr last ↦
             let same : lanes ≡ lane = omega (arith, last, below) in
             subst (λ (l : ℕ). AllByRecursion (HasPlace l (pages_by_lane words entries lanes before)) entries) same

@@ -1,6 +1,6 @@
 -- Accesses that are made again.
-use Rattle.std.proofs.Common.{◌≡◌, ℕ, ◌+◌, ◌<◌, List, [], length, drop, slice_index_or}
-use Rattle.std.proofs.Common.{refl, sym, ap, subst, ◌∙◌, arith, length-set}
+use Rattle.std.proofs.Common.{◌≡◌, ℕ, ◌+◌, ◌<◌, ◌≤◌, List, [], ◌∷◌, length, drop, slice_index_or}
+use Rattle.std.proofs.Common.{refl, sym, subst, ◌∙◌, arith}
 use Rattle.std.specs.List.{AllByRecursion}
 use Rattle.std.proofs.lemmas.List.{drop_more}
 use Rattle.std.proofs.lemmas.List.Elements.{All-from_recursion}
@@ -10,8 +10,9 @@ use Rattle.private_copy.specs.CopyLaw.{AccessEffect}
 use Rattle.private_copy.specs.Shown.{copy_of}
 use Rattle.private_copy.proofs.AccessLaws.{in_range}
 use Rattle.bpf_step_batch.specs.declared.entry.Entry.{Entry}
-use Rattle.bpf_step_batch.specs.Logs.{element_by, access_by, accesses_by}
+use Rattle.bpf_step_batch.specs.Logs.{element_by, has_lane, access_by, accesses_by}
 use Rattle.loop_core_block.specs.Batches.{HasElement}
+use Rattle.loop_core_block.proofs.WholeLaws.{effects_both, count_still, serves_on}
 
 -- elements are few
 pub few_elements : (copy : Private) (entry : Entry) (lane : ℕ) → HasElement lane (length (copy_of copy).words) entry
@@ -24,7 +25,7 @@ few_elements copy entry lane within =
 -- accesses that are made again one by one, up to an entry
 pub record HasRepeated (old now : Private) (entries : List Entry) (lane index : ℕ) : Type 0 where
   pub count : length (copy_of now).words ≡ length (copy_of old).words
-  pub serves : (copy_of now).serves + index ≡ (copy_of old).serves
+  pub serves : (copy_of old).serves ≤ (copy_of now).serves + index
   pub effects : (words : List ℕ) (new : Private)
       → Effects AccessEffect now (accesses_by words (drop index entries) lane) new
       → Effects AccessEffect old (accesses_by words entries lane) new
@@ -34,18 +35,21 @@ none_repeated old entries lane = record { count = refl; serves = omega arith; ef
 
 pub repeated_more : (old now next : Private) (entries : List Entry) (lane index : ℕ) (other : Entry)
     → HasRepeated old now entries lane index → index < length entries
-    → ((words : List ℕ) → AccessEffect now (access_by words (slice_index_or entries index other) lane) next)
+    → ((words : List ℕ) → Effects AccessEffect now
+    (accesses_by words (slice_index_or entries index other ∷ []) lane) next)
     → HasRepeated old next entries lane (index + 1)
 repeated_more old now next entries lane index other so_far below done =
-    let access = done [] in
-    let one = access.serves in
+    let entry : Entry = slice_index_or entries index other in
+    let one = serves_on (has_lane entry.mask lane) (access_by [] entry lane) now next (done []) in
     let served = so_far.serves in
     record {
-      count = ap length access.words ∙ length-set (copy_of now).words _ _ ∙ so_far.count;
+      count = count_still (has_lane entry.mask lane) (access_by [] entry lane) now next (done []) ∙ so_far.count;
       serves = omega (arith, one, served);
       effects = λ words new rest. so_far.effects words new
           (subst (λ (es : List Entry). Effects AccessEffect now (accesses_by words es lane) new)
-          (sym (drop_more entries index other below)) (next, done words, rest));
+          (sym (drop_more entries index other below))
+          (effects_both (has_lane entry.mask lane) (access_by words entry lane)
+          (accesses_by words (drop (index + 1) entries) lane) now next new (done words) rest));
     }
 
 -- an entry's element is there

@@ -17,7 +17,8 @@ use Rattle.private_copy.specs.Copies.{PrivateCopy}
 use Rattle.private_copy.specs.Noting.{last_by_lane, reduction_by_lane}
 use Rattle.bpf_step_batch.specs.declared.entry.Entry.{Entry}
 use Rattle.bpf_step_batch.specs.Own.{AreApart, AreDisjoint}
-use Rattle.bpf_step_batch.specs.Logs.{element_by, site_of, log_by}
+use Rattle.bpf_step_batch.specs.Logs.{element_by, site_of}
+use Rattle.loop_core_block.specs.Whole.{sites_by}
 
 -- what sites make of a value, each of them for all of n lanes before the next
 abbrev pub by_site : {S X : Type 0} → (step : S → ℕ → X → X) → List S → (lanes : ℕ) → X → X
@@ -98,9 +99,9 @@ pub record PlanesFold (old new : Planes) (entries : List Entry) (lanes index : �
 pub record CopyFolds (old new : PrivateCopy) (entries : List Entry) (lanes : ℕ) : Type 0 where
   pub start : new.start ≡ old.start
   pub last : (e : ℕ) → new.last e
-      ≡ by_site (λ (site : ℕ → Access). last_by_lane site old.start e) (log_by old.start entries) lanes (old.last e)
+      ≡ by_site (λ (site : ℕ → Access). last_by_lane site old.start e) (sites_by old.start entries) lanes (old.last e)
   pub reduction : (e : ℕ) → new.reduction e
-      ≡ by_site (λ (site : ℕ → Access). reduction_by_lane site e) (log_by old.start entries) lanes (old.reduction e)
+      ≡ by_site (λ (site : ℕ → Access). reduction_by_lane site e) (sites_by old.start entries) lanes (old.reduction e)
   pub pages : new.pages ≡ old.pages
   pub under_way : new.under_way ≡ old.under_way
   pub begun : new.begun ≡ old.begun

@@ -2,6 +2,7 @@ pub mod Blocks
 pub mod Shown
 pub mod Ran
 pub mod Loops
+pub mod Whole
 pub mod Batches
 pub mod Folding
 pub mod Placing

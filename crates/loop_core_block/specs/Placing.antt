@@ -6,11 +6,12 @@ use Rattle.private_copy.specs.Touched.{has_page, page_of, pages_after}
 use Rattle.private_copy.specs.Copies.{PrivateCopy}
 use Rattle.private_copy.specs.Noting.{PlacesPages}
 use Rattle.bpf_step_batch.specs.declared.entry.Entry.{Entry}
-use Rattle.bpf_step_batch.specs.Logs.{element_by, accesses_by}
+use Rattle.bpf_step_batch.specs.Logs.{element_by}
+use Rattle.loop_core_block.specs.Whole.{each_access}
 
 -- a lane's accesses come into the list of pages
 abbrev pub pages_by_lane : List ℕ → List Entry → (lane : ℕ) → List ℕ → List ℕ
-pages_by_lane words entries lane pages = pages_after pages (accesses_by words entries lane)
+pages_by_lane words entries lane pages = pages_after pages (each_access words entries lane)
 
 -- the page of a lane's element is placed
 abbrev pub HasPlace : (lane : ℕ) → List ℕ → Entry → Type 0

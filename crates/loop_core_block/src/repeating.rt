@@ -1,6 +1,6 @@
 //! What a lane accessed, made again on a private copy.
 
-ghost use Rattle.std.specs.Prelude.{◌≡◌, ℕ, ◌<◌, ◌≤◌, List, length};
+ghost use Rattle.std.specs.Prelude.{◌≡◌, ℕ, ◌<◌, ◌≤◌, List, [], ◌∷◌, length};
 ghost use Rattle.std.specs.List.{AllByRecursion};
 ghost use Rattle.array_maps.specs.Store.{Effects};
 ghost use Rattle.private_copy.specs.CopyLaw.{AccessEffect};
@@ -14,7 +14,7 @@ use loop_core_batch::Elements;
 use loop_core_model::Access;
 use private_copy::Private;
 
-/// Makes a lane's accesses, one at each entry.
+/// Makes a lane's accesses, one at each entry at which it made one.
 pub(crate) fn repeat_all(copy: &mut Private, entries: &[Entry], lane: u32)
     requires lane { lane < 128 }
     requires within { AllByRecursion (HasElement lane (length (copy_of copy.old).words)) entries.now }
@@ -22,6 +22,18 @@ pub(crate) fn repeat_all(copy: &mut Private, entries: &[Entry], lane: u32)
     ensures { (words : List ℕ) → Effects AccessEffect copy.old (accesses_by words entries.now lane) copy.new }
 {
     for entry in entries {
+        repeat_if_made(copy, entry, lane);
+    }
+}
+
+/// Makes a lane's access at an entry, if it made one.
+fn repeat_if_made(copy: &mut Private, entry: &Entry, lane: u32)
+    requires lane { lane < 128 }
+    requires within { HasElement lane (length (copy_of copy.old).words) entry.now }
+    requires served { 0 < (copy_of copy.old).serves }
+    ensures { (words : List ℕ) → Effects AccessEffect copy.old (accesses_by words (entry.now ∷ []) lane) copy.new }
+{
+    if entry.mask.has(lane) {
         repeat(copy, entry, lane);
     }
 }

@@ -1,7 +1,7 @@
 //! Running iterations one after another.
 
 ghost use Rattle.std.specs.Prelude.{◌≡◌, ◌+◌, ◌<◌, ◌≤◌, ℕ, false, length, List, [], None, IfOk, OnOk};
-ghost use Rattle.std.specs.List.{AllByRecursion};
+ghost use Rattle.std.specs.List.{All, AllByRecursion};
 ghost use Rattle.bpf_step_model.specs.Iteration.{Iterated};
 ghost use Rattle.bpf_insn_types.specs.Program.{callback_starts};
 ghost use Rattle.bpf_verify_model.specs.Count.{count_of, function_start};
@@ -10,6 +10,7 @@ ghost use Rattle.shadow_marks.specs.Standing.{test_of};
 ghost use Rattle.bpf_step_batch.specs.Logs.{IsLogged};
 ghost use Rattle.loop_core_block.specs.Batches.{IsLane, AreIterations};
 ghost use Rattle.loop_core_block.specs.Folding.{MayFold};
+ghost use Rattle.loop_core_block.specs.Whole.{IsWhole};
 ghost use Rattle.loop_core_block.specs.Workspaces.{IsWorkspaceFor};
 ghost use Rattle.loop_core_block.specs.Runs.{start_words, IsReady, IsOf, IsReadyFor, RunnerHasRun};
 ghost use Rattle.loop_core_block.specs.Runs.{RanOneMore, RanMore, RanTogether, RanUpTo};
@@ -190,6 +191,7 @@ impl<'c, 'a> Runner<'c, 'a> {
         requires are { AreIterations self.old.callback.program self.old.callback.call (start_words self.old) entries.now
             index lanes }
         requires logged { AllByRecursion (IsLogged lanes (start_words self.old)) entries.now }
+        requires whole { All IsWhole entries.now }
         requires may { MayFold lanes entries.now }
         requires so_far { (start : ℕ) × (ran : List Iterated) × RunnerHasRun start index ran self.old }
         ensures ran { OnOk result (RanMore index (index + lanes) self.old self.new None) }

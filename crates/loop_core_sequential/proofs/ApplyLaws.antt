@@ -1,6 +1,7 @@
 -- What a batch leaves in the maps.
 use Rattle.std.proofs.Common.{◌≡◌, ℕ, zero, suc, ◌+◌, ◌-◌, ◌<◌, ◌≤◌, List, [], ◌∷◌, ◌++◌, length, map, take}
 use Rattle.std.proofs.Common.{drop, set, slice_index, slice_index_or, refl, sym, ap, subst, ◌∙◌, arith}
+use Rattle.std.specs.Prelude.{Bool, true, false, Option, Some, None, if◌then◌else◌}
 use Rattle.std.specs.List.{AllByRecursion}
 use Rattle.std.proofs.lemmas.List.{set-get_or, length-set, drop_more, take_more, take_more_set}
 use Rattle.std.proofs.lemmas.List.{take_all, map-append, get_or-take, length-take-le}
@@ -14,10 +15,14 @@ use Rattle.loop_core_model.specs.declared.access.Access.TheVariants.{Both, Reduc
 use Rattle.loop_core_batch.specs.declared.elements.Elements.{Elements}
 use Rattle.loop_core_batch.specs.declared.elements.Elements.TheVariants.{One, Run}
 use Rattle.loop_core_batch.specs.declared.site.Site.{Site}
-use Rattle.loop_core_batch.specs.BySite.{SumsAtOnce, combined_to, words_after_site, words_after_sites}
+use Rattle.loop_core_batch.specs.BySite.{SumsAtOnce, combined_to, words_after_any, words_after_site, words_after_some}
+use Rattle.loop_core_batch.specs.BySite.{words_after_sites}
+use Rattle.bpf_step_batch.specs.declared.mask.Mask.{Mask}
+use Rattle.bpf_step_batch.specs.declared.mask.Mask.TheVariants.{All}
 use Rattle.bpf_step_batch.specs.declared.entry.Entry.{Entry}
-use Rattle.bpf_step_batch.specs.Logs.{element_by, action_by, access_by, log_by, site_of}
+use Rattle.bpf_step_batch.specs.Logs.{element_by, action_by, has_lane, access_by, made_by, log_by, site_of}
 use Rattle.bpf_step_batch.specs.Logs.{stored_by, reduced_by, IsLogged}
+use Rattle.loop_core_sequential.specs.Tries.{stored_if_made, reduced_if_made}
 
 -- accesses that leave the same at the same elements
 pub same_site : (a b : ℕ → Access) → ((lane : ℕ) (words : List ℕ) → words_after (a lane) words ≡ words_after (b lane)
@@ -67,7 +72,134 @@ reads_are words entry is (suc lanes) now =
     ∙ ap (λ (a : Access). words_after a (words_after_site (access_by words entry) lanes now))
     (sym (by_kind words entry Reads is lanes))
 
+-- of accesses that some lanes made: those of a mask
+module _ (mask : Mask) where
+  abbrev masked : (ℕ → Access) → ℕ → Option Access
+  masked site lane = if has_lane mask lane then Some (site lane) else None
+
+  any_same : (a b : Access) → ((words : List ℕ) → words_after a words ≡ words_after b words) → (makes : Bool)
+      → (words : List ℕ) → words_after_any (if makes then Some a else None) words
+      ≡ words_after_any (if makes then Some b else None) words
+  any_same a b same false words = refl
+  any_same a b same true words = same words
+
+  -- where both leave the same at the same elements
+  pub same_some : (a b : ℕ → Access) → ((lane : ℕ) (words : List ℕ) → words_after (a lane) words
+      ≡ words_after (b lane) words) → (lanes : ℕ) (words : List ℕ)
+      → words_after_some (masked a) lanes words ≡ words_after_some (masked b) lanes words
+  same_some a b same zero words = refl
+  same_some a b same (suc lanes) words =
+      ap (words_after_any (masked a lanes)) (same_some a b same lanes words)
+      ∙ any_same (a lanes) (b lanes) (same lanes) (has_lane mask lanes) (words_after_some (masked b) lanes words)
+
+  -- and where they leave all as it was
+  any_still : (a : Access) → ((words : List ℕ) → words ≡ words_after a words) → (makes : Bool) → (words : List ℕ)
+      → words ≡ words_after_any (if makes then Some a else None) words
+  any_still a still false words = refl
+  any_still a still true words = still words
+
+  pub some_still : (a : ℕ → Access) → ((lane : ℕ) (words : List ℕ) → words ≡ words_after (a lane) words)
+      → (lanes : ℕ) (words : List ℕ) → words ≡ words_after_some (masked a) lanes words
+  some_still a still zero words = refl
+  some_still a still (suc lanes) words = some_still a still lanes words
+      ∙ any_still (a lanes) (still lanes) (has_lane mask lanes) (words_after_some (masked a) lanes words)
+
+-- by the kind of an entry
+pub some_stores_are : (words : List ℕ) (entry : Entry) → entry.site.kind ≡ Writes → (lanes : ℕ) (now : List ℕ) →
+    words_after_some (stored_if_made entry) lanes now ≡ words_after_some (made_by words entry) lanes now
+some_stores_are words entry is = same_some entry.mask (stored_by entry) (access_by words entry)
+    (λ lane ws. ap (λ (a : Access). words_after a ws) (sym (by_kind words entry Writes is lane)))
+
+pub some_changes_are : (words : List ℕ) (entry : Entry) → entry.site.kind ≡ Both → (lanes : ℕ) (now : List ℕ) →
+    words_after_some (stored_if_made entry) lanes now ≡ words_after_some (made_by words entry) lanes now
+some_changes_are words entry is = same_some entry.mask (stored_by entry) (access_by words entry)
+    (λ lane ws. ap (λ (a : Access). words_after a ws) (sym (by_kind words entry Both is lane)))
+
+pub some_reduces_are : (words : List ℕ) (entry : Entry) (op : Op) → entry.site.kind ≡ Reduces op → (lanes : ℕ)
+    (now : List ℕ) →
+    words_after_some (reduced_if_made op entry) lanes now ≡ words_after_some (made_by words entry) lanes now
+some_reduces_are words entry op is = same_some entry.mask (reduced_by op entry) (access_by words entry)
+    (λ lane ws. ap (λ (a : Access). words_after a ws) (sym (by_kind words entry (Reduces op) is lane)))
+
+pub some_reads_are : (words : List ℕ) (entry : Entry) → entry.site.kind ≡ Reads → (lanes : ℕ) (now : List ℕ)
+    → now ≡ words_after_some (made_by words entry) lanes now
+some_reads_are words entry is = some_still entry.mask (access_by words entry)
+    (λ lane ws. sym (set-get_or ws (element_by entry.site.elements entry.elements lane) 0)
+    ∙ ap (λ (a : Access). words_after a ws) (sym (by_kind words entry Reads is lane)))
+
+-- at an entry of all lanes each made one
+pub all_made : (words : List ℕ) (entry : Entry) → entry.mask ≡ All → (lanes : ℕ) (now : List ℕ)
+    → words_after_site (access_by words entry) lanes now ≡ words_after_some (made_by words entry) lanes now
+all_made words entry whole zero now = refl
+all_made words entry whole (suc lanes) now =
+    ap (words_after (access_by words entry lanes)) (all_made words entry whole lanes now)
+    ∙ sym (ap (λ (mask : Mask). words_after_any (if has_lane mask lanes then Some (access_by words entry lanes)
+    else None)
+    (words_after_some (made_by words entry) lanes now)) whole)
+
 -- the words stay as many
+length-after_any : (made : Option Access) (words : List ℕ) → length (words_after_any made words) ≡ length words
+length-after_any None words = refl
+length-after_any (Some access) words = length-set words _ _
+
+pub length-after_some : (site : ℕ → Option Access) (lanes : ℕ) (words : List ℕ)
+    → length (words_after_some site lanes words) ≡ length words
+length-after_some site zero words = refl
+length-after_some site (suc lanes) words = length-after_any (site lanes) (words_after_some site lanes words)
+    ∙ length-after_some site lanes words
+
+-- one lane more, some of which made one
+some_more : (site : ℕ → Option Access) (lanes : ℕ) (words : List ℕ) → words_after_some site (lanes + 1) words
+    ≡ words_after_any (site lanes) (words_after_some site lanes words)
+some_more site lanes words =
+    let next : lanes + 1 ≡ suc lanes = omega arith in
+    ap (λ (n : ℕ). words_after_some site n words) next
+
+pub any_applied : (site : ℕ → Option Access) (lane : ℕ) (first now new : MapList)
+    → now ≡ record { sizes = first.sizes; words = words_after_some site lane first.words }
+    → new ≡ record { sizes = now.sizes; words = words_after_any (site lane) now.words }
+    → new ≡ record { sizes = first.sizes; words = words_after_some site (lane + 1) first.words }
+any_applied site lane first now new so_far is =
+    is
+    ∙ ap (λ (maps : MapList). record { sizes = maps.sizes; words = words_after_any (site lane) maps.words }) so_far
+    ∙ ap (λ (words : List ℕ). record { sizes = first.sizes; words = words }) (sym (some_more site lane first.words))
+
+pub some_applied : (site : ℕ → Option Access) (lanes lane : ℕ) (first new : MapList) → lane ≡ lanes
+    → new ≡ record { sizes = first.sizes; words = words_after_some site lane first.words }
+    → new ≡ record { sizes = first.sizes; words = words_after_some site lanes first.words }
+some_applied site lanes lane first new all is =
+    is ∙ ap (λ (n : ℕ). record { sizes = first.sizes; words = words_after_some site n first.words }) all
+
+pub some_long : (site : ℕ → Option Access) (lane : ℕ) (first now : MapList)
+    → now ≡ record { sizes = first.sizes; words = words_after_some site lane first.words }
+    → length now.words ≡ length first.words
+some_long site lane first now is = ap (λ (maps : MapList). length maps.words) is
+    ∙ length-after_some site lane first.words
+
+-- a lane's access, as its mask tells
+pub if_made : (makes told : Bool) (access : Access) (first new : MapList) → told ≡ makes → told ≡ true
+    → new ≡ record { sizes = first.sizes; words = words_after access first.words }
+    → new ≡ record {
+      sizes = first.sizes;
+      words = words_after_any (if makes then Some access else None) first.words;
+    }
+if_made makes told access first new is so done =
+    done ∙ ap (λ (b : Bool). record {
+      sizes = first.sizes;
+      words = words_after_any (if b then Some access else None) first.words;
+    }) (sym so ∙ is)
+
+pub if_not_made : (makes told : Bool) (access : Access) (first : MapList) → told ≡ makes → told ≡ false
+    → first ≡ record {
+      sizes = first.sizes;
+      words = words_after_any (if makes then Some access else None) first.words;
+    }
+if_not_made makes told access first is off =
+    ap (λ (b : Bool). record {
+      sizes = first.sizes;
+      words = words_after_any (if b then Some access else None) first.words;
+    }) (sym off ∙ is)
+
 pub length-after_site : (site : ℕ → Access) (lanes : ℕ) (words : List ℕ)
     → length (words_after_site site lanes words) ≡ length words
 length-after_site site zero words = refl
@@ -204,7 +336,7 @@ entry_within lanes words now entries index other logged below same lane inside =
 
 -- one entry more
 pub entry_applied : (words now new : List ℕ) (lanes index : ℕ) (entries : List Entry) (other : Entry)
-    → index < length entries → new ≡ words_after_site (access_by words (slice_index_or entries index other)) lanes now
+    → index < length entries → new ≡ words_after_some (made_by words (slice_index_or entries index other)) lanes now
     → words_after_sites (log_by words (drop (index + 1) entries)) lanes new
     ≡ words_after_sites (log_by words (drop index entries)) lanes now
 entry_applied words now new lanes index entries other below is =
@@ -214,11 +346,11 @@ entry_applied words now new lanes index entries other below is =
 
 -- an entry leaves as many words
 pub entry_keeps : (words now new : List ℕ) (lanes index count : ℕ) (entries : List Entry) (other : Entry)
-    → new ≡ words_after_site (access_by words (slice_index_or entries index other)) lanes now → length now ≡ count
+    → new ≡ words_after_some (made_by words (slice_index_or entries index other)) lanes now → length now ≡ count
     → length new ≡ count
 entry_keeps words now new lanes index count entries other is many =
     ap length is
-    ∙ length-after_site (access_by words (slice_index_or entries index other)) lanes now
+    ∙ length-after_some (made_by words (slice_index_or entries index other)) lanes now
     ∙ many
 
 -- one site more

@@ -12,7 +12,9 @@ use Rattle.loop_core_batch.specs.declared.elements.Elements.{Elements}
 use Rattle.loop_core_batch.specs.declared.elements.Elements.TheVariants.{One, Run, Between}
 use Rattle.loop_core_batch.specs.Sites.{kind_sees, kind_leaves}
 use Rattle.bpf_step_batch.specs.declared.entry.Entry.{Entry}
-use Rattle.bpf_step_batch.specs.Logs.{element_by}
+use Rattle.bpf_step_batch.specs.declared.mask.Mask.{Mask}
+use Rattle.bpf_step_batch.specs.declared.mask.Mask.TheVariants.{All as AllLanes}
+use Rattle.bpf_step_batch.specs.Logs.{element_by, has_lane}
 use Rattle.loop_core_undo.specs.declared.undo_log.UndoLog.{UndoLog}
 use Rattle.loop_core_undo.specs.Undo.{log_elements, is_written, MarksMore}
 use Rattle.loop_core_sequential.specs.Watched.{is_reduce, IsUnread, IsNoted, AreNoted}
@@ -121,10 +123,10 @@ row_only words row lane first old new marks same so_far e inside told =
 
 -- so of what is marked at one element, at a run of them, and at a row
 pub one_only : (words : List ℕ) (lanes : ℕ) (entry : Entry) (only : ℕ) (old new : UndoLog) → 0 < lanes
-    → entry.site.elements ≡ One only → MarksMore (λ other. only == other) words old new
+    → entry.mask ≡ AllLanes → entry.site.elements ≡ One only → MarksMore (λ other. only == other) words old new
     → (e : ℕ) → e < log_elements old → is_written new e ≡ true
     → (is_written old e ≡ true) ⊎ HasElement lanes entry e
-one_only words lanes entry only old new some is marks e inside told =
+one_only words lanes entry only old new some whole is marks e inside told =
     by_mark (or_cases (is_written old e) (only == e) (sym (marks.written e inside) ∙ told))
   where
     by_mark : (is_written old e ≡ true) ⊎ ((only == e) ≡ true) → (is_written old e ≡ true) ⊎ HasElement lanes entry e
@@ -132,15 +134,16 @@ one_only words lanes entry only old new some is marks e inside told =
     by_mark (inr here) = inr (record {
       lane = 0;
       below = some;
+      made = ap (λ (mask : Mask). has_lane mask 0) whole;
       at = ap (λ (elements : Elements). element_by elements entry.elements 0) is ∙ eqb-true only e here;
     })
 
 pub run_only : (words : List ℕ) (lanes : ℕ) (entry : Entry) (first : ℕ) (old new : UndoLog)
-    → entry.site.elements ≡ Run first
+    → entry.mask ≡ AllLanes → entry.site.elements ≡ Run first
     → MarksMore (λ other. nat_le first other && nat_lt other (first + lanes)) words old new
     → (e : ℕ) → e < log_elements old → is_written new e ≡ true
     → (is_written old e ≡ true) ⊎ HasElement lanes entry e
-run_only words lanes entry first old new is marks e inside told =
+run_only words lanes entry first old new whole is marks e inside told =
     by_mark (or_cases (is_written old e) (nat_le first e && nat_lt e (first + lanes))
     (sym (marks.written e inside) ∙ told))
   where
@@ -155,18 +158,104 @@ run_only words lanes entry first old new is marks e inside told =
         inr (record {
           lane = e - first;
           below = omega (arith, low, high);
+          made = ap (λ (mask : Mask). has_lane mask (e - first)) whole;
           at = ap (λ (elements : Elements). element_by elements entry.elements (e - first)) is ∙ at;
         })
 
-pub row_has : (lanes : ℕ) (entry : Entry) (low high : ℕ) (old : UndoLog) → entry.site.elements ≡ Between low high
+pub row_has : (lanes : ℕ) (entry : Entry) (low high : ℕ) (old : UndoLog)
+    → entry.mask ≡ AllLanes → entry.site.elements ≡ Between low high
     → (e : ℕ) → (is_written old e ≡ true) ⊎ IsInRow lanes entry.elements e
     → (is_written old e ≡ true) ⊎ HasElement lanes entry e
-row_has lanes entry low high old is e (inl was) = inl was
-row_has lanes entry low high old is e (inr in_row) = inr (record {
+row_has lanes entry low high old whole is e (inl was) = inl was
+row_has lanes entry low high old whole is e (inr in_row) = inr (record {
   lane = in_row.lane;
   below = in_row.below;
+  made = ap (λ (mask : Mask). has_lane mask in_row.lane) whole;
   at = ap (λ (elements : Elements). element_by elements entry.elements in_row.lane) is ∙ in_row.at;
 })
+
+-- what is marked of a lane, as its mask tells
+pub marks_if : (makes told : Bool) (element e : ℕ) (words : List ℕ) (old new : UndoLog) → told ≡ makes → told ≡ true
+    → e ≡ element → MarksMore (λ other. e == other) words old new
+    → MarksMore (λ other. makes && (element == other)) words old new
+marks_if makes told element e words old new is so at marks =
+    subst (λ (b : Bool). MarksMore (λ other. b && (element == other)) words old new) (sym so ∙ is)
+    (subst (λ (n : ℕ). MarksMore (λ other. n == other) words old new) at marks)
+
+-- nothing is marked where none is told
+nothing_more : (b : Bool) → b ≡ (b || false)
+nothing_more false = refl
+nothing_more true = refl
+
+pub marks_none : (makes told : Bool) (element : ℕ) (words : List ℕ) (log : UndoLog) → told ≡ makes → told ≡ false
+    → MarksMore (λ other. makes && (element == other)) words log log
+marks_none makes told element words log is off =
+    subst (λ (b : Bool). MarksMore (λ other. b && (element == other)) words log log) (sym off ∙ is)
+    (record { count = refl; written = λ e inside. nothing_more (is_written log e); before = λ e inside. refl })
+
+-- the elements of those of the lanes before one that made an access are told written, and no others are
+pub record SomeNoted (words : List ℕ) (lanes : ℕ) (entry : Entry) (first : UndoLog) (lane : ℕ) (log : UndoLog) : Type 0
+  where
+    pub grows : Grows words first log
+    pub noted : (k : ℕ) → k < lane → has_lane entry.mask k ≡ true
+        → is_written log (element_by entry.site.elements entry.elements k) ≡ true
+    pub only : (e : ℕ) → e < log_elements first → is_written log e ≡ true
+        → (is_written first e ≡ true) ⊎ HasElement lanes entry e
+
+pub none_noted : (words : List ℕ) (lanes : ℕ) (entry : Entry) (log : UndoLog) → SomeNoted words lanes entry log 0 log
+none_noted words lanes entry log = record {
+  grows = grows_same words log;
+  noted = λ k below made. absurd (omega (arith, below));
+  only = λ e inside told. inl told;
+}
+
+-- a lane's element, and where it is marked
+abbrev element_at : Entry → (lane : ℕ) → ℕ
+element_at entry lane = element_by entry.site.elements entry.elements lane
+
+abbrev marks_at : Entry → (lane element : ℕ) → Bool
+marks_at entry lane e = has_lane entry.mask lane && (element_by entry.site.elements entry.elements lane == e)
+
+pub one_noted : (words : List ℕ) (lanes : ℕ) (entry : Entry) (first : UndoLog) (lane : ℕ) (log new : UndoLog)
+    → lane < lanes → AreBelow (log_elements first) lanes entry
+    → MarksMore (marks_at entry lane) words log new → SomeNoted words lanes entry first lane log
+    → SomeNoted words lanes entry first (lane + 1) new
+one_noted words lanes entry first lane log new inside within marks so_far = record {
+  grows = grows_more words first log new so_far.grows grown;
+  noted = λ k below made. elim (cases_eq k lane) [
+    | inl same ↦
+        told_by (marks_at entry lane) words log new marks (element_at entry k) (there k (omega (arith, same, inside)))
+        (and_from (has_lane entry.mask lane) (element_at entry lane == element_at entry k)
+        (ap (has_lane entry.mask) (sym same) ∙ made)
+        (eq-eqb (element_at entry lane) (element_at entry k) (ap (element_at entry) (sym same))))
+    | inr other ↦
+        grown.written (element_at entry k) (there k (omega (arith, below, inside)))
+        (so_far.noted k (omega (arith, below, other)) made)
+  ];
+  only = λ e under told. by_mark e under (or_cases (is_written log e) (marks_at entry lane e)
+      (sym (marks.written e (omega (arith, under, count))) ∙ told));
+}
+  where
+    grown : Grows words log new
+    grown = grows_by (marks_at entry lane) words log new marks
+
+    count : log_elements log ≡ log_elements first
+    count = so_far.grows.count
+
+    there : (k : ℕ) → k < lanes → element_at entry k < log_elements log
+    there k below = let under = within k below in omega (arith, under, count)
+
+    by_mark : (e : ℕ) → e < log_elements first → (is_written log e ≡ true) ⊎ (marks_at entry lane e ≡ true)
+        → (is_written first e ≡ true) ⊎ HasElement lanes entry e
+    by_mark e under (inl was) = so_far.only e under was
+    by_mark e under (inr here) =
+        let parts = and_parts (has_lane entry.mask lane) (element_at entry lane == e) here in
+        inr (record {
+          lane = lane;
+          below = inside;
+          made = parts.0;
+          at = eqb-true (element_at entry lane) e parts.1;
+        })
 
 -- an entry that leaves words has an element for one of its lanes
 abbrev pub LeavesAt : (lanes : ℕ) → Entry → (element : ℕ) → Type 0
@@ -187,8 +276,8 @@ pub noted_grown : (words : List ℕ) (elements lanes : ℕ) (old new : UndoLog) 
 noted_grown words elements lanes old new entries same grows all k d inside =
     let one = all k d inside in (
       one.0,
-      λ leaves lane below. grows.written _ (let under = one.0 lane below in omega (arith, under, same))
-          (one.1 leaves lane below),
+      λ leaves lane below made. grows.written _ (let under = one.0 lane below in omega (arith, under, same))
+          (one.1 leaves lane below made),
     )
 
 -- what holds of all entries up to the last holds of all

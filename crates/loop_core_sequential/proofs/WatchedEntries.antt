@@ -3,17 +3,18 @@ use Rattle.std.proofs.Common.{◌≡◌, ℕ, zero, suc, ◌<◌, ◌==◌, if�
 use Rattle.std.proofs.Common.{◌∷◌, length, slice_index, slice_index_or, refl, sym, ap, subst, ◌∙◌, eqb-true, arith}
 use Rattle.std.proofs.lemmas.Bool.{eq-eqb, or_right}
 use Rattle.std.proofs.lemmas.List.{get_or_default}
+use Rattle.std.specs.Prelude.{Some, None}
 use Rattle.std.specs.List.{AllByRecursion}
-use Rattle.array_maps.specs.Accesses.{Action, actions_at}
+use Rattle.array_maps.specs.Accesses.{Action, Access, actions_at}
 use Rattle.array_maps.specs.MapList.{MapList}
 use Rattle.loop_core_model.specs.declared.access.Access.{Access as Kind}
 use Rattle.loop_core_model.specs.declared.access.Access.TheVariants.{Read as Reads, Write as Writes}
 use Rattle.loop_core_model.specs.declared.access.Access.TheVariants.{Both, Reduce as Reduces}
 use Rattle.loop_core_model.specs.Actions.{is_write, writes, exposed}
 use Rattle.loop_core_batch.specs.Lanes.{sees}
-use Rattle.loop_core_batch.specs.Sites.{of_lane, kind_sees, kind_leaves}
+use Rattle.loop_core_batch.specs.Sites.{with_access, of_lane, kind_sees, kind_leaves}
 use Rattle.bpf_step_batch.specs.declared.entry.Entry.{Entry}
-use Rattle.bpf_step_batch.specs.Logs.{element_by, action_by, log_by}
+use Rattle.bpf_step_batch.specs.Logs.{element_by, action_by, has_lane, access_by, log_by}
 use Rattle.loop_core_sequential.specs.Watched.{is_reduce, IsUnread, AreNoted}
 use Rattle.loop_core_sequential.specs.Noting.{IsLeft}
 use Rattle.loop_core_sequential.proofs.WatchedLaws.{WritesAt}
@@ -56,16 +57,26 @@ kind_noted written element e true Both saw value rest at noted later h =
 kind_noted written element e true (Reduces op) saw value rest at noted later h =
     ap written (sym (eqb-true element e at)) ∙ noted refl
 
+-- what is so of an access's actions before others, and of the others alone, is so as the mask tells
+if_made : (P : List Action → Type 0) (access : Access) (e : ℕ) (rest : List Access) (makes : Bool)
+    → P (actions_at e rest) → (makes ≡ true → P (actions_at e (access ∷ rest)))
+    → P (actions_at e (with_access (if makes then Some access else None) rest))
+if_made P access e rest false others both = others
+if_made P access e rest true others both = both refl
+
 pub entries_unreduced : (written : ℕ → Bool) (lanes : ℕ) (entries : List Entry)
     → AllByRecursion (IsUnread written lanes) entries → (words : List ℕ) → (lane e : ℕ) → lane < lanes
     → exposed (actions_at e (of_lane (log_by words entries) lane)) ≡ true
     → sees (actions_at e (of_lane (log_by words entries) lane)) ≡ true
-entries_unreduced written lanes [] all words lane e inside h = absurd (cc)
-entries_unreduced written lanes (entry ∷ entries) all words lane e inside h =
+entries_unreduced written lanes [] all words lane e inside = λ h. absurd (cc)
+entries_unreduced written lanes (entry ∷ entries) all words lane e inside =
     let element : ℕ = element_by entry.site.elements entry.elements lane in
-    kind_unreduced (element == e) entry.site.kind (slice_index words element) (slice_index entry.values lane)
+    if_made (λ actions. exposed actions ≡ true → sees actions ≡ true) (access_by words entry lane) e
+    (of_lane (log_by words entries) lane) (has_lane entry.mask lane)
+    (entries_unreduced written lanes entries all.1 words lane e inside)
+    (λ made. kind_unreduced (element == e) entry.site.kind (slice_index words element) (slice_index entry.values lane)
     (actions_at e (of_lane (log_by words entries) lane)) all.0.whole
-    (entries_unreduced written lanes entries all.1 words lane e inside) h
+    (entries_unreduced written lanes entries all.1 words lane e inside))
 
 pub entries_unread : (written : ℕ → Bool) (lanes : ℕ) (entries : List Entry)
     → AllByRecursion (IsUnread written lanes) entries → (words : List ℕ) (start : MapList) → (lane e : ℕ)
@@ -74,21 +85,27 @@ pub entries_unread : (written : ℕ → Bool) (lanes : ℕ) (entries : List Entr
 entries_unread written lanes [] all words start lane e inside there wrote = refl
 entries_unread written lanes (entry ∷ entries) all words start lane e inside there wrote =
     let element : ℕ = element_by entry.site.elements entry.elements lane in
-    kind_unread written element e (element == e) entry.site.kind (slice_index words element)
+    if_made (λ actions. exposed actions ≡ false) (access_by words entry lane) e
+    (of_lane (log_by words entries) lane) (has_lane entry.mask lane)
+    (entries_unread written lanes entries all.1 words start lane e inside there wrote)
+    (λ made. kind_unread written element e (element == e) entry.site.kind (slice_index words element)
     (slice_index entry.values lane) (actions_at e (of_lane (log_by words entries) lane)) refl all.0.whole
     (λ seen. all.0.unread seen lane inside)
-    (entries_unread written lanes entries all.1 words start lane e inside there wrote) wrote
+    (entries_unread written lanes entries all.1 words start lane e inside there wrote) wrote)
 
 pub entries_noted : (written : ℕ → Bool) (lanes : ℕ) (entries : List Entry) → AreNoted written lanes entries
     → (words : List ℕ) (start : MapList) → (lane e : ℕ) → lane < lanes → e < length start.words
     → writes (actions_at e (of_lane (log_by words entries) lane)) ≡ true → written e ≡ true
-entries_noted written lanes [] all words start lane e inside there h = absurd (cc)
-entries_noted written lanes (entry ∷ entries) all words start lane e inside there h =
+entries_noted written lanes [] all words start lane e inside there = λ h. absurd (cc)
+entries_noted written lanes (entry ∷ entries) all words start lane e inside there =
     let element : ℕ = element_by entry.site.elements entry.elements lane in
-    kind_noted written element e (element == e) entry.site.kind (slice_index words element)
+    if_made (λ actions. writes actions ≡ true → written e ≡ true) (access_by words entry lane) e
+    (of_lane (log_by words entries) lane) (has_lane entry.mask lane)
+    (entries_noted written lanes entries all.1 words start lane e inside there)
+    (λ made. kind_noted written element e (element == e) entry.site.kind (slice_index words element)
     (slice_index entry.values lane) (actions_at e (of_lane (log_by words entries) lane)) refl
-    (λ left. all.0 left lane inside)
-    (entries_noted written lanes entries all.1 words start lane e inside there) h
+    (λ left. all.0 left lane inside made)
+    (entries_noted written lanes entries all.1 words start lane e inside there))
 
 -- an entry that leaves a word at an element is a write there
 kind_left : (element e : ℕ) (kind : Kind) (saw value : ℕ) (rest : List Action) (here : Bool) → (element == e) ≡ here
@@ -109,19 +126,27 @@ kind_later kind saw value rest true wrote =
 
 left_by_lane : (lanes : ℕ) (entries : List Entry) (words : List ℕ) (e k lane : ℕ) → k < length entries
     → ((d : Entry) → kind_leaves (slice_index_or entries k d).site.kind ≡ true)
-    → ((d : Entry) → element_by (slice_index_or entries k d).site.elements (slice_index_or entries k d).elements lane ≡ e)
+    → ((d : Entry) → has_lane (slice_index_or entries k d).mask lane ≡ true)
+    → ((d : Entry) → element_by (slice_index_or entries k d).site.elements (slice_index_or entries k d).elements lane
+    ≡ e)
     → writes (actions_at e (of_lane (log_by words entries) lane)) ≡ true
-left_by_lane lanes [] words e k lane inside leaves at = absurd (omega arith)
-left_by_lane lanes (entry ∷ entries) words e zero lane inside leaves at =
+left_by_lane lanes [] words e k lane inside leaves made at = absurd (omega arith)
+left_by_lane lanes (entry ∷ entries) words e zero lane inside leaves made at =
     let element : ℕ = element_by entry.site.elements entry.elements lane in
-    kind_left element e entry.site.kind (slice_index words element) (slice_index entry.values lane)
+    subst (λ (makes : Bool). writes (actions_at e (with_access
+    (if makes then Some (access_by words entry lane) else None) (of_lane (log_by words entries) lane))) ≡ true)
+    (sym (made entry))
+    (kind_left element e entry.site.kind (slice_index words element) (slice_index entry.values lane)
     (actions_at e (of_lane (log_by words entries) lane)) (element == e) refl (eq-eqb element e (at entry))
-    (leaves entry)
-left_by_lane lanes (entry ∷ entries) words e (suc k) lane inside leaves at =
+    (leaves entry))
+left_by_lane lanes (entry ∷ entries) words e (suc k) lane inside leaves made at =
     let element : ℕ = element_by entry.site.elements entry.elements lane in
-    kind_later entry.site.kind (slice_index words element) (slice_index entry.values lane)
-    (actions_at e (of_lane (log_by words entries) lane)) (element == e)
-    (left_by_lane lanes entries words e k lane (omega arith) leaves at)
+    let later : writes (actions_at e (of_lane (log_by words entries) lane)) ≡ true =
+    left_by_lane lanes entries words e k lane (omega arith) leaves made at in
+    if_made (λ actions. writes actions ≡ true) (access_by words entry lane) e (of_lane (log_by words entries) lane)
+    (has_lane entry.mask lane) later
+    (λ made'. kind_later entry.site.kind (slice_index words element) (slice_index entry.values lane)
+    (actions_at e (of_lane (log_by words entries) lane)) (element == e) later)
 
 -- what an entry leaves, one of its lanes writes
 pub entries_left : (lanes : ℕ) (entries : List Entry) (words : List ℕ) (e : ℕ) → IsLeft lanes entries e
@@ -138,7 +163,9 @@ entries_left lanes entries words e left = of_first (first entries left.k left.be
         record {
           lane = lane;
           below = (left.has d).below;
-          wrote = left_by_lane lanes entries words e left.k lane left.below left.leaves (λ d'.
+          wrote = left_by_lane lanes entries words e left.k lane left.below left.leaves
+              (λ d'. subst (λ (entry : Entry). has_lane entry.mask lane ≡ true)
+              (get_or_default entries left.k d d' left.below) (left.has d).made) (λ d'.
               subst (λ (entry : Entry). element_by entry.site.elements entry.elements lane ≡ e)
               (get_or_default entries left.k d d' left.below) (left.has d).at);
         }

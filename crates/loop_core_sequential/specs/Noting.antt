@@ -5,7 +5,7 @@ use Rattle.bpf_insn_types.specs.Program.{Program}
 use Rattle.bpf_step_model.specs.State.{LoopCall}
 use Rattle.bpf_step_batch.specs.declared.entry.Entry.{Entry}
 use Rattle.loop_core_batch.specs.Sites.{kind_leaves}
-use Rattle.bpf_step_batch.specs.Logs.{element_by}
+use Rattle.bpf_step_batch.specs.Logs.{element_by, has_lane}
 use Rattle.loop_core_undo.specs.declared.undo_log.UndoLog.{UndoLog}
 use Rattle.loop_core_undo.specs.Undo.{log_elements, is_written, word_before}
 use Rattle.loop_core_sequential.specs.Watched.{AreNoted, WentWatched}
@@ -21,10 +21,11 @@ pub record Grows (words : List ℕ) (old new : UndoLog) : Type 0 where
   pub written : (e : ℕ) → e < log_elements old → is_written old e ≡ true → is_written new e ≡ true
   pub before : (e : ℕ) → e < log_elements old → word_before new words e ≡ word_before old words e
 
--- an entry has an element for one of its lanes
+-- an entry has an element for one of the lanes that made its access
 pub record HasElement (lanes : ℕ) (entry : Entry) (element : ℕ) : Type 0 where
   pub lane : ℕ
   pub below : lane < lanes
+  pub made : has_lane entry.mask lane ≡ true
   pub at : element_by entry.site.elements entry.elements lane ≡ element
 
 -- a row has an element for one of so many lanes

@@ -1,11 +1,13 @@
 -- Batches of iterations that are tried.
-use Rattle.std.specs.Prelude.{◌≡◌, ℕ, ◌+◌, ◌<◌, List, length}
+use Rattle.std.specs.Prelude.{◌≡◌, ℕ, ◌+◌, ◌<◌, List, length, Option, Some, None, if◌then◌else◌}
 use Rattle.std.specs.List.{AllByRecursion}
+use Rattle.array_maps.specs.Accesses.{Access}
+use Rattle.array_maps.specs.declared.access.Op.{Op}
 use Rattle.array_maps.specs.MapList.{MapList}
 use Rattle.bpf_insn_types.specs.Program.{Program}
 use Rattle.bpf_step_model.specs.State.{LoopCall}
 use Rattle.bpf_step_batch.specs.declared.entry.Entry.{Entry}
-use Rattle.bpf_step_batch.specs.Logs.{element_by, accesses_by, IsLogged}
+use Rattle.bpf_step_batch.specs.Logs.{element_by, has_lane, accesses_by, stored_by, reduced_by, IsLogged}
 use Rattle.loop_core_batch.specs.LoopByBatch.{EndsInZero}
 use Rattle.loop_core_sequential.specs.declared.trying.Tried.{Tried}
 use Rattle.loop_core_sequential.specs.declared.trying.Tried.TheVariants.{Applied, Dependent, Diverged}
@@ -35,3 +37,10 @@ index_after Diverged index lanes = index
 abbrev pub AreWithin : (lanes : ℕ) → Entry → List ℕ → Type 0
 AreWithin lanes entry words = (lane : ℕ) → lane < lanes
     → element_by entry.site.elements entry.elements lane < length words
+
+-- a store of a lane's value, if it made the access, and a reduce by it
+abbrev pub stored_if_made : Entry → (lane : ℕ) → Option Access
+stored_if_made entry lane = if has_lane entry.mask lane then Some (stored_by entry lane) else None
+
+abbrev pub reduced_if_made : Op → Entry → (lane : ℕ) → Option Access
+reduced_if_made op entry lane = if has_lane entry.mask lane then Some (reduced_by op entry lane) else None

@@ -16,7 +16,7 @@ use Rattle.loop_core_model.specs.Report.{verdict}
 use Rattle.loop_core_batch.specs.LoopByBatch.{EndsInZero}
 use Rattle.loop_core_batch.specs.Sites.{kind_sees, kind_leaves}
 use Rattle.bpf_step_batch.specs.declared.entry.Entry.{Entry}
-use Rattle.bpf_step_batch.specs.Logs.{element_by}
+use Rattle.bpf_step_batch.specs.Logs.{element_by, has_lane}
 use Rattle.loop_core_sequential.specs.Loops.{RanLoopInOrder}
 use Rattle.loop_core_sequential.specs.Rests.{RanOn}
 
@@ -101,7 +101,7 @@ pub record IsUnread (written : ℕ → Bool) (lanes : ℕ) (entry : Entry) : Typ
 -- the elements that an entry of a batch of lanes leaves a word at are told written
 abbrev pub IsNoted : (written : ℕ → Bool) (lanes : ℕ) → Entry → Type 0
 IsNoted written lanes entry = kind_leaves entry.site.kind ≡ true → (lane : ℕ) → lane < lanes
-    → written (element_by entry.site.elements entry.elements lane) ≡ true
+    → has_lane entry.mask lane ≡ true → written (element_by entry.site.elements entry.elements lane) ≡ true
 
 -- those of all of its entries are
 abbrev pub AreNoted : (written : ℕ → Bool) (lanes : ℕ) → List Entry → Type 0

@@ -3,13 +3,16 @@
 ghost use Rattle.std.specs.Prelude.{◌≡◌, ℕ, ◌+◌, ◌-◌, ◌<◌, ◌≤◌, true, List, length, map, slice_index};
 ghost use Rattle.std.specs.List.{AllByRecursion};
 ghost use Rattle.loop_core_batch.specs.Sites.{AllUnseen};
-ghost use Rattle.loop_core_batch.specs.BySite.{AllCommute, combined_to, words_after_site, words_after_sites};
+ghost use Rattle.loop_core_batch.specs.BySite.{AllCommute, combined_to, words_after_any, words_after_site};
+ghost use Rattle.loop_core_batch.specs.BySite.{words_after_some, words_after_sites};
 ghost use Rattle.loop_core_batch.specs.declared.elements.Elements.TheVariants as elements;
-ghost use Rattle.bpf_step_batch.specs.Logs.{IsLogged, access_by, element_by, log_by, reduced_by, site_of, stored_by};
-ghost use Rattle.loop_core_sequential.specs.Tries.{AreWithin};
+ghost use Rattle.bpf_step_batch.specs.declared.mask.Mask.TheVariants as mask;
+ghost use Rattle.bpf_step_batch.specs.Logs.{IsLogged, access_by, element_by, log_by, made_by};
+ghost use Rattle.bpf_step_batch.specs.Logs.{reduced_by, site_of, stored_by};
+ghost use Rattle.loop_core_sequential.specs.Tries.{AreWithin, reduced_if_made, stored_if_made};
 
 use array_maps::{Maps, Op, Store, combine};
-use bpf_step_batch::{Entry, MOST_ENTRIES};
+use bpf_step_batch::{Entry, MOST_ENTRIES, Mask};
 use loop_core_batch::{Elements, Site, all_commute, law_of_sums, none_sees};
 use loop_core_model::Access;
 
@@ -50,6 +53,110 @@ pub(crate) fn apply(entries: &[Entry], lanes: u32, maps: &mut Maps)
 
 /// Applies the accesses of one site, lane by lane.
 fn apply_entry(entry: &Entry, lanes: u32, maps: &mut Maps)
+    requires some { 0 < lanes }
+    requires room { lanes ≤ 128 }
+    requires few { length maps.old.words ≤ 65536 }
+    requires within { AreWithin lanes entry.now maps.old.words }
+    ensures { (words : List ℕ) → maps.new ≡ record {
+      sizes = maps.old.sizes;
+      words = words_after_some (made_by words entry.now) lanes maps.old.words;
+    } }
+{
+    match entry.mask {
+        Mask::All => apply_all(entry, lanes, maps),
+        Mask::Those(_) => apply_some(entry, lanes, maps),
+    }
+}
+
+/// The same of those lanes that made one.
+fn apply_some(entry: &Entry, lanes: u32, maps: &mut Maps)
+    requires room { lanes ≤ 128 }
+    requires few { length maps.old.words ≤ 65536 }
+    requires within { AreWithin lanes entry.now maps.old.words }
+    ensures { (words : List ℕ) → maps.new ≡ record {
+      sizes = maps.old.sizes;
+      words = words_after_some (made_by words entry.now) lanes maps.old.words;
+    } }
+{
+    match entry.site.kind {
+        Access::Read => (),
+        Access::Write => store_some(entry, lanes, maps),
+        Access::Both => store_some(entry, lanes, maps),
+        Access::Reduce(op) => reduce_some(op, entry, lanes, maps),
+    }
+}
+
+/// Stores the values of those lanes that made the access.
+fn store_some(entry: &Entry, lanes: u32, maps: &mut Maps)
+    requires room { lanes ≤ 128 }
+    requires few { length maps.old.words ≤ 65536 }
+    requires within { AreWithin lanes entry.now maps.old.words }
+    ensures { maps.new ≡ record {
+      sizes = maps.old.sizes;
+      words = words_after_some (stored_if_made entry.now) lanes maps.old.words;
+    } }
+{
+    for lane in 0..lanes {
+        store_if_made(entry, lane, maps);
+    }
+}
+
+/// Stores a lane's value, if it made the access.
+#[inline(always)]
+fn store_if_made(entry: &Entry, lane: u32, maps: &mut Maps)
+    requires lane { lane < 128 }
+    requires few { length maps.old.words ≤ 65536 }
+    requires within { element_by entry.now.site.elements entry.now.elements lane < length maps.old.words }
+    ensures { maps.new ≡ record {
+      sizes = maps.old.sizes;
+      words = words_after_any (stored_if_made entry.now lane) maps.old.words;
+    } }
+{
+    if entry.mask.has(lane) {
+        maps.store(
+            element(entry.site.elements, entry, lane),
+            entry.values[lane as usize],
+        );
+    }
+}
+
+/// Applies the values of those lanes that made the access.
+fn reduce_some(op: Op, entry: &Entry, lanes: u32, maps: &mut Maps)
+    requires room { lanes ≤ 128 }
+    requires few { length maps.old.words ≤ 65536 }
+    requires within { AreWithin lanes entry.now maps.old.words }
+    ensures { maps.new ≡ record {
+      sizes = maps.old.sizes;
+      words = words_after_some (reduced_if_made op entry.now) lanes maps.old.words;
+    } }
+{
+    for lane in 0..lanes {
+        reduce_if_made(op, entry, lane, maps);
+    }
+}
+
+/// Applies a lane's value, if it made the access.
+#[inline(always)]
+fn reduce_if_made(op: Op, entry: &Entry, lane: u32, maps: &mut Maps)
+    requires lane { lane < 128 }
+    requires few { length maps.old.words ≤ 65536 }
+    requires within { element_by entry.now.site.elements entry.now.elements lane < length maps.old.words }
+    ensures { maps.new ≡ record {
+      sizes = maps.old.sizes;
+      words = words_after_any (reduced_if_made op entry.now lane) maps.old.words;
+    } }
+{
+    if entry.mask.has(lane) {
+        maps.update(
+            element(entry.site.elements, entry, lane),
+            op,
+            entry.values[lane as usize],
+        );
+    }
+}
+
+/// The same of all lanes.
+fn apply_all(entry: &Entry, lanes: u32, maps: &mut Maps)
     requires some { 0 < lanes }
     requires room { lanes ≤ 128 }
     requires few { length maps.old.words ≤ 65536 }
@@ -212,7 +319,7 @@ fn combined_values(op: Op, values: &[u64; 128], lanes: usize) -> u64
 
 /// The element that a lane accesses.
 #[inline(always)]
-fn element(elements: Elements, entry: &Entry, lane: u32) -> u32
+pub(crate) fn element(elements: Elements, entry: &Entry, lane: u32) -> u32
     requires lane { lane < 128 }
     requires few { element_by elements entry.now.elements lane < 65536 }
     ensures { result ≡ element_by elements entry.now.elements lane }

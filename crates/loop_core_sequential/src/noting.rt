@@ -1,13 +1,15 @@
 //! What the lanes of a batch read and write, by an undo log.
 
-ghost use Rattle.std.specs.Prelude.{◌≡◌, ℕ, ◌<◌, ◌≤◌, true, false, ◌⊎◌, length, slice_index, All};
-ghost use Rattle.bpf_step_batch.specs.Logs.{element_by};
-ghost use Rattle.loop_core_undo.specs.Undo.{log_elements, is_written};
+ghost use Rattle.std.specs.Prelude.{◌≡◌, ℕ, ◌<◌, ◌≤◌, true, false, ◌&&◌, ◌==◌, ◌⊎◌, length, slice_index, All};
+ghost use Rattle.bpf_step_batch.specs.declared.mask.Mask.TheVariants as mask;
+ghost use Rattle.bpf_step_batch.specs.Logs.{element_by, has_lane};
+ghost use Rattle.loop_core_undo.specs.Undo.{log_elements, is_written, MarksMore};
 ghost use Rattle.loop_core_sequential.specs.Watched.{IsUnread};
 ghost use Rattle.loop_core_sequential.specs.Noting.{AreBelow, Grows, HasElement, IsInRow, NotesWrites};
 
+use crate::applying::element;
 use array_maps::Maps;
-use bpf_step_batch::Entry;
+use bpf_step_batch::{Entry, Mask};
 use loop_core_batch::{Elements, leaves};
 use loop_core_model::Access;
 use loop_core_undo::UndoLog;
@@ -85,8 +87,60 @@ pub(crate) fn note_writes(entries: &[Entry], lanes: u32, log: &mut UndoLog, maps
     }
 }
 
-/// Notes the elements of all lanes at one site.
+/// Notes the elements of those lanes that made an access at a site.
 fn note_elements(entry: &Entry, lanes: u32, log: &mut UndoLog, maps: &Maps)
+    requires some { 0 < lanes }
+    requires room { lanes ≤ 128 }
+    requires within { AreBelow (log_elements log.old) lanes entry.now }
+    requires count { length maps.now.words ≡ log_elements log.old }
+    ensures grows { Grows maps.now.words log.old log.new }
+    ensures noted { (lane : ℕ) → lane < lanes → has_lane entry.now.mask lane ≡ true
+        → is_written log.new (element_by entry.now.site.elements entry.now.elements lane) ≡ true }
+    ensures only { (e : ℕ) → e < log_elements log.old → is_written log.new e ≡ true
+        → (is_written log.old e ≡ true) ⊎ HasElement lanes entry.now e }
+{
+    match entry.mask {
+        Mask::All => note_all(entry, lanes, log, maps),
+        Mask::Those(_) => note_some(entry, lanes, log, maps),
+    }
+}
+
+/// The same where not all did.
+fn note_some(entry: &Entry, lanes: u32, log: &mut UndoLog, maps: &Maps)
+    requires room { lanes ≤ 128 }
+    requires within { AreBelow (log_elements log.old) lanes entry.now }
+    requires count { length maps.now.words ≡ log_elements log.old }
+    ensures grows { Grows maps.now.words log.old log.new }
+    ensures noted { (lane : ℕ) → lane < lanes → has_lane entry.now.mask lane ≡ true
+        → is_written log.new (element_by entry.now.site.elements entry.now.elements lane) ≡ true }
+    ensures only { (e : ℕ) → e < log_elements log.old → is_written log.new e ≡ true
+        → (is_written log.old e ≡ true) ⊎ HasElement lanes entry.now e }
+{
+    // It tells the proof that elements are few.
+    let _words = maps.words();
+    for lane in 0..lanes {
+        note_if_made(entry, lane, log, maps);
+    }
+}
+
+/// Notes the element of a lane, if it made the access.
+#[inline(always)]
+fn note_if_made(entry: &Entry, lane: u32, log: &mut UndoLog, maps: &Maps)
+    requires lane { lane < 128 }
+    requires within { element_by entry.now.site.elements entry.now.elements lane < log_elements log.old }
+    requires few { log_elements log.old ≤ 65536 }
+    requires count { length maps.now.words ≡ log_elements log.old }
+    ensures { MarksMore (λ e. has_lane entry.now.mask lane
+        && (element_by entry.now.site.elements entry.now.elements lane == e)) maps.now.words log.old log.new }
+{
+    if entry.mask.has(lane) {
+        log.mark(element(entry.site.elements, entry, lane), maps);
+    }
+}
+
+/// The same where all did.
+fn note_all(entry: &Entry, lanes: u32, log: &mut UndoLog, maps: &Maps)
+    requires whole { entry.now.mask ≡ mask.All }
     requires some { 0 < lanes }
     requires room { lanes ≤ 128 }
     requires within { AreBelow (log_elements log.old) lanes entry.now }

@@ -9,13 +9,13 @@ use Rattle.loop_core_block.proofs.repeating.repeat_all.Goals as goal
 pub loop-entry-init : goal.loop-entry-init
 loop-entry-init c = none_repeated c.args.copy.now c.args.entries.now c.args.lane
 
-pub repeat-requires-clause-within : goal.repeat-requires-clause-within
-repeat-requires-clause-within c = element_there c.args.copy.now c.loop-entry.copy c.args.entries.now c.args.lane
+pub repeat_if_made-requires-clause-within : goal.repeat_if_made-requires-clause-within
+repeat_if_made-requires-clause-within c = element_there c.args.copy.now c.loop-entry.copy c.args.entries.now c.args.lane
     c.loop-entry.entry-index _ c.loop-entry.invariant c.loop-entry-test.true c.requires.within
 
 pub loop-entry-preserved : goal.loop-entry-preserved
-loop-entry-preserved c = repeated_more c.args.copy.now c.loop-entry.copy c.repeat.new.copy c.args.entries.now
-    c.args.lane c.loop-entry.entry-index _ c.loop-entry.invariant c.loop-entry-test.true c.repeat.ensures
+loop-entry-preserved c = repeated_more c.args.copy.now c.loop-entry.copy c.repeat_if_made.new.copy c.args.entries.now
+    c.args.lane c.loop-entry.entry-index _ c.loop-entry.invariant c.loop-entry-test.true c.repeat_if_made.ensures
 
 pub returns : goal.returns
 returns c = λ words. c.loop-entry.invariant.effects words c.loop-entry.copy

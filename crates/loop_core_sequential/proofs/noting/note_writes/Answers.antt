@@ -2,7 +2,8 @@ use Rattle.std.proofs.Common.{◌+◌, ◌∙◌, inl, sym, subst}
 use Rattle.std.proofs.lemmas.Bool.{both_ways}
 use Rattle.std.proofs.lemmas.List.Elements.{All-nil}
 use Rattle.loop_core_undo.specs.Undo.{log_elements}
-use Rattle.loop_core_sequential.proofs.NotingLaws.{NotedUpTo, IsNotedWithin, grows_same, left_here, noted_more, all_marked}
+use Rattle.loop_core_sequential.proofs.NotingLaws.{NotedUpTo, IsNotedWithin, grows_same, left_here}
+use Rattle.loop_core_sequential.proofs.NotingLaws.{noted_more, all_marked}
 use Rattle.loop_core_sequential.proofs.noting.note_writes.Goals as goal
 use Rattle.loop_core_sequential.proofs.noting.note_writes.Goals.{then-leaves, else-leaves}
 
@@ -29,7 +30,7 @@ loop-entry-preserved c = elim c.if-leaves.branch [
       (noted_more c.args.maps.now.words c.args.log.now c.loop-entry.log c.loop-entry.log c.args.lanes
       c.args.entries.now c.loop-entry.entry-index _ c.loop-entry-test.true c.loop-entry.invariant c.requires.within
       (grows_same c.args.maps.now.words c.loop-entry.log)
-      (λ leaves lane below. absurd (both_ways _ (sym c.leaves.ensures ∙ w.if-leaves.false) leaves))
+      (λ leaves lane below made. absurd (both_ways _ (sym c.leaves.ensures ∙ w.if-leaves.false) leaves))
       (λ e inside told. inl told))
 ]
 

@@ -53,6 +53,7 @@ end_all-requires-clause-index c =
 pub returns : goal.returns
 returns c = record {
   ran = folded c.args.self.now _ c.place_all.new.copy c.pass.new.self c.args.entries.now c.args.index c.args.lanes
-      c.requires.are c.requires.logged c.requires.may c.in_ok-place_all.ensures c.pass.ensures c.note_all.ensures
+      c.requires.are c.requires.whole c.requires.logged c.requires.may c.in_ok-place_all.ensures c.pass.ensures
+      c.note_all.ensures
       c.end_all.ensures refl refl;
 }
