@@ -16,17 +16,33 @@ use bpf_step_batch::{Entry, MOST_ENTRIES, Mask};
 use loop_core_batch::{Elements, Site, all_commute, law_of_sums, none_sees};
 use loop_core_model::Access;
 
+/// How many accesses a lane of most batches makes, at most.
+const FEW: usize = 4;
+
 /// Tells whether iterations that ran on the words from before them all are the loop in order, by what
 /// they accessed, and their accesses may be applied site by site.
 pub(crate) fn are_in_order(entries: &[Entry], lanes: u32) -> bool
     requires { length entries.now ≤ MOST_ENTRIES }
     ensures { result ≡ true → AllUnseen lanes (map site_of entries.now) × AllCommute lanes (map site_of entries.now) }
 {
+    if entries.len() <= FEW {
+        are_in_order_among::<FEW>(entries, lanes)
+    } else {
+        are_in_order_among::<MOST_ENTRIES>(entries, lanes)
+    }
+}
+
+/// The same of at most N accesses of a lane. To clear room for more of them takes longer than to look.
+fn are_in_order_among<const N: usize>(entries: &[Entry], lanes: u32) -> bool
+    requires entries { length entries.now ≤ N }
+    requires few { N ≤ MOST_ENTRIES }
+    ensures { result ≡ true → AllUnseen lanes (map site_of entries.now) × AllCommute lanes (map site_of entries.now) }
+{
     let none = Site {
         kind: Access::Read,
         elements: Elements::One(0),
     };
-    let mut sites = [none; MOST_ENTRIES];
+    let mut sites = [none; N];
     for k in 0..entries.len() {
         sites[k] = entries[k].site;
     }
