@@ -4,7 +4,7 @@ from __future__ import annotations
 
 from typing import List, Optional, Tuple
 
-from .code import FRAME, FRAME_BYTES, NUMBER_LIMIT, REGISTERS, Atomic, Function, Load, Store
+from .code import FRAME, FRAME_BYTES, NUMBER_LIMIT, REGISTERS, Atomic, Function, Load, Store, line_text
 from .lines import Writer
 from .live import writes_of
 from .plans import Touch, Where
@@ -25,6 +25,7 @@ class Scratch:
     """Registers that hold nothing, or that are put aside in free bytes of the frame."""
 
     def __init__(self, function: Function) -> None:
+        self._function = function
         lowest = FRAME_BYTES
         for block in function.blocks.values():
             for insn in block.insns:
@@ -36,7 +37,8 @@ class Scratch:
         """The place of the frame for a register that is put aside, counted from 0."""
         byte = self.lowest - 8 * (number + 1)
         if byte < 0:
-            raise NoRoom("a function's frame has no free bytes for the numbers that the loader needs")
+            told = f"the frame of {self._function.name} has no free bytes for the numbers that the loader needs"
+            raise NoRoom(f"{line_text(self._function.line)}{told}: make a local array a global one")
         return byte - FRAME_BYTES
 
 

@@ -3,6 +3,7 @@
 from __future__ import annotations
 
 import re
+from collections import Counter
 from typing import Dict, List, Optional, Tuple
 
 from .btf import SourceLine
@@ -15,6 +16,7 @@ from .lower import Lowering, callback_order
 from .memory import FLAG, Kind, Memory
 from .mend import Rewritten
 from .rewrites import rewrites_of
+from .room import SlotsOf
 from .sums import sum_up, summed_bytes
 from .unit import printable
 from .webs import Webs
@@ -49,6 +51,14 @@ class Emitted:
     def slots(self) -> int:
         """The slots that it takes, which may be more than there are."""
         return sum(self._slots_of(number) for number in callback_order(self._rewritten))
+
+    def slots_of_lines(self) -> SlotsOf:
+        """The slots that each line of C takes."""
+        found: SlotsOf = Counter()
+        for number in callback_order(self._rewritten):
+            for line in self._lines_of(number):
+                found[line.line] += line.slots
+        return found
 
     def is_within(self, limit: int) -> bool:
         """Whether it takes so many slots at most."""

@@ -14,6 +14,7 @@ from .memory import Memory
 from .mend import Mender, Rewritten
 from .outline import MOST_ROUNDS, loop_of, outline, part
 from .refusal import NoRoom, Refused
+from .room import too_long, too_much
 from .trips import FALLING, RISING
 from .unit import SLOTS_LIMIT
 from .unroll import Loop, TooMany
@@ -93,7 +94,7 @@ class _Fit:
             except TooMany as reason:
                 alike = self._alike(reason.loop)
                 if not alike:
-                    raise NoRoom(f"the code takes more than {SLOTS_LIMIT} slots") from None
+                    raise NoRoom(too_much(reason.functions)) from None
                 self._limit(alike)
                 continue
             if emitted.is_within(SLOTS_LIMIT):
@@ -101,7 +102,7 @@ class _Fit:
             self._rounds.update((loop, rounds) for loop, rounds in done.copied.items() if loop not in self._limited)
             longest = self._longest(done, emitted)
             if not longest:
-                raise NoRoom(f"the code takes {emitted.slots} slots, of at most {SLOTS_LIMIT}")
+                raise NoRoom(too_long(emitted.slots_of_lines(), done.functions.values()))
             self._limit(longest)
 
     def _alike(self, loop: Optional[Loop]) -> List[Loop]:

@@ -124,7 +124,8 @@ class Mender:
             try:
                 done.functions[number] = unroller.run(self._entry(number, layout, done.entries))
             except TooMany as reason:
-                raise reason if reason.loop else TooMany(limits.longest({**done.copied, **unroller.copied})) from None
+                loop = reason.loop or limits.longest({**done.copied, **unroller.copied})
+                raise TooMany(loop, [*done.functions.values(), unroller.result]) from None
             done.cut |= unroller.cut
             done.counted |= unroller.counted
             done.copied.update(unroller.copied)

@@ -46,11 +46,12 @@ Loop = Tuple[int, int]  # a function's number, and the label of a loop's first b
 
 
 class TooMany(Exception):
-    """More instructions are copied than there is room for, and the loop that went on."""
+    """More instructions are copied than there is room for: the loop that went on, and the functions so far."""
 
-    def __init__(self, loop: Loop | None) -> None:
+    def __init__(self, loop: Loop | None, functions: Sequence[Function] = ()) -> None:
         super().__init__("too many instructions")
         self.loop = loop
+        self.functions = [*functions]
 
 
 class Limits:

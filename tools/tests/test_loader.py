@@ -30,6 +30,7 @@ from bpf_object.code import (  # noqa: E402
     backward,
 )
 from bpf_object.bounds import Bounds  # noqa: E402
+from bpf_object.btf import SourceLine  # noqa: E402
 from bpf_object.emit import Emitted  # noqa: E402
 from bpf_object.fit import fit  # noqa: E402
 from bpf_object.inline import inline, lowest_byte  # noqa: E402
@@ -37,6 +38,7 @@ from bpf_object.memory import Kind, Memory  # noqa: E402
 from bpf_object.mend import Mender  # noqa: E402
 from bpf_object.outline import outline  # noqa: E402
 from bpf_object.ranges import ALL, HOLDS, NUMBERS, Range, alu, compute, exact, norm, refine  # noqa: E402
+from bpf_object.refusal import NoRoom  # noqa: E402
 from bpf_object.trips import FALLING, RISING  # noqa: E402
 from loader.forms import After, Before  # noqa: E402
 
@@ -298,6 +300,17 @@ class Steps(Same):
         insns = [Address(6, 3, 0), mov(2, 5), Atomic(8, "add_fetch", 6, 0, 2), mov(0, 1)]
         unit = self.compare(memory_of(a=8), {0: Function("main", 0, {0: Block(insns, Exit())})})
         self.assertIn("atomic64 add ", unit)
+
+    def test_no_room(self) -> None:
+        lines = [SourceLine("x.c", number, "") for number in (7, 9)]
+        for count, told in (
+            (5999, "takes 6001 slots, of at most 4096, 3999 of them for this line and 2000 for line 9: "),
+            (8999, "takes more than 4096 slots, most of them for this line and line 9: "),
+        ):
+            insns = [mov(0, 0), *(Alu("add", 64, 0, 1, 0, lines[at % 3 == 0]) for at in range(count))]
+            with self.assertRaises(NoRoom) as refused:
+                fit(memory_of(), {0: Function("main", 0, {0: Block(insns, Exit())})}, (set(),))
+            self.assertEqual(str(refused.exception).partition("each call")[0], f"x.c:7: the code {told}")
 
     def test_trap(self) -> None:
         insns = [Address(6, 3, 0), imm("lsh", 1, 3), op("add", 6, 1), Load(8, False, 0, 6, 0)]
