@@ -94,8 +94,9 @@ def all_names(objects: dict[Build, bytes]) -> Names:
 
 
 def title(source: Path, main: str, names: Names) -> str:
-    """What a program is called in the lines that are printed."""
-    return source.name if len(names.mains) == 1 else f"{source.name} {main}"
+    """What a program is called in the lines that are printed: by its folder too, since two have a file of one name."""
+    name = f"{source.resolve().parent.name}/{source.name}"
+    return name if len(names.mains) == 1 else f"{name} {main}"
 
 
 def verdict_lines(judged: list[Judged]) -> list[str]:
