@@ -5,6 +5,7 @@ from __future__ import annotations
 import struct
 from collections.abc import Iterator
 from dataclasses import dataclass
+from typing import Tuple
 
 from .refusal import Refused
 
@@ -107,6 +108,9 @@ class Relocation:
     symbol: Symbol
 
 
+Part = Tuple[str, int, bytes, Tuple[Tuple[int, int, str, int], ...]]  # a section, and what it refers to
+
+
 class Object:
     """An object file for BPF."""
 
@@ -151,6 +155,18 @@ class Object:
             raise Refused(f"the relocations of {target.name} name no symbol table")
         found = {offset: self._relocation(*rest, offset, target) for offset, *rest in _entries(RELOCATION, table)}
         return list(found.values())
+
+    def parts(self) -> list[Part]:
+        """What a program that runs has of it: two objects with the same parts do the same."""
+        return [
+            (section.name, section.size, bytes(section.data), tuple(self._references(section)))
+            for section in self.sections
+            if section.is_code or section.is_data
+        ]
+
+    def _references(self, section: Section) -> Iterator[tuple[int, int, str, int]]:
+        for one in self.relocations(section):
+            yield one.offset, one.type, self.describe(one.symbol), one.symbol.value
 
     def _relocation(self, relocation_type: int, symbol: int, offset: int, target: Section) -> Relocation:
         if symbol >= len(self.symbols):

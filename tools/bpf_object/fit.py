@@ -38,6 +38,8 @@ def fit(memory: Memory, functions: Dict[int, Function], choices: Iterable[Set[in
             done, emitted = fitting.run()
         except NoRoom as reason:
             first = first or reason
+            if not fitting.was_spread:
+                break  # the next choice does the same
             continue
         if fitting.is_enough(done) or not fitting.is_spread:
             return emitted
@@ -68,6 +70,11 @@ class _Fit:
     def is_spread(self) -> bool:
         """Whether any value has an element of its own."""
         return self._mender.is_spread
+
+    @property
+    def was_spread(self) -> bool:
+        """Whether any had one at any time."""
+        return self._mender.was_spread
 
     def _attempt(self, rounds: Dict[Loop, int]) -> Tuple[Rewritten, Emitted]:
         done = self._mender.run(BUDGET, rounds)

@@ -54,6 +54,7 @@ class Mender:
                 self.facts.use((target,))
                 self.facts.escape(frozenset((target,)))
         self._spread: set[int] = set()
+        self.was_spread = False  # whether any value had an element of its own in any round
         self._is_tried = False
         self._layout: Optional[Layout] = None  # of the round before
         self._results: Dict[int, Results] = {}  # of the functions, by that layout
@@ -102,6 +103,7 @@ class Mender:
                     done.facts = self.facts.copy()
                     return done
                 self._spread = spread
+                self.was_spread |= bool(spread)
         raise Refused("the program's variables have no layout that all its accesses agree with")
 
     def _is_settled(self, layout: Layout, followed: Followed) -> bool:

@@ -2,6 +2,7 @@
 
 from __future__ import annotations
 
+from bpf_object.elf import Object
 from bpf_object.load import load
 from bpf_object.loaded import Loaded
 from bpf_object.program import Verify
@@ -23,8 +24,13 @@ def load_file(options: Options, clock: Clock, judge: Verify | None = None) -> tu
     try:
         return load(made.data, options.main, options.as_is, judge), made.way
     except NoRoom as reason:
+        tried = [Object(made.data).parts()]
         for other in compiler.shorter(options.file, made.way, clock):
             try:
+                parts = Object(other.data).parts()
+                if parts in tried:
+                    continue
+                tried.append(parts)
                 return load(other.data, options.main, options.as_is, judge), other.way
             except Refused:
                 continue

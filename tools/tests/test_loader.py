@@ -9,6 +9,7 @@ import sys
 import unittest
 from pathlib import Path
 from typing import Optional
+from unittest.mock import patch
 
 sys.path[:0] = [str(Path(__file__).resolve().parents[1]), str(Path(__file__).resolve().parent)]
 
@@ -44,6 +45,7 @@ from loader.forms import After, Before  # noqa: E402
 
 SEED = 7
 TRIES = 3000
+RUN = Mender.run
 
 
 def mov(dst: int, number: int) -> Alu:
@@ -308,8 +310,10 @@ class Steps(Same):
             (8999, "takes more than 4096 slots, most of them for this line and line 9: "),
         ):
             insns = [mov(0, 0), *(Alu("add", 64, 0, 1, 0, lines[at % 3 == 0]) for at in range(count))]
-            with self.assertRaises(NoRoom) as refused:
-                fit(memory_of(), {0: Function("main", 0, {0: Block(insns, Exit())})}, (set(),))
+            seen = patch.object(Mender, "run", autospec=True, side_effect=RUN)
+            with self.assertRaises(NoRoom) as refused, seen as run:
+                fit(memory_of(), {0: Function("main", 0, {0: Block(insns, Exit())})}, ({1, 2, 4}, set()))
+            self.assertEqual(run.call_count, 1)  # nothing has an element of its own, so the other choice is the same
             self.assertEqual(str(refused.exception).partition("each call")[0], f"x.c:7: the code {told}")
 
     def test_trap(self) -> None:
