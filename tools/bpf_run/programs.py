@@ -8,6 +8,7 @@ import shutil
 import signal
 import subprocess
 import sys
+import tempfile
 import time
 from dataclasses import dataclass
 from pathlib import Path
@@ -111,13 +112,15 @@ def run(
     words: tuple[str, ...], text: str, clock: Clock, seconds: float | None = None, errors: IO[bytes] | None = None
 ) -> Answer | None:
     """Runs a program on a text; None where it takes longer than that. Its errors go to ours, or to a file."""
-    pipe = subprocess.PIPE
+    with tempfile.TemporaryFile() as file:  # and no pipe, of which `communicate` writes nothing more once it timed out
+        file.write(text.encode())
+        file.seek(0)
+        try:
+            child = subprocess.Popen(words, stdin=file, stdout=subprocess.PIPE, stderr=errors, start_new_session=True)
+        except OSError as reason:
+            raise Refused(f"{words[0]}: {reason.strerror}") from None
     try:
-        child = subprocess.Popen(words, stdin=pipe, stdout=pipe, stderr=errors, start_new_session=True)
-    except OSError as reason:
-        raise Refused(f"{words[0]}: {reason.strerror}") from None
-    try:
-        output = _communicate(child, text.encode(), clock, seconds)
+        output = _communicate(child, clock, seconds)
     except subprocess.TimeoutExpired:
         return None
     finally:
@@ -126,14 +129,12 @@ def run(
     return Answer(output.decode(errors="replace"), child.returncode)
 
 
-def _communicate(child: subprocess.Popen[bytes], text: bytes, clock: Clock, seconds: float | None) -> bytes:
+def _communicate(child: subprocess.Popen[bytes], clock: Clock, seconds: float | None) -> bytes:
     until = None if seconds is None else time.monotonic() + seconds
-    given: bytes | None = text
     while True:
         try:
-            return child.communicate(given, timeout=TICK)[0]
+            return child.communicate(timeout=TICK)[0]
         except subprocess.TimeoutExpired:
-            given = None
             clock.tell()
             if until is not None and time.monotonic() > until:
                 raise

@@ -340,6 +340,16 @@ class OtherCommands(InFolder):
         self.assertIn("data:image/svg+xml;base64,", page.read_text())
 
 
+class SlowPrograms(InFolder):
+    def test_input_is_read_late(self) -> None:
+        words = os.environ.get("BPFSPEC", f"{TOP}/bpfspec")
+        program = self.file("program", f'#!/bin/sh\nsleep 0.5\nexec {words} "$@"\n')
+        program.chmod(0o755)
+        with unittest.mock.patch.dict(ENVIRONMENT, BPFSPEC=str(program)):
+            done = bpfrun("run", "--arg", 59999, SOURCES / "large.c")  # its values take more bytes than a pipe has
+        self.assertEqual(done.stdout, f"return 0\nvalues = {{0 <repeats 59999 times>, {2**64 - 1}}}\n")
+
+
 class Signals(InFolder):
     def start(self, *words: object) -> subprocess.Popen[str]:
         """A command that runs on."""
