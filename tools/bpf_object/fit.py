@@ -127,7 +127,10 @@ class _Fit:
             if place[loop[1]] < place[to] <= place[label]
         }
         others = [header for header in headers if header not in inside and line and _line_of(main, header) == line]
-        return [loop, *((0, header) for header in sorted(others) if not loop_of(main, header) & inside)]
+        loops = {header: loop_of(main, header) for header in others}
+        apart = {header for header, labels in loops.items() if not labels & inside}
+        outermost = (one for one in sorted(apart) if not any(one in loops[other] for other in apart - {one}))
+        return [loop, *((0, header) for header in outermost)]
 
     def _longest(self, done: Rewritten, emitted: Emitted) -> List[Loop]:
         """The loops with the most rounds, main's before all others, as many as have to be shorter."""
