@@ -201,11 +201,6 @@ class Refusals(InFolder):
             with self.subTest(path=path):
                 self.assertIn(words, self.refused("run", path))
 
-    def test_no_room(self) -> None:
-        told = self.refused("run", SOURCES / "crowded.c")
-        self.assertRegex(told, r"crowded\.c:13: the code takes \d+ slots, of at most 4096, \d+ of them for this line ")
-        self.assertTrue(told.endswith("where a pointer there leads: name the variable itself"), told)
-
     def test_error_of_clang(self) -> None:
         done = bpfrun("run", self.file("bad.c", "int main( {\n"))
         self.assertEqual((done.returncode, done.stdout), (2, ""))
