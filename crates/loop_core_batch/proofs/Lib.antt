@@ -4,3 +4,4 @@ pub mod SiteLaws
 pub mod Swapping
 pub mod ApplyLaws
 pub mod Judging
+pub mod EffectLaws

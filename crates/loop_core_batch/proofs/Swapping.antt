@@ -21,7 +21,7 @@ abbrev pub Swap : Access → Access → Type 0
 Swap a b = (words : List ℕ) → words_after a (words_after b words) ≡ words_after b (words_after a words)
 
 -- a word of a list changed
-abbrev changed_at : (ℕ → ℕ) → ℕ → List ℕ → List ℕ
+abbrev pub changed_at : (ℕ → ℕ) → ℕ → List ℕ → List ℕ
 changed_at change e words = set words e (change (get_or words e 0))
 
 -- two changes at one place, which commute
@@ -32,7 +32,7 @@ same_place f g comm (word ∷ words) zero = ap (λ (w : ℕ). w ∷ words) (comm
 same_place f g comm (word ∷ words) (suc e) = ap (λ (ws : List ℕ). word ∷ ws) (same_place f g comm words e)
 
 -- two changes at different places
-other_place : (f g : ℕ → ℕ) (words : List ℕ) (d e : ℕ) → d ≢ e → changed_at f d (changed_at g e words) ≡ changed_at g e
+pub other_place : (f g : ℕ → ℕ) (words : List ℕ) (d e : ℕ) → d ≢ e → changed_at f d (changed_at g e words) ≡ changed_at g e
     (changed_at f d words)
 other_place f g words d e apart =
     let x : ℕ = f (get_or words d 0) in

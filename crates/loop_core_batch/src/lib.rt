@@ -15,19 +15,22 @@ pub mod site;
 ghost use Rattle.loop_core_batch.specs.BySite.{SitesApply, SumsAtOnce};
 ghost use Rattle.loop_core_batch.specs.Lanes.{SumsSeeNothing};
 ghost use Rattle.loop_core_batch.specs.LoopByBatch.{LoopByBatch, LoopBySites};
+ghost use Rattle.loop_core_batch.specs.LoopByEffects.{LoopByEffects};
 ghost use Rattle.loop_core_batch.specs.Sites.{SitesTell};
 
 pub use elements::Elements;
 pub use loop_core_model::Access;
 use loop_core_model::law_of_operators;
-pub use site::{Site, all_commute, leaves, none_sees};
+pub use site::{Site, all_commute, leaves, none_loads, none_sees};
 
 /// The law of batches: where iterations go on that ran on the words from before them, and none sees an
 /// element that an earlier one writes, the loop in order is the loop after them, on the words after
-/// their accesses. The same is told by sites.
+/// their accesses. The same is told by sites. Lanes may change one element, where none loads it: then
+/// the loop goes on after their effects, each on the word that it finds.
 pub fn law_of_batches()
     ensures lanes { LoopByBatch }
     ensures sites { LoopBySites }
+    ensures effects { LoopByEffects }
 {
     law_of_operators();
 }

@@ -2,6 +2,7 @@
 
 ghost use Rattle.std.specs.Prelude.{◌≡◌, ◌↔◌, IsTrue, All};
 ghost use Rattle.loop_core_batch.specs.BySite.{Commute, AllCommute, by_one_operator};
+ghost use Rattle.loop_core_batch.specs.Effects.{Unloaded, AllUnloaded, kind_loads};
 ghost use Rattle.loop_core_batch.specs.Sites.{Unseen, AllUnseen, kind_sees, kind_leaves};
 
 use crate::elements::Elements;
@@ -33,6 +34,28 @@ impl Site {
     {
         for reader in readers {
             if !self.is_unseen(*reader, lanes) {
+                return false;
+            }
+        }
+        true
+    }
+
+    /// Whether no lane may load here an element that an earlier one may write at `writer`.
+    fn is_unwritten(self, writer: Site, lanes: u32) -> bool
+        ensures { IsTrue result ↔ Unloaded lanes self writer }
+    {
+        if leaves(writer.kind) && loads(self.kind) {
+            return !writer.elements.may_meet(self.elements, lanes);
+        }
+        true
+    }
+
+    /// Whether no lane may load here an element that an earlier one may write at one of the writers.
+    fn is_unwritten_by(self, writers: &[Site], lanes: u32) -> bool
+        ensures { IsTrue result ↔ All (λ writer. Unloaded lanes self writer) writers.now }
+    {
+        for writer in writers {
+            if !self.is_unwritten(*writer, lanes) {
                 return false;
             }
         }
@@ -75,6 +98,19 @@ pub fn none_sees(sites: &[Site], lanes: u32) -> bool
     true
 }
 
+/// Tells whether, by these sites of all their accesses, no lane of n may load an element that an
+/// earlier one may write. What changes an element doesn't load it.
+pub fn none_loads(sites: &[Site], lanes: u32) -> bool
+    ensures { IsTrue result ↔ AllUnloaded lanes sites.now }
+{
+    for reader in sites {
+        if !reader.is_unwritten_by(sites, lanes) {
+            return false;
+        }
+    }
+    true
+}
+
 /// Tells whether each site may be applied for all of n lanes before those after it are for any.
 pub fn all_commute(sites: &[Site], lanes: u32) -> bool
     ensures { IsTrue result ↔ AllCommute lanes sites.now }
@@ -94,6 +130,16 @@ fn sees(kind: Access) -> bool
     match kind {
         Access::Read | Access::Both => true,
         Access::Write | Access::Reduce(_) => false,
+    }
+}
+
+/// Whether an access of this kind loads the word of its element, and leaves none.
+fn loads(kind: Access) -> bool
+    ensures { result ≡ kind_loads kind }
+{
+    match kind {
+        Access::Read => true,
+        Access::Write | Access::Both | Access::Reduce(_) => false,
     }
 }
 

@@ -39,6 +39,7 @@ no_entry = record {
   mask = AllLanes;
   elements = [];
   values = [];
+  halves = [];
 }
 
 -- a row of one element is that of a site of it, and a site of any elements has its own

@@ -33,7 +33,7 @@ same_site a b same (suc lanes) words = ap (words_after (a lanes)) (same_site a b
     ∙ same lanes (words_after_site b lanes words)
 
 -- by its kind
-by_kind : (words : List ℕ) (entry : Entry) (kind : Kind) → entry.site.kind ≡ kind → (lane : ℕ)
+pub by_kind : (words : List ℕ) (entry : Entry) (kind : Kind) → entry.site.kind ≡ kind → (lane : ℕ)
     → access_by words entry lane ≡ record {
       element = element_by entry.site.elements entry.elements lane;
       action = action_by kind (slice_index words (element_by entry.site.elements entry.elements lane))

@@ -6,6 +6,7 @@ pub mod SameReplays
 pub mod SameOutcomes
 pub mod Together
 pub mod ApplyLaws
+pub mod ApplyEffects
 pub mod WatchedFlow
 pub mod WatchedLaws
 pub mod WatchedEntries

@@ -19,7 +19,7 @@ use Rattle.loop_core_batch.proofs.BatchLaws.{length-before}
 use Rattle.bpf_step_batch.proofs.LogLaws.{log_of_sites}
 use Rattle.loop_core_sequential.specs.Tries.{LanesAreIterations}
 use Rattle.loop_core_sequential.specs.Watched.{IsUnread, AreNoted, WentWatched}
-use Rattle.loop_core_sequential.proofs.Together.{lanes_went}
+use Rattle.loop_core_sequential.proofs.Together.{sites_went}
 use Rattle.loop_core_sequential.specs.Noting.{IsLeft}
 use Rattle.loop_core_sequential.proofs.WatchedLaws.{WritesAt, lanes_watched, not_so, after_lanes}
 use Rattle.loop_core_sequential.proofs.WatchedEntries.{entries_unreduced, entries_unread, entries_noted, entries_left}
@@ -44,7 +44,7 @@ batch_watched by_sites tell apply program call start now first lanes within entr
     (entries_unreduced written lanes entries unread now.words)
     (entries_unread written lanes entries unread now.words start)
     new
-    (lanes_went by_sites program call first lanes within entries now new are unseen commute applied)
+    (sites_went by_sites program call first lanes within entries now new are unseen commute applied)
     (ap (λ (maps : MapList). maps.words) applied
     ∙ apply lanes (map site_of entries) log logged commute now.words)
     written' grows

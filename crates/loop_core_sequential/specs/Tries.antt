@@ -1,25 +1,33 @@
 -- Batches of iterations that are tried.
-use Rattle.std.specs.Prelude.{◌≡◌, ℕ, ◌+◌, ◌<◌, List, length, Option, Some, None, if◌then◌else◌}
+use Rattle.std.specs.Prelude.{◌≡◌, ℕ, ◌+◌, ◌<◌, List, length, slice_index, Option, Some, None, if◌then◌else◌}
 use Rattle.std.specs.List.{AllByRecursion}
 use Rattle.array_maps.specs.Accesses.{Access}
 use Rattle.array_maps.specs.declared.access.Op.{Op}
-use Rattle.array_maps.specs.MapList.{MapList}
+use Rattle.array_maps.specs.MapList.{MapList, AreWords}
 use Rattle.bpf_insn_types.specs.Program.{Program}
 use Rattle.bpf_step_model.specs.State.{LoopCall}
 use Rattle.bpf_step_batch.specs.declared.entry.Entry.{Entry}
-use Rattle.bpf_step_batch.specs.Logs.{element_by, has_lane, accesses_by, stored_by, reduced_by, IsLogged}
+use Rattle.array_maps.specs.Halves.{half_of, with_half}
+use Rattle.bpf_step_batch.specs.Logs.{element_by, half_by, has_lane, accesses_by, effects_by, stored_by, reduced_by}
+use Rattle.bpf_step_batch.specs.Logs.{IsLogged}
+use Rattle.loop_core_batch.specs.Effects.{Change, Effect, LoadsSame}
 use Rattle.loop_core_batch.specs.LoopByBatch.{EndsInZero}
+use Rattle.loop_core_batch.specs.LoopByEffects.{GoesOn}
 use Rattle.loop_core_sequential.specs.declared.trying.Tried.{Tried}
 use Rattle.loop_core_sequential.specs.declared.trying.Tried.TheVariants.{Applied, Dependent, Diverged}
 use Rattle.loop_core_sequential.specs.Rests.{RanOn}
 
 -- the lanes of a batch are the iterations from an index on, each on these words: each goes on, with the accesses that
--- the entries have of its lane, which are at their sites and of elements that are there
+-- the entries have of its lane, which are at their sites and of elements that are there; so it does on all words on
+-- which it loads the same
 pub record LanesAreIterations (program : Program) (call : LoopCall) (index lanes : ℕ) (words : List ℕ)
     (entries : List Entry) : Type 0 where
   pub each : (lane : ℕ) → lane < lanes → EndsInZero program 4096 call (index + lane) words
       (accesses_by words entries lane)
   pub logged : AllByRecursion (IsLogged lanes words) entries
+  pub fit : AreWords words
+  pub anywhere : (lane : ℕ) → lane < lanes → (now : List ℕ) → AreWords now → LoadsSame words now (effects_by entries lane)
+      → GoesOn program 4096 call (index + lane) now (effects_by entries lane)
 
 -- a batch of iterations from an index on went, or nothing was done
 abbrev pub TriedIn : Program → LoopCall → (index lanes : ℕ) → (old new : MapList) → Tried → Type 0
@@ -44,3 +52,14 @@ stored_if_made entry lane = if has_lane entry.mask lane then Some (stored_by ent
 
 abbrev pub reduced_if_made : Op → Entry → (lane : ℕ) → Option Access
 reduced_if_made op entry lane = if has_lane entry.mask lane then Some (reduced_by op entry lane) else None
+
+-- a lane's half in the place of that half of the word that stands there, and so if it made the access
+abbrev pub replaced_by : Entry → (lane : ℕ) → Effect
+replaced_by entry lane = record {
+  element = element_by entry.site.elements entry.elements lane;
+  deed = Change (λ word. with_half (half_by entry lane) word (half_of (half_by entry lane)
+      (slice_index entry.values lane)));
+}
+
+abbrev pub replaced_if_made : Entry → (lane : ℕ) → Option Effect
+replaced_if_made entry lane = if has_lane entry.mask lane then Some (replaced_by entry lane) else None

@@ -6,12 +6,13 @@ ghost use Rattle.loop_core_sequential.specs.LoopRuns.{IsLoopRun};
 ghost use Rattle.loop_core_sequential.specs.Rests.{RanOn};
 ghost use Rattle.loop_core_sequential.specs.Tries.{LanesAreIterations, TriedIn, index_after};
 
-use crate::applying::{apply, are_in_order};
+use crate::applying::{apply_effects, are_unloaded};
 use crate::batches::Batches;
 use crate::running::LoopRun;
 use crate::trying::Tried;
 use array_maps::Maps;
 use bpf_step_ir_sound::law_of_plain_iterations;
+use bpf_verify_sound::{law_of_accepted_programs, law_of_accepted_runs};
 use loop_core_batch::law_of_batches;
 
 impl Batches {
@@ -50,6 +51,8 @@ impl Batches {
             maps.now.words (entries_of self.new.batch) }
     {
         law_of_plain_iterations();
+        law_of_accepted_runs();
+        law_of_accepted_programs();
         let (ops, _fast) = run.program.operations();
         let frame = run.call.frame();
         let _sizes = maps.sizes();
@@ -73,10 +76,10 @@ impl Batches {
         }
         let tried = &*self;
         let entries = tried.batch.entries();
-        if !are_in_order(entries, lanes) {
+        if !are_unloaded(entries, lanes) {
             return Tried::Dependent;
         }
-        apply(entries, lanes, maps);
+        apply_effects(entries, lanes, maps);
         Tried::Applied
     }
 }

@@ -15,7 +15,8 @@ run-requires-clause-slots c =
 
 pub returns : goal.returns
 returns c = λ ran.
-    are_iterations c.law_of_plain_iterations.ensures c.args.run.now.program.now
+    are_iterations c.law_of_plain_iterations.ensures c.law_of_accepted_programs.ensures
+    c.law_of_accepted_runs.ensures.counts c.args.run.now.program.now
     (record { accepted = c.operations.ensures.accepted; fits = c.operations.ensures.fit })
     c.operations.result.0.now c.operations.ensures.ops c.args.run.now.call.now c.requires.ready.known
     c.frame-frame.result.now c.frame-frame.ensures c.args.maps.now.words

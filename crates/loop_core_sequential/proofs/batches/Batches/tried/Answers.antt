@@ -2,18 +2,18 @@ use Rattle.bpf_step_batch.specs.Logs.{entries_of}
 use Rattle.loop_core_sequential.proofs.Together.{iterations_of, lanes_went}
 use Rattle.loop_core_sequential.proofs.batches.Batches.tried.Goals as goal
 
-pub apply-requires-clause-logged : goal.apply-requires-clause-logged
-apply-requires-clause-logged c =
+pub apply_effects-requires-clause-logged : goal.apply_effects-requires-clause-logged
+apply_effects-requires-clause-logged c =
     (iterations_of c.args.run.now.program.now c.args.run.now.call.now c.args.index c.args.lanes c.args.maps.now.words
     (entries_of c.ran_together.new.self.batch) c.entries-entries.result.now c.entries-entries.ensures.entries
     (c.ran_together.ensures c.if-not-ran_together.false)).logged
 
 pub returns : goal.returns
 returns c =
-    let in_order = c.are_in_order.ensures c.if-not-are_in_order.false in
-    lanes_went c.law_of_batches.ensures.sites c.args.run.now.program.now c.args.run.now.call.now c.args.index
-    c.args.lanes c.requires.within c.entries-entries.result.now c.args.maps.now c.apply.new.maps
+    let in_order = c.are_unloaded.ensures c.if-not-are_unloaded.false in
+    lanes_went c.law_of_batches.ensures.effects c.args.run.now.program.now c.args.run.now.call.now c.args.index
+    c.args.lanes c.requires.within c.entries-entries.result.now c.args.maps.now c.apply_effects.new.maps
     (iterations_of c.args.run.now.program.now c.args.run.now.call.now c.args.index c.args.lanes c.args.maps.now.words
     (entries_of c.ran_together.new.self.batch) c.entries-entries.result.now c.entries-entries.ensures.entries
     (c.ran_together.ensures c.if-not-ran_together.false))
-    in_order.0 in_order.1 c.apply.ensures
+    in_order.0 in_order.1 c.apply_effects.ensures

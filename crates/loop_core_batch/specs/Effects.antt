@@ -1,0 +1,121 @@
+-- What the lanes of a batch do on any words: each deed of a lane is at one element, and what is done there may depend on
+-- the word that stands there.
+use Rattle.std.specs.Prelude.{◌≡◌, ℕ, zero, suc, ◌<◌, Bool, true, false, List, [], ◌∷◌, length, slice_index}
+use Rattle.std.specs.Prelude.{Option, Some, None, IfSome}
+use Rattle.std.specs.List.{All, AllByRecursion, AllZip}
+use Rattle.array_maps.specs.declared.access.Op.{Op}
+use Rattle.array_maps.specs.Accesses.{Action, Read, Write, ReadWrite, Reduce as Reduces, Access, words_after}
+use Rattle.loop_core_model.specs.declared.access.Access.{Access as Kind}
+use Rattle.loop_core_model.specs.declared.access.Access.TheVariants.{Read as Reads, Write as Writes, Both, Reduce}
+use Rattle.loop_core_batch.specs.declared.elements.Elements.{Elements}
+use Rattle.loop_core_batch.specs.declared.site.Site.{Site}
+use Rattle.loop_core_batch.specs.Sites.{MayAccess, MayMeet, kind_leaves}
+
+-- the word of an element is loaded; another is stored; it becomes a function of itself, as where a half is replaced; or
+-- an operator is applied to it
+pub data Deed : Type 0 where
+  Load : Deed
+  Store : (left : ℕ) → Deed
+  Change : (left : ℕ → ℕ) → Deed
+  Apply : (op : Op) (operand : ℕ) → Deed
+
+-- the action that it is, where a word stands
+abbrev pub action_on : Deed → (word : ℕ) → Action
+action_on Load word = Read word
+action_on (Store left) word = Write left
+action_on (Change left) word = ReadWrite word (left word)
+action_on (Apply op operand) word = Reduces op operand
+
+-- its kind
+abbrev pub kind_of_deed : Deed → Kind
+kind_of_deed Load = Reads
+kind_of_deed (Store left) = Writes
+kind_of_deed (Change left) = Both
+kind_of_deed (Apply op operand) = Reduce op
+
+-- a deed at an element
+pub record Effect : Type 0 where
+  pub element : ℕ
+  pub deed : Deed
+
+-- the access that it is on some words, and the words after it
+abbrev pub access_on : List ℕ → Effect → Access
+access_on words effect = record {
+  element = effect.element;
+  action = action_on effect.deed (slice_index words effect.element);
+}
+
+abbrev pub words_after_effect : Effect → List ℕ → List ℕ
+words_after_effect effect words = words_after (access_on words effect) words
+
+-- the accesses of several, one after another from some words on, and the words after them
+abbrev pub accesses_on : List ℕ → List Effect → List Access
+accesses_on words [] = []
+accesses_on words (effect ∷ effects) = access_on words effect ∷ accesses_on (words_after_effect effect words) effects
+
+abbrev pub words_after_effects : List Effect → List ℕ → List ℕ
+words_after_effects [] words = words
+words_after_effects (effect ∷ effects) words = words_after_effects effects (words_after_effect effect words)
+
+-- what lanes do: at each site each lane's effect, by its number, if it has one
+abbrev pub EffectLog : Type 0
+EffectLog = List (ℕ → Option Effect)
+
+-- an effect, if there is one, and others after it
+abbrev pub with_effect : Option Effect → List Effect → List Effect
+with_effect None effects = effects
+with_effect (Some effect) effects = effect ∷ effects
+
+-- a lane's effects, site by site
+abbrev pub effects_of : EffectLog → ℕ → List Effect
+effects_of [] lane = []
+effects_of (site ∷ sites) lane = with_effect (site lane) (effects_of sites lane)
+
+-- the words after an effect, if there is one
+abbrev pub words_after_any_effect : Option Effect → List ℕ → List ℕ
+words_after_any_effect None words = words
+words_after_any_effect (Some effect) words = words_after_effect effect words
+
+-- the words after one site's effects of n lanes, some of which have one
+abbrev pub words_after_lane_effects : (site : ℕ → Option Effect) (lanes : ℕ) → List ℕ → List ℕ
+words_after_lane_effects site zero words = words
+words_after_lane_effects site (suc lanes) words =
+    words_after_any_effect (site lanes) (words_after_lane_effects site lanes words)
+
+-- the words after all sites, one after another
+abbrev pub words_after_site_effects : EffectLog → (lanes : ℕ) → List ℕ → List ℕ
+words_after_site_effects [] lanes words = words
+words_after_site_effects (site ∷ sites) lanes words =
+    words_after_site_effects sites lanes (words_after_lane_effects site lanes words)
+
+-- accesses of this kind load the word, and leave none
+abbrev pub kind_loads : Kind → Bool
+kind_loads Reads = true
+kind_loads Writes = false
+kind_loads Both = false
+kind_loads (Reduce op) = false
+
+-- on other words, which are as many, the same is loaded
+pub record LoadsSame (words now : List ℕ) (effects : List Effect) : Type 0 where
+  pub count : length now ≡ length words
+  pub loads : AllByRecursion (λ effect. kind_loads (kind_of_deed effect.deed) ≡ true
+      → slice_index now effect.element ≡ slice_index words effect.element) effects
+
+-- a lane's effect is what its site tells: of its kind, and at one of its elements
+pub record IsEffectAtSite (site : Site) (lane : ℕ) (effect : Effect) : Type 0 where
+  pub kind : kind_of_deed effect.deed ≡ site.kind
+  pub element : MayAccess site.elements lane effect.element
+
+-- the sites tell of each effect of n lanes
+abbrev pub IsEffectLogOf : (lanes : ℕ) → List Site → EffectLog → Type 0
+IsEffectLogOf lanes sites log = AllZip (λ site (at : ℕ → Option Effect). (lane : ℕ) → lane < lanes
+    → IfSome (at lane) (IsEffectAtSite site lane)) sites log
+
+-- no lane may load at one site an element that an earlier one may write at the other
+abbrev pub Unloaded : (lanes : ℕ) (reader writer : Site) → Type 0
+Unloaded lanes reader writer = kind_leaves writer.kind ≡ true → kind_loads reader.kind ≡ true
+    → ¬ (MayMeet writer.elements reader.elements lanes)
+
+-- no site's writes may be loaded at any of them
+abbrev pub AllUnloaded : (lanes : ℕ) → List Site → Type 0
+AllUnloaded lanes sites = All (λ reader. All (λ writer. Unloaded lanes reader writer) sites) sites

@@ -1,0 +1,31 @@
+-- The law of batches, where lanes change what they don't load.
+use Rattle.std.specs.Prelude.{◌≡◌, ℕ, ◌+◌, ◌<◌, List}
+use Rattle.array_maps.specs.MapList.{AreWords}
+use Rattle.bpf_insn_types.specs.Program.{Program}
+use Rattle.bpf_step_model.specs.State.{LoopCall}
+use Rattle.bpf_step_model.specs.LoopInOrder.{loop_from}
+use Rattle.loop_core_batch.specs.declared.site.Site.{Site}
+use Rattle.loop_core_batch.specs.BySite.{AllCommute}
+use Rattle.loop_core_batch.specs.Effects.{Effect, accesses_on, words_after_effects, EffectLog, effects_of}
+use Rattle.loop_core_batch.specs.Effects.{words_after_site_effects, LoadsSame, IsEffectLogOf, AllUnloaded}
+use Rattle.loop_core_batch.specs.LoopByBatch.{EndsInZero}
+
+-- the iteration of this index goes on with these effects, on these words, and leaves words below 2 ^ 64
+pub record GoesOn (program : Program) (bound : ℕ) (call : LoopCall) (index : ℕ) (now : List ℕ) (effects : List Effect)
+    : Type 0 where
+  pub ends : EndsInZero program bound call index now (accesses_on now effects)
+  pub fit : AreWords (words_after_effects effects now)
+
+-- For every program, bound on an iteration's instructions, loop call and words: where the iterations from an index on,
+-- one a lane, go on with these effects on all words on which a lane loads the same, no site's writes may be loaded by a
+-- later lane, and all sites commute, the loop from that index is the loop after them, on the words after the effects of
+-- all sites, whatever number of iterations is left.
+abbrev pub LoopByEffects : Type 0
+LoopByEffects = (program : Program) (bound : ℕ) (call : LoopCall) (first lanes left : ℕ) (words : List ℕ)
+    (sites : List Site) (log : EffectLog) → AreWords words →
+    ((lane : ℕ) → lane < lanes → (now : List ℕ) → AreWords now → LoadsSame words now (effects_of log lane)
+    → GoesOn program bound call (first + lane) now (effects_of log lane))
+    → IsEffectLogOf lanes sites log →
+    AllUnloaded lanes sites → AllCommute lanes sites →
+    loop_from program bound call (lanes + left) first words
+    ≡ loop_from program bound call left (first + lanes) (words_after_site_effects log lanes words)
