@@ -179,8 +179,9 @@ BPFSPEC_NONNULL int bpfspec_verify_hex(const char *input, size_t length, char *a
 
 /*
  * The same of `./bpfspec explain`: what `verify` prints, and then why the program is refused, what is wrong with the
- * text, or why loops of an accepted program conflict; for that it is run, on the maps of the input, or on zeroes. Where
- * there is memory for what `verify` prints but not for the reasons, they are left out. The statuses are the same.
+ * text, or which way loops of an accepted program go and why they conflict; for that it is run, on the maps of the
+ * input, or on zeroes. Where there is memory for what `verify` prints but not for the reasons, they are left out. The
+ * statuses are the same.
  */
 BPFSPEC_NONNULL int bpfspec_explain(const char *input, size_t length, const struct bpfspec_options *options,
                                     char *answer, size_t room, size_t *size);

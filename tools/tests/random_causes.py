@@ -5,8 +5,9 @@
 
 PROGRAM stands for `./bpfspec explain`. A loop accesses a few elements by loads, stores, halves of both, atomic
 operations with and without a fetch, and exchanges, each in some of its iterations; it may break. What has to be told of
-it is made from the list of what each iteration does: which elements conflict, by which least pair of iterations, which
-access is the first that isn't a reduce by the operator of the first one, and which variables lie there.
+it is made from the list of what each iteration does: which way the loop goes, which elements conflict, by which least
+pair of iterations, which access is the first that isn't a reduce by the operator of the first one, and which variables
+lie there.
 
 Each difference is on standard error. One line on standard output has the counts. The status is 0 where there was none.
 """
@@ -120,10 +121,12 @@ class Place:
 
 @dataclass
 class Unit:
-    """A random unit: its text, its variables, and what its iterations do at each element, in order."""
+    """A random unit: its text, its variables, the kinds of its instructions that access an element, and what its
+    iterations do at each element, in order."""
 
     text: list[str]
     variables: list[tuple[str, int, int]]  # a name, the first byte, and the bytes
+    kinds: list[Kind]
     iterations: list[dict[int, list[Place]]]
     count: int
     broke: str
@@ -149,7 +152,7 @@ def random_step(rng: random.Random, elements: int, usual: list[Kind], n: int) ->
         one = rng.randrange(n)
         return Step(element, high, kind, f"jne64 r6, {one}, past", lambda index: index == one)
     mask = rng.choice((1, 3, 7))
-    some = rng.randrange(mask + 1)
+    some = rng.randrange(min(mask + 1, n))  # in one iteration at least: the verifier skips what is never reached
     lines = f"mov64 r7, r6 | and64 r7, {mask} | jne64 r7, {some}, past"
     return Step(element, high, kind, lines, lambda index: index & mask == some)
 
@@ -184,7 +187,7 @@ def random_unit(rng: random.Random) -> Unit:
                 done.setdefault(step.element, []).append(Place(index, line, step.kind))
         iterations.append(done)
     broke = f"  iteration {breaks:>4} {'breaks it':<12} line {len(text)}: exit" if breaks < n else ""
-    return Unit(text, variables, iterations, counted, broke)
+    return Unit(text, variables, [step.kind for step in steps], iterations, counted, broke)
 
 
 def random_variables(rng: random.Random, elements: int) -> Iterator[tuple[str, int, int]]:
@@ -255,12 +258,38 @@ def cause(unit: Unit, element: int, test: str) -> list[str]:
     return told
 
 
+def reads_written(unit: Unit) -> bool:
+    """Whether an iteration reads, changes or reduces an element that was written before, by an earlier one or by it."""
+    written: set[int] = set()
+    for done in unit.iterations:
+        for element, accesses in done.items():
+            for access in accesses:
+                if access.kind.reads and element in written:
+                    return True
+                if access.kind.writes:
+                    written.add(element)
+    return False
+
+
+def way(unit: Unit, test: str, conflicts: bool) -> str:
+    """Which way such a loop of few iterations goes, and why."""
+    then = " then in order" if conflicts else ""
+    adds_up = all(kind.word == "reduce" and not kind.is_half for kind in unit.kinds)
+    if adds_up and len({kind.operator for kind in unit.kinds}) == 1:
+        return "in order, 1 worker: iterations only reduce elements, several workers don't pay"
+    if test == "lrpd":
+        return f"1 block{then}, 1 worker: judged by the lrpd test"
+    if reads_written(unit):
+        return f"watched then 1 block{then}, 1 worker: an iteration read what was written"
+    return "watched, 1 worker: no iteration read what an earlier one wrote"
+
+
 def expected(unit: Unit, test: str) -> list[str]:
     """What has to be told of the loop."""
     causes = {element: cause(unit, element, test) for element in range(4)}
     found = [element for element, lines in causes.items() if lines]
     verdict = f"conflict {len(found)} least {found[0]}" if found else "parallel"
-    told = [f"loop 0 at 5: answer {unit.count}, {verdict}"]
+    told = [f"loop 0 at 5: answer {unit.count}, {verdict}", f"  way: {way(unit, test, bool(found))}"]
     for element in found[:MOST_TOLD]:
         told += causes[element]
     return [*told, unit.broke] if unit.broke else told

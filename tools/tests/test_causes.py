@@ -23,12 +23,12 @@ END = "mov64 r0, 0", "exit"
 
 
 def explained(*accesses: str, header: tuple[str, ...] = ()) -> list[str]:
-    """What is told of a loop of 100 iterations that does this, below the line of the loop."""
+    """What is told of a loop of 100 iterations that does this, below the line of the loop and that of its way."""
     lines = [*header, "maps 2", *MAIN, *BEGIN, *accesses, *END]
     text = "".join(f"{line}\n" for line in lines)
     done = subprocess.run(PROGRAM, input=text, capture_output=True, text=True, timeout=LIMIT, cwd=TOP, check=False)
     told = done.stdout.splitlines()
-    return told[next(number for number, line in enumerate(told) if line.startswith("loop ")) + 1 :]
+    return told[next(number for number, line in enumerate(told) if line.startswith("loop ")) + 2 :]
 
 
 class Causes(unittest.TestCase):

@@ -1,8 +1,9 @@
-//! Why loops conflict, in words: what comes after the answer on an accepted program; and as a picture of the first loop
-//! that does, or of the events of a replay.
+//! Which way loops go and why they conflict, in words: what comes after the answer on an accepted program; and as a
+//! picture of the first loop that does, or of the events of a replay.
 //!
 //! ```text
 //! loop 0 at 5: answer 1000, conflict 32 least 1
+//!   way: watched then 1 block then in order, 1 worker: an iteration read what was written
 //!   element 1 (map 0 at 1): buckets
 //!     iteration    0 writes it    line 30: stx64 [r2+0], r3
 //!     iteration   16 reads it     line 21: ldx64 r4, [r2+0]    ; 10_tokens.c:13: __u64 t = b->tokens + ..

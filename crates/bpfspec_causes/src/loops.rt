@@ -3,6 +3,7 @@
 use crate::deeds::{Deed, words_of};
 use crate::listing::{Listing, deed_at, write_element, write_slot};
 use crate::mending::{reduce_among, write_end_words, write_mend, write_pair_mend};
+use bpfspec_ways::{reason_of, write_way};
 use loop_core_model::Verdict;
 use loop_core_witness::Place;
 use spec_run_explain::{Cause, LoopExplained};
@@ -107,6 +108,17 @@ fn write_rest(out: &mut String, verdict: Verdict, told: usize) -> Result<(), All
     }
 }
 
+/// Writes which way `run` takes a loop call that isn't refused, and why.
+fn write_course(out: &mut String, told: &LoopExplained) -> Result<(), AllocError> {
+    let Some(course) = told.course else {
+        return Ok(());
+    };
+    out.push_str("  way: ")?;
+    write_way(out, course, told.line.verdict)?;
+    let why = reason_of(course);
+    write!(out, ": {why}\n")
+}
+
 /// Why a loop call is refused.
 fn refusal_words(answer: i64) -> &'static str {
     if answer == -7 {
@@ -133,6 +145,7 @@ pub(crate) fn write_loop(
     if line.verdict == Verdict::Refused {
         return out.push_str(refusal_words(answer));
     }
+    write_course(out, told)?;
     for cause in told.causes.as_slice() {
         write_cause(out, alloc, listing, cause)?;
     }

@@ -117,9 +117,10 @@ module _ {test : Test} {program : Program} {most : ℕ} {whole : BoundedResult F
   -- its call was refused, and it goes on
   one_refused : (left : List ℕ) (slot : ℕ) (answer : ℤ) (told : LoopExplained) (all : List LoopExplained)
       (turn : StopReason) → StopsAs after turn (turned.Refused slot answer) → Onward program turn left so_far.rest
-      → told.line ≡ refused_line slot answer → told.broke ≡ None → told.causes.items ≡ [] → all ≡ loops ++ told ∷ [] →
+      → told.line ≡ refused_line slot answer → told.broke ≡ None → told.course ≡ None → told.causes.items ≡ []
+      → all ≡ loops ++ told ∷ [] →
       CallsTold test program most whole after left all
-  one_refused left slot answer told all (Refused at told_answer next) stops on line broke causes added =
+  one_refused left slot answer told all (Refused at told_answer next) stops on line broke course causes added =
       let made : LoopMade = record { slot = at; answer = told_answer; words = left; call = None } in
       let one = mapped_from (with_loop made) (main_from program 4096 on.turns next left) so_far.rest on.ends in
       let its_line : told.line ≡ refused_line at told_answer = line
@@ -132,10 +133,10 @@ module _ {test : Test} {program : Program} {most : ℕ} {whole : BoundedResult F
         rest = one.0;
         ends = one.1;
         each = one_more test program most whole loops all told made so_far.rest.loops one.0.loops
-            (ap (λ (f : Finished). f.loops) one.2) added (WasRefused refl its_line broke causes) so_far.each;
+            (ap (λ (f : Finished). f.loops) one.2) added (WasRefused refl its_line broke course causes) so_far.each;
       }
-  one_refused left slot answer told all (Exit ret) stops on line broke causes added = absurd stops
-  one_refused left slot answer told all (Loop made next) stops on line broke causes added = absurd stops
+  one_refused left slot answer told all (Exit ret) stops on line broke course causes added = absurd stops
+  one_refused left slot answer told all (Loop made next) stops on line broke course causes added = absurd stops
 
   -- it called a loop, which left what it leaves in order, and it goes on with the answer
   one_made : FilledCallsAreOneLoop → IsSoundProgram program → after.program ≡ program → (start : MapList)
@@ -202,13 +203,13 @@ module _ {test : Test} {program : Program} {most : ℕ} {whole : BoundedResult F
   pub refusal_told : {slot : ℕ} {answer told_answer : ℤ} (told : LoopExplained) (all : List LoopExplained)
       → NextTurn main now (turned.Refused slot answer) after new
       → told.line ≡ refused_line slot told_answer → told_answer ≡ answer
-      → told.broke ≡ None → told.causes.items ≡ [] → all ≡ loops ++ told ∷ [] →
+      → told.broke ≡ None → told.course ≡ None → told.causes.items ≡ [] → all ≡ loops ++ told ∷ [] →
       CallsTold test program most whole after new.words all
-  refusal_told {slot} {answer} {told_answer} told all next line is_answer broke causes added =
+  refusal_told {slot} {answer} {told_answer} told all next line is_answer broke course causes added =
       let ran = next so_far.m so_far.at in
       one_refused so_far after new.words slot answer told all ran.stretch.turn ran.turns
-      (turn_taken (turned.Refused slot answer) next) (line ∙ ap (λ (a : ℤ). refused_line slot a) is_answer) broke causes
-      added
+      (turn_taken (turned.Refused slot answer) next) (line ∙ ap (λ (a : ℤ). refused_line slot a) is_answer) broke course
+      causes added
 
   -- and another one as the loop that ran
   pub call_told : {call : LoopCall} {answer : ℕ} {left : MapList} {resuming : MainOf} (told : LoopExplained)

@@ -1,5 +1,5 @@
--- Why loops conflict.
-use Rattle.std.specs.Prelude.{◌≡◌, ℕ, pos, true, List, [], ◌∷◌, Some, None, map, length, take}
+-- Which way loops go, and why they conflict.
+use Rattle.std.specs.Prelude.{◌≡◌, ℕ, pos, true, List, [], ◌∷◌, Option, Some, None, map, length, take}
 use Rattle.std.specs.List.{AllByRecursion}
 use Rattle.array_maps.specs.Accesses.{Access}
 use Rattle.bpf_insn_types.specs.Program.{Program}
@@ -17,8 +17,28 @@ use Rattle.loop_core_model.specs.Report.{verdict}
 use Rattle.loop_core_witness.specs.Breaks.{IsBreak}
 use Rattle.loop_core_witness.specs.Reductions.{TellsEnd}
 use Rattle.loop_core_witness.specs.Witnesses.{Explains}
+use Rattle.spec_run_loop.specs.declared.course.Course.{Course}
+use Rattle.spec_run_loop.specs.Courses.{IsCourseOf}
+use Rattle.spec_run_loop.specs.Jobs.{JobOf}
+use Rattle.spec_run_plan.specs.declared.plan.Plan.{Plan}
+use Rattle.spec_run_plan.specs.declared.plan.Policy.TheVariants.{Pays}
 use Rattle.spec_run_explain.specs.declared.explained.Cause.{Cause}
 use Rattle.spec_run_explain.specs.declared.explained.LoopExplained.{LoopExplained}
+
+-- the plan of a run that isn't told of workers and blocks: at most 2 and 4 of them, each loop going the way that pays
+abbrev pub default_plan : Test → Plan
+default_plan test = record { workers = 2; blocks = 4; test = test; policy = Pays }
+
+-- a loop call that goes by that plan
+abbrev pub job_by : Test → Program → LoopCall → JobOf
+job_by test program call = record { program = program; call = call; plan = default_plan test }
+
+-- which way it goes from these words, as it is told
+pub record TellsCourse (test : Test) (program : Program) (call : LoopCall) (words : List ℕ) (told : Option Course)
+    : Type 0 where
+  pub course : Course
+  pub is : told ≡ Some course
+  pub goes : IsCourseOf (job_by test program call) words course
 
 -- the counted iterations of a loop call on these words fail a test at an element
 pub record FailsAt (test : Test) (program : Program) (call : LoopCall) (words : List ℕ) (element : ℕ) : Type 0 where
@@ -48,13 +68,14 @@ pub record AreLeast (test : Test) (program : Program) (call : LoopCall) (words :
   pub least : elements ≡ take most (conflicting test runs (length words))
 
 -- so a loop call on these words is explained that answers this in order: its causes are those of the least elements
--- that conflict
+-- that conflict; and which way it goes is told
 pub record IsExplained (test : Test) (program : Program) (call : LoopCall) (words : List ℕ) (most answer : ℕ)
     (told : LoopExplained) : Type 0 where
   pub slot : told.line.slot ≡ call.slot
   pub answer_is : told.line.answer ≡ pos answer
   pub verdict_is : verdict test program 4096 call words ≡ Ended told.line.verdict
   pub broke : IsBreak program call words told.broke
+  pub course : TellsCourse test program call words told.course
   pub elements : AreLeast test program call words most (cause_elements told.causes.items)
   pub causes : AreCauses test program call words told.causes.items
 
@@ -63,7 +84,7 @@ pub record IsExplained (test : Test) (program : Program) (call : LoopCall) (word
 pub data IsCallExplained (test : Test) (program : Program) (most : ℕ) (made : LoopMade) (told : LoopExplained)
     : Type 0 where
   WasRefused : made.call ≡ None → told.line ≡ record { slot = made.slot; answer = made.answer; verdict = Refused }
-      → told.broke ≡ None → told.causes.items ≡ [] → IsCallExplained test program most made told
+      → told.broke ≡ None → told.course ≡ None → told.causes.items ≡ [] → IsCallExplained test program most made told
   WasMade : (call filled : LoopCall) (answer : ℕ) → made.call ≡ Some call → made.answer ≡ pos answer
       → IsFilled program call filled → OverApproximatesCall program filled
       → IsExplained test program filled made.words most answer told → IsCallExplained test program most made told

@@ -6,7 +6,8 @@ ghost use Rattle.bpf_verify_sound.specs.Soundness.{OverApproximatesCall};
 ghost use Rattle.loop_core_witness.specs.Breaks.{IsBreak};
 ghost use Rattle.loop_core_witness.specs.Reductions.{TellsEnd};
 ghost use Rattle.loop_core_witness.specs.Witnesses.{Explains};
-ghost use Rattle.spec_run_explain.specs.Causes.{AreCauses, FailsAt, IsExplained, cause_elements};
+ghost use Rattle.spec_run_explain.specs.Causes.{AreCauses, FailsAt, IsExplained, cause_elements, job_by};
+ghost use Rattle.spec_run_loop.specs.Courses.{IsCourseOf};
 
 use crate::explained::{Cause, LoopExplained};
 use array_maps::Maps;
@@ -15,6 +16,8 @@ use bpf_verify::Verified;
 use loop_core_conflicts::find_conflicts;
 use loop_core_model::{LoopReport, Test};
 use loop_core_witness::{Place, find_break, find_end_of_reduction, find_pair};
+use spec_run_loop::{Course, LoopJob, course_of};
+use spec_run_plan::{Plan, Policy};
 use std::alloc::{AllocError, Global};
 
 /// The cause of an element at which the loop fails the test.
@@ -73,6 +76,33 @@ fn causes_of(
     Ok(causes)
 }
 
+/// Which way the loop call goes by the plan of a run that isn't told of workers and blocks.
+fn default_course(
+    alloc: Global,
+    program: &Verified,
+    call: &LoopCall,
+    start: &Maps,
+    test: Test,
+) -> Result<Course, AllocError>
+    requires known { OverApproximatesCall program.now call.now }
+    requires sizes { start.now.sizes ≡ program.now.sizes }
+    ensures { IfOk result (IsCourseOf (job_by test program.now call.now) start.now.words) }
+{
+    let plan = Plan {
+        workers: 2,
+        blocks: 4,
+        test,
+        policy: Policy::Pays,
+    };
+    let job = LoopJob {
+        alloc,
+        program,
+        call,
+        plan: &plan,
+    };
+    course_of(&job, start)
+}
+
 /// Explains a loop call that main of this program made: from these maps, which are of the program's sizes, and where it
 /// answers this in order.
 pub(crate) fn explain_call(
@@ -99,6 +129,7 @@ pub(crate) fn explain_call(
         conflicts.least.as_slice(),
         broke,
     )?;
+    let course = default_course(alloc, program, call, start, test)?;
     let line = LoopReport {
         slot: call.slot(),
         answer: i64::from(answer),
@@ -107,6 +138,7 @@ pub(crate) fn explain_call(
     Ok(LoopExplained {
         line,
         broke,
+        course: Some(course),
         causes,
     })
 }

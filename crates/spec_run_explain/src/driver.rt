@@ -19,6 +19,7 @@ use std::alloc::{AllocError, Global};
 fn refused(alloc: Global, slot: u32, answer: i64) -> LoopExplained
     ensures line { result.line ≡ record { slot = slot; answer = answer; verdict = WasRefused } }
     ensures broke { result.broke ≡ None }
+    ensures course { result.course ≡ None }
     ensures causes { result.causes.items ≡ [] }
 {
     LoopExplained {
@@ -28,6 +29,7 @@ fn refused(alloc: Global, slot: u32, answer: i64) -> LoopExplained
             verdict: Verdict::Refused,
         },
         broke: None,
+        course: None,
         causes: Vec::new(alloc),
     }
 }

@@ -3,6 +3,7 @@
 use loop_core_model::LoopReport;
 use loop_core_witness::{Place, Witness};
 use spec_run::Report;
+use spec_run_loop::Course;
 
 /// Why an element conflicts.
 #[derive(Clone, Copy, Debug)]
@@ -23,6 +24,8 @@ pub struct LoopExplained {
     pub line: LoopReport,
     /// The iteration that breaks it, each run on the words as they were at the call.
     pub broke: Option<Place>,
+    /// Which way `run` takes it, where it isn't told of workers and blocks; `None` of a call that is refused.
+    pub course: Option<Course>,
     /// The least elements that conflict, rising, each with its cause.
     pub causes: Vec<Cause>,
 }

@@ -1,5 +1,5 @@
-//! Runs accepted programs in order, and tells of each loop what became of it if it ran in parallel, and why it
-//! conflicts.
+//! Runs accepted programs in order, and tells of each loop what became of it if it ran in parallel, which way `run`
+//! takes it, and why it conflicts.
 //!
 //! ```text
 //! let told = explain_loops(alloc, &program, &mut maps, 0, Test::Flow, 64)?;

@@ -1,3 +1,4 @@
+pub mod CourseLaws
 pub mod EvenLaws
 pub mod PassLaws
 pub mod SumLaws

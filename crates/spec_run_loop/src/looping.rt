@@ -3,7 +3,7 @@
 ghost use Rattle.std.specs.Prelude.{◌≡◌, ◌≢◌, ◌↔◌, Err, IsTrue, IfOk, OnErr};
 ghost use Rattle.bpf_verify_sound.specs.Soundness.{OverApproximatesCall};
 ghost use Rattle.loop_core_gather.specs.Gathered.{IsOutcome};
-ghost use Rattle.spec_run_loop.specs.Courses.{course_by};
+ghost use Rattle.spec_run_loop.specs.Courses.{IsCourseOf, course_by};
 ghost use Rattle.spec_run_loop.specs.Plans.{IsLoopPlan};
 ghost use Rattle.spec_run_loop.specs.Ways.{all_blocks_of};
 ghost use Rattle.spec_run_plan.specs.declared.plan.Policy.TheVariants.{Blocks};
@@ -41,6 +41,7 @@ pub fn run_by_plan<R: Threads + Sync, G: Gate>(
     requires sizes { maps.old.sizes ≡ job.now.program.sizes }
     ensures outcome { IfOk result (λ a. IsOutcome job.now.plan.test job.now.program job.now.call maps.old a.verdict
         a.answer maps.new) }
+    ensures course { IfOk result (λ a. IsCourseOf job.now maps.old.words a.course) }
     ensures asked { job.now.plan.policy ≡ Blocks → IfOk result (λ a. a.course ≡ course_by (all_blocks_of job.now)) }
     ensures kept { OnErr result (maps.new ≡ maps.old) }
 {

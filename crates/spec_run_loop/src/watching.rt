@@ -1,10 +1,9 @@
 //! Loops that are run in order, watched.
 
-ghost use Rattle.std.specs.Prelude.{◌≡◌, ◌⊎◌, IfOk, OnErr};
+ghost use Rattle.std.specs.Prelude.{◌≡◌, IfOk, OnErr};
 ghost use Rattle.loop_core_model.specs.declared.loop_test.Test.TheVariants as tests;
 ghost use Rattle.loop_core_gather.specs.Gathered.{IsOutcome};
-ghost use Rattle.spec_run_loop.specs.declared.course.Course.TheVariants.{Watched};
-ghost use Rattle.spec_run_loop.specs.Courses.{course_by};
+ghost use Rattle.spec_run_loop.specs.Courses.{IsWatchedCourse};
 ghost use Rattle.spec_run_loop.specs.Ways.{IsBlockPlan};
 
 use crate::by_blocks::decision_on;
@@ -36,7 +35,7 @@ pub(crate) fn run_watched<R: Threads + Sync, G: Gate>(
     requires plan { IsBlockPlan job.now.call.n otherwise.now }
     ensures outcome { IfOk result (λ a. IsOutcome job.now.plan.test job.now.program job.now.call maps.old a.verdict
         a.answer maps.new) }
-    ensures course { IfOk result (λ a. (a.course ≡ Watched) ⊎ (a.course ≡ course_by otherwise.now)) }
+    ensures course { IfOk result (λ a. IsWatchedCourse job.now maps.old.words otherwise.now a.course) }
     ensures kept { OnErr result (maps.new ≡ maps.old) }
 {
     // These tell the proof how many words the maps have, and that they are below 2^64.

@@ -21,7 +21,9 @@ const PREFIX_SUM: &str = "\
     %% | \
     map 0: 3 1 4 1 5 9 2 6 0 0 0 0 0 0 0 0 0 0 0 0 0 0 0 0 0 0 0 0 0 0 0 0 0 0 0 0 0 0 0 0 0 0 0 0 0 0 0 0 0 0 0 0 0 \
     0 0 0 0 0 0 0 0 0 0 0 \
-    => loop 0 at 5: answer 63, conflict 62 least 1 |   element 1 (map 0 at 1): v |     \
+    => loop 0 at 5: answer 63, conflict 62 least 1 |   \
+    way: watched then 1 block then in order, 1 worker: an iteration read what was written |   \
+    element 1 (map 0 at 1): v |     \
     iteration    0 writes it    line 36: stx64 [r4+0], r2    ; prefix_sum.c:11: v[i + 1] += v[i]; |     \
     iteration    1 reads it     line 33: ldx64 r1, [r3+0]    ; prefix_sum.c:11: v[i + 1] += v[i]; |   \
     and 61 elements more";
@@ -51,7 +53,9 @@ const TOP_FOUR: &str = "\
     map 0: 3 1 4 1 5 9 2 6 5 3 5 8 9 7 93 2 38 4 0 0 0 0 0 0 0 0 0 0 0 0 0 0 0 0 0 0 0 0 0 0 0 0 0 0 0 0 0 0 0 0 0 0 \
     0 0 0 0 0 0 0 0 0 0 0 0 | \
     map 1: 0 0 0 0 \
-    => loop 0 at 5: answer 64, conflict 1 least 64 |   element 64 (map 1 at 0): top |     \
+    => loop 0 at 5: answer 64, conflict 1 least 64 |   \
+    way: watched then 1 block then in order, 1 worker: an iteration read what was written |   \
+    element 64 (map 1 at 0): top |     \
     iteration    0 writes it    line 31: stx64 [r2+0], r1    ; top_four.c:18: top[k] = x; |     \
     iteration    1 reads it     line 28: ldx64 r3, [r2+0]    ; top_four.c:16: if (x > top[k]) {";
 
@@ -77,7 +81,9 @@ const TOKEN_BUCKETS: &str = "\
     at_33: | stx64 [r2+0], r1 | ldmapval r1, 0, 0 | jgt64 r3, 99, at_39 | ldmapval r1, 0, 264 | \
     at_39: | mov64 r2, 1 | atomic64 add [r1+0], r2 | \
     ; slot 41, token_buckets.c:27: return 0; | mov64 r0, 0 | exit \
-    => loop 0 at 5: answer 1000, conflict 32 least 1 |   element 1 (map 0 at 1): buckets |     \
+    => loop 0 at 5: answer 1000, conflict 32 least 1 |   \
+    way: watched then 1 block then in order, 1 worker: an iteration read what was written |   \
+    element 1 (map 0 at 1): buckets |     \
     iteration    0 writes it    line 49: stx64 [r2+0], r1    ; token_buckets.c:20: if (tokens >= 100) { |     \
     iteration   16 reads it     line 34: ldx64 r4, [r2+0]    ; token_buckets.c:16: __u64 tokens = bucket->tokens + \
     (now - bucket->last) * 3; |   and 31 elements more";

@@ -30,7 +30,9 @@ const CACHE: &str = "\
     add64 r5, r0 | stx64 [r5+0], r2 | \
     at_59: | lsh64 r4, 4 | add64 r3, r4 | add64 r1, 1 | lsh64 r1, 32 | rsh64 r1, 32 | stx64 [r3+8], r1 | \
     ; slot 65, cache.c:31: } | mov64 r0, 0 | exit \
-    => loop 0 at 5: answer 50, conflict 2 least 0 |   element 0 (map 0 at 0): cache |     \
+    => loop 0 at 5: answer 50, conflict 2 least 0 |   \
+    way: watched then 1 block then in order, 1 worker: an iteration read what was written |   \
+    element 0 (map 0 at 0): cache |     \
     iteration    0 writes it    line 73: stx64 [r5+0], r2    ; cache.c:28: cache[victim].key = key; |     \
     iteration    1 reads it     line 26: ldx64 r5, [r3+0]    ; cache.c:17: if (entry->key == key) { |   \
     element 1 (map 0 at 1): cache |     \
@@ -54,7 +56,9 @@ const COLLATZ: &str = "\
     at_32: | ; slot 32, collatz.c:13: } | exit | \
     %% | map 0: 27 | \
     map 1: 0 \
-    => loop 0 at 5: answer 112, conflict 2 least 0 |   element 0 (map 0 at 0): x |     \
+    => loop 0 at 5: answer 112, conflict 2 least 0 |   \
+    way: watched then 1 block then in order, 1 worker: an iteration read what was written |   \
+    element 0 (map 0 at 0): x |     \
     iteration    0 writes it    line 41: stx64 [r1+0], r2    ; collatz.c:10: x = old & 1 ? 3 * old + 1 : old / 2; \
     |     iteration    1 reads it     line 22: ldx64 r1, [r1+0]    ; collatz.c:7: __u64 old = x; |   \
     element 1 (map 1 at 0): steps |     \

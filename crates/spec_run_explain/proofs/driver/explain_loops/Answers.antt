@@ -79,7 +79,8 @@ loop-call-preserved c =
       explained = refusal_told c.loop-call.invariant.explained
           (c.next.ensures.program ∙ c.loop-call.invariant.still.same) told c.push-in-Refused-2.new.self.items
           c.in-Refused.ensures.ran c.refused-told.ensures.line (to_z-of_z w64 c.in-Refused.answer (search rules))
-          c.refused-told.ensures.broke c.refused-told.ensures.causes c.in_ok-push-in-Refused-2.ensures.items;
+          c.refused-told.ensures.broke c.refused-told.ensures.course c.refused-told.ensures.causes
+          c.in_ok-push-in-Refused-2.ensures.items;
     }
 
 pub returns-in-Exit : goal.returns-in-Exit
