@@ -8,7 +8,7 @@ use crate::picture::{Picture, write_picture};
 use array_maps::Maps;
 use bpf_step::LoopCall;
 use bpf_verify::Verified;
-use loop_core_conflicts::find_conflicts;
+use loop_core_conflicts::{find_conflicts, survey_loop};
 use loop_core_grid::{Focus, grid_of_loop};
 use loop_core_model::{Test, Verdict};
 use loop_core_witness::{Place, find_break, find_pair};
@@ -40,10 +40,12 @@ fn judge(
     ensures broke { IfOk result (λ told. IsBreak program.now call.now start.now.words told.broke) }
 {
     let conflicts = find_conflicts(alloc, program, call, start, test, MOST)?;
-    let broke = find_break(alloc, program, call, start)?;
+    let broke = find_break(alloc, program, call, start, conflicts.broke)?;
+    let survey = survey_loop(alloc, program, call, start, &conflicts)?;
     let mut pairs = Vec::new(alloc);
     for element in conflicts.least.as_slice() {
-        if let Some(pair) = find_pair(alloc, program, call, start, test, *element, broke)? {
+        let pair = find_pair(alloc, program, call, start, test, *element, broke, &survey)?;
+        if let Some(pair) = pair {
             pairs.push(Focus {
                 element: *element,
                 first: pair.writer.index,

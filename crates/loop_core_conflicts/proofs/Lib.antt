@@ -1,2 +1,3 @@
 pub mod ListLaws
 pub mod ConflictLaws
+pub mod SurveyLaws

@@ -6,15 +6,16 @@ use Rattle.bpf_step_model.specs.State.{LoopCall}
 use Rattle.bpf_step_model.specs.Run.{Ended}
 use Rattle.loop_core_model.specs.declared.loop_test.Test.{Test}
 use Rattle.loop_core_model.specs.Conflict.{conflicting}
-use Rattle.loop_core_model.specs.LeastBreak.{counted_runs}
+use Rattle.loop_core_model.specs.LeastBreak.{least_break, counted_runs}
 use Rattle.loop_core_model.specs.Report.{judged}
 use Rattle.loop_core_conflicts.specs.declared.conflicts.Conflicts.{Conflicts}
 
--- the counted iterations of a loop call on these words end; the verdict is that on the elements that conflict, and of
--- these the least are told, at most so many
+-- the counted iterations of a loop call on these words end; the verdict is that on the elements that conflict, of
+-- these the least are told, at most so many, and the least break is told
 pub record AreConflicts (test : Test) (program : Program) (call : LoopCall) (words : List ℕ) (most : ℕ)
     (told : Conflicts) : Type 0 where
   pub runs : List (List Access)
   pub counted : counted_runs program 4096 call words ≡ Ended runs
   pub verdict : told.verdict ≡ judged (conflicting test runs (length words))
+  pub broke : told.broke ≡ least_break program 4096 call words
   pub least : told.least.items ≡ take most (conflicting test runs (length words))

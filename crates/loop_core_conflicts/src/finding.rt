@@ -27,9 +27,9 @@ fn one_block(n: u32) -> Split
     }
 }
 
-/// The verdict by a test on a loop call that main of this program made, and the least elements that conflict: at most
-/// so many, rising. Its iterations run on the start maps, which are of the program's sizes and don't change, up to the
-/// first that breaks.
+/// The verdict by a test on a loop call that main of this program made, where it breaks, and the least elements that
+/// conflict: at most so many, rising. Its iterations run on the start maps, which are of the program's sizes and don't
+/// change, up to the first that breaks.
 pub fn find_conflicts(
     alloc: Global,
     program: &Verified,
@@ -50,6 +50,7 @@ pub fn find_conflicts(
     let least = least_elements(alloc, plane.as_slice(), most)?;
     Ok(Conflicts {
         verdict: verdict_of(plane.as_slice()),
+        broke: block.broke(),
         least,
     })
 }

@@ -1,4 +1,5 @@
-//! Which elements of a loop conflict: the verdict on it, and the least of them.
+//! Which elements of a loop conflict: the verdict on it, the least of them, and a survey of its iterations by which
+//! those are found that fail the test there.
 //!
 //! ```text
 //! let told = find_conflicts(alloc, &program, &call, &start, Test::Flow, 64)?;
@@ -9,6 +10,8 @@
 mod conflicts;
 mod finding;
 mod listing;
+mod surveying;
 
 pub use conflicts::Conflicts;
 pub use finding::find_conflicts;
+pub use surveying::survey_loop;

@@ -1,8 +1,8 @@
 -- The iteration at which a loop breaks.
-use Rattle.std.proofs.Common.{◌≡◌, ℕ, ◌+◌, ◌≤◌, ◌<◌, ◌⊎◌, inl, inr, List, length, Option}
-use Rattle.std.proofs.Common.{Some, None, refl, sym, ap, subst, ◌∙◌, arith, eqb}
-use Rattle.std.specs.Prelude.{◌==◌, Bool, true, false}
-use Rattle.std.proofs.lemmas.Bool.Decides.{eqb_tells}
+use Rattle.std.proofs.Common.{◌≡◌, ℕ, ◌≤◌, ◌<◌, List, length, Option}
+use Rattle.std.proofs.Common.{Some, None, refl, sym, ap, subst, ◌∙◌, arith}
+use Rattle.std.specs.Prelude.{◌==◌, Bool, true}
+use Rattle.std.proofs.lemmas.Bool.Decides.{nat_tests}
 use Rattle.std.specs.List.{sum}
 use Rattle.array_maps.specs.MapList.{MapList, AreWords}
 use Rattle.bpf_insn_types.specs.Program.{Program}
@@ -13,57 +13,35 @@ use Rattle.bpf_step_model.specs.State.{LoopCall}
 use Rattle.bpf_step_model.specs.Run.{BoundedResult, Ended, Stuck, Unfinished}
 use Rattle.bpf_step_model.specs.Iteration.{Iterated, iteration}
 use Rattle.loop_core_model.specs.LeastBreak.{is_break, least_break, count_to, counted}
-use Rattle.loop_core_model.proofs.Least.{LeastIs, least_is, counts_to}
-use Rattle.loop_core_model.proofs.FirstBreak.{NoneIn, one_first}
+use Rattle.loop_core_model.proofs.Least.{IsLeast, LeastIs, least_is, counts_to}
 use Rattle.loop_core_trace.specs.declared.following.Trace.{Trace}
 use Rattle.loop_core_trace.specs.Places.{ReturnsAt}
 use Rattle.loop_core_trace.specs.Traced.{IsTraceOf}
 use Rattle.loop_core_witness.specs.declared.place.Place.{Place}
 use Rattle.loop_core_witness.specs.Breaks.{index_of, IsBreak, AreCounted}
 
+is_one : (n : ℕ) → (n == 1) ≡ true → n ≡ 1
+is_one n h = grind (arith, nat_tests)
+
 module _ (program : Program) (call : LoopCall) (words : List ℕ) where
   abbrev pub breaks_at : ℕ → Bool
   breaks_at index = is_break (iteration program 4096 call index words)
 
-  -- whether the iteration of a trace breaks
-  pub trace_breaks : (index element : ℕ) (trace : Trace) (b : Bool) → IsTraceOf program call index words element trace
-      → (trace.ret == 1) ≡ b → breaks_at index ≡ b
-  trace_breaks index element trace b it is = ap is_break it.told ∙ ap (λ (n : ℕ). n == 1) (sym it.ret) ∙ is
+  -- the least break
+  least_there : (index : ℕ) → least_break program 4096 call words ≡ Some index → IsLeast breaks_at call.n index
+  least_there index is = subst (LeastIs breaks_at call.n) is (least_is breaks_at call.n)
 
-  pub none_yet : NoneIn breaks_at 0 0
-  none_yet index low high = absurd (omega (arith, low, high))
+  pub least_within : (index : ℕ) → least_break program 4096 call words ≡ Some index → index < call.n
+  least_within index is = (least_there index is).within
 
-  pub none_more : (past next : ℕ) → next ≡ past + 1 → NoneIn breaks_at 0 past → breaks_at past ≡ false
-      → NoneIn breaks_at 0 next
-  none_more past next is none here index low high = go (eqb_tells index past)
-    where
-      go : ((eqb index past ≡ true) × (index ≡ past)) ⊎ ((eqb index past ≡ false) × (index ≡ past → ⊥))
-          → breaks_at index ≡ false
-      go (inl same) = subst (λ (i : ℕ). breaks_at i ≡ false) (sym same.1) here
-      go (inr other) = none index low (let apart = other.1 in omega (arith, high, is))
-
-  -- none breaks
-  pub breaks_nowhere : (index : ℕ) → call.n ≤ index → NoneIn breaks_at 0 index → IsBreak program call words None
-  breaks_nowhere index over none =
-      sym (one_first breaks_at call.n None (least_break program 4096 call words)
-      (λ i low high. none i low (omega (arith, over, high)))
-      (least_is breaks_at call.n))
-
-  -- this one does
-  pub breaks_here : (index element : ℕ) (trace : Trace) → index < call.n → NoneIn breaks_at 0 index
-      → IsTraceOf program call index words element trace → trace.ret ≡ 1 →
+  -- and where it returns
+  pub breaks_here : (index element : ℕ) (trace : Trace) → least_break program 4096 call words ≡ Some index
+      → IsTraceOf program call index words element trace →
       IsBreak program call words (Some (record { index = index; slot = trace.exit }))
-  breaks_here index element trace below none it one = (
-    sym (one_first breaks_at call.n (Some index) (least_break program 4096 call words)
-        (record {
-          from = omega arith;
-          within = below;
-          passes = trace_breaks index element trace true it (ap (λ (n : ℕ). n == 1) one);
-          below = none;
-        })
-        (least_is breaks_at call.n)),
-    subst (λ (ret : ℕ). ReturnsAt program call index words trace.exit ret) one it.returns,
-  )
+  breaks_here index element trace is it =
+      let passes : (it.iterated.ret == 1) ≡ true = sym (ap is_break it.told) ∙ (least_there index is).passes in
+      let one : trace.ret ≡ 1 = it.ret ∙ is_one it.iterated.ret passes in
+      (is, subst (λ (ret : ℕ). ReturnsAt program call index words trace.exit ret) one it.returns)
 
   -- how many count
   pub counted_is : (broke : Option Place) → IsBreak program call words broke → count_to call.n (index_of broke)

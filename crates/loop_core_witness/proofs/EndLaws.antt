@@ -1,5 +1,5 @@
 -- The access by which an element isn't reduction-only.
-use Rattle.std.proofs.Common.{◌≡◌, ℕ, suc, ◌+◌, ◌≤◌, ◌<◌, Bool, true, false, List, [], ◌++◌, map, take}
+use Rattle.std.proofs.Common.{◌≡◌, ℕ, zero, suc, ◌+◌, ◌-◌, ◌≤◌, ◌<◌, Bool, true, false, List, [], ◌++◌, map, take}
 use Rattle.std.proofs.Common.{Option, Some, None, refl, sym, ap, subst, ◌∙◌, arith}
 use Rattle.std.specs.Prelude.{if◌then◌else◌, slice_index_or}
 use Rattle.std.specs.List.{range_with_len}
@@ -8,7 +8,7 @@ use Rattle.array_maps.specs.declared.access.Op.{Op}
 use Rattle.array_maps.specs.Accesses.{Action, Access, actions_at}
 use Rattle.bpf_insn_types.specs.Program.{Program}
 use Rattle.bpf_step_model.specs.State.{LoopCall}
-use Rattle.bpf_step_model.specs.Run.{BoundedResult, mapped}
+use Rattle.bpf_step_model.specs.Run.{BoundedResult, Ended, mapped}
 use Rattle.bpf_step_model.specs.Iteration.{Iterated, iteration}
 use Rattle.loop_core_model.specs.Actions.{is_same, reduces_by, joined, only_operator}
 use Rattle.loop_core_model.specs.Conflict.{at_element}
@@ -22,11 +22,11 @@ use Rattle.loop_core_trace.specs.Traced.{ReduceIs, OtherIs, IsTraceOf}
 use Rattle.loop_core_trace.proofs.OperatorLaws.{by_more}
 use Rattle.loop_core_witness.specs.declared.place.Place.{Place}
 use Rattle.loop_core_witness.specs.Breaks.{AreCounted}
-use Rattle.loop_core_witness.specs.Reductions.{are_reduces, EndsReduction, IsEnd, TellsEnd}
+use Rattle.loop_core_witness.specs.Reductions.{are_reduces, GoOn, AreQuiet, EndsReduction, IsEnd, TellsEnd}
 use Rattle.loop_core_witness.specs.Reductions.{operator_after, end_slot}
 use Rattle.loop_core_witness.proofs.Runs.{AllRan, all_ran}
 use Rattle.loop_core_witness.proofs.ReductionLaws.{joined-take, IsKept, IsOff, off_alike, off_first, off_none}
-use Rattle.loop_core_witness.proofs.ReductionLaws.{off_other, kept_reduces, kept_ends, kept_on}
+use Rattle.loop_core_witness.proofs.ReductionLaws.{off_other, kept_reduces, kept_ends, kept_on, kept_quiet}
 
 module _ (program : Program) (call : LoopCall) (words : List ℕ) (element : ℕ) where
   abbrev Iterate : ℕ → BoundedResult Iterated
@@ -66,6 +66,39 @@ module _ (program : Program) (call : LoopCall) (words : List ℕ) (element : ℕ
       (kept_on kept trace.slots.reduce trace.slots.other (joined (take index (Iterations ran)))
       (actions_at element it.iterated.accesses) (so_far ran) none
       (alike_here index it.iterated.accesses trace.slots.reduce trace.slots.other it.slots.other))
+
+  -- iterations that go on with it
+  one_quiet : (count : ℕ) (kept : Option Op) (index next : ℕ) → index < count → next ≡ index + 1 → (it : Iterated)
+      → Iterate index ≡ Ended it → GoOn kept (actions_at element it.accesses) → KeptUpTo count kept index →
+      KeptUpTo count kept next
+  one_quiet count kept index next below is it told on so_far ran =
+      let from_zero : index ≡ 0 + index = omega arith in
+      let one : suc index ≡ next = omega (arith, is) in
+      let split : joined (take next (Iterations ran)) ≡ joined (take index (Iterations ran))
+      ++ actions_at element it.accesses =
+      ap (λ (n : ℕ). joined (take n (Iterations ran))) (sym one) ∙ joined-take (Iterations ran) index
+      ∙ ap (λ (xs : List Action). joined (take index (Iterations ran)) ++ xs)
+      (ran.at index index below from_zero it told element) in
+      subst (IsKept kept) (sym split)
+      (kept_quiet kept (joined (take index (Iterations ran))) (actions_at element it.accesses) (so_far ran) on)
+
+  many_quiet : (count : ℕ) (kept : Option Op) (many index : ℕ) → AreQuiet program call words element kept index
+      (index + many) → index + many ≤ count → KeptUpTo count kept index → KeptUpTo count kept (index + many)
+  many_quiet count kept zero index quiet within so_far =
+      let here : index ≡ index + 0 = omega arith in
+      subst (KeptUpTo count kept) here so_far
+  many_quiet count kept (suc many) index quiet within so_far =
+      let last = quiet (index + many) (omega arith) (omega arith) in
+      one_quiet count kept (index + many) (index + suc many) (omega (arith, within)) (omega arith) last.0 last.1 last.2
+      (many_quiet count kept many index (λ k low high. quiet k low (omega (arith, high))) (omega (arith, within)) so_far)
+
+  pub all_quiet : (count : ℕ) (kept : Option Op) (index past next : ℕ) → index ≤ next → next ≤ past → next ≤ count
+      → AreQuiet program call words element kept index past → KeptUpTo count kept index → KeptUpTo count kept next
+  all_quiet count kept index past next low high within quiet so_far =
+      let many : index + (next - index) ≡ next = omega (arith, low) in
+      subst (KeptUpTo count kept) many
+      (many_quiet count kept (next - index) index (λ k from upto. quiet k from (omega (arith, upto, many, high)))
+      (omega (arith, many, within)) so_far)
 
   -- the iteration's first access that isn't alike
   at_other : (index : ℕ) (accesses : List Access) (slot : ℕ) (first : Option FirstReduce) (other : Option ℕ)

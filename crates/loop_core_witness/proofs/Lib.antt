@@ -1,5 +1,6 @@
 pub mod Runs
 pub mod Searches
+pub mod SurveyLaws
 pub mod BreakLaws
 pub mod PairLaws
 pub mod Explaining

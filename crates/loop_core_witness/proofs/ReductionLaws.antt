@@ -12,7 +12,8 @@ use Rattle.loop_core_model.proofs.OneElement.{same_op}
 use Rattle.loop_core_trace.specs.declared.slots.FirstReduce.{FirstReduce}
 use Rattle.loop_core_trace.specs.Operators.{operator_of, reduces_alike, AreAlike}
 use Rattle.loop_core_trace.proofs.OperatorLaws.{of_one, chosen, by_more}
-use Rattle.loop_core_witness.specs.Reductions.{are_reduces, operator_after, end_slot}
+use Rattle.loop_core_witness.specs.Reductions.{are_reduces, GoOn, operator_after, end_slot}
+use Rattle.loop_core_witness.proofs.SurveyLaws.{and_left, and_right}
 
 -- the actions of iterations up to one more
 pub joined-take : {A : Type 0} (xs : List (List A)) (k : ℕ) → joined (take (suc k) xs) ≡ joined (take k xs)
@@ -112,3 +113,21 @@ kept_on (Some op) (Some first) other earlier here is none alike = go (is_same op
     go true same is_none =
         by_more op earlier here is (alike is_none ∙ ap Some (sym (same_op op first.op same)))
     go false apart is_none = absurd cc
+
+-- actions that are all by one operator
+all_by : (op : Op) (a : Action) (here : List Action) → list_all (reduces_by op) (a ∷ here) ≡ true
+    → only_operator (a ∷ here) ≡ Some op
+all_by op (Read saw) here all = absurd cc
+all_by op (Write left) here all = absurd cc
+all_by op (ReadWrite saw left) here all = absurd cc
+all_by op (Reduce other operand) here all =
+    let same : op ≡ other = same_op op other (and_left (is_same op other) (list_all (reduces_by op) here) all) in
+    subst (λ (o : Op). (if list_all (reduces_by o) here then Some o else None) ≡ Some op) same
+    (ap (λ (b : Bool). if b then Some op else None) (and_right (is_same op other) (list_all (reduces_by op) here) all))
+
+-- and so does one whose actions go on with it
+pub kept_quiet : (kept : Option Op) (earlier here : List Action) → IsKept kept earlier → GoOn kept here
+    → IsKept kept (earlier ++ here)
+kept_quiet None earlier here is on = ap (λ (xs : List Action). xs ++ here) is ∙ on
+kept_quiet (Some op) earlier [] is on = ap only_operator (append-nil earlier) ∙ is
+kept_quiet (Some op) earlier (a ∷ here) is on = by_more op earlier (a ∷ here) is (all_by op a here on)

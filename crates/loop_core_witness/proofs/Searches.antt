@@ -1,6 +1,7 @@
 -- Searching iterations in order.
-use Rattle.std.proofs.Common.{◌≡◌, ℕ, ◌+◌, ◌≤◌, ◌⊎◌, inl, inr, List, Option, None, sym, subst, arith, eqb}
+use Rattle.std.proofs.Common.{◌≡◌, ℕ, ◌+◌, ◌≤◌, ◌<◌, ◌⊎◌, inl, inr, List, Option, None, sym, subst, arith, eqb}
 use Rattle.std.specs.Prelude.{true, false}
+use Rattle.std.proofs.lemmas.Bool.{cases_lt}
 use Rattle.std.proofs.lemmas.Bool.Decides.{eqb_tells}
 use Rattle.bpf_insn_types.specs.Program.{Program}
 use Rattle.bpf_step_model.specs.State.{LoopCall}
@@ -43,3 +44,12 @@ module _ (kind : Kind) (program : Program) (call : LoopCall) (words : List ℕ) 
   pub none_up_to : (from past index : ℕ) → past ≤ index → NoneDoes kind program call words element from index
       → NoneDoes kind program call words element from past
   none_up_to from past index over none i low high = none i low (omega (arith, over, high))
+
+  -- and on from there
+  pub none_both : (from middle past : ℕ) → NoneDoes kind program call words element from middle
+      → NoneDoes kind program call words element middle past → NoneDoes kind program call words element from past
+  none_both from middle past none rest i low high = go (cases_lt i middle)
+    where
+      go : (i < middle) ⊎ (middle ≤ i) → Does kind program call words element i None
+      go (inl h) = none i low h
+      go (inr h) = rest i h high

@@ -1,12 +1,14 @@
 -- The access by which an element isn't reduction-only.
-use Rattle.std.specs.Prelude.{◌≡◌, ℕ, ◌<◌, Bool, true, false, List, [], ◌∷◌, ◌++◌, length, take, is_some}
+use Rattle.std.specs.Prelude.{◌≡◌, ℕ, ◌≤◌, ◌<◌, Bool, true, false, List, [], ◌∷◌, ◌++◌, length, take, is_some}
 use Rattle.std.specs.Prelude.{if◌then◌else◌, Option, Some, None}
+use Rattle.std.specs.List.{list_all}
 use Rattle.array_maps.specs.declared.access.Op.{Op}
 use Rattle.array_maps.specs.Accesses.{Action, Access, actions_at}
 use Rattle.bpf_insn_types.specs.Program.{Program}
 use Rattle.bpf_step_model.specs.State.{LoopCall}
 use Rattle.bpf_step_model.specs.Run.{Ended}
-use Rattle.loop_core_model.specs.Actions.{is_same, joined, only_operator}
+use Rattle.bpf_step_model.specs.Iteration.{Iterated, iteration}
+use Rattle.loop_core_model.specs.Actions.{is_same, reduces_by, joined, only_operator}
 use Rattle.loop_core_model.specs.Conflict.{at_element}
 use Rattle.loop_core_model.specs.LeastBreak.{counted_runs}
 use Rattle.loop_core_trace.specs.declared.slots.FirstReduce.{FirstReduce}
@@ -57,3 +59,14 @@ abbrev pub end_slot : Option Op → Option FirstReduce → (other : Option ℕ) 
 end_slot None first other = other
 end_slot (Some op) None other = other
 end_slot (Some op) (Some first) other = if is_same op first.op then other else Some first.slot
+
+-- actions that don't end a reduction by an operator: each is a reduce by it; where there was no reduce yet, none at all
+abbrev pub GoOn : Option Op → List Action → Type 0
+GoOn None actions = actions ≡ []
+GoOn (Some op) actions = list_all (reduces_by op) actions ≡ true
+
+-- from an index up to another all iterations end, and each goes on with the reduction
+abbrev pub AreQuiet : Program → LoopCall → List ℕ → (element : ℕ) → Option Op → (index past : ℕ) → Type 0
+AreQuiet program call words element op index past =
+    (k : ℕ) → index ≤ k → k < past →
+    (it : Iterated) × (iteration program 4096 call k words ≡ Ended it) × GoOn op (actions_at element it.accesses)

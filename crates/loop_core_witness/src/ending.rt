@@ -5,10 +5,12 @@ ghost use Rattle.bpf_verify_sound.specs.Soundness.{OverApproximatesCall};
 ghost use Rattle.loop_core_witness.specs.Breaks.{IsBreak};
 ghost use Rattle.loop_core_witness.specs.Reductions.{operator_after, end_slot, TellsEnd};
 ghost use Rattle.loop_core_witness.specs.Searches.{IsSearch, FindsEnd};
+ghost use Rattle.loop_core_witness.specs.Surveys.{IsSurvey};
 
 use crate::finding::Search;
 use crate::pairing::counted_by;
 use crate::place::Place;
+use crate::survey::Survey;
 use array_maps::{Maps, Op, Store};
 use bpf_step::LoopCall;
 use bpf_verify::Verified;
@@ -53,7 +55,13 @@ fn end_of_reduction(search: &Search<'_>) -> Result<Option<Place>, AllocError>
 {
     let mut maps = search.start.try_copy(search.alloc)?;
     let mut op = None;
-    for index in 0..search.count {
+    let mut index = 0;
+    while index < search.count {
+        let next = search.skip_quiet(op, index).min(search.count);
+        if index < next {
+            index = next;
+            continue;
+        }
         let trace = trace_iteration(
             search.alloc,
             search.program,
@@ -66,6 +74,7 @@ fn end_of_reduction(search: &Search<'_>) -> Result<Option<Place>, AllocError>
             return Ok(Some(Place { index, slot }));
         }
         op = operator_after(op, trace.slots.reduce);
+        index += 1;
     }
     Ok(None)
 }
@@ -73,7 +82,7 @@ fn end_of_reduction(search: &Search<'_>) -> Result<Option<Place>, AllocError>
 /// The access by which an element isn't reduction-only: of the counted iterations of a loop call that main of this
 /// program made, each run on the start maps, the first access of the element that isn't a reduce by the operator of the
 /// first one. `None` where the element is reduction-only, or isn't accessed. The start maps are of the program's sizes,
-/// and `broke` is what `find_break` told of them.
+/// `broke` is what `find_break` told of them, and the survey is of the call on them.
 pub fn find_end_of_reduction(
     alloc: Global,
     program: &Verified,
@@ -81,10 +90,12 @@ pub fn find_end_of_reduction(
     start: &Maps,
     element: u32,
     broke: Option<Place>,
+    survey: &Survey,
 ) -> Result<Option<Place>, AllocError>
     requires known { OverApproximatesCall program.now call.now }
     requires sizes { start.now.sizes ≡ program.now.sizes }
     requires broke { IsBreak program.now call.now start.now.words broke }
+    requires survey { IsSurvey program.now call.now start.now.words survey.now }
     ensures end { IfOk result (TellsEnd program.now call.now start.now.words element) }
 {
     law_of_accepted_programs();
@@ -100,6 +111,7 @@ pub fn find_end_of_reduction(
         start,
         element,
         count: counted_by(call, broke),
+        survey,
     };
     end_of_reduction(&search)
 }

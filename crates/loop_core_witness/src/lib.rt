@@ -4,8 +4,8 @@
 //! writer.
 //!
 //! ```text
-//! let broke = find_break(alloc, &program, &call, &start)?;
-//! let pair = find_pair(alloc, &program, &call, &start, Test::Flow, 1, broke)?;
+//! let broke = find_break(alloc, &program, &call, &start, conflicts.broke)?;
+//! let pair = find_pair(alloc, &program, &call, &start, Test::Flow, 1, broke, &survey)?;
 //! // pair.writer.index is the iteration that writes element 1, and pair.writer.slot the slot at which it does
 //! ```
 #![tactic(auto)]
@@ -16,10 +16,12 @@ mod finding;
 mod kind;
 mod pairing;
 mod place;
+mod survey;
 mod witness;
 
 pub use breaking::find_break;
 pub use ending::find_end_of_reduction;
 pub use pairing::find_pair;
 pub use place::Place;
+pub use survey::{Stretch, Survey};
 pub use witness::Witness;

@@ -7,11 +7,13 @@ ghost use Rattle.loop_core_model.specs.declared.loop_test.Test.TheVariants.{Lrpd
 ghost use Rattle.loop_core_witness.specs.Breaks.{index_of, IsBreak};
 ghost use Rattle.loop_core_witness.specs.declared.place.Place.{Place as At};
 ghost use Rattle.loop_core_witness.specs.Searches.{IsSearch, FindsPair};
+ghost use Rattle.loop_core_witness.specs.Surveys.{IsSurvey};
 ghost use Rattle.loop_core_witness.specs.Witnesses.{Explains};
 
 use crate::finding::Search;
 use crate::kind::Kind;
 use crate::place::Place;
+use crate::survey::Survey;
 use crate::witness::Witness;
 use array_maps::{Maps, Store};
 use bpf_step::LoopCall;
@@ -84,7 +86,8 @@ fn least_pair(search: &Search<'_>, test: Test) -> Result<Option<Witness>, AllocE
 
 /// Of the counted iterations of a loop call that main of this program made, each run on the start maps, the two that
 /// fail a test at an element, where two do: of all such pairs the one with the least reader, and of these the one with
-/// the least writer. The start maps are of the program's sizes, and `broke` is what `find_break` told of them.
+/// the least writer. The start maps are of the program's sizes, `broke` is what `find_break` told of them, and the survey
+/// is of the call on them.
 pub fn find_pair(
     alloc: Global,
     program: &Verified,
@@ -93,10 +96,12 @@ pub fn find_pair(
     test: Test,
     element: u32,
     broke: Option<Place>,
+    survey: &Survey,
 ) -> Result<Option<Witness>, AllocError>
     requires known { OverApproximatesCall program.now call.now }
     requires sizes { start.now.sizes ≡ program.now.sizes }
     requires broke { IsBreak program.now call.now start.now.words broke }
+    requires survey { IsSurvey program.now call.now start.now.words survey.now }
     ensures pair { IfOk result (Explains test program.now call.now start.now.words element) }
 {
     law_of_accepted_programs();
@@ -112,6 +117,7 @@ pub fn find_pair(
         start,
         element,
         count: counted_by(call, broke),
+        survey,
     };
     least_pair(&search, test)
 }

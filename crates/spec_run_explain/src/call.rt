@@ -5,6 +5,7 @@ ghost use Rattle.std.specs.List.{All};
 ghost use Rattle.bpf_verify_sound.specs.Soundness.{OverApproximatesCall};
 ghost use Rattle.loop_core_witness.specs.Breaks.{IsBreak};
 ghost use Rattle.loop_core_witness.specs.Reductions.{TellsEnd};
+ghost use Rattle.loop_core_witness.specs.Surveys.{IsSurvey};
 ghost use Rattle.loop_core_witness.specs.Witnesses.{Explains};
 ghost use Rattle.spec_run_explain.specs.Causes.{AreCauses, FailsAt, IsExplained, cause_elements, job_by};
 ghost use Rattle.spec_run_loop.specs.Courses.{IsCourseOf};
@@ -13,9 +14,9 @@ use crate::explained::{Cause, LoopExplained};
 use array_maps::Maps;
 use bpf_step::LoopCall;
 use bpf_verify::Verified;
-use loop_core_conflicts::find_conflicts;
+use loop_core_conflicts::{find_conflicts, survey_loop};
 use loop_core_model::{LoopReport, Test};
-use loop_core_witness::{Place, find_break, find_end_of_reduction, find_pair};
+use loop_core_witness::{Place, Survey, find_break, find_end_of_reduction, find_pair};
 use spec_run_loop::{Course, LoopJob, course_of};
 use spec_run_plan::{Plan, Policy};
 use std::alloc::{AllocError, Global};
@@ -30,18 +31,20 @@ fn cause_of(
     test: Test,
     element: u32,
     broke: Option<Place>,
+    survey: &Survey,
 ) -> Result<Cause, AllocError>
     requires known { OverApproximatesCall program.now call.now }
     requires sizes { start.now.sizes ≡ program.now.sizes }
     requires broke { IsBreak program.now call.now start.now.words broke }
+    requires survey { IsSurvey program.now call.now start.now.words survey.now }
     requires failing { FailsAt test program.now call.now start.now.words element }
     ensures element { IfOk result (λ cause. cause.element ≡ element) }
     ensures pair { IfOk result (λ cause.
         Explains test program.now call.now start.now.words cause.element (Some cause.witness)) }
     ensures end { IfOk result (λ cause. TellsEnd program.now call.now start.now.words cause.element cause.end) }
 {
-    let end = find_end_of_reduction(alloc, program, call, start, element, broke)?;
-    match find_pair(alloc, program, call, start, test, element, broke)? {
+    let end = find_end_of_reduction(alloc, program, call, start, element, broke, survey)?;
+    match find_pair(alloc, program, call, start, test, element, broke, survey)? {
         Some(witness) => Ok(Cause {
             element,
             witness,
@@ -60,17 +63,19 @@ fn causes_of(
     test: Test,
     elements: &[u32],
     broke: Option<Place>,
+    survey: &Survey,
 ) -> Result<Vec<Cause>, AllocError>
     requires known { OverApproximatesCall program.now call.now }
     requires sizes { start.now.sizes ≡ program.now.sizes }
     requires broke { IsBreak program.now call.now start.now.words broke }
+    requires survey { IsSurvey program.now call.now start.now.words survey.now }
     requires failing { All (FailsAt test program.now call.now start.now.words) elements.now }
     ensures elements { IfOk result (λ causes. cause_elements causes.items ≡ elements.now) }
     ensures causes { IfOk result (λ causes. AreCauses test program.now call.now start.now.words causes.items) }
 {
     let mut causes = Vec::new(alloc);
     for element in elements {
-        let cause = cause_of(alloc, program, call, start, test, *element, broke)?;
+        let cause = cause_of(alloc, program, call, start, test, *element, broke, survey)?;
         causes.push(cause)?;
     }
     Ok(causes)
@@ -119,7 +124,8 @@ pub(crate) fn explain_call(
     ensures { IfOk result (IsExplained test program.now call.now start.now.words most answer) }
 {
     let conflicts = find_conflicts(alloc, program, call, start, test, most)?;
-    let broke = find_break(alloc, program, call, start)?;
+    let broke = find_break(alloc, program, call, start, conflicts.broke)?;
+    let survey = survey_loop(alloc, program, call, start, &conflicts)?;
     let causes = causes_of(
         alloc,
         program,
@@ -128,6 +134,7 @@ pub(crate) fn explain_call(
         test,
         conflicts.least.as_slice(),
         broke,
+        &survey,
     )?;
     let course = default_course(alloc, program, call, start, test)?;
     let line = LoopReport {

@@ -14,7 +14,11 @@ pub returns : goal.returns
 returns c =
     let plane = c.in_ok-plane.plane.items in
     are_conflicts c.args.test c.args.program.now c.args.call.now c.args.start.now.words c.args.most
-    (shown c.in_ok-block.block) plane (record { verdict = c.verdict_of.result; least = c.in_ok-least.least })
+    (shown c.in_ok-block.block) plane (record {
+      verdict = c.verdict_of.result;
+      broke = c.broke.result;
+      least = c.in_ok-least.least;
+    })
     c.in_ok-block.ensures.ran
     (c.in_ok-block.ensures.first ∙ ap (λ (bounds : List ℕ). start_of bounds 0) c.one_block-split.ensures
     ∙ one_starts c.n.result)
@@ -25,5 +29,6 @@ returns c =
     ≡ filter (λ e. marked_conflict (test_of p.tested) (marks_of (visits e))) (range_with_len 0 p.elements))
     c.planes.ensures c.in_ok-plane.ensures.elements)
     (c.verdict_of.ensures ∙ ap plane_verdict c.as_slice-2.ensures.value)
+    c.broke.ensures
     (c.in_ok-least.ensures ∙ ap (λ (words : List ℕ). take c.args.most (elements_in_plane words))
     c.as_slice.ensures.value)

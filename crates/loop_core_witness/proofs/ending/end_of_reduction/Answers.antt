@@ -3,7 +3,7 @@ use Rattle.array_maps.specs.declared.access.Op.{Op}
 use Rattle.array_maps.specs.MapList.{MapList}
 use Rattle.loop_core_trace.specs.Traced.{IsTraceOf}
 use Rattle.loop_core_witness.proofs.Explaining.{within}
-use Rattle.loop_core_witness.proofs.EndLaws.{KeptUpTo, none_yet, one_more, found, found_none}
+use Rattle.loop_core_witness.proofs.EndLaws.{KeptUpTo, none_yet, one_more, all_quiet, found, found_none}
 use Rattle.loop_core_witness.proofs.ending.end_of_reduction.Goals as goal
 
 pub loop-index-init : goal.loop-index-init
@@ -12,6 +12,18 @@ loop-index-init c =
     record {
       same = c.in_ok-maps.ensures;
       kept = none_yet search.program.now search.call.now search.start.now.words search.element search.count;
+    }
+
+pub loop-index-preserved-then-index-next : goal.loop-index-preserved-then-index-next
+loop-index-preserved-then-index-next c =
+    let search = c.args.search.now in
+    let more = c.if-index-next.true in
+    let least = c.min-next.ensures in
+    record {
+      same = c.loop-index.invariant.same;
+      kept = all_quiet search.program.now search.call.now search.start.now.words search.element search.count
+          c.loop-index.op c.loop-index.index c.skip_quiet.result c.min-next.result (omega (arith, more))
+          (omega (arith, least)) (omega (arith, least)) c.skip_quiet.ensures.quiet c.loop-index.invariant.kept;
     }
 
 pub trace_iteration-requires-clause-below : goal.trace_iteration-requires-clause-below

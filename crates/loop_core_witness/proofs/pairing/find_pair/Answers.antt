@@ -19,4 +19,5 @@ least_pair-requires c = record {
       c.requires.known
       c.args.start.now c.requires.sizes c.sizes-sizes.ensures.words c.words_fit.ensures c.args.broke c.requires.broke
       c.counted_by.result c.counted_by.ensures;
+  surveyed = c.requires.survey;
 }

@@ -2,7 +2,7 @@ use Rattle.std.proofs.Common.{◌+◌, None, refl, subst, ◌∙◌, arith}
 use Rattle.array_maps.specs.MapList.{MapList}
 use Rattle.loop_core_trace.specs.Traced.{IsTraceOf}
 use Rattle.loop_core_witness.proofs.Explaining.{within}
-use Rattle.loop_core_witness.proofs.Searches.{traced, none_more}
+use Rattle.loop_core_witness.proofs.Searches.{traced, none_more, none_both}
 use Rattle.loop_core_witness.proofs.finding.Search.first.Goals as goal
 
 pub trace_iteration-requires-clause-below : goal.trace_iteration-requires-clause-below
@@ -10,6 +10,18 @@ trace_iteration-requires-clause-below c =
     let few = within c.requires.counts in
     let more = c.loop-index-test.true in
     omega (arith, few, more)
+
+pub loop-index-preserved-then-index-next : goal.loop-index-preserved-then-index-next
+loop-index-preserved-then-index-next c =
+    let search = c.args.self.now in
+    let behind = c.loop-index.invariant.behind in
+    let more = c.if-index-next.true in
+    record {
+      behind = omega (arith, behind, more);
+      same = c.loop-index.invariant.same;
+      none = none_both c.args.kind search.program.now search.call.now search.start.now.words search.element c.args.from
+          c.loop-index.index c.skip-next.result c.loop-index.invariant.none c.skip-next.ensures.none;
+    }
 
 pub loop-index-preserved : goal.loop-index-preserved
 loop-index-preserved c =

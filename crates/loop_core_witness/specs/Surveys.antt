@@ -1,0 +1,72 @@
+-- What the iterations of a loop did, stretch by stretch.
+use Rattle.std.specs.Prelude.{◌≡◌, ℕ, ◌<◌, Bool, false, not, ◌&&◌, ◌||◌, nat_lt, List, length, Option, Some, None}
+use Rattle.std.specs.List.{All}
+use Rattle.array_maps.specs.declared.access.Op.{Op}
+use Rattle.array_maps.specs.declared.access.Op.TheVariants.{Add, Or, And, Xor, AddH}
+use Rattle.bpf_insn_types.specs.Program.{Program}
+use Rattle.bpf_step_model.specs.State.{LoopCall}
+use Rattle.bpf_step_model.specs.Run.{Ended}
+use Rattle.bpf_step_model.specs.Iteration.{Iterated}
+use Rattle.loop_core_model.specs.Actions.{is_same}
+use Rattle.loop_core_model.specs.Block.{block_run, break_from}
+use Rattle.loop_core_model.specs.Conflict.{at_element}
+use Rattle.loop_core_model.specs.LeastBreak.{accesses_of_each}
+use Rattle.loop_core_model.specs.Marks.{numbered}
+use Rattle.loop_core_model.specs.Planes.{bit_of}
+use Rattle.shadow_marks.specs.declared.planes.LrpdPlanes.{LrpdPlanes}
+use Rattle.shadow_marks.specs.declared.planes.OperatorPlanes.{OperatorPlanes}
+use Rattle.shadow_marks.specs.declared.planes.Planes.{Planes}
+use Rattle.shadow_marks.specs.declared.planes.Tested.{Tested}
+use Rattle.shadow_marks.specs.declared.planes.Tested.TheVariants.{Lrpd, Flow}
+use Rattle.shadow_marks.specs.Standing.{StandFor}
+use Rattle.loop_core_witness.specs.declared.kind.Kind.{Kind}
+use Rattle.loop_core_witness.specs.declared.kind.Kind.TheVariants.{FirstWrite, ExposedRead}
+use Rattle.loop_core_witness.specs.declared.survey.Stretch.{Stretch}
+use Rattle.loop_core_witness.specs.declared.survey.Survey.{Survey}
+
+-- no iteration does what is looked for at an element, as planes for the LRPD test tell: none writes it; none has an
+-- exposed read of it
+abbrev pub lacks_kind : Kind → LrpdPlanes → ℕ → Bool
+lacks_kind FirstWrite planes e = not (bit_of planes.written.items e)
+lacks_kind ExposedRead planes e = not (bit_of planes.read_only.items e) && not (bit_of planes.read_and_written.items e)
+
+-- planes for the flow test aren't asked
+abbrev pub lacks_tested : Kind → Tested → ℕ → Bool
+lacks_tested kind (Lrpd planes) e = lacks_kind kind planes e
+lacks_tested kind (Flow planes) e = false
+
+-- and of an element that the planes don't have nothing is told
+abbrev pub lacks : Kind → Planes → ℕ → Bool
+lacks kind planes e = nat_lt e planes.elements && lacks_tested kind planes.tested e
+
+-- an iteration reduces an element by an operator that isn't this one
+abbrev pub reduces_by_other : OperatorPlanes → Op → ℕ → Bool
+reduces_by_other planes op e =
+    ((((not (is_same op Add) && bit_of planes.add.items e)
+    || (not (is_same op Or) && bit_of planes.or.items e))
+    || (not (is_same op And) && bit_of planes.and.items e))
+    || (not (is_same op Xor) && bit_of planes.xor.items e))
+    || (not (is_same op AddH) && bit_of planes.addh.items e)
+
+-- iterations do nothing at an element but reduce it by this operator
+abbrev pub reduces_alone : Op → Planes → ℕ → Bool
+reduces_alone op planes e =
+    nat_lt e planes.elements && (not (bit_of planes.plain.items e) && not (reduces_by_other planes.operators op e))
+
+-- iterations don't end a reduction by an operator; where there was none yet, they don't access the element
+abbrev pub is_quiet : Option Op → Planes → ℕ → Bool
+is_quiet None planes e = lacks FirstWrite planes e && lacks ExposedRead planes e
+is_quiet (Some op) planes e = reduces_alone op planes e
+
+-- the iterations of a stretch, each run on these words: all of them end, none breaks, and the planes stand for them
+pub record IsStretch (program : Program) (call : LoopCall) (words : List ℕ) (stretch : Stretch) : Type 0 where
+  pub ran : List Iterated
+  pub told : block_run program 4096 call words stretch.first stretch.past ≡ Ended ran
+  pub unbroken : break_from stretch.first ran ≡ None
+  pub elements : stretch.planes.elements ≡ length words
+  pub planes : StandFor stretch.planes (λ e. numbered stretch.first (at_element e (accesses_of_each ran)))
+
+-- each stretch of a survey is so
+pub record IsSurvey (program : Program) (call : LoopCall) (words : List ℕ) (survey : Survey) : Type 0 where
+  pub some : 0 < survey.size
+  pub each : All (IsStretch program call words) survey.stretches.items
