@@ -1,6 +1,7 @@
 //! The reasons that follow the answer of `verify`, and the picture in their place.
 
 use crate::ask::Ask;
+use crate::replaying::replay_reasons;
 use bpfspec_causes::{
     Wish, causes_of_hex, causes_of_text, picture_of_events, picture_of_hex, picture_of_text,
 };
@@ -110,6 +111,10 @@ pub fn reasons(alloc: Global, ask: &Ask, input: &[u8]) -> Result<String, AllocEr
     };
     out.push_str(causes(alloc, ask, text)?.as_str())?;
     out.push_str(given_reasons(alloc, ask, text)?.as_str())?;
+    let events = events_section(text);
+    if !events.is_empty() {
+        out.push_str(replay_reasons(alloc, ask, input, events)?.as_str())?;
+    }
     Ok(out)
 }
 

@@ -24,6 +24,7 @@ mod explaining;
 mod faults;
 mod program;
 mod recorded;
+mod replaying;
 mod serving;
 mod showing;
 

@@ -15,6 +15,7 @@ use Rattle.bpf_verify_origin.specs.Inspected.{broken_rule, IsStateBefore, IsStat
 use Rattle.bpfspec_reasons.specs.declared.piece.Piece.{Piece}
 use Rattle.bpfspec_reasons.specs.declared.piece.Piece.TheVariants as pieces
 use Rattle.bpfspec_reasons.specs.Truth.{AreTrue, IsValueBefore, IsValueBetween, IsUnwritten, ExplanationOf, slot_or}
+use Rattle.bpfspec_reasons.specs.Truth.{IsUnwrittenOfMain}
 use Rattle.bpfspec_reasons.specs.Truth.{line_of, first_line, slot_with, slot_told, line_of_fault}
 
 pub true-none : (program : Program) (told : List Piece) → told ≡ [] → AreTrue program told
@@ -56,6 +57,18 @@ pub byte-unwritten : (program : Program) (slot position : ℕ) (found : Option S
 byte-unwritten program slot position found state written there is tested fails = record {
   state = state;
   before = subst (λ (f : Option State). IfSome f (λ s. IsStateBefore program slot s)) is there;
+  unwritten = sym tested ∙ fails;
+}
+
+pub byte-unwritten_of_main : (program : Program) (slot position : ℕ) (found : Option State) (state : State)
+    (caller : List Bool) (written : Bool) → IfSome found (λ s. IsStateBefore program slot s) → found ≡ Some state
+    → state.caller ≡ Some caller → written ≡ all_written caller position 1 → written ≡ false
+    → IsUnwrittenOfMain program slot position
+byte-unwritten_of_main program slot position found state caller written there is called tested fails = record {
+  state = state;
+  before = subst (λ (f : Option State). IfSome f (λ s. IsStateBefore program slot s)) is there;
+  caller = caller;
+  called = called;
   unwritten = sym tested ∙ fails;
 }
 
@@ -132,6 +145,15 @@ pub told-unwritten : (program : Program) (told : ExplanationOf) (slot position :
 told-unwritten program told slot position found state written same there is tested fails =
     subst (λ (p : Program). AreTrue p (pieces.Unwritten slot position ∷ [])) same
     (byte-unwritten program slot position found state written there is tested fails, tt)
+
+pub told-unwritten_of_main : (program : Program) (told : ExplanationOf) (slot position : ℕ) (found : Option State)
+    (state : State) (caller : List Bool) (written : Bool) → program ≡ told.program
+    → IfSome found (λ s. IsStateBefore program slot s) → found ≡ Some state → state.caller ≡ Some caller
+    → written ≡ all_written caller position 1 → written ≡ false
+    → AreTrue told.program (pieces.UnwrittenOfMain slot position ∷ [])
+told-unwritten_of_main program told slot position found state caller written same there is called tested fails =
+    subst (λ (p : Program). AreTrue p (pieces.UnwrittenOfMain slot position ∷ [])) same
+    (byte-unwritten_of_main program slot position found state caller written there is called tested fails, tt)
 
 pub told-elements : (program : Program) (told : ExplanationOf) (map count : ℕ) → program ≡ told.program
     → slice_get program.sizes map ≡ Some count → AreTrue told.program (pieces.Elements map count ∷ [])

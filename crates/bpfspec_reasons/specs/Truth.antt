@@ -1,5 +1,5 @@
 -- What the pieces of an explanation say of a program.
-use Rattle.std.specs.Prelude.{◌≡◌, ℕ, false, List, [], ◌∷◌, slice_get, Option, Some, None}
+use Rattle.std.specs.Prelude.{◌≡◌, ℕ, Bool, false, List, [], ◌∷◌, slice_get, Option, Some, None}
 use Rattle.std.specs.List.{AllByRecursion}
 use Rattle.bpf_insn_types.specs.declared.insn.Insn.{Insn}
 use Rattle.bpf_insn_types.specs.Program.{Program, insn_at}
@@ -30,6 +30,14 @@ pub record IsUnwritten (program : Program) (slot position : ℕ) : Type 0 where
   pub before : IsStateBefore program slot state
   pub unwritten : all_written state.own position 1 ≡ false
 
+-- in a callback, a byte of main's frame isn't written on every path to the call by which it came to a slot
+pub record IsUnwrittenOfMain (program : Program) (slot position : ℕ) : Type 0 where
+  pub state : State
+  pub before : IsStateBefore program slot state
+  pub caller : List Bool
+  pub called : state.caller ≡ Some caller
+  pub unwritten : all_written caller position 1 ≡ false
+
 -- what a piece says of a program is true; words and numbers alone say nothing of it
 abbrev pub IsTrue : Program → Piece → Type 0
 IsTrue program (pieces.Line slot insn) = insn_at program.insns slot ≡ Some insn
@@ -37,6 +45,7 @@ IsTrue program (pieces.Step slot insn) = insn_at program.insns slot ≡ Some ins
 IsTrue program (pieces.Before slot reg value) = IsValueBefore program slot reg value
 IsTrue program (pieces.Between from to reg value) = IsValueBetween program from to reg value
 IsTrue program (pieces.Unwritten slot position) = IsUnwritten program slot position
+IsTrue program (pieces.UnwrittenOfMain slot position) = IsUnwrittenOfMain program slot position
 IsTrue program (pieces.Elements map count) = slice_get program.sizes map ≡ Some count
 IsTrue program (pieces.Words words) = Unit {0}
 IsTrue program (pieces.Number number) = Unit {0}

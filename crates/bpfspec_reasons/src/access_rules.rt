@@ -4,7 +4,6 @@ ghost use Rattle.std.specs.Prelude.{◌≡◌, ◌≤◌};
 
 use crate::accessing::Access;
 use crate::explanation::Explanation;
-use bpf_insn_types::Reg;
 use bpf_verify_model::{AbstractValue, Rule};
 use std::alloc::AllocError;
 
@@ -29,6 +28,7 @@ fn add_room(out: &mut Explanation<'_>, value: &AbstractValue) -> Result<(), Allo
 {
     match *value {
         AbstractValue::Area(map, _) => out.elements(map),
+        AbstractValue::Ctx(_) => out.words("main's frame is the 512 bytes below its r10"),
         _ => out.words("a frame is the 512 bytes below r10"),
     }
 }
@@ -69,10 +69,28 @@ fn add_alignment(out: &mut Explanation<'_>, access: &Access) -> Result<(), Alloc
     out.words("\n")
 }
 
+/// Adds a byte of the own frame or of main's, unless it is written, and says whether it did.
+fn add_if_unwritten(
+    out: &mut Explanation<'_>,
+    slot: u32,
+    is_main: bool,
+    position: u32,
+) -> Result<bool, AllocError>
+    requires { position ≤ 511 }
+    ensures { out.new ≡ out.old }
+{
+    if is_main {
+        out.unwritten_of_main(slot, position)
+    } else {
+        out.unwritten(slot, position)
+    }
+}
+
 /// Adds the first byte of an access that isn't written on every path.
 fn add_unwritten_byte(
     out: &mut Explanation<'_>,
     slot: u32,
+    is_main: bool,
     position: u32,
     size: u32,
 ) -> Result<(), AllocError>
@@ -80,7 +98,7 @@ fn add_unwritten_byte(
 {
     for at in position..position.saturating_add(size) {
         if at < 512 {
-            if out.unwritten(slot, at)? {
+            if add_if_unwritten(out, slot, is_main, at)? {
                 return Ok(());
             }
         }
@@ -91,10 +109,18 @@ fn add_unwritten_byte(
 /// The position that an access of a frame begins at, if it is in the frame.
 fn position_of(value: &AbstractValue, offset: i16) -> Option<u32> {
     match *value {
-        AbstractValue::Frame(position) => u32::try_from(
+        AbstractValue::Frame(position) | AbstractValue::Ctx(position) => u32::try_from(
             i64::from(position) + i64::from(offset),
         ).ok(),
         _ => None,
+    }
+}
+
+/// Whether it is an address in main's frame.
+fn is_of_main(value: &AbstractValue) -> bool {
+    match *value {
+        AbstractValue::Ctx(_) => true,
+        _ => false,
     }
 }
 
@@ -109,10 +135,15 @@ fn add_unwritten(
 {
     out.words("; not each of the ")?;
     add_bytes(out, access)?;
-    out.words(" is written on every path to here\n")?;
+    let is_main = is_of_main(value);
+    out.words(if is_main {
+        " is written on every path to the bpf_loop call\n"
+    } else {
+        " is written on every path to here\n"
+    })?;
     match position_of(value, access.offset) {
         None => Ok(()),
-        Some(position) => add_unwritten_byte(out, slot, position, access.size),
+        Some(position) => add_unwritten_byte(out, slot, is_main, position, access.size),
     }
 }
 
@@ -125,14 +156,6 @@ fn add_size(out: &mut Explanation<'_>, size: u32) -> Result<(), AllocError>
     out.words("\n")
 }
 
-/// The abstract value of a register before a slot, if the slot is reached.
-fn value_before(out: &Explanation<'_>, slot: u32, base: Reg) -> AbstractValue {
-    match out.inspection().state(slot) {
-        None => AbstractValue::Unwritten,
-        Some(state) => state.register(base),
-    }
-}
-
 /// Adds what breaks a rule of accesses.
 pub(crate) fn add_access_rule(
     out: &mut Explanation<'_>,
@@ -142,7 +165,7 @@ pub(crate) fn add_access_rule(
 ) -> Result<(), AllocError>
     ensures { out.new ≡ out.old }
 {
-    let value = value_before(out, slot, access.base);
+    let value = out.value_before(slot, access.base);
     out.words("  ")?;
     out.before(slot, access.base)?;
     match rule {

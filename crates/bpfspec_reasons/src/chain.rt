@@ -4,8 +4,10 @@ ghost use Rattle.std.specs.Prelude.{◌≡◌};
 
 use crate::explanation::Explanation;
 use crate::link::{Made, made_anew, made_of};
-use crate::values::width_of;
-use bpf_insn_types::Reg;
+use crate::meeting::{add_edges, widest_edge};
+use crate::trail::Trail;
+use crate::way::{add_copy, add_step, add_way, add_way_along};
+use bpf_insn_types::{AluOp, Insn, Reg};
 use bpf_verify_model::reg;
 use bpf_verify_origin::Source;
 use std::alloc::AllocError;
@@ -13,24 +15,15 @@ use std::alloc::AllocError;
 /// The most links of a chain that are shown.
 const MOST_LINKS: u32 = 24;
 
-/// The most edges into a slot that are shown.
-const MOST_EDGES: u32 = 6;
-
 /// How a chain goes on.
 #[derive(Clone, Copy)]
 enum Next {
     /// It ends.
     End,
-    /// With the value that a register has by this source.
-    From(Source, Reg),
-}
-
-/// Adds an instruction of the chain, in columns.
-fn add_step(out: &mut Explanation<'_>, slot: u32) -> Result<(), AllocError>
-    ensures { out.new ≡ out.old }
-{
-    out.words("    ")?;
-    out.step(slot)
+    /// With the value that a register has before a slot.
+    Before(u32, Reg),
+    /// With the value that a register has on the edges from one slot to another.
+    Along(u32, u32, Reg),
 }
 
 /// Adds the call by which a callback starts with a register.
@@ -86,8 +79,41 @@ fn add_anew(out: &mut Explanation<'_>, slot: u32, what: &'static str) -> Result<
     out.words("\n")
 }
 
+/// Whether an instruction extends a sign, or shifts one in.
+fn extends_sign(insn: &Insn) -> bool {
+    match *insn {
+        Insn::Alu {
+            op: AluOp::Arsh,
+            ..
+        } => true,
+        Insn::Movsx { .. } | Insn::LoadSx { .. } => true,
+        _ => false,
+    }
+}
+
+/// Adds that a register was copied, if what is compared later on is the other one.
+fn add_copied(
+    out: &mut Explanation<'_>,
+    trail: &mut Trail,
+    slot: u32,
+    src: Reg,
+    written: Reg,
+) -> Result<(), AllocError>
+    ensures { out.new ≡ out.old }
+{
+    match trail.take(src) {
+        None => Ok(()),
+        Some(comparison) => add_copy(out, slot, comparison, written),
+    }
+}
+
 /// Adds the instruction that wrote a register, and says how the chain goes on.
-fn add_written(out: &mut Explanation<'_>, slot: u32, written: Reg) -> Result<Next, AllocError>
+fn add_written(
+    out: &mut Explanation<'_>,
+    trail: &mut Trail,
+    slot: u32,
+    written: Reg,
+) -> Result<Next, AllocError>
     ensures { out.new ≡ out.old }
 {
     let Some(insn) = out.inspection().insn(slot) else {
@@ -96,71 +122,23 @@ fn add_written(out: &mut Explanation<'_>, slot: u32, written: Reg) -> Result<Nex
     let Some(state) = out.inspection().state(slot) else {
         return Ok(Next::End);
     };
+    if extends_sign(&insn) {
+        trail.note_sign();
+    }
     match made_of(&state, &insn) {
-        Made::Copy(src) => Ok(Next::From(out.inspection().source(slot, src), src)),
+        Made::Copy(src) => {
+            add_copied(out, trail, slot, src, written)?;
+            Ok(Next::Before(slot, src))
+        }
         Made::Of(src) => {
             add_made(out, slot, src)?;
-            Ok(Next::From(out.inspection().source(slot, src), src))
+            Ok(Next::Before(slot, src))
         }
         Made::Anew => {
             add_anew(out, slot, made_anew(&insn, written))?;
             Ok(Next::End)
         }
     }
-}
-
-/// How far apart the least and the greatest number are that a register has on the edges from one slot to another, if
-/// one leads there.
-fn width_between(out: &Explanation<'_>, from: u32, to: u32, followed: Reg) -> Option<u64> {
-    match out.inspection().edge(from, to) {
-        None => None,
-        Some(state) => {
-            let value = state.register(followed);
-            Some(width_of(&value))
-        }
-    }
-}
-
-/// Adds what a register is on the edges from one slot to another.
-fn add_edge(out: &mut Explanation<'_>, from: u32, to: u32, followed: Reg) -> Result<(), AllocError>
-    ensures { out.new ≡ out.old }
-{
-    out.words("      from ")?;
-    out.step(from)?;
-    out.between(from, to, followed)?;
-    out.words("\n")
-}
-
-/// Adds what a register is on the edges into a slot, on six of them at most.
-fn add_edges(out: &mut Explanation<'_>, to: u32, followed: Reg) -> Result<(), AllocError>
-    ensures { out.new ≡ out.old }
-{
-    let mut shown: u32 = 0;
-    for from in 0..to {
-        if width_between(out, from, to, followed).is_some() {
-            if shown >= MOST_EDGES {
-                return out.words("      ..\n");
-            }
-            add_edge(out, from, to, followed)?;
-            shown += 1;
-        }
-    }
-    Ok(())
-}
-
-/// The slot from which the edges lead to another on which a register has the most values.
-fn widest_edge(out: &Explanation<'_>, to: u32, followed: Reg) -> Option<u32> {
-    let mut widest: Option<u32> = None;
-    let mut most: u64 = 0;
-    for from in 0..to {
-        if let Some(width) = width_between(out, from, to, followed) {
-            if widest.is_none() || width > most {
-                widest = Some(from);
-                most = width;
-            }
-        }
-    }
-    widest
 }
 
 /// Adds the edges that meet at a slot, and says how the chain goes on: along the widest.
@@ -175,15 +153,17 @@ fn add_meeting(out: &mut Explanation<'_>, slot: u32, followed: Reg) -> Result<Ne
     add_edges(out, slot, followed)?;
     match widest_edge(out, slot, followed) {
         None => Ok(Next::End),
-        Some(from) => Ok(Next::From(
-            out.inspection().source_along(from, slot, followed),
-            followed,
-        )),
+        Some(from) => Ok(Next::Along(from, slot, followed)),
     }
 }
 
 /// Adds one link of a chain, and says how the chain goes on.
-fn add_link(out: &mut Explanation<'_>, source: Source, followed: Reg) -> Result<Next, AllocError>
+fn add_link(
+    out: &mut Explanation<'_>,
+    trail: &mut Trail,
+    source: Source,
+    followed: Reg,
+) -> Result<Next, AllocError>
     ensures { out.new ≡ out.old }
 {
     match source {
@@ -195,25 +175,65 @@ fn add_link(out: &mut Explanation<'_>, source: Source, followed: Reg) -> Result<
             add_entry(out, slot, followed)?;
             Ok(Next::End)
         }
-        Source::Written(slot) => add_written(out, slot, followed),
+        Source::Written(slot) => add_written(out, trail, slot, followed),
         Source::Meeting(slot) => add_meeting(out, slot, followed),
     }
 }
 
-/// Adds where the value of a register before a slot comes from, back to an instruction that makes it of no register.
-/// Where paths meet it goes on along the one that leaves the most values; an instruction that only copies is left out.
-pub(crate) fn add_chain(out: &mut Explanation<'_>, slot: u32, start: Reg) -> Result<(), AllocError>
+/// Adds how a register came to its value before a slot: one link of a chain.
+fn add_before(
+    out: &mut Explanation<'_>,
+    trail: &mut Trail,
+    slot: u32,
+    followed: Reg,
+) -> Result<Next, AllocError>
+    ensures { out.new ≡ out.old }
+{
+    add_way(out, trail, slot, followed)?;
+    let source = out.inspection().source(slot, followed);
+    add_link(out, trail, source, followed)
+}
+
+/// The same of its value on the edges from one slot to another.
+fn add_along(
+    out: &mut Explanation<'_>,
+    trail: &mut Trail,
+    from: u32,
+    to: u32,
+    followed: Reg,
+) -> Result<Next, AllocError>
+    ensures { out.new ≡ out.old }
+{
+    add_way_along(out, trail, from, to, followed)?;
+    let source = out.inspection().source_along(from, to, followed);
+    add_link(out, trail, source, followed)
+}
+
+/// Adds where the value of a register before a slot comes from, back to an instruction that makes it of no register,
+/// with the comparisons that narrow it; and says whether a signed comparison, or an extension of the sign, is among
+/// them. Where paths meet it goes on along the one that leaves the most values. An instruction that only copies is left
+/// out, unless a comparison narrows one of the two and not the other.
+pub(crate) fn add_chain(
+    out: &mut Explanation<'_>,
+    slot: u32,
+    start: Reg,
+) -> Result<bool, AllocError>
     ensures { out.new ≡ out.old }
 {
     out.words("  ")?;
     out.register(start)?;
     out.words(" comes from\n")?;
-    let mut next = Next::From(out.inspection().source(slot, start), start);
+    let mut trail = Trail::new();
+    let mut next = Next::Before(slot, start);
     for link in 0..MOST_LINKS {
         match next {
-            Next::End => return Ok(()),
-            Next::From(source, followed) => next = add_link(out, source, followed)?,
+            Next::End => return Ok(trail.is_signed()),
+            Next::Before(at, followed) => next = add_before(out, &mut trail, at, followed)?,
+            Next::Along(from, to, followed) => {
+                next = add_along(out, &mut trail, from, to, followed)?;
+            }
         }
     }
-    out.words("    ..\n")
+    out.words("    ..\n")?;
+    Ok(trail.is_signed())
 }

@@ -7,6 +7,7 @@ use crate::page::Page;
 use crate::piece::Piece;
 use crate::words::write_piece;
 use bpf_insn_types::Reg;
+use bpf_verify_model::AbstractValue;
 use bpf_verify_origin::Inspection;
 use std::alloc::{AllocError, Global};
 use std::marker::Model;
@@ -166,6 +167,25 @@ impl<'a> Explanation<'a> {
         Ok(true)
     }
 
+    /// Adds a byte of main's frame, unless it is written on every path to the call by which a callback came to a slot,
+    /// and says whether it did.
+    pub(crate) fn unwritten_of_main(&mut self, slot: u32, position: u32) -> Result<bool, AllocError>
+        requires { position ≤ 511 }
+        ensures { self.new ≡ self.old }
+    {
+        let Some(state) = self.inspection.state(slot) else {
+            return Ok(false);
+        };
+        let Some(caller) = state.caller else {
+            return Ok(false);
+        };
+        if caller.all_written(position as usize, 1) {
+            return Ok(false);
+        }
+        self.add(&[Piece::UnwrittenOfMain { slot, position }])?;
+        Ok(true)
+    }
+
     /// Adds how many elements a map has.
     pub(crate) fn elements(&mut self, map: u32) -> Result<(), AllocError>
         ensures { self.new ≡ self.old }
@@ -173,6 +193,14 @@ impl<'a> Explanation<'a> {
         match size_of_map(self.inspection.sizes(), map) {
             None => Ok(()),
             Some(count) => self.add(&[Piece::Elements { map, count }]),
+        }
+    }
+
+    /// The abstract value of a register before a slot, if the slot is reached.
+    pub(crate) fn value_before(&self, slot: u32, reg: Reg) -> AbstractValue {
+        match self.inspection.state(slot) {
+            None => AbstractValue::Unwritten,
+            Some(state) => state.register(reg),
         }
     }
 

@@ -3,6 +3,7 @@
 ghost use Rattle.std.specs.Prelude.{◌≡◌};
 
 use crate::explanation::Explanation;
+use crate::helpers::helper_name;
 use bpf_insn_types::{ImmKind, Insn};
 use bpf_verify_model::Rule;
 use bpf_verify_rules::jump_distance;
@@ -49,6 +50,20 @@ fn add_code_target(out: &mut Explanation<'_>, slot: u32, insn: &Insn) -> Result<
     }
 }
 
+/// Adds the name of a helper, if programs often call it.
+fn add_helper_name(out: &mut Explanation<'_>, number: i32) -> Result<(), AllocError>
+    ensures { out.new ≡ out.old }
+{
+    match helper_name(number) {
+        None => Ok(()),
+        Some(name) => {
+            out.words(" (")?;
+            out.words(name)?;
+            out.words(")")
+        }
+    }
+}
+
 /// Adds which helper a call asks for.
 fn add_helper(out: &mut Explanation<'_>, insn: &Insn) -> Result<(), AllocError>
     ensures { out.new ≡ out.old }
@@ -57,6 +72,7 @@ fn add_helper(out: &mut Explanation<'_>, insn: &Insn) -> Result<(), AllocError>
         Insn::Call { imm, .. } => {
             out.words("  there is no helper ")?;
             out.number(i64::from(imm))?;
+            add_helper_name(out, imm)?;
             out.words(": the helpers are 1 (bpf_map_lookup_elem) and 181 (bpf_loop)\n")
         }
         _ => Ok(()),

@@ -12,14 +12,18 @@
 
 mod access_rules;
 mod accessing;
+mod advice;
 mod chain;
+mod clash;
 mod explanation;
 mod files;
 mod forms;
 mod given;
+mod helpers;
 mod hexes;
 mod insn_rules;
 mod link;
+mod meeting;
 mod mending;
 mod misfit;
 mod nearest;
@@ -35,9 +39,12 @@ mod shown;
 mod slips;
 mod state_rules;
 mod states;
+mod sums;
 mod texts;
+mod trail;
 mod units;
 mod values;
+mod way;
 mod words;
 
 pub use explanation::Explanation;

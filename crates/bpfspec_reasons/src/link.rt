@@ -56,7 +56,8 @@ pub(crate) fn made_anew(insn: &Insn, reg: Reg) -> &'static str {
     match *insn {
         Insn::Load { .. } | Insn::LoadSx { .. } => "what memory has: any number of its size",
         Insn::Atomic { .. } => "what memory had: any number of its size",
-        Insn::Call { .. } if reg.number() == 0 => "the call's answer",
+        Insn::Call { imm: 1, .. } if reg.number() == 0 => "what bpf_map_lookup_elem answers",
+        Insn::Call { .. } if reg.number() == 0 => "what bpf_loop answers",
         Insn::Call { .. } => "a call leaves r1 to r5 unwritten",
         Insn::LoadImm { .. } | Insn::Alu { .. } => "a constant",
         _ => "",

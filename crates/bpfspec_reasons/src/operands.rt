@@ -5,7 +5,7 @@ ghost use Rattle.std.specs.Prelude.{◌≡◌};
 use crate::explanation::Explanation;
 use crate::reading::reads;
 use crate::values::width_of;
-use bpf_insn_types::{Insn, Operand, Reg};
+use bpf_insn_types::{AluOp, Insn, MAX_OFFSET, Operand, Reg, Width};
 use bpf_verify_model::{AbstractValue, Rule, State, reg};
 use bpf_verify_values::{is_number, is_unwritten};
 use std::alloc::AllocError;
@@ -71,22 +71,55 @@ fn first_that(state: &State, insn: &Insn, wanted: Wanted) -> Option<Reg> {
     None
 }
 
-/// Whether a value is one number alone.
-fn is_constant(value: &AbstractValue) -> bool {
-    is_number(*value) && width_of(value) == 0
+/// Of an address and the number that it is to be moved by, the one that is in the way: the number where no address can
+/// be moved so far, or where it says less than the address.
+fn moved_by(address: &AbstractValue, number: &AbstractValue, dst: Reg, src: Reg) -> Reg {
+    match (*address, *number) {
+        (AbstractValue::Frame(_) | AbstractValue::Ctx(_), AbstractValue::Number(_)) => {
+            if width_of(number) == 0 { dst } else { src }
+        }
+        (AbstractValue::Area(_, _), AbstractValue::Number(range)) => {
+            if range.hi() > u64::from(MAX_OFFSET) || width_of(number) > width_of(address) {
+                src
+            } else {
+                dst
+            }
+        }
+        _ => dst,
+    }
 }
 
-/// The operand that arithmetic doesn't take: the second, unless it is one number alone, and else the first.
+/// The same of a number that is to be taken away: from an address of a map's values none can be.
+fn taken_away(address: &AbstractValue, number: &AbstractValue, dst: Reg, src: Reg) -> Reg {
+    match *address {
+        AbstractValue::Area(_, _) => dst,
+        _ => moved_by(address, number, dst, src),
+    }
+}
+
+/// Of two registers the one that arithmetic doesn't take.
+fn of_two(state: &State, width: Width, op: AluOp, dst: Reg, src: Reg) -> Reg {
+    let first = state.register(dst);
+    let second = state.register(src);
+    if !is_number(second) {
+        return src;
+    }
+    match (width, op) {
+        (Width::W64, AluOp::Add) => moved_by(&first, &second, dst, src),
+        (Width::W64, AluOp::Sub) => taken_away(&first, &second, dst, src),
+        _ => dst,
+    }
+}
+
+/// The operand that arithmetic doesn't take.
 fn computed_with(state: &State, insn: &Insn) -> Option<Reg> {
     match *insn {
         Insn::Alu {
+            width,
+            op,
             dst,
             operand: Operand::Reg(src),
-            ..
-        } => {
-            let value = state.register(src);
-            Some(if is_constant(&value) { dst } else { src })
-        }
+        } => Some(of_two(state, width, op, dst, src)),
         Insn::Alu { dst, .. } | Insn::Neg { dst, .. } | Insn::Endian { dst, .. } => Some(dst),
         Insn::Movsx { src, .. } => Some(src),
         _ => None,
@@ -106,7 +139,7 @@ fn stored(state: &State, insn: &Insn) -> Option<Reg> {
 }
 
 /// Whether an argument of `bpf_loop` can be of this kind. The third is an address in main's frame, or 0.
-fn is_loop_argument(number: u8, value: &AbstractValue) -> bool {
+pub(crate) fn is_loop_argument(number: u8, value: &AbstractValue) -> bool {
     match *value {
         AbstractValue::Number(range) => number == 1
             || number == 4
@@ -126,6 +159,24 @@ fn loop_argument(state: &State) -> Option<Reg> {
         }
     }
     None
+}
+
+/// Whether a value can be the key of a lookup: an address in a frame, at a multiple of 4.
+fn is_key(value: &AbstractValue) -> bool {
+    match *value {
+        AbstractValue::Frame(position) | AbstractValue::Ctx(position) => {
+            position % 4 == 0 && position <= 508
+        }
+        _ => false,
+    }
+}
+
+/// Whether an argument of `bpf_map_lookup_elem` can be of this kind.
+pub(crate) fn is_lookup_argument(number: u8, value: &AbstractValue) -> bool {
+    match *value {
+        AbstractValue::Map(_) => number == 1,
+        _ => number == 2 && is_key(value),
+    }
 }
 
 /// The argument that a helper doesn't take.

@@ -42,6 +42,11 @@ pub enum Piece {
         slot: u32,
         position: u32,
     },
+    /// A byte of main's frame that isn't written on every path to the call by which a callback came to a slot.
+    UnwrittenOfMain {
+        slot: u32,
+        position: u32,
+    },
     /// How many elements a map has.
     Elements {
         map: u32,

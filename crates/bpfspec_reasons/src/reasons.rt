@@ -6,13 +6,15 @@ ghost use Rattle.bpfspec_reasons.specs.Truth.{slot_or, slot_told, line_of_fault}
 
 use crate::access_rules::add_access_rule;
 use crate::accessing::access_of;
+use crate::advice::advice;
 use crate::chain::add_chain;
+use crate::clash::{add_clash, clash_of, mend_of_clash};
 use crate::explanation::Explanation;
 use crate::insn_rules::add_insn_rule;
 use crate::mending::mend;
 use crate::operands::{add_operands, blamed};
 use crate::state_rules::add_state_rule;
-use bpf_insn_types::Insn;
+use bpf_insn_types::{Insn, Reg};
 use bpf_verify_model::Rule;
 use bpf_verify_origin::{Fault, Inspection};
 use std::alloc::{AllocError, Global};
@@ -27,20 +29,21 @@ fn add_line(out: &mut Explanation<'_>, slot: u32) -> Result<(), AllocError>
     out.words("\n")
 }
 
-/// Adds why an access of memory breaks a rule, and where its address comes from, unless that is the frame pointer.
+/// Adds why an access of memory breaks a rule, and where its address comes from, unless that is the frame pointer; and
+/// says whether it comes from a signed number.
 fn add_access_reasons(
     out: &mut Explanation<'_>,
     fault: &Fault,
     insn: &Insn,
-) -> Result<(), AllocError>
+) -> Result<bool, AllocError>
     ensures { out.new ≡ out.old }
 {
     match access_of(insn) {
-        None => Ok(()),
+        None => Ok(false),
         Some(access) => {
             add_access_rule(out, fault.rule, fault.slot, &access)?;
             if access.base.number() == 10 {
-                return Ok(());
+                return Ok(false);
             }
             add_chain(out, fault.slot, access.base)
         }
@@ -56,25 +59,45 @@ fn add_operand_line(out: &mut Explanation<'_>, slot: u32, insn: &Insn) -> Result
     out.words("\n")
 }
 
-/// Adds where the value comes from that breaks a rule.
-fn add_blamed_chain(out: &mut Explanation<'_>, fault: &Fault, insn: &Insn) -> Result<(), AllocError>
+/// The register whose value breaks a rule, if it is one.
+fn blamed_at(out: &Explanation<'_>, fault: &Fault, insn: &Insn) -> Option<Reg> {
+    match out.inspection().state(fault.slot) {
+        None => None,
+        Some(state) => blamed(fault.rule, &state, insn),
+    }
+}
+
+/// Adds where the value comes from that breaks a rule, and says whether that is from a signed number.
+fn add_blamed_chain(
+    out: &mut Explanation<'_>,
+    fault: &Fault,
+    insn: &Insn,
+) -> Result<bool, AllocError>
     ensures { out.new ≡ out.old }
 {
-    let Some(state) = out.inspection().state(fault.slot) else {
-        return Ok(());
-    };
-    match blamed(fault.rule, &state, insn) {
-        None => Ok(()),
+    match blamed_at(out, fault, insn) {
+        None => Ok(false),
         Some(found) => add_chain(out, fault.slot, found),
     }
 }
 
-/// Adds why an instruction breaks a rule that speaks of registers.
+/// Where paths meet that left different things in the register which an instruction reads and isn't written, if that is
+/// why it isn't; and that register.
+fn clash_at(out: &Explanation<'_>, fault: &Fault, insn: &Insn) -> Option<(u32, Reg)> {
+    if fault.rule != Rule::UnwrittenRegister {
+        return None;
+    }
+    let found = blamed_at(out, fault, insn)?;
+    let at = clash_of(out, fault.slot, found)?;
+    Some((at, found))
+}
+
+/// Adds why an instruction breaks a rule that speaks of registers, and says whether a signed number does.
 fn add_state_reasons(
     out: &mut Explanation<'_>,
     fault: &Fault,
     insn: &Insn,
-) -> Result<(), AllocError>
+) -> Result<bool, AllocError>
     ensures { out.new ≡ out.old }
 {
     if fault.rule != Rule::HelperArgument {
@@ -84,8 +107,12 @@ fn add_state_reasons(
     add_blamed_chain(out, fault, insn)
 }
 
-/// Adds why an instruction breaks a rule.
-fn add_insn_reasons(out: &mut Explanation<'_>, fault: &Fault, insn: &Insn) -> Result<(), AllocError>
+/// Adds why an instruction breaks a rule, and says whether a signed number does.
+fn add_insn_reasons(
+    out: &mut Explanation<'_>,
+    fault: &Fault,
+    insn: &Insn,
+) -> Result<bool, AllocError>
     ensures { out.new ≡ out.old }
 {
     match fault.rule {
@@ -102,16 +129,41 @@ fn add_insn_reasons(out: &mut Explanation<'_>, fault: &Fault, insn: &Insn) -> Re
         | Rule::HelperArgument
         | Rule::CallbackResult
         | Rule::MainResult => add_state_reasons(out, fault, insn),
-        _ => add_insn_rule(out, fault.rule, fault.slot, insn),
+        _ => {
+            add_insn_rule(out, fault.rule, fault.slot, insn)?;
+            Ok(false)
+        }
+    }
+}
+
+/// Adds that paths meet with different things in a register, if they do, or else why an instruction breaks a rule; and
+/// says whether a signed number does.
+fn add_cause(out: &mut Explanation<'_>, fault: &Fault, insn: &Insn) -> Result<bool, AllocError>
+    ensures { out.new ≡ out.old }
+{
+    match clash_at(out, fault, insn) {
+        None => add_insn_reasons(out, fault, insn),
+        Some((at, found)) => {
+            add_clash(out, at, found)?;
+            Ok(false)
+        }
+    }
+}
+
+/// What usually mends a program in which an instruction breaks a rule, perhaps since a number is signed.
+fn mend_of(out: &Explanation<'_>, fault: &Fault, insn: &Insn, signed: bool) -> &'static str {
+    match clash_at(out, fault, insn) {
+        None => advice(out, fault, insn, signed),
+        Some((at, found)) => mend_of_clash(out, at, found),
     }
 }
 
 /// Adds what usually mends the program, and where to read more.
-fn add_mend(out: &mut Explanation<'_>, rule: Rule) -> Result<(), AllocError>
+fn add_mend(out: &mut Explanation<'_>, rule: Rule, mend: &'static str) -> Result<(), AllocError>
     ensures { out.new ≡ out.old }
 {
     out.words("  what usually helps: ")?;
-    out.words(mend(rule))?;
+    out.words(mend)?;
     out.words("\n  more in docs/REFUSALS.md under V")?;
     out.number(i64::from(rule.number()))?;
     out.words("\n")
@@ -123,11 +175,12 @@ fn add_reasons(out: &mut Explanation<'_>, fault: &Fault) -> Result<(), AllocErro
     ensures line { OnOk result (out.new.line ≡ slot_or out.old.line (slot_told out.old.program fault.now.slot)) }
 {
     let Some(insn) = out.inspection().insn(fault.slot) else {
-        return add_mend(out, fault.rule);
+        return add_mend(out, fault.rule, mend(fault.rule));
     };
     add_line(out, fault.slot)?;
-    add_insn_reasons(out, fault, &insn)?;
-    add_mend(out, fault.rule)
+    let signed = add_cause(out, fault, &insn)?;
+    let mend = mend_of(out, fault, &insn, signed);
+    add_mend(out, fault.rule, mend)
 }
 
 /// Why a program is refused: the line of its first fault, what the registers are of which the rule speaks, what the

@@ -2,13 +2,26 @@
 
 use crate::files::{before_comment, is_first, write_c, write_hidden, write_whole_line};
 use crate::forms::form_of;
+use crate::numbers::word_slip;
 use crate::slips::write_slip;
 use bpf_text_lex::TextFault;
 use bpf_text_lines::line_at;
 use std::alloc::{AllocError, Global};
 
-/// Adds what a unit's first line has to be.
-fn write_head(out: &mut String) -> Result<(), AllocError> {
+/// What is said of a first line that begins with `maps`, and isn't of its form.
+fn head_slip(content: &str) -> Option<&'static str> {
+    let sizes = content.strip_prefix("maps")?;
+    if sizes.contains(',') {
+        return Some("sizes are parted by blanks, without commas");
+    }
+    word_slip(sizes)
+}
+
+/// Adds what a unit's first line has to be. The line is without its comment.
+fn write_head(out: &mut String, content: &str) -> Result<(), AllocError> {
+    if let Some(slip) = head_slip(content) {
+        writeln!(out, "  {slip}")?;
+    }
     out.push_str(
         "  the first line is `maps` and the number of elements of each map, as `maps 64 16` for two maps\n",
     )
@@ -42,10 +55,11 @@ fn write_form_reasons(
     if write_c(out, text, line)? || write_hidden(out, text, line)? {
         return Ok(());
     }
+    let content = before_comment(line_at(text, line)).trim();
     if line == 0 || is_first(text, line) {
-        return write_head(out);
+        return write_head(out, content);
     }
-    write_slip(out, alloc, before_comment(line_at(text, line)).trim())
+    write_slip(out, alloc, content)
 }
 
 /// Adds what a fault other than that of the form says. On the first line the numbers are sizes of maps.

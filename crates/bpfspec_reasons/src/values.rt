@@ -73,13 +73,23 @@ fn write_position(out: &mut String, pointer: &str, position: u32) -> Result<(), 
     write!(out, " minus {below}")
 }
 
-/// Adds that a byte of the own frame isn't written.
-pub(crate) fn write_unwritten(out: &mut String, position: u32) -> Result<(), AllocError> {
+/// Adds that a byte of a frame isn't written, by the frame pointer.
+fn write_missing(out: &mut String, pointer: &str, position: u32) -> Result<(), AllocError> {
     if position >= 512 {
         return Ok(());
     }
     let below = 512 - position;
-    writeln!(out, "  the byte at r10-{below} isn't")
+    writeln!(out, "  the byte at {pointer}-{below} isn't")
+}
+
+/// Adds that a byte of the own frame isn't written.
+pub(crate) fn write_unwritten(out: &mut String, position: u32) -> Result<(), AllocError> {
+    write_missing(out, "r10", position)
+}
+
+/// Adds that a byte of main's frame isn't written.
+pub(crate) fn write_unwritten_of_main(out: &mut String, position: u32) -> Result<(), AllocError> {
+    write_missing(out, "main's r10", position)
 }
 
 /// Adds how many elements a map has, and how many bytes they have.

@@ -3,7 +3,9 @@
 use crate::page::Page;
 use crate::piece::Piece;
 use crate::placing::{write_line, write_step};
-use crate::values::{write_elements, write_known, write_reg, write_unwritten};
+use crate::values::{
+    write_elements, write_known, write_reg, write_unwritten, write_unwritten_of_main,
+};
 use std::alloc::{AllocError, Global};
 
 /// Writes a piece at the end of a text. Lines are those of the page.
@@ -24,6 +26,7 @@ pub(crate) fn write_piece(
             write_known(out, reg, &value)
         }
         Piece::Unwritten { position, .. } => write_unwritten(out, position),
+        Piece::UnwrittenOfMain { position, .. } => write_unwritten_of_main(out, position),
         Piece::Elements { map, count } => write_elements(out, map, count),
     }
 }

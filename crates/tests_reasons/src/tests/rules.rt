@@ -88,7 +88,8 @@ fn registers_are_told(rt: HostRuntime) -> Result<(), Fail> {
 
 const OF_ACCESSES: &str = "
     maps 4 | st32 [r10-4], 0 | ldmap r1, 0 | mov64 r2, r10 | add64 r2, -4 | call 1 | ldx64 r0, [r0+0] | exit \
-        => r0 is in map 0, at byte 0 to 24 in steps of 8, or null | compared with 0 | the call's answer | V16
+        => r0 is in map 0, at byte 0 to 24 in steps of 8, or null | compared with 0 | \
+        what bpf_map_lookup_elem answers | V16
     maps 4 | ldmapval r1, 0, 0 | ldx8 r0, [r1+0] | exit => 8 bytes or 4, not 1 | V17
     maps 4 | ldmapval r1, 0, 4 | ldx64 r0, [r1+0] | exit => at byte 4 | a multiple of 8 | V18
     maps 7 | and64 r1, 7 | lsh64 r1, 3 | ldmapval r3, 0, 0 | add64 r3, r1 | ldx64 r0, [r3+0] | exit \

@@ -1,0 +1,155 @@
+//! Paths that meet, and left different things in a register, so that it can't be read from there on.
+
+ghost use Rattle.std.specs.Prelude.{◌≡◌};
+
+use crate::explanation::Explanation;
+use crate::meeting::MOST_EDGES;
+use bpf_insn_types::Reg;
+use bpf_verify_model::AbstractValue;
+use bpf_verify_origin::Source;
+use bpf_verify_values::is_unwritten;
+use std::alloc::AllocError;
+
+/// The most slots where paths meet that are gone back over.
+const MOST_MEETINGS: u32 = 64;
+
+/// What a register is on the edges from one slot to another, if one leads there.
+fn value_between(
+    out: &Explanation<'_>,
+    from: u32,
+    to: u32,
+    followed: Reg,
+) -> Option<AbstractValue> {
+    match out.inspection().edge(from, to) {
+        None => None,
+        Some(state) => Some(state.register(followed)),
+    }
+}
+
+/// The first slot from which the edges lead to another on which a register isn't written, if there is one.
+fn unwritten_edge(out: &Explanation<'_>, to: u32, followed: Reg) -> Option<u32> {
+    for from in 0..to {
+        if let Some(value) = value_between(out, from, to, followed) {
+            if is_unwritten(value) {
+                return Some(from);
+            }
+        }
+    }
+    None
+}
+
+/// The slot where paths meet that each left something in a register, if it can't be read before another slot since that
+/// isn't the same.
+pub(crate) fn clash_of(out: &Explanation<'_>, slot: u32, followed: Reg) -> Option<u32> {
+    let mut source = out.inspection().source(slot, followed);
+    for meeting in 0..MOST_MEETINGS {
+        match source {
+            Source::Meeting(at) => match unwritten_edge(out, at, followed) {
+                None => return Some(at),
+                Some(from) => source = out.inspection().source_along(from, at, followed),
+            },
+            _ => return None,
+        }
+    }
+    None
+}
+
+/// Adds the instruction that wrote what a register is on the edges from one slot to another, unless it is the one at
+/// the former slot.
+fn add_writer(
+    out: &mut Explanation<'_>,
+    from: u32,
+    to: u32,
+    followed: Reg,
+) -> Result<(), AllocError>
+    ensures { out.new ≡ out.old }
+{
+    match out.inspection().source_along(from, to, followed) {
+        Source::Written(slot) => {
+            if slot == from {
+                return Ok(());
+            }
+            out.words("      by ")?;
+            out.step(slot)?;
+            out.words("which wrote it\n")
+        }
+        _ => Ok(()),
+    }
+}
+
+/// Adds what a register is on the edges from one slot to another, and what wrote that.
+fn add_side(out: &mut Explanation<'_>, from: u32, to: u32, followed: Reg) -> Result<(), AllocError>
+    ensures { out.new ≡ out.old }
+{
+    out.words("    from ")?;
+    out.step(from)?;
+    out.between(from, to, followed)?;
+    out.words("\n")?;
+    add_writer(out, from, to, followed)
+}
+
+/// Adds what a register is on each of the edges into a slot, on six of them at most, and what wrote that.
+fn add_sides(out: &mut Explanation<'_>, to: u32, followed: Reg) -> Result<(), AllocError>
+    ensures { out.new ≡ out.old }
+{
+    let mut shown: u32 = 0;
+    for from in 0..to {
+        if value_between(out, from, to, followed).is_some() {
+            if shown >= MOST_EDGES {
+                return out.words("    ..\n");
+            }
+            add_side(out, from, to, followed)?;
+            shown += 1;
+        }
+    }
+    Ok(())
+}
+
+/// Adds that paths meet at a slot which left different things in a register: what, and where each was written.
+pub(crate) fn add_clash(out: &mut Explanation<'_>, at: u32, followed: Reg) -> Result<(), AllocError>
+    ensures { out.new ≡ out.old }
+{
+    out.words("  ")?;
+    out.register(followed)?;
+    out.words(" is written on each path to here, but at slot ")?;
+    out.number(i64::from(at))?;
+    out.words(" paths meet that left different things in it:\n")?;
+    add_sides(out, at, followed)?;
+    out.words(
+        "  where paths meet, numbers may differ, and places in one map's values; anything else has to be the same, or \
+        can't be read from there on\n",
+    )
+}
+
+/// What usually mends a program where this value meets others, unless it is a number.
+fn mend_of(value: AbstractValue) -> Option<&'static str> {
+    match value {
+        AbstractValue::Code(_) => Some(
+            "call bpf_loop on each path, or make one callback of them (in C: no `n ? f : g` of functions)",
+        ),
+        AbstractValue::Ctx(_) => Some(
+            "give the callback the same ctx in each of its calls (in C: one variable that serves all of them)",
+        ),
+        AbstractValue::Frame(_) => Some(
+            "use one place of the frame on each path, or load and store before they meet (in C: one variable for both)",
+        ),
+        AbstractValue::Map(_) | AbstractValue::Area(_, _) | AbstractValue::AreaOrNull(_, _) => Some(
+            "load or store on each path, before they meet (in C: `n ? a[i] : b[i]` for `(n ? a : b)[i]`, or one array \
+            for both)",
+        ),
+        AbstractValue::Number(_) | AbstractValue::Unwritten => None,
+    }
+}
+
+/// What usually mends a program whose paths meet at a slot with different things in a register: by the first of them
+/// that is no number.
+pub(crate) fn mend_of_clash(out: &Explanation<'_>, at: u32, followed: Reg) -> &'static str {
+    for from in 0..at {
+        if let Some(value) = value_between(out, from, at, followed) {
+            if let Some(mend) = mend_of(value) {
+                return mend;
+            }
+        }
+    }
+    "leave the same in the register on each path, or use it before they meet"
+}
