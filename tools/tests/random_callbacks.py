@@ -10,8 +10,8 @@ too, by `order`, and by `run` with one worker, in blocks with two, and by the te
 maps.
 
 Each difference is on standard error, and so is each callback that is refused, since all have to be accepted. One line
-on standard output has the counts, also of the loops whose iterations went together as far as times tell: one by one,
-`order` took 1.5 times as long of the processor, at least. The status is 0 where nothing was wrong, else 1.
+on standard output has the counts. The status is 0 where nothing was wrong, else 1. That iterations go together at all is
+what tools/check_shortcuts looks at.
 """
 
 from __future__ import annotations
@@ -20,7 +20,6 @@ import os
 import random
 import subprocess
 import sys
-import threading
 from collections.abc import Iterator
 from concurrent.futures import ThreadPoolExecutor
 from dataclasses import dataclass
@@ -30,7 +29,6 @@ from itertools import zip_longest
 from oracle.random_callback import CTX, FRAME_WORDS, INDEX, ITERATIONS, SIZES, RandomCallback
 
 LIMIT = 60  # seconds of a run
-SHORTER = 1.5  # how many times as long a loop takes one by one, at least, where its iterations went together
 FEWEST = 2_048  # iterations of a loop call that go together
 MOST_ONE_BY_ONE = 1_024  # iterations of each call of a loop that is to go one by one
 DONE, REFUSED = 0, 1  # statuses
@@ -81,11 +79,10 @@ def random_word(rng: random.Random) -> int:
 
 @dataclass(frozen=True)
 class Answer:
-    """What came of a run: its status, what it printed but for the lines of loops, and seconds of the processor."""
+    """What came of a run: its status, and what it printed but for the lines of loops."""
 
     status: int
     lines: list[str]
-    seconds: float
 
     def difference(self, wanted: Answer) -> str:
         """What is other than it should be; nothing where nothing is."""
@@ -100,18 +97,10 @@ class Answer:
 
 
 def answer(program: str, words: tuple[str, ...], text: str) -> Answer:
-    """Runs a unit, all of which is read before anything is printed."""
-    pipe = subprocess.PIPE
-    with subprocess.Popen([program, *words], stdin=pipe, stdout=pipe, stderr=subprocess.STDOUT, text=True) as process:
-        timer = threading.Timer(LIMIT, process.kill)
-        timer.start()
-        with process.stdin:
-            process.stdin.write(text)
-        lines = [line for line in process.stdout.read().splitlines() if not line.startswith("loop ")]
-        _, status, used = os.wait4(process.pid, 0)
-        timer.cancel()
-        process.returncode = os.waitstatus_to_exitcode(status)
-    return Answer(process.returncode, lines, used.ru_utime + used.ru_stime)
+    """Runs a unit."""
+    ran = subprocess.run([program, *words], input=text, capture_output=True, text=True, timeout=LIMIT)
+    lines = [line for line in (ran.stdout + ran.stderr).splitlines() if not line.startswith("loop ")]
+    return Answer(ran.returncode, lines)
 
 
 def answers(program: str, seed: int) -> dict[str, Answer]:
@@ -137,17 +126,16 @@ def differences(found: dict[str, Answer]) -> Iterator[str]:
 
 def main(program: str, seed: int, count: int) -> int:
     """Compares so many loops."""
-    accepted = together = wrong = 0
+    accepted = wrong = 0
     seeds = range(seed, seed + count)
     with ThreadPoolExecutor(len(os.sched_getaffinity(0))) as pool:
         for number, found in zip(seeds, pool.map(partial(answers, program), seeds)):
             accepted += found[TOGETHER].status != REFUSED
-            together += found[TOGETHER].seconds * SHORTER < found[ONE_BY_ONE].seconds
             told = [*differences(found)]
             wrong += bool(told)
             for line in told:
                 print(f"seed {number}, {line}", file=sys.stderr)
-    print(f"{count} callbacks, {accepted} accepted, some {together} with iterations together; {wrong} wrong")
+    print(f"{count} callbacks, {accepted} accepted, {wrong} wrong")
     return 1 if wrong else 0
 
 
