@@ -31,6 +31,7 @@ from oracle.random_callback import CTX, FRAME_WORDS, INDEX, ITERATIONS, SIZES, R
 LIMIT = 60  # seconds of a run
 FEWEST = 2_048  # iterations of a loop call that go together
 MOST_ONE_BY_ONE = 1_024  # iterations of each call of a loop that is to go one by one
+FEWER_ONE_BY_ONE = 1_000  # where the loop breaks at the last iteration of such a call: that call returns what it would anyway
 DONE, REFUSED = 0, 1  # statuses
 TOGETHER, ONE_BY_ONE = "order", "order, one by one"
 RUNS = {
@@ -84,6 +85,11 @@ class Answer:
     status: int
     lines: list[str]
 
+    @property
+    def returned(self) -> int:
+        """What the program returned; 0 where it wasn't run."""
+        return int(self.lines[0].removeprefix("return ")) if self.status == DONE else 0
+
     def difference(self, wanted: Answer) -> str:
         """What is other than it should be; nothing where nothing is."""
         if self.status != wanted.status:
@@ -106,9 +112,10 @@ def answer(program: str, words: tuple[str, ...], text: str) -> Answer:
 def answers(program: str, seed: int) -> dict[str, Answer]:
     """What came of the loop of a seed by each of the runs."""
     loop = Loop(seed)
-    together, one_by_one = loop.unit(ITERATIONS), loop.unit(MOST_ONE_BY_ONE)
-    units = {name: one_by_one if name == ONE_BY_ONE else together for name in RUNS}
-    return {name: answer(program, words, units[name]) for name, words in RUNS.items()}
+    together = loop.unit(ITERATIONS)
+    found = {name: answer(program, words, together) for name, words in RUNS.items() if name != ONE_BY_ONE}
+    most = FEWER_ONE_BY_ONE if found[TOGETHER].returned % MOST_ONE_BY_ONE == 0 else MOST_ONE_BY_ONE
+    return found | {ONE_BY_ONE: answer(program, RUNS[ONE_BY_ONE], loop.unit(most))}
 
 
 def differences(found: dict[str, Answer]) -> Iterator[str]:
