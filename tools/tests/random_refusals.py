@@ -14,8 +14,10 @@ iterations of each loop call, until control comes to the slot of the fault. In e
 - the register that the chain is of was written last at the slot of its first link, or copied from one that was, and so
   on back along the links, as far as the run came the way on which the chain goes on where paths meet; and what each was
   made of has a value that is told;
-- each comparison that is shown was passed, with values that are told of what is before it and of the way that was taken;
-- where paths meet that left different things in a register, it has what is told of the edge by which the run came.
+- each comparison that is shown was passed, with values that are told of what is before it and of the way that was
+  taken;
+- what is told to be different things on different paths was written; and where these meet, it has what is told of the
+  edge by which the run came.
 
 And of the program itself: the rule is the least that is broken by what the registers are at its slot, and at no slot
 before one is; a value is the same wherever it is told; where paths meet it is that of all edges, which are the

@@ -31,6 +31,10 @@ MEETING = "maps 8 | mov64 r2, 3 | jeq64 r1, 0, meet | ldmapval r2, 0, 8 | ldx64 
 MEETING += " | lsh64 r2, 3 | ldmapval r3, 0, 0 | add64 r3, r2 | ldx64 r0, [r3+0] | exit"
 CLASH = "maps 8 | st64 [r10-8], 0 | ldmapval r2, 0, 0 | jeq64 r1, 0, meet | mov64 r2, r10 | add64 r2, -8 | meet:"
 CLASH += " | ldx64 r0, [r2+0] | exit"
+MISSING = "maps 1 1 | st32 [r10-4], 0 | ldmapval r2, 0, 0 | jeq64 r1, 0, one | ldmapval r2, 1, 0 | one:"
+MISSING += " | jeq64 r1, 9, meet | ldmap r1, 0 | mov64 r2, r10 | add64 r2, -4 | call 1 | meet:"
+MISSING += " | ldx64 r0, [r2+0] | exit"
+LONG = "maps 8 | lddw r1, 18446744073709551615 | ldmapval r3, 0, 0 | add64 r3, r1 | mov64 r0, 0 | exit"
 CALLBACK = "maps 1 | st64 [r10-8], 0 | mov64 r1, 4 | ldcode r2, body | mov64 r3, r10 | add64 r3, -8 | mov64 r4, 0"
 CALLBACK += " | call 181 | exit | body: | add64 r2, r1 | mov64 r0, 0 | exit"
 LOST = "maps 1 | st32 [r10-4], 0 | ldmap r1, 0 | mov64 r2, r10 | add64 r2, -4 | call 1 | mov64 r0, r1 | exit"
@@ -66,7 +70,14 @@ CHANGES = {
         "r2 is in map 0, at byte 0\n": "r2 is in map 0, at byte 8\n",
         "by slot   1  ldmapval r2, 0, 0 ": "by slot   0  st64 [r10-8], 0 ",
         "minus 8\n": "minus 16\n",
+        "    slot 6: r2 is different things on different paths": "    slot 6: r2 is not written",
     },
+    MISSING: {
+        "r2 is different things on different paths": "r2 is not written",
+        "1                    r2 is not written": "1                    r2 is different things on different paths",
+        "    slot 12: r2 is not written": "    slot 12: r2 is different things on different paths",
+    },
+    LONG: {"18446744073709551615  a constant": "18446744073709551615 a constant"},
     CALLBACK: {
         "the index, below the number of iterations: r1 is 4": "the callback's ctx: r3 is the frame pointer minus 8",
         "of iterations: r1 is 4": "of iterations: r1 is 3",

@@ -5,7 +5,21 @@ from __future__ import annotations
 import re
 from collections.abc import Iterator
 
-from .explained import Anew, Compared, Entered, Explanation, Link, Made, Meeting, Started, Told, told_registers
+from .explained import (
+    DIFFERENT,
+    NOT_WRITTEN,
+    Anew,
+    Compared,
+    Entered,
+    Explanation,
+    Link,
+    Made,
+    Meeting,
+    Started,
+    Told,
+    told_registers,
+    told_value,
+)
 from .instructions import Insn, Unit
 from .machine import FRAME_BYTES, Kind
 from .paths import leads, unwritten_at
@@ -88,6 +102,8 @@ def _wrong_words(unit: Unit, insn: Insn, values: dict[int, Told], told: Explanat
 def _wrong_unwritten(unit: Unit, insn: Insn, values: dict[int, Told], told: Explanation) -> Iterator[str]:
     """What is told not to be written, and is on each path; of bytes one that is read."""
     unwritten = unwritten_at(unit, told)
+    if told.clash and values.get(told.clash.register) != told.clash.value:
+        yield f"{told.clash.line.strip()}: at slot {told.slot} it is {values.get(told.clash.register)}"
     if told.rule == UNWRITTEN and told.clash is None and told.start not in unwritten.registers:
         yield f"r{told.start} is written on each path to slot {told.slot}"
     if told.rule != BYTE:
@@ -146,7 +162,9 @@ def _joined(edges: list[Told]) -> Told:
     least, greatest = min(told.least for told in edges), max(told.greatest for told in edges)
     is_one = least == greatest
     may_differ = edges[0].kind in (None, Kind.AREA)
+    if told_value(NOT_WRITTEN) in edges:
+        return told_value(NOT_WRITTEN)
     if len(kinds) > 1 or not all(told.is_written for told in edges) or not may_differ and not is_one:
-        return Told(None, is_written=False)
+        return told_value(DIFFERENT)
     step = 1 if is_one else min(told.multiple for told in edges)
     return Told(edges[0].kind, least, greatest, step, edges[0].map, any(told.or_null for told in edges))

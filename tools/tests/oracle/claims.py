@@ -88,16 +88,17 @@ class Claims:
         self._claim(told.has(value), f"{what} is {value}, not {told}")
 
     def _check_clash(self, run: Run) -> None:
-        """Where the run came past the place where paths meet, the register was written, and is what is told of the
+        """The register was written, and where the run came past the place where paths meet it is what is told of the
         edge."""
         clash = self._told.clash
         if clash is None:
             return
+        last = Cursor(run.last, len(run.last.visits) - 1, clash.register)
+        self._claim(last.value is not None, f"{clash.line.strip()} but on a path it isn't written")
         time = next((time for time, visit in enumerate(run.last.visits) if visit.slot == clash.slot), None)
         if time is None:
             return
         cursor = Cursor(run.last, time, clash.register)
-        self._claim(cursor.value is not None, f"{clash.line.strip()} but on a path it isn't written")
         writer, written = clash.writers.get(self._edge(clash, cursor)), self._last_write(cursor)
         self._claim(writer in (None, written), f"{clash.line.strip()} but slot {written} wrote it last")
 
@@ -195,12 +196,12 @@ class Claims:
             self._claim(link.behind.width < link.before.width, f"{link.line}: it narrows nothing")
 
     def _copied(self, link: Copied, cursor: Cursor) -> None:
-        """A copy, after which what was copied is compared, or what was made of it."""
+        """A copy, one of whose registers, or what is made of it, is compared later on."""
         insn = self._unit.insns[link.slot]
         self._claim(insn.is_copy, f"{link.line}: it is no copy")
         self._claim(link.followed == cursor.register, f"{link.line}: r{cursor.register} is followed")
         self._claim(link.followed in (insn.src, insn.dst), f"{link.line}: r{link.followed} isn't in it")
-        made = {insn.src, insn.dst}
+        made = {insn.src if insn.dst == link.followed else insn.dst}
         for visit in cursor.function.visits[cursor.time + 1 :]:
             later = self._unit.insns[visit.slot]
             if visit.slot == link.comparison:

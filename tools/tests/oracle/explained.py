@@ -13,8 +13,9 @@ RULES_OF_VALUES = {*range(12, 26)} - {23}
 NUMBER = r"\d+(?: \(signed, -\d+\))?"
 RANGE = rf"any number below 2\^32|any number|any multiple of \d+|{NUMBER} to {NUMBER}(?: in steps of \d+)?|{NUMBER}"
 POINTER = r"frame pointer(?: minus \d+)?"
+NOT_WRITTEN, DIFFERENT = "not written", "different things on different paths"
 VALUE = (
-    rf"not written|in map \d+, at byte (?:{RANGE})(?:, or null)?|map \d+|the {POINTER}|main's {POINTER}"
+    rf"{NOT_WRITTEN}|{DIFFERENT}|in map \d+, at byte (?:{RANGE})(?:, or null)?|map \d+|the {POINTER}|main's {POINTER}"
     rf"|the callback at slot \d+|{RANGE}"
 )
 TELLS = re.compile(rf"r(\d+) is ({VALUE})")
@@ -60,6 +61,7 @@ class Told:
     map: int = 0
     or_null: bool = False
     is_written: bool = True
+    is_different: bool = False  # it isn't written since paths met that left different things in it
 
     @property
     def is_number(self) -> bool:
@@ -68,9 +70,9 @@ class Told:
 
     @property
     def width(self) -> int:
-        """How far apart its numbers are, as far as paths that meet go by it."""
+        """How far apart its numbers are, as far as a chain goes by it; further where a path doesn't write it."""
         if not self.is_written:
-            return WORD
+            return 0 if self.is_different else WORD + 1
         return self.greatest - self.least if self.kind in (None, Kind.AREA) else 0
 
     @property
@@ -81,9 +83,9 @@ class Told:
         return self.least & -self.least if self.least else WORD + 1
 
     def has(self, value: Value) -> bool:
-        """Whether a value is among those that are told. What isn't written may be anything."""
+        """Whether a value is among those that are told. What isn't written may be anything, or nothing."""
         if not self.is_written:
-            return True
+            return value is not None or not self.is_different
         if isinstance(value, Address):
             return value.kind is self.kind and value.map == self.map and self._has_number(value.at)
         return value is not None and (self._has_number(value) if self.kind is None else self.or_null and value == 0)
@@ -98,8 +100,8 @@ def told_value(text: str) -> Told:
         if int(number) - (WORD + 1) != int(sign):
             raise NotUnderstood(text)
     numbers = [int(number) for number in re.findall(r"(?<!\^)(?<!-)\b\d+", text)]
-    if text == "not written":
-        return Told(None, is_written=False)
+    if text in (NOT_WRITTEN, DIFFERENT):
+        return Told(None, is_written=False, is_different=text == DIFFERENT)
     for words, kind in (("the frame pointer", Kind.FRAME), ("main's frame pointer", Kind.CTX)):
         if text.startswith(words):
             at = FRAME_BYTES - (numbers[0] if numbers else 0)
@@ -250,7 +252,7 @@ class Reader:
         """A line of the reasons: the chain, a clash, or words."""
         line = self._next()
         if clash := CLASH.fullmatch(line):
-            told.clash = self._meeting(line, int(clash[1]), int(clash[2]), Told(None, is_written=False), "    from ")
+            told.clash = self._meeting(line, int(clash[1]), int(clash[2]), told_value(DIFFERENT), "    from ")
         elif line.endswith(" comes from"):
             told.start = int(line.strip().removesuffix(" comes from").removeprefix("r"))
             self._chain(told)
@@ -276,7 +278,7 @@ class Reader:
         """The instruction that a line shows, and what it says of it."""
         match = SLOT.fullmatch(line.removeprefix(front)) if line.startswith(front) else None
         insn = self._unit.insns.get(int(match[1])) if match else None
-        if not match or not insn or not match[2].startswith(insn.text):
+        if not match or not insn or not match[2].startswith(f"{insn.text}  "):
             raise NotUnderstood(line)
         return insn, match[2].removeprefix(insn.text).strip()
 
