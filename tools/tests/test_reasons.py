@@ -22,10 +22,11 @@ MEETING = (
 HELPS = "  what usually helps: "
 
 
-def explained(*lines: str) -> list[str]:
+def explained(*lines: str, options: tuple[str, ...] = ()) -> list[str]:
     """What is told of an input of these lines."""
     text = "".join(f"{line}\n" for line in lines)
-    done = subprocess.run(PROGRAM, input=text, capture_output=True, text=True, timeout=LIMIT, cwd=TOP, check=False)
+    words = [*PROGRAM, *options]
+    done = subprocess.run(words, input=text, capture_output=True, text=True, timeout=LIMIT, cwd=TOP, check=False)
     return done.stdout.splitlines()
 
 
@@ -106,12 +107,66 @@ class Meetings(Reasons):
             HELPS + "call bpf_loop on each path, or make one callback of them",
         )
 
+    def test_a_meeting_before_another(self) -> None:
+        head = ["maps 1 1", "ldmapval r2, 0, 0", "jeq64 r1, 0, one", "ldmapval r2, 1, 0", "one:", "jeq64 r1, 9, meet"]
+        self.tells(
+            [*head, "mov64 r2, 7", "meet:", "ldx64 r0, [r2+0]", "exit"],
+            "refused V12 at slot 7",
+            "  line 9: ldx64 r0, [r2+0]",
+            "  r2 is written on each path to here, but at slot 5 paths meet that left different things in it:",
+            "    from slot   2  jeq64 r1, 0, +2           r2 is in map 0, at byte 0",
+            "      by slot   0  ldmapval r2, 0, 0         which wrote it",
+            "    from slot   3  ldmapval r2, 1, 0         r2 is in map 1, at byte 0",
+            MEETING,
+            HELPS + "load or store on each path, before they meet..",
+        )
+
+    def test_states(self) -> None:
+        head = ["maps 1 1", "ldmapval r2, 0, 0", "jeq64 r1, 0, meet", "ldmapval r2, 1, 0", "meet:"]
+        told = explained(*head, "ldx64 r0, [r2+0]", "exit", options=("--states",))
+        self.assertEqual(told[-1], "    slot 5: r2 is different things on different paths")
+
+
+class Missing(Reasons):
+    """A register that a path doesn't write (V12)."""
+
+    LOOKUP = ("ldmap r1, 0", "mov64 r2, r10", "add64 r2, -4", "call 1")
+
     def test_a_path_that_doesn_t_write_it(self) -> None:
         self.has(
             ["maps 1", "jeq64 r1, 0, out", "mov64 r0, 1", "out:", "exit"],
             "refused V12 at slot 2",
             "  r0 is not written",
             HELPS + "write the register on each way here",
+        )
+
+    def test_a_path_beside_others_that_left_different_things(self) -> None:
+        head = ["maps 1 1", "st32 [r10-4], 0", "ldmapval r2, 0, 0", "jeq64 r1, 0, one", "ldmapval r2, 1, 0", "one:"]
+        lines = [*head, "jeq64 r1, 9, meet", *self.LOOKUP, "meet:", "ldx64 r0, [r2+0]", "exit"]
+        self.tells(
+            lines,
+            "refused V12 at slot 12",
+            "  line 13: ldx64 r0, [r2+0]",
+            "  r2 is not written",
+            "  a register can be read only where it is written on every path",
+            "  r2 comes from",
+            "    r2 is not written at slot 12, where paths meet:",
+            "      from slot   6  jeq64 r1, 9, +5           r2 is different things on different paths",
+            "      from slot  11  call 1                    r2 is not written",
+            "    slot  11  call 1                    a call leaves r1 to r5 unwritten",
+            HELPS + "write the register on each way here..",
+        )
+        self.assertEqual(explained(*lines, options=("--states",))[-1], "    slot 12: r2 is not written")
+
+    def test_a_path_behind_one_with_any_number(self) -> None:
+        head = ["maps 1", "st32 [r10-4], 0", "mov64 r6, r1", "mov64 r3, r1", "jeq64 r6, 0, meet"]
+        self.has(
+            [*head, *self.LOOKUP, "meet:", "mov64 r0, r3", "exit"],
+            "refused V12 at slot 9",
+            "    r3 is not written at slot 9, where paths meet:",
+            "      from slot   3  jeq64 r6, 0, +5           r3 is any number",
+            "      from slot   8  call 1                    r3 is not written",
+            "    slot   8  call 1                    a call leaves r1 to r5 unwritten",
         )
 
 
@@ -264,55 +319,6 @@ class Advice(Reasons):
             "    slot   1  and64 r1, 15              r1 is any number",
             HELPS + "compare the index unsigned, by jgt64 or jlt64, before the access",
         )
-
-
-class Deciding(Reasons):
-    """The comparison that narrows a range, and the copy that isn't narrowed, stand in the chain."""
-
-    def test_one_too_many(self) -> None:
-        head = ["maps 7", "mov64 r0, 0", "jgt64 r1, 7, out", "lsh64 r1, 3", "ldmapval r3, 0, 0", "add64 r3, r1"]
-        self.tells(
-            [*head, "ldx64 r0, [r3+0]", "out:", "exit"],
-            "refused V19 at slot 6",
-            "  line 7: ldx64 r0, [r3+0]",
-            "  r3 is in map 0, at byte 0 to 56 in steps of 8; map 0 has 7 elements, 56 bytes, so 8 bytes at +0 from"
-            " there may lie outside",
-            "  r3 comes from",
-            "    slot   5  add64 r3, r1              r1 is 0 to 56 in steps of 8",
-            "    slot   2  lsh64 r1, 3               r1 is 0 to 7",
-            "    slot   1  jgt64 r1, 7, +5           r1 is any number; behind it r1 is 0 to 7",
-            "    main's argument: any number",
-            HELPS + "compare the very register..",
-        )
-
-    def test_a_copy_of_the_compared_register(self) -> None:
-        head = ["maps 8", "mov64 r0, 0", "and64 r1, 15", "mov64 r2, r1", "jgt64 r1, 7, out", "lsh64 r2, 3"]
-        self.has(
-            [*head, "ldmapval r3, 0, 0", "add64 r3, r2", "ldx64 r0, [r3+0]", "out:", "exit"],
-            "refused V19 at slot 8",
-            "  r3 comes from",
-            "    slot   7  add64 r3, r2              r2 is 0 to 120 in steps of 8",
-            "    slot   4  lsh64 r2, 3               r2 is 0 to 15",
-            "    slot   2  mov64 r2, r1              slot 3 compares r1, which doesn't narrow r2",
-            "    slot   1  and64 r1, 15              r1 is any number",
-            "    main's argument: any number",
-        )
-
-    def test_a_comparison_of_the_copy(self) -> None:
-        head = ["maps 8", "mov64 r0, 0", "and64 r1, 15", "mov64 r2, r1", "add64 r2, 1", "jgt64 r2, 7, out"]
-        self.has(
-            [*head, "lsh64 r1, 3", "ldmapval r3, 0, 0", "add64 r3, r1", "ldx64 r0, [r3+0]", "out:", "exit"],
-            "refused V19 at slot 9",
-            "    slot   5  lsh64 r1, 3               r1 is 0 to 15",
-            "    slot   2  mov64 r2, r1              slot 4 compares r2, which doesn't narrow r1",
-            "    slot   1  and64 r1, 15              r1 is any number",
-        )
-
-    def test_a_comparison_of_another_value(self) -> None:
-        head = ["maps 8", "mov64 r0, 0", "and64 r1, 15", "mov64 r2, r1", "mov64 r1, 9", "jgt64 r1, r2, out"]
-        told = explained(*head, "lsh64 r2, 3", "ldmapval r3, 0, 0", "add64 r3, r2", "ldx64 r0, [r3+0]", "out:", "exit")
-        self.assertIn("    slot   4  jgt64 r1, r2, +5          r2 is 0 to 15; behind it r2 is 9 to 15", told)
-        self.assertFalse([line for line in told if "doesn't narrow" in line])
 
 
 class Replays(Reasons):

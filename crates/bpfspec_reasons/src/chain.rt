@@ -4,9 +4,9 @@ ghost use Rattle.std.specs.Prelude.{◌≡◌};
 
 use crate::explanation::Explanation;
 use crate::link::{Made, made_anew, made_of};
-use crate::meeting::{add_edges, widest_edge};
+use crate::meeting::{add_edges, edge_back};
 use crate::trail::Trail;
-use crate::way::{add_copy, add_step, add_way, add_way_along};
+use crate::way::{add_copy, add_step, add_way, add_way_along, is_in_place};
 use bpf_insn_types::{AluOp, Insn, Reg};
 use bpf_verify_model::reg;
 use bpf_verify_origin::Source;
@@ -125,6 +125,9 @@ fn add_written(
     if extends_sign(&insn) {
         trail.note_sign();
     }
+    if !is_in_place(&insn) {
+        trail.forget(written);
+    }
     match made_of(&state, &insn) {
         Made::Copy(src) => {
             add_copied(out, trail, slot, src, written)?;
@@ -141,7 +144,7 @@ fn add_written(
     }
 }
 
-/// Adds the edges that meet at a slot, and says how the chain goes on: along the widest.
+/// Adds the edges that meet at a slot, and says how the chain goes on: along those that say the most of the register.
 fn add_meeting(out: &mut Explanation<'_>, slot: u32, followed: Reg) -> Result<Next, AllocError>
     ensures { out.new ≡ out.old }
 {
@@ -151,7 +154,7 @@ fn add_meeting(out: &mut Explanation<'_>, slot: u32, followed: Reg) -> Result<Ne
     out.number(i64::from(slot))?;
     out.words(", where paths meet:\n")?;
     add_edges(out, slot, followed)?;
-    match widest_edge(out, slot, followed) {
+    match edge_back(out, slot, followed) {
         None => Ok(Next::End),
         Some(from) => Ok(Next::Along(from, slot, followed)),
     }
@@ -211,8 +214,8 @@ fn add_along(
 
 /// Adds where the value of a register before a slot comes from, back to an instruction that makes it of no register,
 /// with the comparisons that narrow it; and says whether a signed comparison, or an extension of the sign, is among
-/// them. Where paths meet it goes on along the one that leaves the most values. An instruction that only copies is left
-/// out, unless a comparison narrows one of the two and not the other.
+/// them. Where paths meet it goes on along one that doesn't write the register, or else the one that leaves the most
+/// values. An instruction that only copies is left out, unless a comparison narrows one of the two and not the other.
 pub(crate) fn add_chain(
     out: &mut Explanation<'_>,
     slot: u32,

@@ -2,57 +2,13 @@
 
 ghost use Rattle.std.specs.Prelude.{◌≡◌};
 
+use crate::differing::value_between;
 use crate::explanation::Explanation;
 use crate::meeting::MOST_EDGES;
 use bpf_insn_types::Reg;
 use bpf_verify_model::AbstractValue;
 use bpf_verify_origin::Source;
-use bpf_verify_values::is_unwritten;
 use std::alloc::AllocError;
-
-/// The most slots where paths meet that are gone back over.
-const MOST_MEETINGS: u32 = 64;
-
-/// What a register is on the edges from one slot to another, if one leads there.
-fn value_between(
-    out: &Explanation<'_>,
-    from: u32,
-    to: u32,
-    followed: Reg,
-) -> Option<AbstractValue> {
-    match out.inspection().edge(from, to) {
-        None => None,
-        Some(state) => Some(state.register(followed)),
-    }
-}
-
-/// The first slot from which the edges lead to another on which a register isn't written, if there is one.
-fn unwritten_edge(out: &Explanation<'_>, to: u32, followed: Reg) -> Option<u32> {
-    for from in 0..to {
-        if let Some(value) = value_between(out, from, to, followed) {
-            if is_unwritten(value) {
-                return Some(from);
-            }
-        }
-    }
-    None
-}
-
-/// The slot where paths meet that each left something in a register, if it can't be read before another slot since that
-/// isn't the same.
-pub(crate) fn clash_of(out: &Explanation<'_>, slot: u32, followed: Reg) -> Option<u32> {
-    let mut source = out.inspection().source(slot, followed);
-    for meeting in 0..MOST_MEETINGS {
-        match source {
-            Source::Meeting(at) => match unwritten_edge(out, at, followed) {
-                None => return Some(at),
-                Some(from) => source = out.inspection().source_along(from, at, followed),
-            },
-            _ => return None,
-        }
-    }
-    None
-}
 
 /// Adds the instruction that wrote what a register is on the edges from one slot to another, unless it is the one at
 /// the former slot.

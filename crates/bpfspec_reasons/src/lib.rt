@@ -15,6 +15,7 @@ mod accessing;
 mod advice;
 mod chain;
 mod clash;
+mod differing;
 mod explanation;
 mod files;
 mod forms;

@@ -2,6 +2,7 @@
 
 ghost use Rattle.std.specs.Prelude.{◌≡◌};
 
+use crate::differing::{add_value_between, missing_edge};
 use crate::explanation::Explanation;
 use crate::values::width_of;
 use bpf_insn_types::Reg;
@@ -47,7 +48,7 @@ fn add_edge(out: &mut Explanation<'_>, from: u32, to: u32, followed: Reg) -> Res
 {
     out.words("      from ")?;
     out.step(from)?;
-    out.between(from, to, followed)?;
+    add_value_between(out, from, to, followed)?;
     out.words("\n")
 }
 
@@ -69,7 +70,7 @@ pub(crate) fn add_edges(out: &mut Explanation<'_>, to: u32, followed: Reg) -> Re
 }
 
 /// The slot from which the edges lead to another on which a register has the most values.
-pub(crate) fn widest_edge(out: &Explanation<'_>, to: u32, followed: Reg) -> Option<u32> {
+fn widest_edge(out: &Explanation<'_>, to: u32, followed: Reg) -> Option<u32> {
     let mut widest: Option<u32> = None;
     let mut most: u64 = 0;
     for from in 0..to {
@@ -81,4 +82,13 @@ pub(crate) fn widest_edge(out: &Explanation<'_>, to: u32, followed: Reg) -> Opti
         }
     }
     widest
+}
+
+/// The slot from which the edges lead to another that say the most of a register: that it isn't written, since a path
+/// doesn't write it, or else that it has the most values.
+pub(crate) fn edge_back(out: &Explanation<'_>, to: u32, followed: Reg) -> Option<u32> {
+    match missing_edge(out, to, followed) {
+        Some(from) => Some(from),
+        None => widest_edge(out, to, followed),
+    }
 }

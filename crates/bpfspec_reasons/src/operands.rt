@@ -2,6 +2,7 @@
 
 ghost use Rattle.std.specs.Prelude.{◌≡◌};
 
+use crate::differing::add_value;
 use crate::explanation::Explanation;
 use crate::reading::reads;
 use crate::values::width_of;
@@ -33,7 +34,7 @@ pub(crate) fn add_operands(
         let read = reg(number);
         if reads(insn, read) {
             out.words(between)?;
-            out.before(slot, read)?;
+            add_value(out, slot, read)?;
             between = ", ";
         }
     }

@@ -43,7 +43,7 @@ pub(crate) fn write_line(
     }
 }
 
-/// Writes a slot and its instruction, in columns.
+/// Writes a slot and its instruction, in columns, with two blanks at least after it.
 pub(crate) fn write_step(
     out: &mut String,
     alloc: Global,
@@ -52,5 +52,5 @@ pub(crate) fn write_step(
 ) -> Result<(), AllocError> {
     let text = insn_text(alloc, insn)?;
     let text = text.as_str();
-    write!(out, "slot {slot:>3}  {text:<26}")
+    write!(out, "slot {slot:>3}  {text:<24}  ")
 }

@@ -67,10 +67,15 @@ impl Trail {
         true
     }
 
-    /// A comparison of a register later on.
+    /// A comparison of a register later on. Where the way back was longer than is gone over, none is known: the
+    /// register may be written there.
     fn compared(&self, reg: Reg) -> Option<Comparison> {
         let at = reg.number() as usize;
-        if at < 11 { self.compared[at] } else { None }
+        if at < 11 && self.edges < MOST_EDGES {
+            self.compared[at]
+        } else {
+            None
+        }
     }
 
     /// A register is compared later on, or isn't.

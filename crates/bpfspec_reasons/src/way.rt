@@ -148,7 +148,7 @@ fn add_move(
 }
 
 /// Whether an instruction makes a register of what that register was.
-fn is_in_place(insn: &Insn) -> bool {
+pub(crate) fn is_in_place(insn: &Insn) -> bool {
     match *insn {
         Insn::Alu { op: AluOp::Mov, .. } => false,
         Insn::Alu { .. } | Insn::Neg { .. } | Insn::Endian { .. } => true,
