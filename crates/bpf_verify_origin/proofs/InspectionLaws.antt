@@ -4,6 +4,7 @@ use Rattle.std.specs.Option.{option_map}
 use Rattle.bpf_insn_types.specs.declared.insn.Insn.{Insn}
 use Rattle.bpf_insn_types.specs.Program.{Program, slot_count}
 use Rattle.bpf_verify_model.specs.declared.state.State.{State}
+use Rattle.bpf_insn_types.specs.Values.{AreInsns as FieldsFit}
 use Rattle.bpf_verify_model.specs.Accepted.{BrokenRule, fault_within, first_fault, WithinLimits}
 use Rattle.bpf_verify_model.specs.Inflow.{state_before}
 use Rattle.bpf_verify_model.proofs.JumpLaws.{program-is}
@@ -41,13 +42,14 @@ passed-at program fault count is counted =
 -- an inspection of a program within the limits
 pub inspection-is : (program : Program) (sizes : List ℕ) (insns : List Insn) (fault : Option Fault) (count last : ℕ)
     (by_slot : List (Option Insn)) (states : List (Option State)) (inflows : List Inflow) → sizes ≡ program.sizes
-    → insns ≡ program.insns → AreInsns program.insns by_slot → option_map broken_rule fault ≡ first_fault program → WithinLimits program count
+    → insns ≡ program.insns → FieldsFit program.insns → AreInsns program.insns by_slot
+    → option_map broken_rule fault ≡ first_fault program → WithinLimits program count
     → last ≡ slots_before (option_map broken_rule fault) count
     → AreStatesBefore (record { sizes = sizes; insns = insns }) last states
     → AreInflows (record { sizes = sizes; insns = insns }) last inflows → length inflows ≡ count
     → IsInspection program fault by_slot states inflows
-inspection-is program sizes insns fault count last by_slot states inflows same_sizes same_insns found is within at are
-    from size =
+inspection-is program sizes insns fault count last by_slot states inflows same_sizes same_insns fits found is within at
+    are from size =
     let same : record { sizes = sizes; insns = insns } ≡ program = program-is program sizes insns same_sizes same_insns
     in
     let up_to : last ≡ passed_slots program =
@@ -57,6 +59,7 @@ inspection-is program sizes insns fault count last by_slot states inflows same_s
     (subst (λ (p : Program). AreStatesBefore p last states) same are) in
     record {
       fault_is = is;
+      fits = fits;
       insns_are = found;
       small = omega (arith, here.size, within.counted, within.few);
       within = λ some. subst (WithinLimits program) (sym within.counted) within;
@@ -68,11 +71,13 @@ inspection-is program sizes insns fault count last by_slot states inflows same_s
 
 -- and of another
 pub inspection-outside : (program : Program) (fault : Option Fault) (by_slot : List (Option Insn))
-    (states : List (Option State)) (inflows : List Inflow) → AreInsns program.insns by_slot → option_map broken_rule fault ≡ first_fault program
+    (states : List (Option State)) (inflows : List Inflow) → FieldsFit program.insns → AreInsns program.insns by_slot
+    → option_map broken_rule fault ≡ first_fault program
     → (WithinLimits program (slot_count program.insns) → ⊥) → states ≡ [] → inflows ≡ []
     → IsInspection program fault by_slot states inflows
-inspection-outside program fault by_slot states inflows found is outside no_states no_inflows = record {
+inspection-outside program fault by_slot states inflows fits found is outside no_states no_inflows = record {
   fault_is = is;
+  fits = fits;
   insns_are = found;
   small = omega (arith, ap length no_states);
   within = λ some. absurd (omega (arith, ap length no_states, some));

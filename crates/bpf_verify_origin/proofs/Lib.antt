@@ -4,3 +4,8 @@ pub mod InflowLaws
 pub mod SourceLaws
 pub mod InspectionLaws
 pub mod PassedLaws
+pub mod OutcomeForms
+pub mod EdgeLaws
+pub mod RunLaws
+pub mod RunSourceLaws
+pub mod RunStepLaws

@@ -4,6 +4,7 @@ use Rattle.std.specs.Prelude.{slice_index_or, Option, Some, None, is_some, nat_l
 use Rattle.std.specs.Option.{option_map}
 use Rattle.bpf_insn_types.specs.declared.insn.Insn.{Insn}
 use Rattle.bpf_insn_types.specs.declared.insn.Insn.TheVariants.{LoadImm}
+use Rattle.bpf_insn_types.specs.Values.{AreInsns as FieldsFit}
 use Rattle.bpf_insn_types.specs.Program.{Program, insn_at, slot_count}
 use Rattle.bpf_verify_model.specs.declared.state.State.{State}
 use Rattle.bpf_verify_model.specs.Accepted.{BrokenRule, WithinLimits, first_fault, fault_within}
@@ -59,10 +60,11 @@ pub record AreInsns (insns : List Insn) (table : List (Option Insn)) : Type 0 wh
   pub at : (slot : ℕ) → slice_index_or table slot None ≡ insn_at insns slot
 
 -- what an inspection keeps: the first fault, the instructions by their slots, the abstract states before the slots up to
--- the fault, and where edges come from
+-- the fault, and where edges come from; the instructions' fields fit
 pub record IsInspection (program : Program) (fault : Option Fault) (by_slot : List (Option Insn))
     (states : List (Option State)) (inflows : List Inflow) : Type 0 where
   pub fault_is : option_map broken_rule fault ≡ first_fault program
+  pub fits : FieldsFit program.insns
   pub insns_are : AreInsns program.insns by_slot
   pub small : length states ≤ 4096
   pub within : 0 < length states → WithinLimits program (slot_count program.insns)

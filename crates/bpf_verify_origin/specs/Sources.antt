@@ -64,6 +64,11 @@ source_by_inflow program slot reg (One from) earlier =
     source_by_insn from slot reg (insn_at program.insns from) (earlier from)
 source_by_inflow program slot reg Several earlier = Meeting slot
 
+-- the source, one edge back: main starts at slot 0
+abbrev pub source_back : Program → (slot reg : ℕ) → (ℕ → Source) → Source
+source_back program slot reg earlier =
+    if slot == 0 then Start else source_by_inflow program slot reg (inflow program slot) earlier
+
 -- what one step back along the one edge into a slot finds: a source, or the slot from which that edge leads
 abbrev pub taken : Step → (ℕ → Source) → Source
 taken (Found source) earlier = source
@@ -73,7 +78,7 @@ taken (Back from) earlier = earlier from
 unfoldable pub source_within : ℕ → Program → (slot reg : ℕ) → Source
 source_within zero program slot reg = Start
 source_within (suc edges) program slot reg =
-    source_by_inflow program slot reg (inflow program slot) (λ from. source_within edges program from reg)
+    source_back program slot reg (λ from. source_within edges program from reg)
 
 -- where the value of a register before a slot comes from: edges lead from earlier slots to later ones, so that there
 -- are fewer edges back than slots

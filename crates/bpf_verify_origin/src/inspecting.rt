@@ -8,6 +8,7 @@ ghost use Rattle.bpf_verify_origin.specs.Edges.{slots_before};
 ghost use Rattle.bpf_verify_origin.specs.Inspected.{broken_rule};
 
 use crate::fault::Fault;
+use crate::fields::insns_fit;
 use crate::finding::insns_by_slot;
 use crate::inflows::inflows;
 use crate::inspection::Inspection;
@@ -57,6 +58,7 @@ fn with_fault(alloc: Global, unit: Unit, fault: Option<Fault>) -> Result<Inspect
     requires { option_map broken_rule fault ≡ first_fault unit }
     ensures { IfOk result (λ inspection. inspection ≡ unit) }
 {
+    insns_fit(unit.insns.as_slice());
     let by_slot = insns_by_slot(alloc, &unit.insns)?;
     let Some(count) = slots_within(&unit) else {
         return Ok(Inspection {

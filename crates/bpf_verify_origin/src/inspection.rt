@@ -3,16 +3,20 @@
 ghost use Rattle.std.specs.Prelude.{◌≡◌, ℕ, IfSome};
 ghost use Rattle.std.specs.Option.{option_map};
 ghost use Rattle.bpf_insn_types.specs.Program.{insn_at};
+ghost use Rattle.bpf_insn_types.specs.Values.{AreInsns};
 ghost use Rattle.bpf_verify_model.specs.Inflow.{state_before};
 ghost use Rattle.bpf_verify_model.specs.Accepted.{first_fault};
 ghost use Rattle.bpf_verify_origin.specs.declared.source.Source.{Source};
 ghost use Rattle.bpf_verify_origin.specs.Edges.{inflow, state_between};
+ghost use Rattle.bpf_verify_origin.specs.Runs.{HoldsBefore, HoldsBetween, StatesHold};
+ghost use Rattle.bpf_verify_origin.specs.RunSources.{IsSourceBefore, IsSourceAlong, SourcesHold};
 ghost use Rattle.bpf_verify_origin.specs.Inspected.{broken_rule, is_up_to, IsPassedTo, IsStateBefore, IsStateBetween};
-ghost use Rattle.bpf_verify_origin.specs.Sources.{source_by_insn, source_by_inflow, source_along, source_before, taken};
+ghost use Rattle.bpf_verify_origin.specs.Sources.{source_by_insn, source_back, source_along, source_before, taken};
 
 use crate::fault::Fault;
 use crate::finding::insn_in;
 use crate::inflow::Inflow;
+use crate::laws::{law_of_sources, law_of_states};
 use crate::outflow::{may_lead, outflow, state_in, state_to};
 use crate::source::Source;
 use crate::step::Step;
@@ -81,12 +85,37 @@ impl Inspection {
         insn_in(self.by_slot.as_slice(), slot)
     }
 
+    /// Each field of an instruction is one of its type.
+    fn fits(&self)
+        ensures { AreInsns self.now.insns }
+    {
+        let _kept = self.fault;
+    }
+
+    /// The abstract states hold on the program's runs.
+    fn states_hold(&self)
+        ensures { StatesHold self.now }
+    {
+        self.fits();
+        law_of_states();
+    }
+
+    /// The sources of values hold on the program's runs.
+    fn sources_hold(&self)
+        ensures { SourcesHold self.now }
+    {
+        self.fits();
+        law_of_sources();
+    }
+
     /// The abstract state before a slot, up to the first fault where an instruction starts; None where no edge
-    /// leads there.
+    /// leads there. A run that comes there is within it.
     pub fn state(&self, slot: u32) -> Option<State>
         ensures passed { IfSome result (λ state. IsStateBefore self.now slot state) }
         ensures whole { IsPassedTo self.now slot → result ≡ state_before self.now slot }
+        ensures runs { IsPassedTo self.now slot → HoldsBefore self.now slot result }
     {
+        self.states_hold();
         let Some(_insn) = self.insn(slot) else {
             return None;
         };
@@ -97,11 +126,13 @@ impl Inspection {
     }
 
     /// The abstract state on the edges from one slot, where an instruction starts before the first fault, to
-    /// another; None where none leads there.
+    /// another; None where none leads there. A run that comes to the one from the other is within it.
     pub fn edge(&self, from: u32, to: u32) -> Option<State>
         ensures passed { IfSome result (λ state. IsStateBetween self.now from to state) }
         ensures whole { IsPassedTo self.now from → result ≡ state_between self.now from to }
+        ensures runs { IsPassedTo self.now from → HoldsBetween self.now from to result }
     {
+        self.states_hold();
         if from > 4096 {
             return None;
         }
@@ -142,9 +173,11 @@ impl Inspection {
 
     /// One step back from a slot.
     fn back(&self, slot: u32, reg: Reg) -> Step
-        ensures { (earlier : ℕ → Source) → source_by_inflow self.now slot reg (inflow self.now slot) earlier
-            ≡ taken result earlier }
+        ensures { (earlier : ℕ → Source) → source_back self.now slot reg earlier ≡ taken result earlier }
     {
+        if slot == 0 {
+            return Step::Found(Source::Start);
+        }
         match self.inflow(slot) {
             Inflow::Nowhere => Step::Found(Source::Start),
             Inflow::One(from) => self.back_to(from, slot, reg),
@@ -152,20 +185,25 @@ impl Inspection {
         }
     }
 
-    /// Where the value of a register comes from that the edges from one slot to another have.
+    /// Where the value of a register comes from that the edges from one slot to another have, also on each run
+    /// that comes by them.
     pub fn source_along(&self, from: u32, to: u32, reg: Reg) -> Source
-        ensures { result ≡ source_along self.now from to reg }
+        ensures is { result ≡ source_along self.now from to reg }
+        ensures runs { IsSourceAlong self.now from to reg result }
     {
+        self.sources_hold();
         match self.back_to(from, to, reg) {
             Step::Found(source) => source,
             Step::Back(from) => self.source(from, reg),
         }
     }
 
-    /// Where the value of a register before a slot comes from.
+    /// Where the value of a register before a slot comes from, also on each run that comes there.
     pub fn source(&self, slot: u32, reg: Reg) -> Source
-        ensures { result ≡ source_before self.now slot reg }
+        ensures is { result ≡ source_before self.now slot reg }
+        ensures runs { IsSourceBefore self.now slot reg result }
     {
+        self.sources_hold();
         let mut at = slot;
         let mut left = u64::from(slot) + 1;
         while left > 0 {

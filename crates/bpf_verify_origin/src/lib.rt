@@ -1,5 +1,6 @@
 //! What the verifier knows of a program, told: its first fault, the abstract state before each instruction up
-//! to that fault, what is on each edge, and where the value of a register comes from.
+//! to that fault, what is on each edge, and where the value of a register comes from. What is told so is true of
+//! each run of the machine up to there: laws say it, and nothing of them runs.
 //!
 //! ```text
 //! let inspection = inspect(alloc, unit)?;
@@ -10,11 +11,13 @@
 #![tactic(auto)]
 
 mod fault;
+mod fields;
 mod finding;
 mod inflow;
 mod inflows;
 mod inspecting;
 mod inspection;
+mod laws;
 mod outflow;
 mod source;
 mod step;
@@ -23,4 +26,5 @@ mod writing;
 pub use fault::Fault;
 pub use inspecting::inspect;
 pub use inspection::Inspection;
+pub use laws::{law_of_run_steps, law_of_sources, law_of_states};
 pub use source::Source;

@@ -10,8 +10,12 @@ use Rattle.bpf_verify_model.specs.declared.abstract_value.AbstractValue.{Abstrac
 use Rattle.bpf_verify_model.specs.declared.state.State.{State}
 use Rattle.bpf_verify_model.specs.States.{known_register}
 use Rattle.bpf_verify_model.specs.Accepted.{first_fault}
+use Rattle.bpf_step_model.specs.State.{Machine, register}
+use Rattle.bpf_verify_sound.specs.Containment.{ContainsValue, Contained, ContainedIf}
+use Rattle.bpf_verify_sound.proofs.RegisterLaws.{contain-at}
 use Rattle.bpf_verify_origin.specs.declared.fault.Fault.{Fault}
-use Rattle.bpf_verify_origin.specs.Inspected.{broken_rule, IsStateBefore, IsStateBetween}
+use Rattle.bpf_verify_origin.specs.Inspected.{broken_rule, IsPassedTo, IsStateBefore, IsStateBetween}
+use Rattle.bpf_verify_origin.specs.Runs.{HoldsBefore, HoldsBetween}
 use Rattle.bpfspec_reasons.specs.declared.piece.Piece.{Piece}
 use Rattle.bpfspec_reasons.specs.declared.piece.Piece.TheVariants as pieces
 use Rattle.bpfspec_reasons.specs.Truth.{AreTrue, IsValueBefore, IsValueBetween, IsUnwritten, ExplanationOf, slot_or}
@@ -33,23 +37,43 @@ true-pushed program before after more true is all others =
     subst (AreTrue program) (sym is) (true-more program before more all others)
 true-pushed program before after more false is all others = subst (AreTrue program) (sym is) all
 
+-- a register's value is contained where the machine is
+register-contained : (found : Option State) (state : State) (value : AbstractValue) (reg : ℕ) (m : Machine)
+    → found ≡ Some state → value ≡ known_register state reg → ContainedIf found m → ContainsValue value (register m reg)
+register-contained found state value reg m is known c =
+    let contained : Contained state m = subst (λ (f : Option State). ContainedIf f m) is c in
+    subst (λ (v : AbstractValue). ContainsValue v (register m reg)) (sym known)
+    (contain-at state.registers m.registers reg contained.registers)
+
 pub value-before : (program : Program) (slot reg : ℕ) (found : Option State) (state : State) (value : AbstractValue) →
-    IfSome found (λ s. IsStateBefore program slot s) → found ≡ Some state → value ≡ known_register state reg
-    → IsValueBefore program slot reg value
-value-before program slot reg found state value there is known = record {
-  state = state;
-  before = subst (λ (f : Option State). IfSome f (λ s. IsStateBefore program slot s)) is there;
-  is = known;
-}
+    IfSome found (λ s. IsStateBefore program slot s) → (IsPassedTo program slot → HoldsBefore program slot found)
+    → found ≡ Some state → value ≡ known_register state reg → IsValueBefore program slot reg value
+value-before program slot reg found state value there holds is known =
+    let before : IsStateBefore program slot state =
+    subst (λ (f : Option State). IfSome f (λ s. IsStateBefore program slot s)) is there in
+    record {
+      state = state;
+      before = before;
+      is = known;
+      runs = λ passed m comes at.
+          register-contained found state value reg m is known (holds before.passed passed m comes at);
+    }
 
 pub value-between : (program : Program) (from to reg : ℕ) (found : Option State) (state : State) (value : AbstractValue)
-    → IfSome found (λ s. IsStateBetween program from to s) → found ≡ Some state → value ≡ known_register state reg
-    → IsValueBetween program from to reg value
-value-between program from to reg found state value there is known = record {
-  state = state;
-  between = subst (λ (f : Option State). IfSome f (λ s. IsStateBetween program from to s)) is there;
-  is = known;
-}
+    → IfSome found (λ s. IsStateBetween program from to s)
+    → (IsPassedTo program from → HoldsBetween program from to found) → found ≡ Some state
+    → value ≡ known_register state reg → IsValueBetween program from to reg value
+value-between program from to reg found state value there holds is known =
+    let between : IsStateBetween program from to state =
+    subst (λ (f : Option State). IfSome f (λ s. IsStateBetween program from to s)) is there in
+    record {
+      state = state;
+      between = between;
+      is = known;
+      runs = λ before earlier m comes at_from at_to.
+          register-contained found state value reg m is known
+          (holds between.passed before earlier m comes at_from at_to);
+    }
 
 pub byte-unwritten : (program : Program) (slot position : ℕ) (found : Option State) (state : State) (written : Bool) →
     IfSome found (λ s. IsStateBefore program slot s) → found ≡ Some state
@@ -123,19 +147,19 @@ told-step program told slot insn same there =
 
 pub told-before : (program : Program) (told : ExplanationOf) (slot reg : ℕ) (found : Option State) (state : State)
     (value : AbstractValue) → program ≡ told.program → IfSome found (λ s. IsStateBefore program slot s)
-    → found ≡ Some state → value ≡ known_register state reg
-    → AreTrue told.program (pieces.Before slot reg value ∷ [])
-told-before program told slot reg found state value same there is known =
+    → (IsPassedTo program slot → HoldsBefore program slot found) → found ≡ Some state
+    → value ≡ known_register state reg → AreTrue told.program (pieces.Before slot reg value ∷ [])
+told-before program told slot reg found state value same there holds is known =
     subst (λ (p : Program). AreTrue p (pieces.Before slot reg value ∷ [])) same
-    (value-before program slot reg found state value there is known, tt)
+    (value-before program slot reg found state value there holds is known, tt)
 
 pub told-between : (program : Program) (told : ExplanationOf) (from to reg : ℕ) (found : Option State) (state : State)
     (value : AbstractValue) → program ≡ told.program → IfSome found (λ s. IsStateBetween program from to s)
-    → found ≡ Some state → value ≡ known_register state reg
-    → AreTrue told.program (pieces.Between from to reg value ∷ [])
-told-between program told from to reg found state value same there is known =
+    → (IsPassedTo program from → HoldsBetween program from to found) → found ≡ Some state
+    → value ≡ known_register state reg → AreTrue told.program (pieces.Between from to reg value ∷ [])
+told-between program told from to reg found state value same there holds is known =
     subst (λ (p : Program). AreTrue p (pieces.Between from to reg value ∷ [])) same
-    (value-between program from to reg found state value there is known, tt)
+    (value-between program from to reg found state value there holds is known, tt)
 
 pub told-unwritten : (program : Program) (told : ExplanationOf) (slot position : ℕ) (found : Option State)
     (state : State)

@@ -8,21 +8,37 @@ use Rattle.bpf_verify_model.specs.declared.abstract_value.AbstractValue.{Abstrac
 use Rattle.bpf_verify_model.specs.declared.state.State.{State}
 use Rattle.bpf_verify_model.specs.States.{known_register}
 use Rattle.bpf_verify_model.specs.Accepted.{BrokenRule}
+use Rattle.bpf_step_model.specs.State.{Machine, register}
+use Rattle.bpf_verify_sound.specs.Containment.{ContainsValue}
 use Rattle.bpf_verify_origin.specs.Inspected.{IsStateBefore, IsStateBetween}
+use Rattle.bpf_verify_origin.specs.Runs.{ComesTo}
 use Rattle.bpfspec_reasons.specs.declared.piece.Piece.{Piece}
 use Rattle.bpfspec_reasons.specs.declared.piece.Piece.TheVariants as pieces
 
--- the abstract value of a register before a slot
+-- on each run that comes to a slot, having passed only slots before the first fault, an abstract value contains a
+-- register's
+abbrev pub ContainsOnRuns : Program → (slot reg : ℕ) → AbstractValue → Type 0
+ContainsOnRuns program slot reg value = (passed : List Machine) (m : Machine) → ComesTo program passed m
+    → m.slot ≡ slot → ContainsValue value (register m reg)
+
+-- the same of each that comes there from another slot
+abbrev pub ContainsAlong : Program → (from to reg : ℕ) → AbstractValue → Type 0
+ContainsAlong program from to reg value = (before : Machine) (earlier : List Machine) (m : Machine)
+    → ComesTo program (before ∷ earlier) m → before.slot ≡ from → m.slot ≡ to → ContainsValue value (register m reg)
+
+-- the abstract value of a register before a slot, which contains the register's on each run up to there
 pub record IsValueBefore (program : Program) (slot reg : ℕ) (value : AbstractValue) : Type 0 where
   pub state : State
   pub before : IsStateBefore program slot state
   pub is : value ≡ known_register state reg
+  pub runs : ContainsOnRuns program slot reg value
 
 -- the same on the edges from one slot to another
 pub record IsValueBetween (program : Program) (from to reg : ℕ) (value : AbstractValue) : Type 0 where
   pub state : State
   pub between : IsStateBetween program from to state
   pub is : value ≡ known_register state reg
+  pub runs : ContainsAlong program from to reg value
 
 -- a byte of the own frame isn't written on every path to a slot
 pub record IsUnwritten (program : Program) (slot position : ℕ) : Type 0 where

@@ -1,6 +1,7 @@
 use Rattle.std.proofs.Common.{List, ap, ◌∙◌, subst}
 use Rattle.std.specs.Option.{option_map}
 use Rattle.bpf_insn_types.specs.declared.insn.Insn.{Insn}
+use Rattle.bpf_insn_types.specs.Values.{AreInsns as FieldsFit}
 use Rattle.bpf_insn_types.specs.Program.{Program}
 use Rattle.bpf_verify_origin.specs.Inspected.{broken_rule, AreInsns}
 use Rattle.bpf_verify_origin.proofs.InspectionLaws.{parts-fine, parts-stop, inspection-outside}
@@ -10,6 +11,8 @@ pub invariant_of-result : goal.invariant_of-result
 invariant_of-result c =
     inspection-outside c.args.unit c.args.fault c.in_ok-by_slot.by_slot.items c.new.result.items
     c.new-in_default.result.items
+    (subst (λ (insns : List Insn). FieldsFit insns)
+    (c.as_slice.ensures.value ∙ ap (λ (p : Program). p.insns) c.unit.view_is) c.insns_fit.ensures)
     (subst (λ (insns : List Insn). AreInsns insns c.in_ok-by_slot.by_slot.items)
     (c.deref.ensures.value ∙ ap (λ (p : Program). p.insns) c.unit.view_is) c.in_ok-by_slot.ensures)
     c.requires

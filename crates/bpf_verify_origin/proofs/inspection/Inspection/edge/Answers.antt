@@ -5,6 +5,7 @@ use Rattle.bpf_verify.specs.Passing.{out_of}
 use Rattle.bpf_verify_origin.proofs.FaultLaws.{starts-within}
 use Rattle.bpf_verify_origin.proofs.InflowLaws.{between-none, between-elsewhere, between-some}
 use Rattle.bpf_verify_origin.proofs.PassedLaws.{edge-passed}
+use Rattle.bpf_verify_origin.proofs.RunLaws.{holds-between}
 use Rattle.bpf_verify_origin.proofs.inspection.Inspection.edge.Goals as goal
 
 pub returns-then-from-gt4096-clause-whole : goal.returns-then-from-gt4096-clause-whole
@@ -39,3 +40,23 @@ returns-clause-passed c =
     (c.state_to.ensures ∙ ap (received_all c.args.to None) (c.outflow-out.ensures
     ∙ ap (λ (sizes : List ℕ). out_of sizes c.args.from c.in-Some.insn c.state-before.result) c.sizes.ensures))
     (returns-clause-whole c)
+
+pub returns-then-from-gt4096-clause-runs : goal.returns-then-from-gt4096-clause-runs
+returns-then-from-gt4096-clause-runs c = λ to.
+    holds-between c.args.self.now c.args.from c.args.to None c.states_hold.ensures
+    (returns-then-from-gt4096-clause-whole c to)
+
+pub returns-in_default-clause-runs : goal.returns-in_default-clause-runs
+returns-in_default-clause-runs c = λ to.
+    holds-between c.args.self.now c.args.from c.args.to None c.states_hold.ensures
+    (returns-in_default-clause-whole c to)
+
+pub returns-then-not-may_lead-clause-runs : goal.returns-then-not-may_lead-clause-runs
+returns-then-not-may_lead-clause-runs c = λ to.
+    holds-between c.args.self.now c.args.from c.args.to None c.states_hold.ensures
+    (returns-then-not-may_lead-clause-whole c to)
+
+pub returns-clause-runs : goal.returns-clause-runs
+returns-clause-runs c = λ to.
+    holds-between c.args.self.now c.args.from c.args.to c.state_to.result c.states_hold.ensures
+    (returns-clause-whole c to)

@@ -7,6 +7,7 @@ use Rattle.bpf_verify_model.specs.Inflow.{state_before}
 use Rattle.bpf_verify_origin.specs.Inspected.{IsPassedTo, IsStateBefore, broken_rule}
 use Rattle.bpf_verify_origin.proofs.InspectionLaws.{state-there}
 use Rattle.bpf_verify_origin.proofs.PassedLaws.{never-past, never-within, state-passed}
+use Rattle.bpf_verify_origin.proofs.RunLaws.{holds-before}
 use Rattle.bpf_verify_origin.proofs.inspection.Inspection.state.Goals as goal
 
 pub returns-in_default-clause-whole : goal.returns-in_default-clause-whole
@@ -36,3 +37,16 @@ returns-clause-passed c =
     ∙ ap is_some (sym c.insn.ensures ∙ c.in-Some.is))
     (option_map broken_rule c.self.inside.fault) c.self.invariant.fault_is
     (sym c.is_up_to.ensures ∙ c.if-not-is_up_to.false))
+
+pub returns-in_default-clause-runs : goal.returns-in_default-clause-runs
+returns-in_default-clause-runs c = λ to.
+    holds-before c.args.self.now c.args.slot None c.states_hold.ensures to (returns-in_default-clause-whole c to)
+
+pub returns-then-not-is_up_to-clause-runs : goal.returns-then-not-is_up_to-clause-runs
+returns-then-not-is_up_to-clause-runs c = λ to.
+    holds-before c.args.self.now c.args.slot None c.states_hold.ensures to
+    (returns-then-not-is_up_to-clause-whole c to)
+
+pub returns-clause-runs : goal.returns-clause-runs
+returns-clause-runs c = λ to.
+    holds-before c.args.self.now c.args.slot c.state_in.result c.states_hold.ensures to (returns-clause-whole c to)

@@ -7,4 +7,4 @@ pub add-requires-clause-hold : goal.add-requires-clause-hold
 add-requires-clause-hold c =
     told-before c.self.inside.inspection.now c.args.self.now c.args.slot c.args.reg c.state.result
     c.in-Some.state c.register-value.result (ap (λ (told : ExplanationOf). told.program) c.self.view_is)
-    c.state.ensures.passed c.in-Some.is c.register-value.ensures
+    c.state.ensures.passed c.state.ensures.runs c.in-Some.is c.register-value.ensures

@@ -1,0 +1,22 @@
+-- Runs are those of the machine's definition.
+use Rattle.std.specs.Prelude.{ℕ, ◌<◌, ◌^◌, List, ◌++◌}
+use Rattle.std.specs.List.{AllByRecursion}
+use Rattle.array_maps.specs.Accesses.{Access}
+use Rattle.bpf_insn_types.specs.Values.{AreInsns}
+use Rattle.bpf_insn_types.specs.Program.{Program}
+use Rattle.bpf_step_model.specs.State.{Machine}
+use Rattle.bpf_step_model.specs.Steps.{Steps}
+use Rattle.bpf_verify_origin.specs.Runs.{RunsTo}
+
+-- the words of maps, each below 2 ^ 64
+abbrev pub AreWords : List ℕ → Type 0
+AreWords words = AllByRecursion (λ (word : ℕ). word < 2 ^ 64) words
+
+-- where a run comes to a machine, and steps lead from there to another, over the maps' words, a run that passed all of
+-- that comes to it too; and the words stay words
+abbrev pub StepsAreRuns : Type 0
+StepsAreRuns = (program : Program) → AreInsns program.insns → (passed : List Machine) (m : Machine)
+    → RunsTo program passed m → (words : List ℕ) → AreWords words
+    → (count : ℕ) (accesses : List Access) (last : Machine) (after : List ℕ)
+    → Steps program count m words accesses last after
+    → (more : List Machine) × RunsTo program (more ++ passed) last × AreWords after
