@@ -1,5 +1,5 @@
-//! Tests of pictures of loops: what is drawn of a whole small loop, of which iterations and elements in larger ones,
-//! and of whole inputs.
+//! Tests of pictures of loops that pass, which `explain` doesn't draw: of a whole small loop, and of which iterations and
+//! elements are drawn of larger ones.
 #![tactic(auto)]
 
 #[cfg(test)]

@@ -1,5 +1,4 @@
 //! The tests themselves.
 
-mod asked;
 mod drawing;
 mod pictures;

@@ -1,5 +1,6 @@
-//! Tests of the bytes of instructions and of all texts, as rows of text. In a row ` | ` ends a line,
-//! `<tab>` is a tab and `<cr>` a carriage return, and what the text is comes after `=>`.
+//! Tests of the bytes of instructions, and of texts by what the library alone tells of them: bounds and events, how an
+//! instruction without bytes is refused, and growths of memory that are refused. They stand in a crate of their own,
+//! since a crate with tests is proved twice.
 #![tactic(auto)]
 
 #[cfg(test)]

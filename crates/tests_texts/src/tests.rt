@@ -5,8 +5,4 @@ mod bytes;
 mod events;
 mod examples;
 mod growths;
-mod hex_form;
 mod instructions;
-mod maps;
-mod rows;
-mod units;

@@ -1,4 +1,5 @@
-//! Pictures of loops: which iterations and elements they show, and by which marks.
+//! Pictures of loops that pass, which `explain` doesn't draw: which iterations and elements they show, and by which
+//! marks.
 
 use crate::tests::drawing::{drawn, has_pieces};
 use bpfspec_picture::{Picture, write_picture};
@@ -15,29 +16,6 @@ fn has(rt: &impl Abort, alloc: Global, row: &str, test: Test, wanted: &str) -> R
         return Ok(());
     };
     has_pieces(rt, picture.as_str(), wanted)
-}
-
-// Iterations 0 and 1 read elements 0 and 1, and write 1 and 2 after that. The pair is at element 1.
-#[test]
-fn marks_of_prefix_sums(rt: HostRuntime) -> Result<(), Fail> {
-    let row =
-        "maps 3 | mov64 r1, 2 | LOOP | AT | ldx64 r4, [r3+0] | ldx64 r5, [r3+8] | add64 r5, r4 | \
-        stx64 [r3+8], r5 | END";
-    has(
-        &rt,
-        rt.alloc(),
-        row,
-        Test::Flow,
-        "
-            1 <title>loop at 5: 2 iterations, conflict 1 least 1</title>
-            1 <circle class=\"r\" cx=\"82\" cy=\"100\" r=\"7\"/>
-            1 <circle class=\"r\" cx=\"106\" cy=\"124\" r=\"7\"/>
-            1 <rect class=\"b\" x=\"99\" y=\"93\" width=\"14\" height=\"14\"/>
-            1 <rect class=\"b\" x=\"123\" y=\"117\" width=\"14\" height=\"14\"/>
-            1 <rect class=\"c\" x=\"94\" y=\"88\" width=\"24\" height=\"24\"/>
-            1 <rect class=\"c\" x=\"94\" y=\"112\" width=\"24\" height=\"24\"/>
-        ",
-    )
 }
 
 #[test]
@@ -70,28 +48,6 @@ fn at_most_64_of_each(rt: HostRuntime) -> Result<(), Fail> {
             64 <text transform=
             65 <rect class=\"w\"
             1 <svg xmlns=\"http://www.w3.org/2000/svg\" role=\"img\" width=\"758\" height=\"772\"
-        ",
-    )
-}
-
-#[test]
-fn both_ends_of_a_pair(rt: HostRuntime) -> Result<(), Fail> {
-    let row =
-        "maps 1 | mov64 r1, 200 | LOOP | ldmapval r3, 0, 0 | jne64 r1, 20, read | stx64 [r3+0], r1 | read: | \
-        jne64 r1, 150, done | ldx64 r4, [r3+0] | done: | END";
-    has(
-        &rt,
-        rt.alloc(),
-        row,
-        Test::Flow,
-        "
-            1 >20</text>
-            1 >150</text>
-            1 >35</text>
-            0 >36</text>
-            1 >134</text>
-            1 <path class=\"d\"
-            4 class=\"c\"
         ",
     )
 }
