@@ -1,10 +1,12 @@
 -- When lanes may meet at an element.
-use Rattle.std.proofs.Common.{◌≡◌, ◌↔◌, ℕ, ◌+◌, ◌-◌, ◌<◌, ◌≤◌, IsTrue, max, min, refl, arith}
-use Rattle.std.specs.Prelude.{nat_lt, nat_le}
-use Rattle.std.proofs.lemmas.Bool.{ltb-true, lt-ltb, leb-true, le-leb}
+use Rattle.std.proofs.Common.{◌≡◌, ◌↔◌, ℕ, ◌+◌, ◌-◌, ◌*◌, ◌/◌, ◌%◌, ◌<◌, ◌≤◌, IsTrue, zero, suc, max, refl, sym, ap, subst, ◌∙◌, arith}
+use Rattle.std.specs.Prelude.{nat_lt}
+use Rattle.std.proofs.Math.Nat.{add-mul, mul-mod_left, mul-div_cancel, mod-add-div'}
+use Rattle.std.proofs.lemmas.Nat.{mul-le}
+use Rattle.std.proofs.lemmas.Bool.{ltb-true, lt-ltb}
 use Rattle.loop_core_batch.specs.declared.elements.Elements.{Elements}
-use Rattle.loop_core_batch.specs.declared.elements.Elements.TheVariants.{One, Run, Between}
-use Rattle.loop_core_batch.specs.Sites.{MayAccess, MayMeet, least_from, greatest_of}
+use Rattle.loop_core_batch.specs.declared.elements.Elements.TheVariants.{One, Run, Every, Between}
+use Rattle.loop_core_batch.specs.Sites.{IsReached, MayAccess, MayMeet, NotRuns, Overlap, least_from, greatest_of}
 
 -- two runs: the first begins after the second, by less than all lanes
 pub runs_meet : (base other lanes : ℕ) → other < base → base - other < lanes → MayMeet (Run base) (Run other) lanes
@@ -24,23 +26,22 @@ runs_near base other lanes meet =
     let first = meet.by_first in let second = meet.by_second in
     (omega arith, omega arith)
 
--- not two runs
-abbrev pub NotRuns : Elements → Elements → Type 0
-NotRuns (Run base) (Run other) = ⊥
-NotRuns (Run base) (One only) = Unit {0}
-NotRuns (Run base) (Between low high) = Unit {0}
-NotRuns (One only) later = Unit {0}
-NotRuns (Between low high) later = Unit {0}
+-- no elements by steps
+abbrev pub NoSteps : Elements → Type 0
+NoSteps (One only) = Unit {0}
+NoSteps (Run base) = Unit {0}
+NoSteps (Every first step) = ⊥
+NoSteps (Between low high) = Unit {0}
 
--- the elements that earlier lanes may access by the first and those that later ones may by the second overlap
-abbrev pub Overlap : Elements → Elements → ℕ → Type 0
-Overlap first second lanes = max (least_from first 0) (least_from second 1) ≤ min (greatest_of first (lanes - 2))
-    (greatest_of second (lanes - 1))
-
-pub overlap_meets : (first second : Elements) (lanes : ℕ) → 2 ≤ lanes → NotRuns first second
-    → Overlap first second lanes → MayMeet first second lanes
-overlap_meets (Run base) (Run other) lanes many not overlap = absurd not
-overlap_meets (One only) (One other) lanes many not overlap =
+-- where ranges overlap, and neither goes by steps, lanes may meet
+pub overlap_meets : (first second : Elements) (lanes : ℕ) → 2 ≤ lanes → NotRuns first second → NoSteps first
+    → NoSteps second → Overlap first second lanes → MayMeet first second lanes
+overlap_meets (Every first step) second lanes many not plain too overlap = absurd plain
+overlap_meets (One only) (Every first step) lanes many not plain too overlap = absurd too
+overlap_meets (Run base) (Every first step) lanes many not plain too overlap = absurd too
+overlap_meets (Between low high) (Every first step) lanes many not plain too overlap = absurd too
+overlap_meets (Run base) (Run other) lanes many not plain too overlap = absurd not
+overlap_meets (One only) (One other) lanes many not plain too overlap =
     record {
       earlier = 0;
       later = 1;
@@ -50,7 +51,7 @@ overlap_meets (One only) (One other) lanes many not overlap =
       by_first = refl;
       by_second = omega (arith, overlap);
     }
-overlap_meets (One only) (Run base) lanes many not overlap =
+overlap_meets (One only) (Run base) lanes many not plain too overlap =
     record {
       earlier = 0;
       later = only - base;
@@ -60,7 +61,7 @@ overlap_meets (One only) (Run base) lanes many not overlap =
       by_first = refl;
       by_second = omega (arith, overlap);
     }
-overlap_meets (One only) (Between low high) lanes many not overlap =
+overlap_meets (One only) (Between low high) lanes many not plain too overlap =
     record {
       earlier = 0;
       later = 1;
@@ -70,7 +71,7 @@ overlap_meets (One only) (Between low high) lanes many not overlap =
       by_first = refl;
       by_second = (omega (arith, overlap), omega (arith, overlap));
     }
-overlap_meets (Run base) (One only) lanes many not overlap =
+overlap_meets (Run base) (One only) lanes many not plain too overlap =
     record {
       earlier = only - base;
       later = lanes - 1;
@@ -80,7 +81,7 @@ overlap_meets (Run base) (One only) lanes many not overlap =
       by_first = omega (arith, overlap);
       by_second = refl;
     }
-overlap_meets (Run base) (Between low high) lanes many not overlap =
+overlap_meets (Run base) (Between low high) lanes many not plain too overlap =
     record {
       earlier = max base low - base;
       later = lanes - 1;
@@ -90,7 +91,7 @@ overlap_meets (Run base) (Between low high) lanes many not overlap =
       by_first = omega arith;
       by_second = (omega arith, omega (arith, overlap));
     }
-overlap_meets (Between low high) (One only) lanes many not overlap =
+overlap_meets (Between low high) (One only) lanes many not plain too overlap =
     record {
       earlier = 0;
       later = 1;
@@ -100,7 +101,7 @@ overlap_meets (Between low high) (One only) lanes many not overlap =
       by_first = (omega (arith, overlap), omega (arith, overlap));
       by_second = refl;
     }
-overlap_meets (Between low high) (Run base) lanes many not overlap =
+overlap_meets (Between low high) (Run base) lanes many not plain too overlap =
     record {
       earlier = 0;
       later = max low (base + 1) - base;
@@ -110,7 +111,7 @@ overlap_meets (Between low high) (Run base) lanes many not overlap =
       by_first = (omega arith, omega (arith, overlap));
       by_second = omega arith;
     }
-overlap_meets (Between low high) (Between other_low other_high) lanes many not overlap =
+overlap_meets (Between low high) (Between other_low other_high) lanes many not plain too overlap =
     record {
       earlier = 0;
       later = 1;
@@ -126,12 +127,16 @@ above_least : (elements : Elements) (from lane element : ℕ) → from ≤ lane 
     → least_from elements from ≤ element
 above_least (One only) from lane element within at = omega (arith, at)
 above_least (Run base) from lane element within at = omega (arith, at)
+above_least (Every first step) from lane element within at =
+    let far : from * step ≤ lane * step = mul-le from step lane step within (omega arith) in omega (arith, at, far)
 above_least (Between low high) from lane element within at = at.0
 
 below_greatest : (elements : Elements) (upto lane element : ℕ) → lane ≤ upto → MayAccess elements lane element
     → element ≤ greatest_of elements upto
 below_greatest (One only) upto lane element within at = omega (arith, at)
 below_greatest (Run base) upto lane element within at = omega (arith, at)
+below_greatest (Every first step) upto lane element within at =
+    let far : lane * step ≤ upto * step = mul-le lane step upto step within (omega arith) in omega (arith, at, far)
 below_greatest (Between low high) upto lane element within at = at.1
 
 pub meets_overlap : (first second : Elements) (lanes : ℕ) → MayMeet first second lanes → Overlap first second lanes
@@ -158,27 +163,101 @@ runs_answer self later base other lanes first second behind =
       λ meet. lt-ltb (base - other) lanes (runs_near base other lanes meet).1,
     )
 
--- and of others
-pub others_answer : (self later : Elements) (lanes a b c d low high : ℕ) → 2 ≤ lanes → NotRuns self later →
-    a ≡ least_from self 0 → b ≡ least_from later 1 → low ≡ max a b → c ≡ greatest_of self (lanes - 2)
-    → d ≡ greatest_of later (lanes - 1) → high ≡ min c d →
-    IsTrue (nat_le low high) ↔ MayMeet self later lanes
-others_answer self later lanes a b c d low high many not a_is b_is low_is c_is d_is high_is = (
-  λ overlap. overlap_meets self later lanes many not (let le = leb-true low high overlap in omega arith),
-  λ meet. le-leb low high (let overlap = meets_overlap self later lanes meet in omega arith),
-)
-
--- two of which one is no run
-either_is_no_run : (self later : Elements) → ((base other : ℕ) → self ≡ Run base → later ≡ Run other → ⊥)
+-- two runs are two runs
+pub are_runs : (self later : Elements) → ((base other : ℕ) → self ≡ Run base → later ≡ Run other → ⊥)
     → NotRuns self later
-either_is_no_run (Run base) (Run other) never = never base other refl refl
-either_is_no_run (Run base) (One only) never = tt
-either_is_no_run (Run base) (Between low high) never = tt
-either_is_no_run (One only) later never = tt
-either_is_no_run (Between low high) later never = tt
+are_runs (Run base) (Run other) never = never base other refl refl
+are_runs (Run base) (One only) never = tt
+are_runs (Run base) (Every first step) never = tt
+are_runs (Run base) (Between low high) never = tt
+are_runs (One only) later never = tt
+are_runs (Every first step) later never = tt
+are_runs (Between low high) later never = tt
 
-pub not_first : (self later : Elements) → ((base : ℕ) → self ≡ Run base → ⊥) → NotRuns self later
-not_first self later never = either_is_no_run self later (λ base other first second. never base first)
+-- neither goes by steps
+pub no_steps : (elements : Elements) → ((first step : ℕ) → elements ≡ Every first step → ⊥) → NoSteps elements
+no_steps (One only) never = tt
+no_steps (Run base) never = tt
+no_steps (Every first step) never = never first step refl
+no_steps (Between low high) never = tt
 
-pub not_second : (self later : Elements) → ((base : ℕ) → later ≡ Run base → ⊥) → NotRuns self later
-not_second self later never = either_is_no_run self later (λ base other first second. never other second)
+-- which elements lanes of a run reach
+pub run_reached : (self : Elements) (base element from upto low high : ℕ) → self ≡ Run base → low ≡ least_from self from
+    → low ≤ element → high ≡ least_from self upto
+    → IsTrue (nat_lt element high) ↔ IsReached self element from upto
+run_reached self base element from upto low high is low_is above high_is =
+    let first : low ≡ base + from = low_is ∙ ap (λ (e : Elements). least_from e from) is in
+    let end : high ≡ base + upto = high_is ∙ ap (λ (e : Elements). least_from e upto) is in (
+      λ below. let under = ltb-true element high below in record {
+        lane = element - base;
+        after = omega (arith, first, above);
+        before = omega (arith, first, end, above, under);
+        by = subst (λ (e : Elements). MayAccess e (element - base) element) (sym is) (omega (arith, first, above));
+      },
+      λ reached. lt-ltb element high (
+          let at : element ≡ base + reached.lane = subst (λ (e : Elements). MayAccess e reached.lane element) is reached.by
+          in let before = reached.before in omega (arith, at, before, end)
+          ),
+    )
+
+-- two that go by the same steps: the first begins after the second, by so many steps, and less than all lanes
+many_steps : (e l step : ℕ) → e < l → l * step ≡ e * step + (l - e) * step
+many_steps e l step before =
+    let sum : l ≡ e + (l - e) = omega (arith, before) in ap (λ (n : ℕ). n * step) sum ∙ add-mul e (l - e) step
+
+some_steps : (k step : ℕ) → 0 < k → 0 < step → 0 < k * step
+some_steps k step some pos = let far : 1 * 1 ≤ k * step = mul-le 1 1 k step some pos in omega (arith, far)
+
+module _ (first other step lanes : ℕ) (pos : 0 < step)
+    (meet : MayMeet (Every first step) (Every other step) lanes) where
+  abbrev behind : ℕ
+  behind = meet.later - meet.earlier
+
+  is_behind : first ≡ other + behind * step
+  is_behind =
+      let a : meet.element ≡ first + meet.earlier * step = meet.by_first in
+      let b : meet.element ≡ other + meet.later * step = meet.by_second in
+      let c : meet.later * step ≡ meet.earlier * step + behind * step
+      = many_steps meet.earlier meet.later step meet.in_order in
+      omega (arith, a, b, c)
+
+  is_some : 0 < behind
+  is_some = let order = meet.in_order in omega (arith, order)
+
+  is_few : behind < lanes
+  is_few = let within = meet.within in omega (arith, within)
+
+  pub starts_behind : other < first
+  starts_behind =
+      let some : 0 < behind = is_some in
+      let far : 0 < behind * step = some_steps behind step some pos in
+      let is = is_behind in omega (arith, is, far)
+
+  apart_is : first - other ≡ behind * step
+  apart_is = let is = is_behind in omega (arith, is)
+
+  pub whole_steps : (first - other) % step ≡ 0
+  whole_steps = ap (λ (n : ℕ). n % step) apart_is ∙ mul-mod_left behind step
+
+  pub few_steps : (first - other) / step < lanes
+  few_steps =
+      let steps : (first - other) / step ≡ behind = ap (λ (n : ℕ). n / step) apart_is ∙ mul-div_cancel behind pos in
+      let few = is_few in omega (arith, steps, few)
+
+pub steps_meet : (first other step lanes apart : ℕ) → 0 < step → other < first → apart ≡ first - other
+    → apart % step ≡ 0 → apart / step < lanes → MayMeet (Every first step) (Every other step) lanes
+steps_meet first other step lanes apart pos after difference whole few =
+    let all : apart % step + apart / step * step ≡ apart = mod-add-div' apart step in
+    record {
+      earlier = 0;
+      later = apart / step;
+      element = first;
+      in_order = not_none (apart / step) (omega (arith, all, whole, after, difference));
+      within = few;
+      by_first = omega arith;
+      by_second = omega (arith, all, whole, after, difference);
+    }
+  where
+    not_none : (k : ℕ) → 0 < k * step → 0 < k
+    not_none zero far = absurd (omega (arith, far))
+    not_none (suc k) far = omega arith

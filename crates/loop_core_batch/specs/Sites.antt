@@ -1,12 +1,12 @@
 -- The accesses of a batch, site by site. Each lane made one access at each site, or none where it went another way.
-use Rattle.std.specs.Prelude.{◌≡◌, ℕ, ◌+◌, ◌<◌, ◌≤◌, Bool, true, false, List, [], ◌∷◌, Option, Some, None, IfSome}
+use Rattle.std.specs.Prelude.{◌≡◌, ℕ, ◌+◌, ◌-◌, ◌*◌, ◌<◌, ◌≤◌, max, min, Bool, true, false, List, [], ◌∷◌, Option, Some, None, IfSome}
 use Rattle.std.specs.List.{All, AllZip, Contains}
 use Rattle.array_maps.specs.Accesses.{Access}
 use Rattle.loop_core_model.specs.declared.access.Access.{Access as Kind}
 use Rattle.loop_core_model.specs.declared.access.Access.TheVariants.{Read, Write, Both, Reduce}
 use Rattle.loop_core_model.specs.Flags.{kind_of}
 use Rattle.loop_core_batch.specs.declared.elements.Elements.{Elements}
-use Rattle.loop_core_batch.specs.declared.elements.Elements.TheVariants.{One, Run, Between}
+use Rattle.loop_core_batch.specs.declared.elements.Elements.TheVariants.{One, Run, Every, Between}
 use Rattle.loop_core_batch.specs.declared.site.Site.{Site}
 use Rattle.loop_core_batch.specs.Lanes.{NoneSees}
 
@@ -24,11 +24,12 @@ abbrev pub of_lane : Log → ℕ → List Access
 of_lane [] lane = []
 of_lane (site ∷ sites) lane = with_access (site lane) (of_lane sites lane)
 
--- a lane may access the element: all lanes the same, each the one that is its number after the base, or each any from
--- the low one to the high one
+-- a lane may access the element: all lanes the same, each the one that is its number after the base, each the one that
+-- is its number of steps after the first, or each any from the low one to the high one
 abbrev pub MayAccess : Elements → (lane element : ℕ) → Type 0
 MayAccess (One only) lane element = element ≡ only
 MayAccess (Run base) lane element = element ≡ base + lane
+MayAccess (Every first step) lane element = element ≡ first + lane * step
 MayAccess (Between low high) lane element = (low ≤ element) × (element ≤ high)
 
 -- a row, which has an element for each lane, lies between the least of them and the greatest
@@ -53,13 +54,33 @@ pub record MayMeet (first second : Elements) (lanes : ℕ) : Type 0 where
 abbrev pub least_from : Elements → (lane : ℕ) → ℕ
 least_from (One only) lane = only
 least_from (Run base) lane = base + lane
+least_from (Every first step) lane = first + lane * step
 least_from (Between low high) lane = low
 
 -- the greatest element that a lane, or one before it, may access
 abbrev pub greatest_of : Elements → (lane : ℕ) → ℕ
 greatest_of (One only) lane = only
 greatest_of (Run base) lane = base + lane
+greatest_of (Every first step) lane = first + lane * step
 greatest_of (Between low high) lane = high
+
+-- a lane from one up to another may access the element
+pub record IsReached (elements : Elements) (element from upto : ℕ) : Type 0 where
+  pub lane : ℕ
+  pub after : from ≤ lane
+  pub before : lane < upto
+  pub by : MayAccess elements lane element
+
+-- not two runs
+abbrev pub NotRuns : Elements → Elements → Type 0
+NotRuns (Run base) (Run other) = ⊥
+NotRuns _ _ = Unit {0}
+
+-- the range of the elements that all but the last of n lanes may access by the first, and the range of those that all
+-- but the first may access by the second, overlap
+abbrev pub Overlap : Elements → Elements → ℕ → Type 0
+Overlap first second lanes = max (least_from first 0) (least_from second 1) ≤ min (greatest_of first (lanes - 2))
+    (greatest_of second (lanes - 1))
 
 -- accesses of this kind see the word
 abbrev pub kind_sees : Kind → Bool

@@ -1,7 +1,8 @@
 //! The elements that the lanes of a batch access at one site.
 
-ghost use Rattle.std.specs.Prelude.{◌≡◌, ◌↔◌, ℕ, ◌<◌, [], length, slice_index, IsTrue, IsNone, IfSome};
-ghost use Rattle.loop_core_batch.specs.Sites.{IsAround, MayAccess, MayMeet, least_from, greatest_of};
+ghost use Rattle.std.specs.Prelude.{◌≡◌, ◌↔◌, ℕ, ◌+◌, ◌*◌, ◌<◌, ◌≤◌, [], length, slice_index, IsTrue, IsNone, IfSome};
+ghost use Rattle.loop_core_batch.specs.declared.elements.Elements.TheVariants as elements;
+ghost use Rattle.loop_core_batch.specs.Sites.{IsAround, IsReached, MayAccess, MayMeet, NotRuns, Overlap, least_from, greatest_of};
 
 /// The elements that lanes access, where lanes are numbered from 0 on.
 #[derive(Clone, Copy)]
@@ -10,8 +11,45 @@ pub enum Elements {
     One(u32),
     /// Each lane accesses the element that is its number after this one.
     Run(u32),
+    /// Each lane accesses the element that is its number of steps after the first: one field of each struct in an array.
+    Every { first: u32, step: u32 },
     /// Each lane accesses some element from `low` to `high`, both among them.
     Between { low: u32, high: u32 },
+}
+
+/// The element that is a lane's number of steps after a first one.
+fn element_after(first: u32, step: u32, lane: u32) -> u64
+    ensures { result ≡ first + lane * step }
+{
+    u64::from(first) + u64::from(lane) * u64::from(step)
+}
+
+/// Whether a lane from one up to another accesses an element by steps.
+fn is_reached_by_steps(first: u32, step: u32, element: u64, from: u32, upto: u32) -> bool
+    ensures { IsTrue result ↔ IsReached (elements.Every first step) element from upto }
+{
+    for lane in from..upto {
+        if element_after(first, step, lane) == element {
+            return true;
+        }
+    }
+    false
+}
+
+/// Whether, of n lanes, an earlier one accesses an element by steps from a first one that a later one accesses by the
+/// same steps from another.
+fn equal_steps_meet(first: u32, other: u32, step: u32, lanes: u32) -> bool
+    requires { 0 < step }
+    ensures { IsTrue result ↔ MayMeet (elements.Every first step) (elements.Every other step) lanes }
+{
+    if first <= other {
+        return false;
+    }
+    let apart = first - other;
+    if apart % step != 0 {
+        return false;
+    }
+    apart / step < lanes
 }
 
 impl Elements {
@@ -38,11 +76,84 @@ impl Elements {
         }
         match (self, later) {
             (Elements::Run(base), Elements::Run(other)) => other < base && base - other < lanes,
-            _ => {
-                let low = self.least(0).max(later.least(1));
-                let high = self.greatest(lanes - 2).min(later.greatest(lanes - 1));
-                low <= high
+            _ => self.overlaps(later, lanes) && self.meets_within(later, lanes),
+        }
+    }
+
+    /// Whether the range of the elements that all but the last of n lanes may access overlaps that of those which all
+    /// but the first may access by `later`.
+    fn overlaps(self, later: Elements, lanes: u32) -> bool
+        requires { 2 ≤ lanes }
+        ensures { IsTrue result ↔ Overlap self later lanes }
+    {
+        let low = self.least(0).max(later.least(1));
+        let high = self.greatest(lanes - 2).min(later.greatest(lanes - 1));
+        low <= high
+    }
+
+    /// The same as `may_meet` of others than two runs, where their ranges overlap.
+    fn meets_within(self, later: Elements, lanes: u32) -> bool
+        requires several { 2 ≤ lanes }
+        requires overlap { Overlap self later lanes }
+        requires others { NotRuns self later }
+        ensures { IsTrue result ↔ MayMeet self later lanes }
+    {
+        if let Elements::Every { first, step } = self {
+            return later.meets_earlier_steps(first, step, lanes);
+        }
+        if let Elements::Every { first, step } = later {
+            return self.meets_later_steps(first, step, lanes);
+        }
+        true
+    }
+
+    /// Whether, of n lanes, one may access an element by these that an earlier one accesses by steps.
+    fn meets_earlier_steps(self, first: u32, step: u32, lanes: u32) -> bool
+        requires { 1 ≤ lanes }
+        ensures { IsTrue result ↔ MayMeet (elements.Every first step) self lanes }
+    {
+        if let Elements::Every {
+            first: other,
+            step: own,
+        } = self
+        {
+            if own == step && step > 0 {
+                return equal_steps_meet(first, other, step, lanes);
             }
+        }
+        for lane in 0..lanes - 1 {
+            if self.is_reached(element_after(first, step, lane), lane + 1, lanes) {
+                return true;
+            }
+        }
+        false
+    }
+
+    /// Whether, of n lanes, one may access an element by these that a later one accesses by steps.
+    fn meets_later_steps(self, first: u32, step: u32, lanes: u32) -> bool
+        ensures { IsTrue result ↔ MayMeet self (elements.Every first step) lanes }
+    {
+        for lane in 1..lanes {
+            if self.is_reached(element_after(first, step, lane), 0, lane) {
+                return true;
+            }
+        }
+        false
+    }
+
+    /// Whether a lane from one up to another may access an element.
+    fn is_reached(self, element: u64, from: u32, upto: u32) -> bool
+        ensures { IsTrue result ↔ IsReached self element from upto }
+    {
+        match self {
+            Elements::One(only) => from < upto && element == only as u64,
+            Elements::Run(_) => self.least(from) <= element && element < self.least(upto),
+            Elements::Every { first, step } => is_reached_by_steps(
+                first, step, element, from, upto,
+            ),
+            Elements::Between { low, high } => from < upto
+                && low as u64 <= element
+                && element <= high as u64,
         }
     }
 
@@ -53,6 +164,7 @@ impl Elements {
         match self {
             Elements::One(only) => only as u64,
             Elements::Run(base) => base as u64 + lane as u64,
+            Elements::Every { first, step } => element_after(first, step, lane),
             Elements::Between { low, high: _ } => low as u64,
         }
     }
@@ -64,6 +176,7 @@ impl Elements {
         match self {
             Elements::One(only) => only as u64,
             Elements::Run(base) => base as u64 + lane as u64,
+            Elements::Every { first, step } => element_after(first, step, lane),
             Elements::Between { low: _, high } => high as u64,
         }
     }

@@ -21,7 +21,7 @@ use Rattle.private_copy.specs.Touched.{has_page, page_of}
 use Rattle.private_copy.specs.Copies.{PrivateCopy}
 use Rattle.private_copy.specs.Noting.{last_by_lane, reduction_by_lane, NotesSite}
 use Rattle.loop_core_batch.specs.declared.elements.Elements.{Elements}
-use Rattle.loop_core_batch.specs.declared.elements.Elements.TheVariants.{One, Between}
+use Rattle.loop_core_batch.specs.declared.elements.Elements.TheVariants.{One, Every, Between}
 use Rattle.bpf_step_batch.specs.declared.mask.Mask.TheVariants.{All as AllLanes}
 use Rattle.bpf_step_batch.specs.declared.entry.Entry.{Entry}
 use Rattle.bpf_step_batch.specs.Logs.{element_by, action_by, access_by, site_of}
@@ -52,6 +52,11 @@ one_row row entry only lanes is room each lane below =
 pub own_row : (entry : Entry) (low high lanes : ℕ) → entry.site.elements ≡ Between low high
     → IsRow entry.elements entry lanes
 own_row entry low high lanes is lane below =
+    sym (ap (λ (elements : Elements). element_by elements entry.elements lane) is)
+
+pub steps_row : (entry : Entry) (first step lanes : ℕ) → entry.site.elements ≡ Every first step
+    → IsRow entry.elements entry lanes
+steps_row entry first step lanes is lane below =
     sym (ap (λ (elements : Elements). element_by elements entry.elements lane) is)
 
 -- what is told of each lane at an entry is so of each element of its row

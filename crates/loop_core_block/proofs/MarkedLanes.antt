@@ -1,10 +1,11 @@
 -- What lanes mark at an element, lane by lane.
-use Rattle.std.proofs.Common.{◌≡◌, ℕ, zero, suc, ◌+◌, ◌<◌, ◌≤◌, Bool, true, false, ◌||◌, eqb, List}
+use Rattle.std.proofs.Common.{◌≡◌, ℕ, zero, suc, ◌+◌, ◌*◌, ◌<◌, ◌≤◌, Bool, true, false, ◌||◌, eqb, List}
 use Rattle.std.proofs.Common.{[], ◌∷◌, ◌++◌, length, map, Option, Some, None, refl, sym, ◌∙◌, ap}
 use Rattle.std.proofs.Common.{append_assoc, eq-eqb, ne_eqb, eqb-true, arith, length-append}
-use Rattle.std.specs.Prelude.{slice_index, if◌then◌else◌}
+use Rattle.std.specs.Prelude.{◌==◌, slice_index, if◌then◌else◌}
 use Rattle.std.specs.List.{AllByRecursion, list_any}
 use Rattle.std.proofs.Math.Bool.{or-false}
+use Rattle.std.proofs.lemmas.Bool.{and_parts}
 use Rattle.std.proofs.lemmas.List.{append-nil}
 use Rattle.std.proofs.lemmas.List.Folds.{list_any-append}
 use Rattle.array_maps.specs.Accesses.{Access, Action, actions_at}
@@ -16,7 +17,7 @@ use Rattle.loop_core_model.specs.Marks.{Visit, Marks, marks_of, marks_of_one, me
 use Rattle.loop_core_model.proofs.FlagLaws.{flags_follow_kinds}
 use Rattle.loop_core_model.proofs.MarkLaws.{marks_merge}
 use Rattle.loop_core_batch.specs.declared.elements.Elements.{Elements}
-use Rattle.loop_core_batch.specs.declared.elements.Elements.TheVariants.{One, Run, Between}
+use Rattle.loop_core_batch.specs.declared.elements.Elements.TheVariants.{One, Run, Every, Between}
 use Rattle.loop_core_batch.specs.Sites.{MayAccess}
 use Rattle.shadow_marks.specs.Lanes.{over_lanes}
 use Rattle.shadow_marks.proofs.EndLaws.{merged-none}
@@ -84,6 +85,18 @@ same_at (Run first) (One other) lane x y same at there = absurd (cc)
 same_at (Run first) (Run other) lane x y same at there =
     at ∙ ap (λ (n : ℕ). n + lane) (eqb-true first other same) ∙ sym there
 same_at (Run first) (Between low high) lane x y same at there = absurd (cc)
+same_at (One only) (Every other own) lane x y same at there = absurd (cc)
+same_at (Run first) (Every other own) lane x y same at there = absurd (cc)
+same_at (Every first step) (One other) lane x y same at there = absurd (cc)
+same_at (Every first step) (Run other) lane x y same at there = absurd (cc)
+same_at (Every first step) (Every other own) lane x y same at there =
+    let parts = and_parts (first == other) (step == own) same in
+    at
+    ∙ ap (λ (n : ℕ). n + lane * step) (eqb-true first other parts.0)
+    ∙ ap (λ (n : ℕ). other + lane * n) (eqb-true step own parts.1)
+    ∙ sym there
+same_at (Every first step) (Between low high) lane x y same at there = absurd (cc)
+same_at (Between low high) (Every other own) lane x y same at there = absurd (cc)
 same_at (Between low high) (One other) lane x y same at there = absurd (cc)
 same_at (Between low high) (Run other) lane x y same at there = absurd (cc)
 same_at (Between low high) (Between l h) lane x y same at there = absurd (cc)

@@ -1,12 +1,12 @@
 -- A batch that is folded into a block site by site, and what that comes to lane by lane.
-use Rattle.std.specs.Prelude.{◌≡◌, ℕ, Bool, true, false, ◌==◌, if◌then◌else◌}
+use Rattle.std.specs.Prelude.{◌≡◌, ℕ, Bool, true, false, ◌==◌, ◌&&◌, if◌then◌else◌}
 use Rattle.std.specs.Prelude.{List, [], ◌∷◌, ◌++◌, map, Option, Some, None}
 use Rattle.std.specs.List.{AllPairs, list_any}
 use Rattle.array_maps.specs.Accesses.{Access}
 use Rattle.loop_core_model.specs.Flags.{Flags, no_flags, flagged}
 use Rattle.loop_core_model.specs.Marks.{Marks}
 use Rattle.loop_core_batch.specs.declared.elements.Elements.{Elements}
-use Rattle.loop_core_batch.specs.declared.elements.Elements.TheVariants.{One, Run}
+use Rattle.loop_core_batch.specs.declared.elements.Elements.TheVariants.{One, Run, Every}
 use Rattle.loop_core_batch.specs.declared.site.Site.{Site}
 use Rattle.loop_core_batch.specs.Sites.{kind_leaves}
 use Rattle.shadow_marks.specs.declared.planes.Planes.{Planes}
@@ -34,6 +34,7 @@ over_sites step (site ∷ sites) lane x = over_sites step sites lane (step site 
 abbrev pub are_same : Elements → Elements → Bool
 are_same (One only) (One other) = only == other
 are_same (Run first) (Run other) = first == other
+are_same (Every first step) (Every other own) = (first == other) && (step == own)
 are_same _ _ = false
 
 -- of two sites one at most writes, or no lane accesses by one what any lane accesses by the other; and each lane

@@ -1,6 +1,6 @@
 //! The pages of a batch's elements, placed as if its lanes came one after another.
 
-ghost use Rattle.std.specs.Prelude.{◌≡◌, ℕ, ◌<◌, ◌≤◌, true, false, List, length, OnOk, IfOk};
+ghost use Rattle.std.specs.Prelude.{◌≡◌, ℕ, ◌+◌, ◌-◌, ◌*◌, ◌<◌, ◌≤◌, true, false, List, length, OnOk, IfOk, IfSome};
 ghost use Rattle.std.specs.List.{All, AllByRecursion};
 ghost use Rattle.private_copy.specs.Shown.{copy_of};
 ghost use Rattle.private_copy.specs.Touched.{has_page, page_of};
@@ -69,8 +69,20 @@ fn is_site_placed(copy: &Private, elements: Elements, lanes: u32) -> bool
     match elements {
         Elements::One(only) => copy.are_placed(only, only),
         Elements::Run(first) => copy.are_placed(first, first.saturating_add(lanes - 1)),
+        Elements::Every { first, step } => match last_step(first, step, lanes) {
+            Some(last) => is_range_placed(copy, first, last, lanes),
+            None => false,
+        },
         Elements::Between { low, high } => is_range_placed(copy, low, high, lanes),
     }
+}
+
+/// The element of the last of some lanes that go by steps from a first one; `None` where it is no element of any map.
+fn last_step(first: u32, step: u32, lanes: u32) -> Option<u32>
+    requires { 0 < lanes }
+    ensures { IfSome result (λ last. last ≡ first + (lanes - 1) * step) }
+{
+    u32::try_from(u64::from(first) + u64::from(lanes - 1) * u64::from(step)).ok()
 }
 
 /// The same of the elements from one to another.
@@ -118,6 +130,7 @@ fn next_page(entry: &Entry, lane: u32, e: u32) -> u32
     match entry.site.elements {
         Elements::One(_) => u32::MAX,
         Elements::Run(_) => lane + (PAGE - e % PAGE),
+        Elements::Every { first: _, step: _ } => lane + 1,
         Elements::Between { low: _, high: _ } => lane + 1,
     }
 }

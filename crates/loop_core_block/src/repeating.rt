@@ -69,6 +69,7 @@ pub(crate) fn element(entry: &Entry, lane: u32) -> u32
     match entry.site.elements {
         Elements::One(only) => only,
         Elements::Run(first) => first + lane,
+        Elements::Every { first: _, step: _ } => entry.elements[lane as usize],
         Elements::Between { low: _, high: _ } => entry.elements[lane as usize],
     }
 }

@@ -50,6 +50,7 @@ fn note_site(copy: &mut Private, entry: &Entry, lanes: u32)
     match entry.site.elements {
         Elements::One(only) => note_row(copy, entry, &all_at(only), lanes),
         Elements::Run(first) => copy.note_run(entry.site.kind, first, lanes, &entry.values),
+        Elements::Every { first: _, step: _ } => note_row(copy, entry, &entry.elements, lanes),
         Elements::Between { low: _, high: _ } => note_row(copy, entry, &entry.elements, lanes),
     }
 }
@@ -128,6 +129,9 @@ fn end_site(
     match entry.site.elements {
         Elements::One(only) => end_row(planes, entry, &all_at(only), lanes, index, flags),
         Elements::Run(first) => planes.end_run(first, lanes, index, flags),
+        Elements::Every { first: _, step: _ } => {
+            end_row(planes, entry, &entry.elements, lanes, index, flags);
+        }
         Elements::Between { low: _, high: _ } => {
             end_row(planes, entry, &entry.elements, lanes, index, flags);
         }

@@ -9,7 +9,7 @@ use Rattle.std.proofs.lemmas.List.{take_all, get_or_default}
 use Rattle.loop_core_model.specs.declared.access.Access.{Access as Kind}
 use Rattle.loop_core_model.specs.declared.access.Access.TheVariants.{Write}
 use Rattle.loop_core_batch.specs.declared.elements.Elements.{Elements}
-use Rattle.loop_core_batch.specs.declared.elements.Elements.TheVariants.{One, Run, Between}
+use Rattle.loop_core_batch.specs.declared.elements.Elements.TheVariants.{One, Run}
 use Rattle.loop_core_batch.specs.Sites.{kind_sees, kind_leaves}
 use Rattle.bpf_step_batch.specs.declared.entry.Entry.{Entry}
 use Rattle.bpf_step_batch.specs.declared.mask.Mask.{Mask}
@@ -162,16 +162,16 @@ run_only words lanes entry first old new whole is marks e inside told =
           at = ap (λ (elements : Elements). element_by elements entry.elements (e - first)) is ∙ at;
         })
 
-pub row_has : (lanes : ℕ) (entry : Entry) (low high : ℕ) (old : UndoLog)
-    → entry.mask ≡ AllLanes → entry.site.elements ≡ Between low high
+pub row_has : (lanes : ℕ) (entry : Entry) (old : UndoLog) → entry.mask ≡ AllLanes
+    → ((lane : ℕ) → element_by entry.site.elements entry.elements lane ≡ slice_index entry.elements lane)
     → (e : ℕ) → (is_written old e ≡ true) ⊎ IsInRow lanes entry.elements e
     → (is_written old e ≡ true) ⊎ HasElement lanes entry e
-row_has lanes entry low high old whole is e (inl was) = inl was
-row_has lanes entry low high old whole is e (inr in_row) = inr (record {
+row_has lanes entry old whole is e (inl was) = inl was
+row_has lanes entry old whole is e (inr in_row) = inr (record {
   lane = in_row.lane;
   below = in_row.below;
   made = ap (λ (mask : Mask). has_lane mask in_row.lane) whole;
-  at = ap (λ (elements : Elements). element_by elements entry.elements in_row.lane) is ∙ in_row.at;
+  at = is in_row.lane ∙ in_row.at;
 })
 
 -- what is marked of a lane, as its mask tells

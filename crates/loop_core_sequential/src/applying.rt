@@ -315,6 +315,9 @@ fn store_values(entry: &Entry, lanes: u32, maps: &mut Maps)
     match entry.site.elements {
         Elements::One(only) => store_each(Elements::One(only), entry, lanes, maps),
         Elements::Run(first) => store_run(first, entry, lanes, maps),
+        Elements::Every { first, step } => {
+            store_each(Elements::Every { first, step }, entry, lanes, maps);
+        }
         Elements::Between { low, high } => {
             store_each(Elements::Between { low, high }, entry, lanes, maps);
         }
@@ -389,6 +392,9 @@ fn reduce_by(op: Op, entry: &Entry, lanes: u32, maps: &mut Maps)
             maps.update(only, op, combined_values(op, &entry.values, lanes as usize));
         }
         Elements::Run(first) => reduce_run(op, first, entry, lanes, maps),
+        Elements::Every { first, step } => {
+            reduce_each(op, Elements::Every { first, step }, entry, lanes, maps);
+        }
         Elements::Between { low, high } => {
             reduce_each(op, Elements::Between { low, high }, entry, lanes, maps);
         }
@@ -454,6 +460,7 @@ pub(crate) fn element(elements: Elements, entry: &Entry, lane: u32) -> u32
     match elements {
         Elements::One(only) => only,
         Elements::Run(first) => first + lane,
+        Elements::Every { first: _, step: _ } => entry.elements[lane as usize],
         Elements::Between { low: _, high: _ } => entry.elements[lane as usize],
     }
 }

@@ -55,6 +55,7 @@ fn is_any_written(entry: &Entry, lanes: u32, log: &UndoLog) -> bool
     match entry.site.elements {
         Elements::One(only) => log.is_written(only),
         Elements::Run(first) => log.is_any_written(first, lanes),
+        Elements::Every { first: _, step: _ } => is_any_of_row_written(&entry.elements, lanes, log),
         Elements::Between { low: _, high: _ } => is_any_of_row_written(&entry.elements, lanes, log),
     }
 }
@@ -154,6 +155,7 @@ fn note_all(entry: &Entry, lanes: u32, log: &mut UndoLog, maps: &Maps)
     match entry.site.elements {
         Elements::One(only) => log.mark(only, maps),
         Elements::Run(first) => log.mark_run(first, lanes, maps),
+        Elements::Every { first: _, step: _ } => note_row(&entry.elements, lanes, log, maps),
         Elements::Between { low: _, high: _ } => note_row(&entry.elements, lanes, log, maps),
     }
 }

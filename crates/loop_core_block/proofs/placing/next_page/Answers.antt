@@ -9,3 +9,6 @@ returns-in-Run-clause-same c = run_page c.args.entry.now c.args.lane c.args.e _ 
 
 pub returns-in-Between-clause-same : goal.returns-in-Between-clause-same
 returns-in-Between-clause-same c = row_page c.args.entry.now c.args.lane
+
+pub returns-in-Every-clause-same : goal.returns-in-Every-clause-same
+returns-in-Every-clause-same c = row_page c.args.entry.now c.args.lane

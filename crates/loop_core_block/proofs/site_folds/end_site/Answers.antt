@@ -3,7 +3,7 @@ use Rattle.loop_core_model.specs.Flags.{Flags}
 use Rattle.shadow_marks.specs.Kept.{flags_in}
 use Rattle.bpf_step_batch.specs.Logs.{element_by}
 use Rattle.loop_core_block.specs.Folding.{EndsSite}
-use Rattle.loop_core_block.proofs.FoldLaws.{one_row, own_row, some_end}
+use Rattle.loop_core_block.proofs.FoldLaws.{one_row, own_row, steps_row, some_end}
 use Rattle.loop_core_block.proofs.RunSites.{run_within, run_ends}
 use Rattle.loop_core_block.proofs.site_folds.end_site.Goals as goal
 
@@ -44,3 +44,12 @@ returns-in-Between c =
     some_end c.args.planes.now c.end_row-in-Between.new.planes
     (element_by c.args.entry.now.site.elements c.args.entry.now.elements) c.args.lanes c.args.index _
     (flags_in c.in-Some.flags) c.in-Some.ensures c.end_row-in-Between.ensures
+
+pub end_row-requires-in-Every-clause-row : goal.end_row-requires-in-Every-clause-row
+end_row-requires-in-Every-clause-row c = steps_row c.args.entry.now c.in-Every.first c.in-Every.step c.args.lanes c.in-Every.is
+
+pub returns-in-Every : goal.returns-in-Every
+returns-in-Every c =
+    some_end c.args.planes.now c.end_row-in-Every.new.planes
+    (element_by c.args.entry.now.site.elements c.args.entry.now.elements) c.args.lanes c.args.index _
+    (flags_in c.in-Some.flags) c.in-Some.ensures c.end_row-in-Every.ensures

@@ -1,6 +1,6 @@
 use Rattle.std.proofs.Common.{length}
 use Rattle.private_copy.specs.Shown.{copy_of}
-use Rattle.loop_core_block.proofs.FoldLaws.{one_row, own_row}
+use Rattle.loop_core_block.proofs.FoldLaws.{one_row, own_row, steps_row}
 use Rattle.loop_core_block.proofs.RunSites.{run_within, run_placed, run_is_site}
 use Rattle.loop_core_block.proofs.site_folds.note_site.Goals as goal
 
@@ -23,3 +23,6 @@ returns-in-Run c words = run_is_site (copy_of c.args.copy.now) (copy_of c.note_r
 pub note_row-requires-in-Between-clause-row : goal.note_row-requires-in-Between-clause-row
 note_row-requires-in-Between-clause-row c = own_row c.args.entry.now c.in-Between.low c.in-Between.high c.args.lanes
     c.in-Between.is
+
+pub note_row-requires-in-Every-clause-row : goal.note_row-requires-in-Every-clause-row
+note_row-requires-in-Every-clause-row c = steps_row c.args.entry.now c.in-Every.first c.in-Every.step c.args.lanes c.in-Every.is

@@ -1,12 +1,12 @@
-use Rattle.std.proofs.Common.{◌<◌, subst}
+use Rattle.std.proofs.Common.{◌<◌, ap, subst}
 use Rattle.loop_core_batch.specs.declared.elements.Elements.{Elements}
 use Rattle.bpf_step_batch.specs.Logs.{element_by}
 use Rattle.loop_core_undo.specs.Undo.{log_elements}
 use Rattle.loop_core_sequential.proofs.NotingLaws.{one_only, run_only, row_has}
 use Rattle.loop_core_sequential.proofs.noting.note_all.Goals as goal
 
-pub note_row-requires-clause-within : goal.note_row-requires-clause-within
-note_row-requires-clause-within c = λ lane below.
+pub note_row-requires-in-Between-clause-within : goal.note_row-requires-in-Between-clause-within
+note_row-requires-in-Between-clause-within c = λ lane below.
     subst (λ (elements : Elements). element_by elements c.args.entry.now.elements lane < log_elements c.args.log.now)
     c.in-Between.is (c.requires.within lane below)
 
@@ -24,5 +24,17 @@ returns-in-Run-clause-only c =
 
 pub returns-in-Between-clause-only : goal.returns-in-Between-clause-only
 returns-in-Between-clause-only c = λ e inside told.
-    row_has c.args.lanes c.args.entry.now _ _ c.args.log.now c.requires.whole c.in-Between.is
+    row_has c.args.lanes c.args.entry.now c.args.log.now c.requires.whole
+    (λ lane. ap (λ (elements : Elements). element_by elements c.args.entry.now.elements lane) c.in-Between.is)
+    e (c.note_row-in-Between.ensures.only e inside told)
+
+pub note_row-requires-clause-within : goal.note_row-requires-clause-within
+note_row-requires-clause-within c = λ lane below.
+    subst (λ (elements : Elements). element_by elements c.args.entry.now.elements lane < log_elements c.args.log.now)
+    c.in-Every.is (c.requires.within lane below)
+
+pub returns-in-Every-clause-only : goal.returns-in-Every-clause-only
+returns-in-Every-clause-only c = λ e inside told.
+    row_has c.args.lanes c.args.entry.now c.args.log.now c.requires.whole
+    (λ lane. ap (λ (elements : Elements). element_by elements c.args.entry.now.elements lane) c.in-Every.is)
     e (c.note_row.ensures.only e inside told)

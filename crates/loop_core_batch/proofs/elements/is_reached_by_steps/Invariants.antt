@@ -1,0 +1,5 @@
+use Rattle.std.proofs.Common.{◌≢◌, ℕ, ◌+◌, ◌*◌, ◌<◌, ◌≤◌}
+use Rattle.loop_core_batch.proofs.elements.is_reached_by_steps.Given as goal
+
+abbrev pub invariant-loop-lane : goal.invariant-loop-lane
+invariant-loop-lane l = (lane : ℕ) → l.from ≤ lane → lane < l.lane → l.element ≢ l.first + lane * l.step
