@@ -14,3 +14,4 @@ pub mod GatheringLaws
 pub mod HeldLaws
 pub mod TouchedLaws
 pub mod UntouchedLaws
+pub mod PassLaws

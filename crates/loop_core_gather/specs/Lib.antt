@@ -4,3 +4,4 @@ pub mod Held
 pub mod Gathered
 pub mod Touched
 pub mod Pages
+pub mod Decisions

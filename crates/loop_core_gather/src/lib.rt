@@ -1,6 +1,7 @@
 //! Blocks of a speculative loop, gathered: which of them count, what they tell of the loop, and what it comes to.
 #![tactic(auto)]
 
+mod decision;
 mod gathered;
 mod gathering;
 mod kept;
@@ -14,10 +15,11 @@ mod summary;
 mod touched;
 mod workspace;
 
+pub use decision::{CarriedOut, Decision, LoopOutcome};
 pub use gathered::Gathered;
 pub use gathering::{GatherError, gather};
 pub use loop_core_model::GatherFault;
 pub use order::{Counting, counting_blocks};
-pub use outcome::{LoopOutcome, commit_or_rerun};
+pub use outcome::commit_or_rerun;
 pub use storing::{LeftPage, store_pages};
 pub use summary::Summary;

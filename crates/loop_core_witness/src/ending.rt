@@ -7,14 +7,13 @@ ghost use Rattle.loop_core_witness.specs.Reductions.{operator_after, end_slot, T
 ghost use Rattle.loop_core_witness.specs.Searches.{IsSearch, FindsEnd};
 ghost use Rattle.loop_core_witness.specs.Surveys.{IsSurvey};
 
+use crate::counting::counted_by;
 use crate::finding::Search;
-use crate::pairing::counted_by;
 use crate::place::Place;
 use crate::survey::Survey;
-use array_maps::{Maps, Op, Store};
+use array_maps::{Maps, Op};
 use bpf_step::LoopCall;
 use bpf_verify::Verified;
-use bpf_verify_sound::{law_of_accepted_programs, law_of_accepted_runs};
 use loop_core_trace::{FirstReduce, Slots, trace_iteration};
 use std::alloc::{AllocError, Global};
 
@@ -98,19 +97,13 @@ pub fn find_end_of_reduction(
     requires survey { IsSurvey program.now call.now start.now.words survey.now }
     ensures end { IfOk result (TellsEnd program.now call.now start.now.words element) }
 {
-    law_of_accepted_programs();
-    law_of_accepted_runs();
-    // These tell the proof that the program is accepted, and what words the maps have.
-    let _unit = program.unit();
-    let _sizes = start.sizes();
-    Store::words_fit(start);
     let search = Search {
         alloc,
         program,
         call,
         start,
         element,
-        count: counted_by(call, broke),
+        count: counted_by(program, call, start, broke),
         survey,
     };
     end_of_reduction(&search)

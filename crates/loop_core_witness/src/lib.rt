@@ -11,6 +11,7 @@
 #![tactic(auto)]
 
 mod breaking;
+mod counting;
 mod ending;
 mod finding;
 mod kind;

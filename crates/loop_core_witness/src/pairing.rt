@@ -1,38 +1,24 @@
 //! Finding the least pair of iterations that fails a test.
 
-ghost use Rattle.std.specs.Prelude.{◌≡◌, ◌<◌, Some, IfOk};
+ghost use Rattle.std.specs.Prelude.{◌≡◌, IfOk};
 ghost use Rattle.bpf_verify_sound.specs.Soundness.{OverApproximatesCall};
-ghost use Rattle.loop_core_model.specs.LeastBreak.{count_to};
 ghost use Rattle.loop_core_model.specs.declared.loop_test.Test.TheVariants.{Lrpd, Flow};
-ghost use Rattle.loop_core_witness.specs.Breaks.{index_of, IsBreak};
-ghost use Rattle.loop_core_witness.specs.declared.place.Place.{Place as At};
+ghost use Rattle.loop_core_witness.specs.Breaks.{IsBreak};
 ghost use Rattle.loop_core_witness.specs.Searches.{IsSearch, FindsPair};
 ghost use Rattle.loop_core_witness.specs.Surveys.{IsSurvey};
 ghost use Rattle.loop_core_witness.specs.Witnesses.{Explains};
 
+use crate::counting::counted_by;
 use crate::finding::Search;
 use crate::kind::Kind;
 use crate::place::Place;
 use crate::survey::Survey;
 use crate::witness::Witness;
-use array_maps::{Maps, Store};
+use array_maps::Maps;
 use bpf_step::LoopCall;
 use bpf_verify::Verified;
-use bpf_verify_sound::{law_of_accepted_programs, law_of_accepted_runs};
 use loop_core_model::Test;
 use std::alloc::{AllocError, Global};
-
-/// How many iterations count: up to the break, or all.
-pub(crate) fn counted_by(call: &LoopCall, broke: Option<Place>) -> u32
-    requires within { (place : At) → broke ≡ Some place → place.index < call.now.n }
-    ensures { result ≡ count_to call.now.n (index_of broke) }
-{
-    let n = call.n();
-    match broke {
-        Some(place) => place.index + 1,
-        None => n,
-    }
-}
 
 /// The least pair by the flow test: the least writer, and the first reader behind it.
 fn flow_pair(search: &Search<'_>) -> Result<Option<Witness>, AllocError>
@@ -104,19 +90,13 @@ pub fn find_pair(
     requires survey { IsSurvey program.now call.now start.now.words survey.now }
     ensures pair { IfOk result (Explains test program.now call.now start.now.words element) }
 {
-    law_of_accepted_programs();
-    law_of_accepted_runs();
-    // These tell the proof that the program is accepted, and what words the maps have.
-    let _unit = program.unit();
-    let _sizes = start.sizes();
-    Store::words_fit(start);
     let search = Search {
         alloc,
         program,
         call,
         start,
         element,
-        count: counted_by(call, broke),
+        count: counted_by(program, call, start, broke),
         survey,
     };
     least_pair(&search, test)

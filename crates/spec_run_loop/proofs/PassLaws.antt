@@ -1,9 +1,9 @@
 -- Loops that pass.
-use Rattle.std.proofs.Common.{◌≡◌, ℕ, List, subst, sym, ◌∙◌, ap}
+use Rattle.std.proofs.Common.{◌≡◌, ℕ, subst, sym, ◌∙◌, ap}
 use Rattle.array_maps.specs.MapList.{MapList}
 use Rattle.bpf_insn_types.specs.Program.{Program}
 use Rattle.bpf_step_model.specs.State.{LoopCall}
-use Rattle.bpf_step_model.specs.Run.{BoundedResult, Ended, followed}
+use Rattle.bpf_step_model.specs.Run.{BoundedResult, followed}
 use Rattle.bpf_step_model.specs.LoopInOrder.{Looped}
 use Rattle.loop_core_model.specs.declared.loop_test.Test.{Test}
 use Rattle.loop_core_model.specs.declared.loop_test.Test.TheVariants.{Flow}
@@ -12,25 +12,9 @@ use Rattle.loop_core_model.specs.declared.verdict.Verdict.TheVariants.{Parallel}
 use Rattle.loop_core_model.specs.Report.{verdict}
 use Rattle.loop_core_model.specs.Outcome.{judged_as}
 use Rattle.loop_core_sequential.specs.Watched.{RanAndPasses}
-use Rattle.loop_core_gather.specs.declared.storing.LeftPage.{LeftPage}
-use Rattle.loop_core_gather.specs.Gathered.{HasOutcome, IsOutcome}
-use Rattle.loop_core_gather.specs.Held.{GatheredOf}
-use Rattle.loop_core_gather.specs.Pages.{AreLeft}
+use Rattle.loop_core_gather.specs.Gathered.{IsOutcome}
 use Rattle.spec_run_loop.specs.declared.course.Course.{Course}
 use Rattle.spec_run_loop.specs.declared.decision.LoopAnswer.{LoopAnswer}
-use Rattle.spec_run_loop.specs.Decisions.{Passes}
-
--- gathered blocks that pass leave these pages
-pub passes_so : (test : Test) (program : Program) (call : LoopCall) (words : List ℕ) (g : GatheredOf) (answer : ℕ)
-    (pages : List LeftPage) → HasOutcome test program call words g → g.verdict ≡ Parallel → answer ≡ g.answer
-    → AreLeft g.start g.words pages → Passes test program call words answer pages
-passes_so test program call words g answer pages has passed same left = record {
-  left = g.words;
-  outcome_is = has.passes passed
-      ∙ ap (λ (v : Verdict). Ended (record { verdict = v; answer = g.answer; words = g.words })) passed
-      ∙ ap (λ (n : ℕ). Ended (record { verdict = Parallel; answer = n; words = g.words })) (sym same);
-  pages_are = subst (λ (start : List ℕ). AreLeft start g.words pages) has.starts left;
-}
 
 -- a loop that ran in order and passes by the flow test has this outcome
 pub passed_in_order : (program : Program) (call : LoopCall) (start left : MapList) (answer : ℕ) (course : Course)

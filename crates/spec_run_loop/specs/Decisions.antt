@@ -1,36 +1,8 @@
--- What becomes of a loop by its gathered blocks.
-use Rattle.std.specs.Prelude.{◌≡◌, ℕ, List}
-use Rattle.bpf_insn_types.specs.Program.{Program}
-use Rattle.bpf_step_model.specs.State.{LoopCall}
-use Rattle.bpf_step_model.specs.Run.{Ended}
-use Rattle.loop_core_model.specs.declared.loop_test.Test.{Test}
-use Rattle.loop_core_model.specs.declared.verdict.Verdict.TheVariants.{Parallel}
-use Rattle.loop_core_model.specs.Report.{verdict}
-use Rattle.loop_core_model.specs.Outcome.{outcome}
+-- What gathered blocks tell of a loop.
 use Rattle.loop_core_block.specs.Loops.{LoopOf}
-use Rattle.loop_core_gather.specs.declared.storing.LeftPage.{LeftPage}
 use Rattle.loop_core_gather.specs.Gathered.{HasOutcome}
 use Rattle.loop_core_gather.specs.Held.{GatheredOf}
-use Rattle.loop_core_gather.specs.Pages.{AreLeft}
-use Rattle.spec_run_loop.specs.declared.decision.Decision.{Decision}
-use Rattle.spec_run_loop.specs.declared.decision.Decision.TheVariants.{Commit, Discard}
 
--- a loop call passes from these words, answers this, and leaves these pages, and the others as they were
-pub record Passes (test : Test) (program : Program) (call : LoopCall) (words : List ℕ) (answer : ℕ)
-    (pages : List LeftPage) : Type 0 where
-  pub left : List ℕ
-  pub outcome_is : outcome test program 4096 call words ≡ Ended (record {
-    verdict = Parallel;
-    answer = answer;
-    words = left;
-  })
-  pub pages_are : AreLeft words left pages
-
--- it is committed where it passes; else its verdict is told
-abbrev pub IsDecision : Test → Program → LoopCall → List ℕ → Decision → Type 0
-IsDecision test program call words (Commit answer pages) = Passes test program call words answer pages.items
-IsDecision test program call words (Discard told) = verdict test program 4096 call words ≡ Ended told
-
--- gathered blocks tell a loop's verdict; and where it passes, its answer and its words
+-- its verdict; and where it passes, its answer and its words
 abbrev pub HasOutcomeOf : LoopOf → GatheredOf → Type 0
 HasOutcomeOf l g = HasOutcome l.test l.program l.call l.start.words g

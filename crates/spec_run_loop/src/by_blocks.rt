@@ -4,20 +4,21 @@ ghost use Rattle.std.specs.Prelude.{◌≡◌, ◌<◌, ◌≤◌, All, map, IfO
 ghost use Rattle.loop_core_model.specs.Intervals.{blocks_of};
 ghost use Rattle.loop_core_block.specs.LoopBlocks.{RecordsRunOf};
 ghost use Rattle.loop_core_block.specs.Shown.{shown};
+ghost use Rattle.loop_core_gather.specs.Decisions.{IsDecision};
 ghost use Rattle.loop_core_gather.specs.Gathered.{IsOutcome};
 ghost use Rattle.loop_core_gather.specs.Pages.{AreLeft};
 ghost use Rattle.spec_run_loop.specs.Courses.{course_by};
-ghost use Rattle.spec_run_loop.specs.Decisions.{HasOutcomeOf, IsDecision};
+ghost use Rattle.spec_run_loop.specs.Decisions.{HasOutcomeOf};
 ghost use Rattle.spec_run_loop.specs.Ways.{IsBlockPlan, IsCrewFor};
 ghost use Rattle.spec_run_workers.specs.Workers.{AreFaultless};
 
-use crate::decision::{CarriedOut, Decision, LoopAnswer};
+use crate::decision::LoopAnswer;
 use crate::job::LoopJob;
 use crate::way::{BlockPlan, Crew};
 use array_maps::Maps;
 use loop_board::Board;
 use loop_core_block::{Block, SpeculativeLoop};
-use loop_core_gather::{GatherError, Gathered, LeftPage, gather};
+use loop_core_gather::{CarriedOut, Decision, GatherError, Gathered, LeftPage, gather};
 use loop_core_model::Verdict;
 use loop_core_split::Gate;
 use spec_run_workers::{Workspace, law_of_workers, run_alone, run_workers};
@@ -112,7 +113,7 @@ fn left_pages<R: Threads + Sync>(
 }
 
 /// What becomes of a loop by its gathered blocks.
-#[tactic(auto, using(crate::proofs::PassLaws::passes_so))]
+#[tactic(auto, using(loop_core_gather::proofs::PassLaws::passes_so))]
 fn decision_by<R: Threads + Sync>(
     rt: &R,
     of: &SpeculativeLoop,

@@ -9,7 +9,7 @@ ghost use Rattle.spec_run_loop.specs.Ways.{all_blocks_of};
 ghost use Rattle.spec_run_plan.specs.declared.plan.Policy.TheVariants.{Blocks};
 
 use crate::by_blocks::{decided, run_by_blocks};
-use crate::decision::{CarriedOut, LoopAnswer};
+use crate::decision::LoopAnswer;
 use crate::error::RunError;
 use crate::job::LoopJob;
 use crate::paying::elements_of;
@@ -100,18 +100,7 @@ fn run_on_copy<R: Threads + Sync, G: Gate>(
     };
     let crew = Crew::Workers(run.workers);
     let decision = decided(rt, &of, crew, &mut Workspace::new(), gate)?;
-    let mut maps = run.start.try_copy(run.alloc)?;
-    let CarriedOut { verdict, answer } = decision.carry_out(
-        run.program,
-        run.call,
-        &mut maps,
-        run.test,
-    );
-    Ok(LoopOutcome {
-        verdict,
-        answer,
-        maps,
-    })
+    decision.carry_out_on_copy(run.alloc, run.program, run.call, run.start, run.test)
 }
 
 /// Runs a loop call by its workers, each in a thread of its own, over all blocks of its split. What a loop leaves that

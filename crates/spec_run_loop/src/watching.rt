@@ -8,11 +8,12 @@ ghost use Rattle.spec_run_loop.specs.Ways.{IsBlockPlan};
 
 use crate::by_blocks::decision_on;
 use crate::course::Course;
-use crate::decision::{CarriedOut, LoopAnswer};
+use crate::decision::{LoopAnswer, carry_out_from};
 use crate::job::LoopJob;
 use crate::paying::elements_of;
 use crate::way::BlockPlan;
 use array_maps::Maps;
+use loop_core_gather::CarriedOut;
 use loop_core_sequential::{WatchedLoop, in_order_watched};
 use loop_core_split::Gate;
 use spec_run_workers::Workspace;
@@ -50,7 +51,7 @@ pub(crate) fn run_watched<R: Threads + Sync, G: Gate>(
         WatchedLoop::Dependent(progress) => progress,
     };
     let decision = decision_on(rt, job, otherwise, maps, workspace, gate)?;
-    let CarriedOut { verdict, answer } = decision.carry_out_from(job, progress, &mut log, maps);
+    let CarriedOut { verdict, answer } = carry_out_from(decision, job, progress, &mut log, maps);
     workspace.keep_log(log);
     Ok(LoopAnswer {
         verdict,

@@ -1,0 +1,25 @@
+-- Loops that pass.
+use Rattle.std.proofs.Common.{◌≡◌, ℕ, List, subst, sym, ◌∙◌, ap}
+use Rattle.bpf_insn_types.specs.Program.{Program}
+use Rattle.bpf_step_model.specs.State.{LoopCall}
+use Rattle.bpf_step_model.specs.Run.{Ended}
+use Rattle.loop_core_model.specs.declared.loop_test.Test.{Test}
+use Rattle.loop_core_model.specs.declared.verdict.Verdict.{Verdict}
+use Rattle.loop_core_model.specs.declared.verdict.Verdict.TheVariants.{Parallel}
+use Rattle.loop_core_gather.specs.declared.storing.LeftPage.{LeftPage}
+use Rattle.loop_core_gather.specs.Decisions.{Passes}
+use Rattle.loop_core_gather.specs.Gathered.{HasOutcome}
+use Rattle.loop_core_gather.specs.Held.{GatheredOf}
+use Rattle.loop_core_gather.specs.Pages.{AreLeft}
+
+-- gathered blocks that pass leave these pages
+pub passes_so : (test : Test) (program : Program) (call : LoopCall) (words : List ℕ) (g : GatheredOf) (answer : ℕ)
+    (pages : List LeftPage) → HasOutcome test program call words g → g.verdict ≡ Parallel → answer ≡ g.answer
+    → AreLeft g.start g.words pages → Passes test program call words answer pages
+passes_so test program call words g answer pages has passed same left = record {
+  left = g.words;
+  outcome_is = has.passes passed
+      ∙ ap (λ (v : Verdict). Ended (record { verdict = v; answer = g.answer; words = g.words })) passed
+      ∙ ap (λ (n : ℕ). Ended (record { verdict = Parallel; answer = n; words = g.words })) (sym same);
+  pages_are = subst (λ (start : List ℕ). AreLeft start g.words pages) has.starts left;
+}
