@@ -1,5 +1,5 @@
 -- What loop calls that were run tell of them.
-use Rattle.std.proofs.Common.{◌≡◌, ℕ, pos, Some, Ok, Err, refl, ap, sym, subst, ◌∙◌}
+use Rattle.std.proofs.Common.{◌≡◌, ℕ, pos, Some, Ok, Err, ap, sym, subst, ◌∙◌}
 use Rattle.std.specs.Prelude.{Result, IfOk}
 use denote.Ref.{Bor, MutBor}
 use denote.Param.Members.{Shared}
@@ -8,34 +8,19 @@ use Rattle.bpf_insn_types.specs.Program.{Program}
 use Rattle.bpf_step_model.specs.State.{LoopCall}
 use Rattle.bpf_step_model.specs.Run.{BoundedResult, Ended, Stuck, Unfinished, mapped, followed}
 use Rattle.bpf_step_model.specs.LoopInOrder.{Looped, loop_in_order}
-use Rattle.bpf_verify_sound.specs.Soundness.{IsSoundProgram}
+use Rattle.bpf_step_model.specs.ProgramInOrder.{LoopMade}
+use Rattle.bpf_step_model.proofs.Endings.{ended_same}
+use Rattle.bpf_verify_sound.specs.Soundness.{IsSoundProgram, OverApproximatesCall}
 use Rattle.loop_core_model.specs.declared.loop_test.Test.{Test}
+use Rattle.loop_core_model.specs.declared.verdict.LoopReport.{LoopReport}
 use Rattle.loop_core_model.specs.declared.verdict.Verdict.{Verdict}
-use Rattle.loop_core_model.specs.declared.verdict.Verdict.TheVariants.{InOrder}
-use Rattle.loop_core_model.specs.Report.{line, loop_report, loop_report_in_order, verdict}
+use Rattle.loop_core_model.specs.Report.{line, loop_report, verdict}
 use Rattle.loop_core_model.specs.Outcome.{Outcome, judged_as}
 use Rattle.loop_core_sequential.specs.FilledCalls.{FilledCallsAreOneLoop}
-use Rattle.loop_core_sequential.specs.Loops.{RanLoopInOrder}
 use Rattle.loop_core_gather.specs.Gathered.{IsOutcome}
 use Rattle.spec_run_loop.specs.declared.decision.LoopAnswer.{LoopAnswer}
 use Rattle.spec_run_workers.specs.declared.workspace.Workspace.{Workspace}
-use Rattle.spec_run.specs.Calls.{RanCall, MayAnswer}
-
--- a loop that ran in order
-pub in_order_call : {program : Program} {call : LoopCall} {start left : MapList} {answer : ℕ}
-    → RanLoopInOrder program call start left answer
-    → RanCall loop_report_in_order program call start left answer InOrder
-in_order_call ran = record { ran = ran; told = λ made filled known fit. refl }
-
--- an ending's value, or another
-value_or : {A : Type 0} → A → BoundedResult A → A
-value_or other (Ended value) = value
-value_or other Stuck = other
-value_or other Unfinished = other
-
-same_value : {A : Type 0} (a b : A) → Ended a ≡ Ended b → a ≡ b
-unfolding value_or
-same_value a b same = ap (value_or a) same
+use Rattle.spec_run.specs.Calls.{RanCall, MayAnswer, RunsCalls}
 
 -- an outcome that is there is a verdict and a loop in order that are there
 record Parts (told : BoundedResult Verdict) (looped : BoundedResult Looped) (o : Outcome) : Type 0 where
@@ -45,7 +30,7 @@ record Parts (told : BoundedResult Verdict) (looped : BoundedResult Looped) (o :
 parts : (told : BoundedResult Verdict) (looped : BoundedResult Looped) (o : Outcome) → followed (judged_as told) looped
     ≡ Ended o → Parts told looped o
 parts (Ended v) (Ended l) o h =
-    let same = same_value (record { verdict = v; answer = l.answer; words = l.words }) o h in
+    let same = ended_same (record { verdict = v; answer = l.answer; words = l.words }) o h in
     record {
       judged = ap (λ (p : Outcome). Ended p.verdict) same;
       ordered = ap (λ (p : Outcome). Ended (record { answer = p.answer; words = p.words })) same;
@@ -89,3 +74,15 @@ told_of {F} {E} {calls} {f} {call} {start} {left} {answered} P it told =
     subst (λ (left : MapList). P call start left) it.left_is
     (subst (λ (start : MapList). P call start it.after_call.now) it.start_is
     (subst (λ (call : LoopCall). P call it.maps.now it.after_call.now) it.call_is told))
+
+-- a call that gave an answer ran
+pub ran_of : {F E : Type 0}
+    {calls : Shared F (Bor LoopCall × (MutBor MapList × (MutBor Workspace × Unit {0})))
+    (Result LoopAnswer E × (MutBor MapList × (MutBor Workspace × Unit {0})))}
+    {f : F} {line_of : LoopMade → BoundedResult LoopReport} {program : Program} {call : LoopCall}
+    {start left : MapList} {answered : Result LoopAnswer E} {a : LoopAnswer} → RunsCalls calls f line_of program
+    → OverApproximatesCall program call → start.sizes ≡ program.sizes → MayAnswer calls f call start answered left
+    → answered ≡ Ok a → RanCall line_of program call start left a.answer a.verdict
+ran_of {F} {E} {calls} {f} {line_of} {program} {call} {start} {left} {answered} runs known sizes answers is =
+    subst (λ (r : Result LoopAnswer E). IfOk r (λ a. RanCall line_of program call start left a.answer a.verdict)) is
+    (runs.told call start answered left known sizes answers)

@@ -1,5 +1,5 @@
 -- What running a loop call gives, and what is told of it.
-use Rattle.std.specs.Prelude.{◌≡◌, ℕ, ℤ, pos, List, Some, None, Result, IfOk}
+use Rattle.std.specs.Prelude.{◌≡◌, ℕ, pos, Some, Result, IfOk}
 use denote.Ref.{Bor, MutBor}
 use denote.Param.Members.{Shared}
 use Rattle.array_maps.specs.MapList.{MapList}
@@ -11,7 +11,6 @@ use Rattle.bpf_verify_sound.specs.Soundness.{AreMapWords, OverApproximatesCall}
 use Rattle.bpf_step.specs.Turns.{IsFilled}
 use Rattle.loop_core_model.specs.declared.verdict.LoopReport.{LoopReport}
 use Rattle.loop_core_model.specs.declared.verdict.Verdict.{Verdict}
-use Rattle.loop_core_model.specs.declared.verdict.Verdict.TheVariants.{Refused}
 use Rattle.loop_core_sequential.specs.Loops.{RanLoopInOrder}
 use Rattle.spec_run_loop.specs.declared.decision.LoopAnswer.{LoopAnswer}
 use Rattle.spec_run_workers.specs.declared.workspace.Workspace.{Workspace}
@@ -24,12 +23,6 @@ pub record RanCall (line_of : LoopMade → BoundedResult LoopReport) (program : 
       → AreMapWords program start.words
       → line_of (record { slot = made.slot; answer = pos answer; words = start.words; call = Some made })
       ≡ Ended (record { slot = made.slot; answer = pos answer; verdict = told_verdict })
-
--- a refused call is told as one
-abbrev pub TellsRefused : (LoopMade → BoundedResult LoopReport) → Type 0
-TellsRefused line_of = (slot : ℕ) (answer : ℤ) (words : List ℕ) →
-    line_of (record { slot = slot; answer = answer; words = words; call = None })
-    ≡ Ended (record { slot = slot; answer = answer; verdict = Refused })
 
 module _ {F E : Type 0}
     (calls : Shared F (Bor LoopCall × (MutBor MapList × (MutBor Workspace × Unit {0})))
@@ -60,4 +53,3 @@ module _ {F E : Type 0}
     pub told : (call : LoopCall) (start : MapList) (answered : Result LoopAnswer E) (left : MapList)
         → OverApproximatesCall program call → start.sizes ≡ program.sizes → MayAnswer call start answered left
         → IfOk answered (λ a. RanCall line_of program call start left a.answer a.verdict)
-    pub refused : TellsRefused line_of

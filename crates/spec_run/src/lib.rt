@@ -11,9 +11,9 @@
 //! ```
 #![tactic(auto)]
 
-mod driver;
+mod by_plan;
 mod freed_memory;
-mod judges;
+mod in_order;
 mod observing;
 mod report;
 mod running;

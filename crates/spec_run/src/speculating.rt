@@ -6,7 +6,7 @@ ghost use Rattle.loop_core_gather.specs.Gathered.{IsOutcome};
 ghost use Rattle.spec_run.specs.AsInOrder.{RunsAsInOrder};
 ghost use Rattle.spec_run_plan.specs.Plans.{IsPlan};
 
-use crate::driver::run_main;
+use crate::by_plan::run_program;
 use crate::freed_memory::keep_freed_memory;
 use crate::observing::{Observer, Unobserved};
 use crate::report::Report;
@@ -95,8 +95,8 @@ pub fn run_observed<R: Threads + Sync, G: Gate, O: Observer>(
         };
         run_by_plan(rt, &job, maps, workspace, gate)
     };
-    let report = run_main(
-        alloc, program, &mut left, argument, &plan.test, &run_call, observer,
+    let report = run_program(
+        alloc, program, &mut left, argument, plan.test, &run_call, observer,
     )?;
     *maps = left;
     Ok(report)

@@ -1,12 +1,16 @@
 -- What is told of a program's loops.
-use Rattle.std.specs.Prelude.{◌≡◌, ℕ}
+use Rattle.std.specs.Prelude.{◌≡◌, ℕ, List}
 use Rattle.array_maps.specs.MapList.{MapList}
 use Rattle.bpf_insn_types.specs.Program.{Program}
-use Rattle.bpf_step_model.specs.ProgramInOrder.{program_in_order}
+use Rattle.bpf_step_model.specs.ProgramInOrder.{LoopMade, program_in_order}
 use Rattle.loop_core_model.specs.declared.loop_test.Test.{Test}
+use Rattle.loop_core_model.specs.declared.verdict.LoopReport.{LoopReport}
+use Rattle.loop_core_model.specs.Report.{loop_report}
 use Rattle.spec_run.specs.AsInOrder.{IsReportByTest}
+use Rattle.spec_run_main.specs.Lines.{AreLines}
 use Rattle.spec_run_explain.specs.declared.explained.Explained.{Explained}
-use Rattle.spec_run_explain.specs.Causes.{IsEachExplained, report_lines}
+use Rattle.spec_run_explain.specs.declared.explained.LoopExplained.{LoopExplained}
+use Rattle.spec_run_explain.specs.Causes.{AreExplained, IsEachExplained, report_lines}
 
 -- the report is that of a run whose loops may run in parallel, from the old maps to the new ones; its lines are those
 -- of the loops that are explained, and these are, one by one, the loop calls that main makes where the program runs in
@@ -16,3 +20,10 @@ pub record IsProgramExplained (test : Test) (program : Program) (most argument :
   pub report : IsReportByTest test program argument old new told.report
   pub lines : report_lines told.loops.items ≡ told.report.loops.items
   pub explained : IsEachExplained test program most (program_in_order program 4096 argument old.words) told.loops.items
+
+-- so these loop calls are told so far: they are explained, one by one, and have these lines
+pub record AreToldSoFar (test : Test) (program : Program) (most : ℕ) (calls : List LoopMade) (lines : List LoopReport)
+    (loops : List LoopExplained) : Type 0 where
+  pub reported : AreLines (loop_report test program 4096) calls lines
+  pub lines_are : report_lines loops ≡ lines
+  pub explained : AreExplained test program most calls loops

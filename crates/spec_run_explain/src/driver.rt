@@ -1,4 +1,4 @@
-//! Running main between its loop calls.
+//! Explaining the loop calls of a program while it runs.
 
 ghost use Rattle.std.specs.Prelude.{◌≡◌, [], None, IfOk};
 ghost use Rattle.loop_core_model.specs.declared.verdict.Verdict.TheVariants.{Refused as WasRefused};
@@ -6,13 +6,13 @@ ghost use Rattle.spec_run_explain.specs.Programs.{IsProgramExplained};
 
 use crate::call::explain_call;
 use crate::explained::{Explained, LoopExplained};
-use array_maps::{Maps, Store};
-use bpf_step::{Main, Turned};
+use array_maps::Maps;
+use bpf_step::LoopCall;
 use bpf_verify::Verified;
-use bpf_verify_sound::{law_of_accepted_programs, law_of_accepted_runs};
 use loop_core_model::{LoopReport, Test, Verdict};
-use loop_core_sequential::{in_order, law_of_filled_calls};
+use loop_core_sequential::in_order;
 use spec_run::Report;
+use spec_run_main::{LoopRunner, run_main};
 use std::alloc::{AllocError, Global};
 
 /// What is told of a call that was refused.
@@ -34,6 +34,50 @@ fn refused(alloc: Global, slot: u32, answer: i64) -> LoopExplained
     }
 }
 
+/// Runs each loop call in order, and explains it by a test: at most so many elements of each.
+#[derive(Drop)]
+struct Explainer {
+    alloc: Global,
+    test: Test,
+    most: u32,
+    lines: Vec<LoopReport>,
+    loops: Vec<LoopExplained>,
+}
+
+impl LoopRunner for Explainer {
+    ghost use Rattle.spec_run_explain.specs.Programs.{AreToldSoFar};
+
+    type Stop = AllocError;
+
+    ghost tells = { λ program first calls now. (now.test ≡ first.test) × (now.most ≡ first.most)
+        × AreToldSoFar now.test program now.most calls now.lines.items now.loops.items };
+
+    ghost room = { λ _. 4096 };
+
+    fn run_call(
+        &mut self,
+        program: &Verified,
+        call: &LoopCall,
+        maps: &mut Maps,
+    ) -> Result<u32, AllocError> {
+        let start = maps.try_copy(self.alloc)?;
+        let answer = in_order(program, call, maps);
+        let told = explain_call(
+            self.alloc, program, call, &start, self.test, self.most, answer,
+        )?;
+        self.lines.push(told.line)?;
+        self.loops.push(told)?;
+        Ok(answer)
+    }
+
+    fn note_refusal(&mut self, slot: u32, answer: i64) -> Result<(), AllocError> {
+        let told = refused(self.alloc, slot, answer);
+        self.lines.push(told.line)?;
+        self.loops.push(told)?;
+        Ok(())
+    }
+}
+
 /// Runs the program in order on the maps, its argument in R1, and explains each loop call by a test: at most so many
 /// elements of each. The maps are of the program's sizes, and are left as the program leaves them.
 pub fn explain_loops(
@@ -47,37 +91,19 @@ pub fn explain_loops(
     requires sizes { maps.old.sizes ≡ program.now.sizes }
     ensures { IfOk result (IsProgramExplained test program.now most argument maps.old maps.new) }
 {
-    law_of_accepted_runs();
-    law_of_accepted_programs();
-    law_of_filled_calls();
-    // These tell the proof that the program is accepted, and what words the maps have.
-    let _unit = program.unit();
-    let _sizes = maps.sizes();
-    Store::words_fit(maps);
-    let mut lines = Vec::new(alloc);
-    let mut loops = Vec::new(alloc);
-    let mut main = Main::new(program, argument);
-    loop {
-        match main.next(maps) {
-            Turned::Loop(call) => {
-                let start = maps.try_copy(alloc)?;
-                let answer = in_order(program, &call, maps);
-                main.resume(answer);
-                let told = explain_call(alloc, program, &call, &start, test, most, answer)?;
-                lines.push(told.line)?;
-                loops.push(told)?;
-            }
-            Turned::Refused { slot, answer } => {
-                let told = refused(alloc, slot, answer);
-                lines.push(told.line)?;
-                loops.push(told)?;
-            }
-            Turned::Exit(ret) => {
-                return Ok(Explained {
-                    report: Report { ret, loops: lines },
-                    loops,
-                });
-            }
-        }
-    }
+    let mut explainer = Explainer {
+        alloc,
+        test,
+        most,
+        lines: Vec::new(alloc),
+        loops: Vec::new(alloc),
+    };
+    let ret = run_main(program, maps, argument, &mut explainer)?;
+    Ok(Explained {
+        report: Report {
+            ret,
+            loops: explainer.lines,
+        },
+        loops: explainer.loops,
+    })
 }

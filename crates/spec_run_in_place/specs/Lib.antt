@@ -1,2 +1,1 @@
-pub mod RanCalls
 pub mod InPlace

@@ -7,16 +7,17 @@
 //! ```
 #![tactic(auto)]
 
-ghost use Rattle.std.specs.Prelude.{◌≡◌, ◌+◌, ◌<◌, ◌≤◌, ◌++◌, ◌∷◌, [], length, take};
+ghost use Rattle.std.specs.Prelude.{◌≡◌, ◌+◌, ◌-◌, ◌<◌, ◌≤◌, ◌++◌, ◌∷◌, [], length, take};
 ghost use Rattle.bpf_verify_sound.specs.Soundness.{most_from};
 ghost use Rattle.spec_run_in_place.specs.InPlace.{RanInOrder};
 
-use array_maps::{Maps, Store};
-use bpf_step::{Main, Turned};
+use array_maps::Maps;
+use bpf_step::LoopCall;
 use bpf_verify::Verified;
-use bpf_verify_sound::{law_of_accepted_programs, law_of_accepted_runs};
 use loop_core_model::{LoopReport, Verdict};
 use loop_core_sequential::in_order;
+use spec_run_main::{LoopRunner, run_main};
+use std::convert::Infallible;
 
 /// What a run in place gives beside the maps.
 #[derive(Clone, Copy)]
@@ -38,6 +39,54 @@ fn tell(lines: &mut [LoopReport], calls: usize, line: LoopReport) -> usize
     calls + 1
 }
 
+/// Runs each loop call in order, and writes their lines to the first of these.
+#[derive(Drop)]
+struct InPlace<'l> {
+    lines: &'l mut [LoopReport],
+    calls: usize,
+}
+
+impl LoopRunner for InPlace<'_> {
+    ghost use Rattle.loop_core_model.specs.Report.{loop_report_in_order};
+    ghost use Rattle.spec_run_main.specs.Lines.{AreLines};
+
+    type Stop = Infallible;
+
+    ghost tells = { λ _ first calls now. (now.lines.ghost_name ≡ first.lines.ghost_name)
+        × (length now.lines.now ≡ length first.lines.now)
+        × AreLines loop_report_in_order calls (take now.calls now.lines.now) };
+
+    ghost room = { λ runner. length runner.lines.now - runner.calls };
+
+    #[inline]
+    fn run_call(
+        &mut self,
+        program: &Verified,
+        call: &LoopCall,
+        maps: &mut Maps,
+    ) -> Result<u32, Infallible> {
+        let answer = in_order(program, call, maps);
+        let line = LoopReport {
+            slot: call.slot(),
+            answer: i64::from(answer),
+            verdict: Verdict::InOrder,
+        };
+        self.calls = tell(self.lines, self.calls, line);
+        Ok(answer)
+    }
+
+    #[inline]
+    fn note_refusal(&mut self, slot: u32, answer: i64) -> Result<(), Infallible> {
+        let line = LoopReport {
+            slot,
+            answer,
+            verdict: Verdict::Refused,
+        };
+        self.calls = tell(self.lines, self.calls, line);
+        Ok(())
+    }
+}
+
 /// Runs the program on the maps, its argument in R1, with each loop in order, and changes them as it goes. What is
 /// told of its loop calls is written to the first of these lines. Nothing is allocated, and so nothing is refused.
 ///
@@ -53,35 +102,12 @@ pub fn run_in_place(
     ensures ran { RanInOrder program.now argument maps.old maps.new result.ret (take result.calls lines.new) }
     ensures room { length lines.new ≡ length lines.old }
 {
-    law_of_accepted_runs();
-    law_of_accepted_programs();
-    // These tell the proof that the program is accepted, and what words the maps have.
-    let _unit = program.unit();
-    let _sizes = maps.sizes();
-    Store::words_fit(maps);
-    let mut calls = 0;
-    let mut main = Main::new(program, argument);
-    loop {
-        match main.next(maps) {
-            Turned::Loop(call) => {
-                let answer = in_order(program, &call, maps);
-                main.resume(answer);
-                let line = LoopReport {
-                    slot: call.slot(),
-                    answer: i64::from(answer),
-                    verdict: Verdict::InOrder,
-                };
-                calls = tell(lines, calls, line);
-            }
-            Turned::Refused { slot, answer } => {
-                let line = LoopReport {
-                    slot,
-                    answer,
-                    verdict: Verdict::Refused,
-                };
-                calls = tell(lines, calls, line);
-            }
-            Turned::Exit(ret) => return RanInPlace { ret, calls },
-        }
+    let mut runner = InPlace { lines, calls: 0 };
+    match run_main(program, maps, argument, &mut runner) {
+        Ok(ret) => RanInPlace {
+            ret,
+            calls: runner.calls,
+        },
+        Err(never) => match never {},
     }
 }

@@ -6,7 +6,7 @@ ghost use Rattle.spec_run_replay.specs.FoundLoop.{CameToLoop};
 use array_maps::{Maps, Store};
 use bpf_step::{LoopCall, Main, Turned};
 use bpf_verify::Verified;
-use bpf_verify_sound::law_of_accepted_programs;
+use bpf_verify_sound::{law_of_accepted_programs, law_of_accepted_runs};
 
 /// A valid loop call, and its number among the loop calls that main made, refused ones included.
 #[derive(Drop)]
@@ -21,6 +21,7 @@ pub(crate) fn first_loop(program: &Verified, maps: &mut Maps, argument: u64) -> 
     requires { maps.old.sizes ≡ program.now.sizes }
     ensures { CameToLoop program.now argument maps.old maps.new result }
 {
+    law_of_accepted_runs();
     law_of_accepted_programs();
     // These tell the proof that the program is accepted, and what words the maps have.
     let _unit = program.unit();

@@ -1,4 +1,4 @@
-use Rattle.std.proofs.Common.{rules, IfOk, refl, ap, sym, subst, ◌∙◌}
+use Rattle.std.proofs.Common.{rules, IfOk, ap, sym, subst, ◌∙◌}
 use Rattle.array_maps.specs.MapList.{MapList}
 use Rattle.bpf_step_model.specs.State.{LoopCall}
 use Rattle.bpf_verify_sound.specs.Soundness.{IsSoundProgram, OverApproximatesCall}
@@ -6,8 +6,8 @@ use Rattle.loop_core_gather.specs.Gathered.{IsOutcome}
 use Rattle.spec_run.proofs.CallLaws.{each_by_test, told_of}
 use Rattle.spec_run.proofs.speculating.run_observed.Goals as goal
 
-pub run_main-requires-clause-runs : goal.run_main-requires-clause-runs
-run_main-requires-clause-runs g c =
+pub run_program-requires-clause-runs : goal.run_program-requires-clause-runs
+run_program-requires-clause-runs g c =
     let sound : IsSoundProgram c.args.program.now = record {
       accepted = c.unit-unit.ensures.accepted;
       fits = c.unit-unit.ensures.fit;
@@ -26,5 +26,4 @@ run_main-requires-clause-runs g c =
           each_by_test test c.args.program.now call start left c.law_of_filled_calls.ensures sound answered
           (told_of (λ call start left. IfOk answered (λ a. IsOutcome test c.args.program.now call start a.verdict
           a.answer left)) it it.ran);
-      refused = λ slot answer words. refl;
     }

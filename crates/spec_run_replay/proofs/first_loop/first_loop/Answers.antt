@@ -1,59 +1,49 @@
-use Rattle.std.proofs.Common.{rules, ◌∙◌, ◌≤◌, ap, sym, subst, refl}
-use Rattle.std.specs.List.{sum}
-use Rattle.bpf_insn_types.specs.Program.{Program}
-use Rattle.bpf_verify_sound.specs.Soundness.{IsSoundProgram, most_from}
-use Rattle.bpf_step.proofs.Limits.{few_steps, map_words}
-use Rattle.spec_run_replay.proofs.MainTurns.{starts, is_told, ends_without, refuses, calls}
+use Rattle.std.proofs.Common.{rules, refl, arith}
+use Rattle.bpf_step.proofs.Limits.{few_steps}
+use Rattle.bpf_step_model.specs.Run.{mapped}
+use Rattle.spec_run_main.proofs.Turns.{Laws, program_ends, words_fit, starts, few_left, refusal_lessens}
+use Rattle.spec_run_replay.specs.FirstLoop.{first_of, first_loop}
+use Rattle.spec_run_replay.proofs.MainTurns.{ends_without, goes_on, calls}
+use Rattle.spec_run_replay.proofs.first_loop.first_loop.Goals.{After-words_fit}
 use Rattle.spec_run_replay.proofs.first_loop.first_loop.Goals as goal
+
+laws : (c : After-words_fit) → Laws c.args.program.now
+laws c = record {
+  loops = c.law_of_accepted_programs.ensures;
+  counts = c.law_of_accepted_runs.ensures.counts;
+  sound = record { accepted = c.unit-unit.ensures.accepted; fits = c.unit-unit.ensures.fit };
+}
 
 pub loop-call-init : goal.loop-call-init
 loop-call-init c =
-    let sound : IsSoundProgram c.args.program.now = record {
-      accepted = c.unit-unit.ensures.accepted;
-      fits = c.unit-unit.ensures.fit;
-    } in
-    let fit = map_words c.args.program.now c.args.maps.now.words (c.sizes-sizes.ensures.words
-    ∙ ap (λ sizes. sum sizes) c.requires) c.words_fit.ensures in
-    starts c.args.program.now c.args.argument c.new-main.result c.args.maps.now sound c.new-main.ensures.program
-    c.new-main.ensures.at fit c.requires
+    let program = c.args.program.now in
+    let maps = c.args.maps.now in
+    let few = few_steps program c.new-main.result.slot c.unit-unit.ensures.accepted in
+    record {
+      still = starts (mapped (first_of 0)) (first_loop program 4096 c.args.argument maps.words) program c.args.argument
+          c.new-main.result maps (laws ((goal.at.loop-call-init c).After-words_fit)) c.new-main.ensures.program
+          c.new-main.ensures.at c.requires
+          (words_fit program maps c.requires c.sizes-sizes.ensures.words c.words_fit.ensures) refl;
+      few = omega (arith, few);
+    }
 
 pub next-requires-clause-served : goal.next-requires-clause-served
-next-requires-clause-served c =
-    subst (λ (program : Program). most_from program c.loop-call.main.slot ≤ 4096) (sym c.loop-call.invariant.same)
-    (few_steps c.args.program.now c.loop-call.main.slot c.unit-unit.ensures.accepted)
+next-requires-clause-served c = few_left c.loop-call.invariant.still
 
 pub loop-call-preserved : goal.loop-call-preserved
-loop-call-preserved c =
-    (refuses c.args.program.now c.args.argument c.loop-call.main c.next.new.self c.args.maps.now c.loop-call.maps
-    c.loop-call.number
-    c.loop-call.invariant c.next.ensures.program c.next.new.store c.in-Refused.slot c.in-Refused.answer
-    (c.in-Refused.ensures.ran c.loop-call.invariant.m c.loop-call.invariant.at)).0
+loop-call-preserved c = goes_on c.loop-call.invariant c.next.ensures.program c.in-Refused.ensures.ran
 
 pub loop-call-smaller : goal.loop-call-smaller
-loop-call-smaller c =
-    (refuses c.args.program.now c.args.argument c.loop-call.main c.next.new.self c.args.maps.now c.loop-call.maps
-    c.loop-call.number
-    c.loop-call.invariant c.next.ensures.program c.next.new.store c.in-Refused.slot c.in-Refused.answer
-    (c.in-Refused.ensures.ran c.loop-call.invariant.m c.loop-call.invariant.at)).1
+loop-call-smaller c = refusal_lessens c.loop-call.invariant.still c.next.ensures.program c.in-Refused.ensures.ran
 
 pub returns-in-Exit : goal.returns-in-Exit
-returns-in-Exit c =
-    ends_without c.args.program.now c.args.argument c.loop-call.main c.next.new.self c.args.maps.now c.loop-call.maps
-    c.loop-call.number
-    c.loop-call.invariant c.next.ensures.program c.next.new.store c.in-Exit._ret
-    (c.in-Exit.ensures.ran c.loop-call.invariant.m c.loop-call.invariant.at)
+returns-in-Exit c = ends_without c.loop-call.invariant c.next.ensures.program c.in-Exit.ensures.ran
 
 pub returns-in-Loop : goal.returns-in-Loop
 returns-in-Loop c =
-    let sound : IsSoundProgram c.args.program.now = record {
-      accepted = c.unit-unit.ensures.accepted;
-      fits = c.unit-unit.ensures.fit;
-    } in
-    let fit = map_words c.args.program.now c.args.maps.now.words (c.sizes-sizes.ensures.words
-    ∙ ap (λ sizes. sum sizes) c.requires) c.words_fit.ensures in
-    calls c.args.program.now c.args.argument c.loop-call.main c.next.new.self c.args.maps.now c.loop-call.maps
-    c.loop-call.number
-    c.loop-call.invariant c.next.ensures.program (is_told c.law_of_accepted_programs.ensures c.args.program.now sound
-    c.args.argument (search rules) c.args.maps.now.words fit)
-    c.next.new.store c.in-Loop.call (c.in-Loop.ensures.ran c.loop-call.invariant.m c.loop-call.invariant.at)
+    let at = (goal.at.returns-in-Loop c).After-words_fit in
+    let program = c.args.program.now in
+    let fit = words_fit program c.args.maps.now c.requires c.sizes-sizes.ensures.words c.words_fit.ensures in
+    calls c.loop-call.invariant c.next.ensures.program
+    (program_ends (laws at) c.args.argument (search rules) c.args.maps.now.words fit) c.in-Loop.ensures.ran
     (record { number = c.loop-call.number; call = c.in-Loop.call }) refl refl

@@ -1,0 +1,13 @@
+use Rattle.std.proofs.Common.{rules, w64, take, refl, ap, ◌∙◌}
+use Rattle.std.proofs.lemmas.Int.{to_z-of_z}
+use Rattle.loop_core_model.specs.Report.{loop_report_in_order}
+use Rattle.spec_run_main.proofs.ReportLines.{refused_line}
+use Rattle.spec_run_in_place.proofs.InPlaceLoopRunner.note_refusal.Goals as goal
+
+pub returns-clause-told : goal.returns-clause-told
+returns-clause-told c = λ program first calls words before. (
+  before.0,
+  c.tell-self.ensures.room ∙ before.1,
+  refused_line loop_report_in_order words calls refl (to_z-of_z w64 c.args.answer (search rules))
+      (ap (λ n. take n c.tell-self.new.lines) c.tell-self.ensures.count ∙ c.tell-self.ensures.told) before.2,
+)
