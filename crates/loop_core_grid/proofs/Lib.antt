@@ -1,1 +1,3 @@
 pub mod GridLaws
+pub mod SpanLaws
+pub mod TouchLaws

@@ -1,14 +1,18 @@
 -- What iterations of a loop call do at elements.
-use Rattle.std.specs.Prelude.{◌≡◌, ℕ, List, map}
+use Rattle.std.specs.Prelude.{◌≡◌, ℕ, min, List, ◌++◌, map, Option}
 use Rattle.std.specs.List.{AllByRecursion}
 use Rattle.bpf_insn_types.specs.Program.{Program}
 use Rattle.bpf_step_model.specs.State.{LoopCall}
 use Rattle.bpf_step_model.specs.Run.{Ended}
 use Rattle.bpf_step_model.specs.Iteration.{Iterated, iteration}
 use Rattle.loop_core_trace.specs.Traced.{AreSlots}
+use Rattle.loop_core_grid.specs.declared.choosing.Span.{Span}
+use Rattle.loop_core_grid.specs.declared.focus.Focus.{Focus}
 use Rattle.loop_core_grid.specs.declared.grid.Cell.{Cell}
 use Rattle.loop_core_grid.specs.declared.grid.Row.{Row}
 use Rattle.loop_core_grid.specs.declared.grid.Grid.{Grid}
+use Rattle.loop_core_grid.specs.Choosing.{lower_span, upper_span, indices_of, shown_elements}
+use Rattle.loop_core_grid.specs.Touching.{AreTouched}
 
 -- on these words the iteration of an index ends, and a cell has its slots at the cell's element
 pub record IsCell (program : Program) (call : LoopCall) (words : List ℕ) (index : ℕ) (cell : Cell) : Type 0 where
@@ -29,6 +33,21 @@ pub record IsGridRow (program : Program) (call : LoopCall) (words elements : Lis
 abbrev pub AreRows : Program → LoopCall → (words elements : List ℕ) → List Row → Type 0
 AreRows program call words elements rows = AllByRecursion (IsGridRow program call words elements) rows
 
--- each row of a grid is so, of the grid's elements
-abbrev pub IsGrid : Program → LoopCall → List ℕ → Grid → Type 0
-IsGrid program call words grid = AreRows program call words grid.elements.items grid.rows.items
+-- the indices of rows
+abbrev pub indices : List Row → List ℕ
+indices rows = map (λ (row : Row). row.index) rows
+
+-- a grid of two spans of a loop call's iterations on these words, around a focus: its columns are the elements that are
+-- shown of those that the iterations access, its rows are the iterations, and each row has its iteration's cells
+pub record ShowsSpans (program : Program) (call : LoopCall) (words : List ℕ) (lower upper : Span)
+    (focus : Option Focus) (grid : Grid) : Type 0 where
+  pub accessed : List ℕ
+  pub touched : AreTouched program call words lower upper accessed
+  pub columns : grid.elements.items ≡ shown_elements focus accessed
+  pub iterations : indices grid.rows.items ≡ indices_of lower ++ indices_of upper
+  pub rows : AreRows program call words grid.elements.items grid.rows.items
+
+-- so is a grid of the first `count` iterations, or of all, of which at most 64 are shown
+abbrev pub IsGrid : Program → LoopCall → List ℕ → (count : ℕ) → Option Focus → Grid → Type 0
+IsGrid program call words count focus grid =
+    ShowsSpans program call words (lower_span (min count call.n) focus) (upper_span (min count call.n) focus) focus grid

@@ -1,1 +1,3 @@
+pub mod Choosing
+pub mod Touching
 pub mod Grids

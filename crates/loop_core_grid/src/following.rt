@@ -1,10 +1,11 @@
 //! Following the iterations of a picture, element by element.
 
-ghost use Rattle.std.specs.Prelude.{◌≡◌, ◌<◌, IfOk, OnOk};
+ghost use Rattle.std.specs.Prelude.{◌≡◌, ◌<◌, ◌≤◌, ◌++◌, IfOk, OnOk};
 ghost use Rattle.bpf_verify_sound.specs.Soundness.{OverApproximatesCall};
-ghost use Rattle.loop_core_grid.specs.Grids.{IsGridRow, AreRows, IsGrid};
+ghost use Rattle.loop_core_grid.specs.Choosing.{indices_of};
+ghost use Rattle.loop_core_grid.specs.Grids.{IsGridRow, AreRows, ShowsSpans, IsGrid, indices};
 
-use crate::choosing::{Span, elements_around, spans_of};
+use crate::choosing::{Span, lower_span, shown_elements, upper_span};
 use crate::focus::Focus;
 use crate::grid::{Cell, Grid, Row};
 use crate::touching::touched_elements;
@@ -26,7 +27,8 @@ fn row_of(
     requires known { OverApproximatesCall program.now call.now }
     requires sizes { start.now.sizes ≡ program.now.sizes }
     requires below { index < call.now.n }
-    ensures { IfOk result (IsGridRow program.now call.now start.now.words elements.now) }
+    ensures index { IfOk result (λ row. row.index ≡ index) }
+    ensures cells { IfOk result (IsGridRow program.now call.now start.now.words elements.now) }
 {
     let mut maps = start.try_copy(alloc)?;
     let mut cells = Vec::new(alloc);
@@ -53,21 +55,51 @@ fn add_rows(
 ) -> Result<(), AllocError>
     requires known { OverApproximatesCall program.now call.now }
     requires sizes { start.now.sizes ≡ program.now.sizes }
+    requires rising { span.from ≤ span.past }
+    requires within { span.past ≤ call.now.n }
     requires rows { AreRows program.now call.now start.now.words elements.now rows.old.items }
-    ensures { OnOk result (AreRows program.now call.now start.now.words elements.now rows.new.items) }
+    ensures rows { OnOk result (AreRows program.now call.now start.now.words elements.now rows.new.items) }
+    ensures iterations { OnOk result (indices rows.new.items ≡ indices rows.old.items ++ indices_of span) }
 {
-    let past = span.past.min(call.n());
-    for index in span.from..past {
+    for index in span.from..span.past {
         let row = row_of(alloc, program, call, start, index, elements)?;
         rows.push(row)?;
     }
     Ok(())
 }
 
+/// What the iterations of two spans do at the elements that they access.
+fn grid_of_spans(
+    alloc: Global,
+    program: &Verified,
+    call: &LoopCall,
+    start: &Maps,
+    lower: Span,
+    upper: Span,
+    focus: Option<Focus>,
+) -> Result<Grid, AllocError>
+    requires known { OverApproximatesCall program.now call.now }
+    requires sizes { start.now.sizes ≡ program.now.sizes }
+    requires rising { lower.from ≤ lower.past }
+    requires within { lower.past ≤ call.now.n }
+    requires upper_rising { upper.from ≤ upper.past }
+    requires upper_within { upper.past ≤ call.now.n }
+    ensures { IfOk result (ShowsSpans program.now call.now start.now.words lower upper focus) }
+{
+    let touched = touched_elements(alloc, program, call, start, lower, upper)?;
+    let elements = shown_elements(alloc, touched.as_slice(), focus)?;
+    let mut rows = Vec::new(alloc);
+    let columns = elements.as_slice();
+    add_rows(&mut rows, alloc, program, call, start, lower, columns)?;
+    add_rows(&mut rows, alloc, program, call, start, upper, columns)?;
+    Ok(Grid { elements, rows })
+}
+
 /// What the first `count` iterations of a loop call that main of this program made do, each run on the start maps:
 /// at most 64 of them, and at most 64 of the elements that these access, with both iterations and the element of a
 /// focus in their middle where that can be. Iterations of a focus that are further apart have 32 rows each around them.
-/// The start maps are of the program's sizes.
+/// Of an iteration behind the first of those that breaks, the elements are shown that others access too. The start maps
+/// are of the program's sizes.
 pub fn grid_of_loop(
     alloc: Global,
     program: &Verified,
@@ -78,14 +110,10 @@ pub fn grid_of_loop(
 ) -> Result<Grid, AllocError>
     requires known { OverApproximatesCall program.now call.now }
     requires sizes { start.now.sizes ≡ program.now.sizes }
-    ensures { IfOk result (IsGrid program.now call.now start.now.words) }
+    ensures { IfOk result (IsGrid program.now call.now start.now.words count focus) }
 {
-    let spans = spans_of(count.min(call.n()), focus);
-    let touched = touched_elements(alloc, program, call, start, spans)?;
-    let elements = elements_around(alloc, touched.as_slice(), focus)?;
-    let mut rows = Vec::new(alloc);
-    let columns = elements.as_slice();
-    add_rows(&mut rows, alloc, program, call, start, spans.0, columns)?;
-    add_rows(&mut rows, alloc, program, call, start, spans.1, columns)?;
-    Ok(Grid { elements, rows })
+    let shown = count.min(call.n());
+    let lower = lower_span(shown, focus);
+    let upper = upper_span(shown, focus);
+    grid_of_spans(alloc, program, call, start, lower, upper, focus)
 }

@@ -1,7 +1,13 @@
-//! Which elements iterations touch.
+//! Which elements iterations access.
 
-ghost use Rattle.std.specs.Prelude.{◌≡◌};
+ghost use Rattle.std.specs.Prelude.{◌≡◌, ◌/◌, ◌<◌, ◌≤◌, ◌||◌, if◌then◌else◌, [], ◌∷◌, ◌++◌, length, IfOk, OnOk};
 ghost use Rattle.bpf_verify_sound.specs.Soundness.{OverApproximatesCall};
+ghost use Rattle.loop_core_block.specs.Ran.{RecordsRun};
+ghost use Rattle.loop_core_block.specs.Shown.{shown};
+ghost use Rattle.loop_core_model.specs.declared.loop_test.Test.TheVariants.{Flow};
+ghost use Rattle.loop_core_model.specs.Planes.{bit_of};
+ghost use Rattle.shadow_marks.specs.Standing.{ArePlanes, EachPlane};
+ghost use Rattle.loop_core_grid.specs.Touching.{AreTouched, is_reduced, is_marked, marked_by};
 
 use crate::choosing::Span;
 use array_maps::Maps;
@@ -10,92 +16,127 @@ use bpf_verify::Verified;
 use loop_core_block::{Block, run_block};
 use loop_core_model::Test;
 use loop_core_split::{NoGate, Split};
-use shadow_marks::Planes;
+use shadow_marks::{OperatorPlanes, Planes};
 use std::alloc::{AllocError, Global};
 
 /// Whether an element's bit is set in a plane.
-fn is_set(plane: &[u64], element: u32) -> bool {
-    match plane.get(element as usize / 64) {
-        Some(word) => *word >> (element % 64) & 1 == 1,
-        None => false,
+fn is_set(plane: &[u64], element: u32) -> bool
+    requires { element / 64 < length plane.now }
+    ensures { result ≡ bit_of plane.now element }
+{
+    plane[element as usize / 64] >> (element % 64) & 1 == 1
+}
+
+/// Whether an iteration reduced an element, as planes tell.
+fn is_reduced(planes: &OperatorPlanes, element: u32) -> bool
+    requires { EachPlane (λ words. element / 64 < length words) planes.now }
+    ensures { result ≡ is_reduced planes.now element }
+{
+    is_set(&planes.add, element)
+        || is_set(&planes.or, element)
+        || is_set(&planes.and, element)
+        || is_set(&planes.xor, element)
+        || is_set(&planes.addh, element)
+}
+
+/// Whether an iteration accessed an element, as planes tell. Each access is plain or by an operator.
+fn is_marked(planes: &Planes, element: u32) -> bool
+    requires whole { ArePlanes planes.now }
+    requires below { element < planes.now.elements }
+    ensures { result ≡ is_marked planes.now element }
+{
+    is_set(&planes.plain, element) || is_reduced(&planes.operators, element)
+}
+
+/// The split of a call's n iterations of which block 1 is a span.
+#[tactic(auto, using(crate::proofs::SpanLaws::no_fault))]
+fn split_at(alloc: Global, span: Span, n: u32) -> Result<Split, AllocError>
+    requires rising { span.from ≤ span.past }
+    requires within { span.past ≤ n }
+    ensures { IfOk result (λ split. split ≡ 0 ∷ span.from ∷ span.past ∷ n ∷ []) }
+{
+    let mut bounds = Vec::new(alloc);
+    bounds.extend_from_slice(&[0, span.from, span.past, n])?;
+    match Split::of(bounds, n) {
+        Ok(split) => Ok(split),
+        Err(_) => unreachable!(),
     }
 }
 
-/// Whether an iteration accessed an element. Each access is plain or by an operator.
-fn is_touched(planes: &Planes, element: u32) -> bool {
-    let by = &planes.operators;
-    is_set(planes.plain.as_slice(), element)
-        || is_set(by.add.as_slice(), element)
-        || is_set(by.or.as_slice(), element)
-        || is_set(by.and.as_slice(), element)
-        || is_set(by.xor.as_slice(), element)
-        || is_set(by.addh.as_slice(), element)
-}
-
-/// What the iterations of a span do, if the call has them.
+/// What the iterations of a span do.
 fn block_of<'a>(
     alloc: Global,
     program: &Verified,
     call: &LoopCall,
     start: &'a Maps,
     span: Span,
-) -> Result<Option<Block<'a>>, AllocError>
+) -> Result<Block<'a>, AllocError>
     requires known { OverApproximatesCall program.now call.now }
     requires sizes { start.now.sizes ≡ program.now.sizes }
+    requires rising { span.from ≤ span.past }
+    requires within { span.past ≤ call.now.n }
+    ensures first { IfOk result (λ b. (shown b).first ≡ span.from) }
+    ensures past { IfOk result (λ b. (shown b).past ≡ span.past) }
+    ensures ran { IfOk result (λ b. RecordsRun Flow program.now call.now start.now.words (shown b)) }
 {
-    let n = call.n();
-    let mut bounds = Vec::new(alloc);
-    bounds.extend_from_slice(&[0, span.from, span.past, n])?;
-    let split = match Split::of(bounds, n) {
-        Ok(split) => split,
-        Err(_) => return Ok(None),
-    };
-    if split.blocks() <= 1 {
-        return Ok(None);
-    }
-    let block = run_block(alloc, program, call, start, &split, 1, &NoGate, Test::Flow)?;
-    Ok(Some(block))
+    let split = split_at(alloc, span, call.n())?;
+    run_block(alloc, program, call, start, &split, 1, &NoGate, Test::Flow)
 }
 
-/// Adds the elements that a block's iterations touch, rising.
-fn add_touched(
+/// Adds an element, if iterations of one of two blocks accessed it.
+fn add_if_marked(
     elements: &mut Vec<u32>,
-    alloc: Global,
-    program: &Verified,
-    call: &LoopCall,
-    start: &Maps,
-    span: Span,
+    lower: &Planes,
+    upper: &Planes,
+    element: u32,
 ) -> Result<(), AllocError>
-    requires known { OverApproximatesCall program.now call.now }
-    requires sizes { start.now.sizes ≡ program.now.sizes }
+    requires lower { ArePlanes lower.now }
+    requires upper { ArePlanes upper.now }
+    requires in_lower { element < lower.now.elements }
+    requires in_upper { element < upper.now.elements }
+    ensures { OnOk result (elements.new.items ≡ elements.old.items
+        ++ (if is_marked lower.now element || is_marked upper.now element then element ∷ [] else [])) }
 {
-    let Some(block) = block_of(alloc, program, call, start, span)? else {
-        return Ok(());
-    };
-    let planes = block.planes();
-    for element in 0..planes.elements {
-        if is_touched(planes, element) {
-            elements.push(element)?;
-        }
+    if is_marked(lower, element) || is_marked(upper, element) {
+        elements.push(element)?;
     }
     Ok(())
 }
 
-/// The elements that the iterations of two spans touch, each once, rising. The start maps are of the program's sizes.
+/// The elements that iterations of one of two blocks accessed, as their planes tell, rising.
+fn marked_elements(alloc: Global, lower: &Planes, upper: &Planes) -> Result<Vec<u32>, AllocError>
+    requires lower { ArePlanes lower.now }
+    requires upper { ArePlanes upper.now }
+    requires same { lower.now.elements ≡ upper.now.elements }
+    ensures { IfOk result (λ elements. elements.items ≡ marked_by lower.now upper.now) }
+{
+    let mut elements = Vec::new(alloc);
+    for element in 0..lower.elements {
+        add_if_marked(&mut elements, lower, upper, element)?;
+    }
+    Ok(elements)
+}
+
+/// The elements that the iterations of two spans access, rising: of each span those up to the first that breaks. The
+/// start maps are of the program's sizes.
 pub(crate) fn touched_elements(
     alloc: Global,
     program: &Verified,
     call: &LoopCall,
     start: &Maps,
-    spans: (Span, Span),
+    lower: Span,
+    upper: Span,
 ) -> Result<Vec<u32>, AllocError>
     requires known { OverApproximatesCall program.now call.now }
     requires sizes { start.now.sizes ≡ program.now.sizes }
+    requires rising { lower.from ≤ lower.past }
+    requires within { lower.past ≤ call.now.n }
+    requires upper_rising { upper.from ≤ upper.past }
+    requires upper_within { upper.past ≤ call.now.n }
+    ensures { IfOk result (λ elements.
+        AreTouched program.now call.now start.now.words lower upper elements.items) }
 {
-    let mut elements = Vec::new(alloc);
-    add_touched(&mut elements, alloc, program, call, start, spans.0)?;
-    add_touched(&mut elements, alloc, program, call, start, spans.1)?;
-    elements.sort_unstable();
-    elements.dedup();
-    Ok(elements)
+    let below = block_of(alloc, program, call, start, lower)?;
+    let above = block_of(alloc, program, call, start, upper)?;
+    marked_elements(alloc, below.planes(), above.planes())
 }

@@ -1,5 +1,11 @@
-use Rattle.loop_core_grid.specs.Grids.{AreRows}
+use Rattle.std.proofs.Common.{◌≡◌, ◌-◌, ◌++◌}
+use Rattle.std.specs.List.{range_with_len}
+use Rattle.loop_core_grid.specs.Grids.{AreRows, indices}
 use Rattle.loop_core_grid.proofs.following.add_rows.Given as goal
 
 abbrev pub invariant-loop-index : goal.invariant-loop-index
-invariant-loop-index l = AreRows l.program l.call l.start.words l.elements l.rows.items
+invariant-loop-index l = record {
+  rows : AreRows l.program l.call l.start.words l.elements l.rows.items;
+  iterations : indices l.rows.items ≡ indices l.fn.rows.items ++ range_with_len l.fn.span.from
+      (l.index - l.fn.span.from);
+}

@@ -25,8 +25,8 @@ loop-at-preserved c =
           (record { iterated = told.iterated; told = told.told; slots = told.slots });
     }
 
-pub returns : goal.returns
-returns c =
+pub returns-clause-cells : goal.returns-clause-cells
+returns-clause-cells c =
     let past = c.loop-at-test.false in
     let over : length c.args.elements.now ≤ c.loop-at.at = omega (arith, past) in
     record {

@@ -4,8 +4,8 @@ use Rattle.bpf_step_model.specs.ProgramInOrder.{program_in_order}
 use Rattle.bpf_verify_sound.specs.Soundness.{most_from}
 use Rattle.loop_core_model.specs.Report.{loop_report, reported_with}
 use Rattle.spec_run.proofs.Turns.{StillRuns}
-use Rattle.spec_run_picture.specs.Pictures.{has_conflict}
-use Rattle.spec_run_picture.proofs.driver.draw_first_conflict.Given as goal
+use Rattle.bpfspec_picture.specs.Pictures.{has_conflict}
+use Rattle.bpfspec_picture.proofs.driver.draw_first_conflict.Given as goal
 
 abbrev pub invariant-loop-call : goal.invariant-loop-call
 invariant-loop-call l =

@@ -2,7 +2,7 @@
 use Rattle.std.proofs.Common.{◌≡◌, Bool, true, false, ◌||◌, List, [], ◌∷◌, ◌++◌, refl, sym, ap, ◌∙◌}
 use Rattle.std.proofs.lemmas.List.Folds.{list_any-append}
 use Rattle.loop_core_model.specs.declared.verdict.LoopReport.{LoopReport}
-use Rattle.spec_run_picture.specs.Pictures.{is_conflict, has_conflict}
+use Rattle.bpfspec_picture.specs.Pictures.{is_conflict, has_conflict}
 
 pub or_false : (b : Bool) → b ≡ (b || false)
 or_false true = refl

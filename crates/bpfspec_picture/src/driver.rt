@@ -1,7 +1,7 @@
 //! Running main between its loop calls.
 
 ghost use Rattle.std.specs.Prelude.{◌≡◌, IfOk};
-ghost use Rattle.spec_run_picture.specs.Pictures.{HasPicture};
+ghost use Rattle.bpfspec_picture.specs.Pictures.{HasPicture};
 
 use crate::call::MadeCall;
 use array_maps::{Maps, Store};

@@ -4,12 +4,12 @@ ghost use Rattle.std.specs.Prelude.{◌≡◌, ◌||◌, pos, is_some, IfOk};
 ghost use Rattle.bpf_step_model.specs.Run.{Ended};
 ghost use Rattle.bpf_verify_sound.specs.Soundness.{OverApproximatesCall};
 ghost use Rattle.loop_core_model.specs.Report.{verdict};
-ghost use Rattle.spec_run_picture.specs.Pictures.{is_conflict};
+ghost use Rattle.bpfspec_picture.specs.Pictures.{is_conflict};
 
+use crate::drawing::draw_loop;
 use array_maps::Maps;
 use bpf_step::LoopCall;
 use bpf_verify::Verified;
-use bpfspec_picture::draw_loop;
 use loop_core_conflicts::find_conflicts;
 use loop_core_model::{LoopReport, Test, Verdict};
 use std::alloc::{AllocError, Global};

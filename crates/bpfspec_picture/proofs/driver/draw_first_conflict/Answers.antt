@@ -6,9 +6,9 @@ use Rattle.bpf_verify_sound.specs.Soundness.{IsSoundProgram}
 use Rattle.loop_core_model.specs.Report.{loop_report, verdict}
 use Rattle.spec_run.proofs.Turns.{Laws, starts, few_left, refuses, call_sizes, loops, exits}
 use Rattle.spec_run_explain.proofs.ExplainLaws.{ran_call}
-use Rattle.spec_run_picture.specs.Pictures.{has_conflict}
-use Rattle.spec_run_picture.proofs.PictureLaws.{or_false, one_more}
-use Rattle.spec_run_picture.proofs.driver.draw_first_conflict.Goals as goal
+use Rattle.bpfspec_picture.specs.Pictures.{has_conflict}
+use Rattle.bpfspec_picture.proofs.PictureLaws.{or_false, one_more}
+use Rattle.bpfspec_picture.proofs.driver.draw_first_conflict.Goals as goal
 
 pub loop-call-init : goal.loop-call-init
 loop-call-init c =
