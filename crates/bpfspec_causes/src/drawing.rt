@@ -1,45 +1,23 @@
 //! From the sections of an input to a picture.
 
-use crate::reading::{Start, program_of, start_maps, unit_of_hex, unit_of_text};
-use array_maps::Maps;
-use bpf_insn_types::Unit;
+use crate::reading::{program_of_hex, program_of_text, start_on};
+use crate::start::Start;
 use bpf_text::{TextError, parse_events};
 use bpf_verify::Verified;
-use bpfspec_picture::draw_events;
+use bpfspec_picture::{draw_events, draw_first_conflict};
 use loop_core_model::Test;
-use spec_run_picture::draw_first_conflict;
 use std::alloc::{AllocError, Global};
 
-/// Draws the first loop that conflicts of an accepted program that starts with these maps, if they are of its sizes.
-fn draw(
+/// The picture of a program with the section of its maps.
+fn picture_of_program(
     alloc: Global,
+    argument: u64,
+    test: Test,
     program: &Verified,
-    maps: &mut Maps,
-    argument: u64,
-    test: Test,
-) -> Result<Option<String>, AllocError> {
-    if maps.sizes() != program.sizes() {
-        return Ok(None);
-    }
-    draw_first_conflict(alloc, program, maps, argument, test)
-}
-
-/// The picture of a unit.
-fn picture_of_unit(
-    alloc: Global,
-    argument: u64,
-    test: Test,
-    unit: Option<Unit>,
     maps: &str,
 ) -> Result<Option<String>, AllocError> {
-    let Some(unit) = unit else {
-        return Ok(None);
-    };
-    let Some(program) = program_of(alloc, unit)? else {
-        return Ok(None);
-    };
-    match start_maps(alloc, program.sizes(), maps)? {
-        Start::From(mut start) => draw(alloc, &program, &mut start, argument, test),
+    match start_on(alloc, program, maps)? {
+        Start::From(mut start) => draw_first_conflict(alloc, program, &mut start, argument, test),
         Start::Refused(_) => Ok(None),
     }
 }
@@ -54,8 +32,10 @@ pub fn picture_of_text(
     text: &str,
     maps: &str,
 ) -> Result<Option<String>, AllocError> {
-    let unit = unit_of_text(alloc, text)?;
-    picture_of_unit(alloc, argument, test, unit, maps)
+    let Some(program) = program_of_text(alloc, text)? else {
+        return Ok(None);
+    };
+    picture_of_program(alloc, argument, test, &program, maps)
 }
 
 /// The same of a unit in hex form.
@@ -66,8 +46,10 @@ pub fn picture_of_hex(
     text: &str,
     maps: &str,
 ) -> Result<Option<String>, AllocError> {
-    let unit = unit_of_hex(alloc, text)?;
-    picture_of_unit(alloc, argument, test, unit, maps)
+    let Some(program) = program_of_hex(alloc, text)? else {
+        return Ok(None);
+    };
+    picture_of_program(alloc, argument, test, &program, maps)
 }
 
 /// The events of a section as an SVG; `None` where there are none, or the section is refused. Memory may run out.

@@ -14,6 +14,7 @@
 //! it.
 #![tactic(auto)]
 
+mod cuts;
 mod deeds;
 mod drawing;
 mod inputs;
@@ -21,7 +22,12 @@ mod listing;
 mod loops;
 mod mending;
 mod names;
+mod places;
 mod reading;
+mod start;
+mod variable;
+mod wish;
 
 pub use drawing::{picture_of_events, picture_of_hex, picture_of_text};
-pub use inputs::{Wish, causes_of_hex, causes_of_text};
+pub use inputs::{causes_of_hex, causes_of_text};
+pub use wish::Wish;

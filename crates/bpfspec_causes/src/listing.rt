@@ -1,99 +1,60 @@
-//! Places of a program in words.
+//! A program as it is told.
 
-use crate::deeds::{Deed, deed_of};
-use crate::names::write_names;
-use bpf_insn_types::{Insn, slots};
-use bpf_text_mnemonics::print_insn;
+ghost use Rattle.std.specs.Prelude.{◌≡◌};
+ghost use Rattle.bpfspec_reasons.specs.Printed.{page_of};
+
+use bpf_insn_types::Unit;
 use bpfspec_reasons::Page;
-use std::alloc::{AllocError, Global};
+use std::marker::Model;
 
-/// A program as it is told: its text, which is empty of a unit in hex form; its page, the sizes of its maps, and its
-/// instructions.
-#[derive(Clone, Copy, Drop)]
+/// A program as it is told: its text, which is empty of a unit in hex form, the page of that text, and the unit. In
+/// contracts it is the text and the program.
+#[derive(Drop)]
 pub(crate) struct Listing<'a> {
-    pub(crate) text: &'a str,
-    pub(crate) page: &'a Page<'a>,
-    pub(crate) sizes: &'a [u32],
-    pub(crate) insns: &'a [Insn],
+    text: &'a str,
+    page: &'a Page<'a>,
+    unit: &'a Unit,
 }
 
-/// The instruction that starts at a slot.
-fn instruction_at(insns: &[Insn], slot: u32) -> Option<Insn> {
-    let mut at: u32 = 0;
-    for insn in insns {
-        if at == slot {
-            return Some(*insn);
-        }
-        at = at.saturating_add(slots(insn));
+impl<'a> Model for Listing<'a> {
+    ghost use Rattle.std.specs.Prelude.{◌≡◌};
+    ghost use Rattle.bpfspec_reasons.specs.Printed.{page_of};
+    ghost use Rattle.bpfspec_causes.specs.ListingOf.{ListingOf};
+
+    ghost Value = { ListingOf };
+
+    ghost view = { λ l. record { text = l.text.now; program = l.unit.now } };
+
+    ghost invariant = { λ l. l.page.now ≡ page_of l.text.now };
+}
+
+impl<'a> Listing<'a> {
+    /// A unit with its text, and the page of that text.
+    pub(crate) fn of(text: &'a str, page: &'a Page<'a>, unit: &'a Unit) -> Listing<'a>
+        requires { page.now ≡ page_of text.now }
+        ensures { result ≡ record { text = text.now; program = unit.now } }
+    {
+        Listing { text, page, unit }
     }
-    None
-}
 
-/// What the instruction at a slot does at an element.
-pub(crate) fn deed_at(insns: &[Insn], slot: u32) -> Option<Deed> {
-    deed_of(instruction_at(insns, slot)?)
-}
-
-/// Writes a line of a page: its number, its instruction, and its comment.
-fn write_numbered(out: &mut String, page: &Page<'_>, number: u32) -> Result<(), AllocError> {
-    let text = page.instruction(number);
-    write!(out, "line {number}: {text}")?;
-    let comment = page.comment(number);
-    if comment.is_empty() {
-        return out.push_str("\n");
+    /// The text.
+    pub(crate) fn text(&self) -> &str
+        ensures { result.now ≡ self.now.text }
+    {
+        self.text
     }
-    write!(out, "    ; {comment}\n")
-}
 
-/// Writes a slot and its instruction.
-fn write_instruction(
-    out: &mut String,
-    alloc: Global,
-    insns: &[Insn],
-    slot: u32,
-) -> Result<(), AllocError> {
-    let mut line = String::new(alloc);
-    if let Some(insn) = instruction_at(insns, slot) {
-        print_insn(&mut line, &insn)?;
+    /// The text's page.
+    pub(crate) fn page(&self) -> &Page<'a>
+        ensures { result.now ≡ page_of self.now.text }
+    {
+        self.page
     }
-    let text = line.as_str().trim();
-    write!(out, "slot {slot}: {text}\n")
-}
 
-/// Writes the line of a slot, or where the page has none, the slot and its instruction.
-pub(crate) fn write_slot(
-    out: &mut String,
-    alloc: Global,
-    listing: &Listing<'_>,
-    slot: u32,
-) -> Result<(), AllocError> {
-    match listing.page.number(slot) {
-        Some(number) => write_numbered(out, listing.page, number),
-        None => write_instruction(out, alloc, listing.insns, slot),
+    /// The unit.
+    pub(crate) fn unit(&self) -> &Unit
+        ensures { result.now ≡ self.now.program }
+    {
+        self.unit
     }
-}
-
-/// The map of an element of all maps, and the element's number in it.
-fn map_of(sizes: &[u32], element: u32) -> (u32, u32) {
-    let mut map: u32 = 0;
-    let mut rest = element;
-    for size in sizes {
-        if rest < *size {
-            return (map, rest);
-        }
-        rest -= *size;
-        map = map.saturating_add(1);
-    }
-    (map, rest)
-}
-
-/// Writes an element, by its number over all maps and in its own, and by the names of its variables.
-pub(crate) fn write_element(
-    out: &mut String,
-    listing: &Listing<'_>,
-    element: u32,
-) -> Result<(), AllocError> {
-    let (map, at) = map_of(listing.sizes, element);
-    write!(out, "element {element} (map {map} at {at})")?;
-    write_names(out, listing.text, map, at)
 }

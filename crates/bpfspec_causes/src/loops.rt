@@ -1,16 +1,33 @@
 //! Loops in words.
 
-use crate::deeds::{Deed, words_of};
-use crate::listing::{Listing, deed_at, write_element, write_slot};
-use crate::mending::{reduce_among, write_end_words, write_mend, write_pair_mend};
+ghost use Rattle.std.specs.Prelude.{◌≡◌, ◌++◌, OnOk};
+ghost use Rattle.std.specs.List.{flat_map};
+ghost use Rattle.std.specs.String.{string_bytes};
+ghost use Rattle.bpfspec_output.specs.ReportText.{loop_line, verdict_text};
+ghost use Rattle.bpfspec_causes.specs.LoopText.{below_line, break_text, cause_text, course_text, earlier, element_text};
+ghost use Rattle.bpfspec_causes.specs.LoopText.{end_text, help_text, later, loop_text, loops_text};
+ghost use Rattle.bpfspec_causes.specs.AdviceText.{reduction_among};
+ghost use Rattle.bpfspec_causes.specs.Places.{deed_at};
+ghost use Rattle.bpfspec_causes.specs.LoopText.{made_text, more_text, pair_text, refusal_text, rest_text};
+
+use crate::deeds::Deed;
+use crate::listing::Listing;
+use crate::mending::{
+    Reduction, reduction_among, write_end_advice, write_end_line, write_pair_advice,
+};
+use crate::names::write_names;
+use crate::places::{deed_at, map_of, write_access, write_place};
 use bpfspec_ways::{reason_of, write_way};
-use loop_core_model::Verdict;
-use loop_core_witness::Place;
+use loop_core_model::{LoopReport, Verdict};
+use loop_core_witness::{Place, Witness};
 use spec_run_explain::{Cause, LoopExplained};
+use spec_run_loop::Course;
 use std::alloc::{AllocError, Global};
 
 /// Writes how a loop comes out.
-fn write_verdict(out: &mut String, verdict: Verdict) -> Result<(), AllocError> {
+fn write_verdict(out: &mut String, verdict: Verdict) -> Result<(), AllocError>
+    ensures { OnOk result (string_bytes out.new ≡ string_bytes out.old ++ verdict_text verdict) }
+{
     match verdict {
         Verdict::Parallel => out.push_str("parallel"),
         Verdict::Conflict { count, least } => write!(out, "conflict {count} least {least}"),
@@ -19,59 +36,138 @@ fn write_verdict(out: &mut String, verdict: Verdict) -> Result<(), AllocError> {
     }
 }
 
-/// Writes what an iteration does, and where.
-fn write_place(
+/// Writes the line of a loop call, which has this number.
+fn write_line(out: &mut String, number: usize, line: LoopReport) -> Result<(), AllocError>
+    ensures { OnOk result (string_bytes out.new ≡ string_bytes out.old ++ loop_line number line) }
+{
+    let slot = line.slot;
+    let answer = line.answer;
+    write!(out, "loop {number} at {slot}: answer {answer}, ")?;
+    write_verdict(out, line.verdict)?;
+    out.push_str("\n")
+}
+
+/// Why a loop call is refused.
+fn refusal_words(answer: i64) -> &'static str
+    ensures { result.now ≡ refusal_text answer }
+{
+    if answer == -7 {
+        "  it asks for more than 8388608 iterations (r1)\n"
+    } else {
+        "  its flags aren't 0 (r4)\n"
+    }
+}
+
+/// Writes which way `run` takes a loop call that isn't refused, and why.
+fn write_course(
+    out: &mut String,
+    verdict: Verdict,
+    course: Option<Course>,
+) -> Result<(), AllocError>
+    ensures { OnOk result (string_bytes out.new ≡ string_bytes out.old ++ course_text verdict course) }
+{
+    let Some(course) = course else {
+        return Ok(());
+    };
+    out.push_str("  way: ")?;
+    write_way(out, course, verdict)?;
+    out.push_str(": ")?;
+    out.push_str(reason_of(course))?;
+    out.push_str("\n")
+}
+
+/// Writes an element, by its number over all maps and in its own, and by the names of its variables.
+fn write_element(
     out: &mut String,
     alloc: Global,
     listing: &Listing<'_>,
-    place: Place,
-    what: &str,
-) -> Result<(), AllocError> {
-    let index = place.index;
-    write!(out, "iteration {index:>4} {what:<12} ")?;
-    write_slot(out, alloc, listing, place.slot)
+    element: u32,
+) -> Result<(), AllocError>
+    ensures { OnOk result (string_bytes out.new ≡ string_bytes out.old ++ element_text listing.now element) }
+{
+    let (map, at) = map_of(&listing.unit().sizes, element);
+    write!(out, "element {element} (map {map} at {at})")?;
+    write_names(out, alloc, listing.text(), map, at)
 }
 
-/// Writes what an iteration does at an element, and where.
-fn write_access(
+/// Of two deeds that of the earlier iteration.
+fn earlier(pair: Witness, writer: Deed, reader: Deed) -> Deed
+    ensures { result ≡ earlier pair writer reader }
+{
+    if pair.writer.index < pair.reader.index {
+        writer
+    } else {
+        reader
+    }
+}
+
+/// Of two deeds that of the later iteration.
+fn later(pair: Witness, writer: Deed, reader: Deed) -> Deed
+    ensures { result ≡ later pair writer reader }
+{
+    if pair.writer.index < pair.reader.index {
+        reader
+    } else {
+        writer
+    }
+}
+
+/// Writes the access at which a reduction ends, and what mends it.
+fn write_ending(
     out: &mut String,
-    alloc: Global,
     listing: &Listing<'_>,
+    reduction: Reduction,
     place: Place,
-    deed: Deed,
-) -> Result<(), AllocError> {
-    out.push_str("    ")?;
-    write_place(out, alloc, listing, place, words_of(deed))
+) -> Result<(), AllocError>
+    ensures { OnOk result (string_bytes out.new ≡ string_bytes out.old ++ end_text listing.now reduction (Some place)) }
+{
+    let Some(deed) = deed_at(listing, place.slot) else {
+        return Ok(());
+    };
+    write_end_line(out, reduction)?;
+    write_access(out, listing, place, deed)?;
+    out.push_str("      ")?;
+    write_end_advice(out, deed)
 }
 
-/// Writes by which access an element that these two reduce, or one of them, isn't reduction-only; of two that don't
+/// Writes by which access an element isn't reduction-only that these two reduce, or one of them; of two that don't
 /// reduce it, what mends them.
-fn write_end(
+fn write_help(
     out: &mut String,
-    alloc: Global,
     listing: &Listing<'_>,
     cause: &Cause,
     writer: Deed,
     reader: Deed,
-) -> Result<(), AllocError> {
-    let is_writer_first = cause.witness.writer.index < cause.witness.reader.index;
-    let (first, second) = if is_writer_first {
-        (writer, reader)
-    } else {
-        (reader, writer)
-    };
-    let Some((width, op)) = reduce_among(first, second) else {
-        return write_pair_mend(out, writer, reader);
-    };
-    let Some(place) = cause.end else {
+) -> Result<(), AllocError>
+    ensures { OnOk result (string_bytes out.new ≡ string_bytes out.old
+        ++ help_text listing.now cause.now.end writer reader (reduction_among
+        (earlier cause.now.witness writer reader) (later cause.now.witness writer reader))) }
+{
+    let first = earlier(cause.witness, writer, reader);
+    let second = later(cause.witness, writer, reader);
+    match reduction_among(first, second) {
+        None => write_pair_advice(out, writer, reader),
+        Some(reduction) => match cause.end {
+            None => Ok(()),
+            Some(place) => write_ending(out, listing, reduction, place),
+        },
+    }
+}
+
+/// Writes the iteration that writes an element, the one that reads it, and what helps.
+fn write_pair(out: &mut String, listing: &Listing<'_>, cause: &Cause) -> Result<(), AllocError>
+    ensures { OnOk result (string_bytes out.new ≡ string_bytes out.old ++ pair_text listing.now cause.now
+        (deed_at listing.now cause.now.witness.writer.slot) (deed_at listing.now cause.now.witness.reader.slot)) }
+{
+    let Some(writer) = deed_at(listing, cause.witness.writer.slot) else {
         return Ok(());
     };
-    let Some(deed) = deed_at(listing.insns, place.slot) else {
+    let Some(reader) = deed_at(listing, cause.witness.reader.slot) else {
         return Ok(());
     };
-    write_end_words(out, width, op)?;
-    write_access(out, alloc, listing, place, deed)?;
-    write_mend(out, deed)
+    write_access(out, listing, cause.witness.writer, writer)?;
+    write_access(out, listing, cause.witness.reader, reader)?;
+    write_help(out, listing, cause, writer, reader)
 }
 
 /// Writes why an element conflicts.
@@ -80,81 +176,130 @@ fn write_cause(
     alloc: Global,
     listing: &Listing<'_>,
     cause: &Cause,
-) -> Result<(), AllocError> {
+) -> Result<(), AllocError>
+    ensures { OnOk result (string_bytes out.new ≡ string_bytes out.old ++ cause_text listing.now cause.now) }
+{
     out.push_str("  ")?;
-    write_element(out, listing, cause.element)?;
+    write_element(out, alloc, listing, cause.element)?;
     out.push_str("\n")?;
-    let Some(writer) = deed_at(listing.insns, cause.witness.writer.slot) else {
-        return Ok(());
-    };
-    let Some(reader) = deed_at(listing.insns, cause.witness.reader.slot) else {
-        return Ok(());
-    };
-    write_access(out, alloc, listing, cause.witness.writer, writer)?;
-    write_access(out, alloc, listing, cause.witness.reader, reader)?;
-    write_end(out, alloc, listing, cause, writer, reader)
+    write_pair(out, listing, cause)
 }
 
-/// Writes how many elements more conflict than were told.
-fn write_rest(out: &mut String, verdict: Verdict, told: usize) -> Result<(), AllocError> {
-    let Verdict::Conflict { count, .. } = verdict else {
+/// Writes why elements conflict.
+fn write_causes(
+    out: &mut String,
+    alloc: Global,
+    listing: &Listing<'_>,
+    causes: &[Cause],
+) -> Result<(), AllocError>
+    ensures { OnOk result (string_bytes out.new ≡ string_bytes out.old
+        ++ flat_map (cause_text listing.now) causes.now) }
+{
+    for cause in causes {
+        write_cause(out, alloc, listing, cause)?;
+    }
+    Ok(())
+}
+
+/// Writes that this many elements more conflict.
+fn write_more(out: &mut String, count: usize) -> Result<(), AllocError>
+    ensures { OnOk result (string_bytes out.new ≡ string_bytes out.old ++ more_text count) }
+{
+    if count == 0 {
         return Ok(());
-    };
-    let rest = (count as usize).saturating_sub(told);
-    match rest {
-        0 => Ok(()),
-        1 => out.push_str("  and 1 element more\n"),
-        _ => write!(out, "  and {rest} elements more\n"),
+    }
+    if count == 1 {
+        return out.push_str("  and 1 element more\n");
+    }
+    write!(out, "  and {count} elements more\n")
+}
+
+/// Writes how many elements conflict that aren't told, where so many are.
+fn write_rest(out: &mut String, verdict: Verdict, told: usize) -> Result<(), AllocError>
+    ensures { OnOk result (string_bytes out.new ≡ string_bytes out.old ++ rest_text verdict told) }
+{
+    match verdict {
+        Verdict::Conflict { count, .. } => write_more(out, (count as usize).saturating_sub(told)),
+        Verdict::Parallel | Verdict::Refused | Verdict::InOrder => Ok(()),
     }
 }
 
-/// Writes which way `run` takes a loop call that isn't refused, and why.
-fn write_course(out: &mut String, told: &LoopExplained) -> Result<(), AllocError> {
-    let Some(course) = told.course else {
-        return Ok(());
-    };
-    out.push_str("  way: ")?;
-    write_way(out, course, told.line.verdict)?;
-    let why = reason_of(course);
-    write!(out, ": {why}\n")
+/// Writes the iteration that breaks a loop, if one does.
+fn write_break(
+    out: &mut String,
+    listing: &Listing<'_>,
+    broke: Option<Place>,
+) -> Result<(), AllocError>
+    ensures { OnOk result (string_bytes out.new ≡ string_bytes out.old ++ break_text listing.now broke) }
+{
+    match broke {
+        Some(place) => {
+            out.push_str("  ")?;
+            write_place(out, listing, place, "breaks it")
+        }
+        None => Ok(()),
+    }
 }
 
-/// Why a loop call is refused.
-fn refusal_words(answer: i64) -> &'static str {
-    if answer == -7 {
-        "  it asks for more than 8388608 iterations (r1)\n"
-    } else {
-        "  its flags aren't 0 (r4)\n"
+/// Writes what comes below the line of a loop call that isn't refused.
+fn write_made(
+    out: &mut String,
+    alloc: Global,
+    listing: &Listing<'_>,
+    told: &LoopExplained,
+) -> Result<(), AllocError>
+    ensures { OnOk result (string_bytes out.new ≡ string_bytes out.old ++ made_text listing.now told.now) }
+{
+    let verdict = told.line.verdict;
+    write_course(out, verdict, told.course)?;
+    write_causes(out, alloc, listing, &told.causes)?;
+    write_rest(out, verdict, told.causes.len())?;
+    write_break(out, listing, told.broke)
+}
+
+/// Writes what comes below the line of a loop call.
+fn write_below(
+    out: &mut String,
+    alloc: Global,
+    listing: &Listing<'_>,
+    told: &LoopExplained,
+) -> Result<(), AllocError>
+    ensures { OnOk result (string_bytes out.new ≡ string_bytes out.old
+        ++ below_line listing.now told.now told.now.line.verdict) }
+{
+    match told.line.verdict {
+        Verdict::Refused => out.push_str(refusal_words(told.line.answer)),
+        Verdict::Parallel | Verdict::Conflict { .. } | Verdict::InOrder => {
+            write_made(out, alloc, listing, told)
+        }
     }
 }
 
 /// Writes what is told of a loop call, which has this number.
-pub(crate) fn write_loop(
+fn write_loop(
     out: &mut String,
     alloc: Global,
     listing: &Listing<'_>,
     number: usize,
     told: &LoopExplained,
-) -> Result<(), AllocError> {
-    let line = told.line;
-    let slot = line.slot;
-    let answer = line.answer;
-    write!(out, "loop {number} at {slot}: answer {answer}, ")?;
-    write_verdict(out, line.verdict)?;
-    out.push_str("\n")?;
-    if line.verdict == Verdict::Refused {
-        return out.push_str(refusal_words(answer));
+) -> Result<(), AllocError>
+    ensures { OnOk result (string_bytes out.new ≡ string_bytes out.old ++ loop_text listing.now number told.now) }
+{
+    write_line(out, number, told.line)?;
+    write_below(out, alloc, listing, told)
+}
+
+/// Writes what is told of a program's loop calls.
+pub(crate) fn write_loops(
+    out: &mut String,
+    alloc: Global,
+    listing: &Listing<'_>,
+    loops: &[LoopExplained],
+) -> Result<(), AllocError>
+    ensures { OnOk result (string_bytes out.new ≡ string_bytes out.old ++ loops_text listing.now loops.now) }
+{
+    for (number, told) in loops.iter().enumerate() {
+        write_loop(out, alloc, listing, number, told)?;
     }
-    write_course(out, told)?;
-    for cause in told.causes.as_slice() {
-        write_cause(out, alloc, listing, cause)?;
-    }
-    write_rest(out, line.verdict, told.causes.len())?;
-    match told.broke {
-        Some(place) => {
-            out.push_str("  ")?;
-            write_place(out, alloc, listing, place, "breaks it")
-        }
-        None => Ok(()),
-    }
+    Ok(())
 }

@@ -1,134 +1,320 @@
 //! The variables at an element, by the comments in front of a unit.
 
-use std::alloc::AllocError;
+ghost use Rattle.std.specs.Prelude.{◌≡◌, ◌++◌, [], IfOk, OnOk, codes, false, if◌then◌else◌};
+ghost use Rattle.std.specs.Option.{option_copied};
+ghost use Rattle.std.specs.String.{string_bytes};
+ghost use Rattle.bpf_text_lex.specs.Lines.{lines_of};
+ghost use Rattle.bpfspec_causes.specs.NamesText.{before_comma, before_others, begins_inside, byte_of_element};
+ghost use Rattle.bpfspec_causes.specs.NamesText.{from_begun, has_begun, head_of, inside_text, is_in_list, is_plain};
+ghost use Rattle.bpfspec_causes.specs.NamesText.{last_begun, listed, map_headed, map_name, may_be_cut, name_in};
+ghost use Rattle.bpfspec_causes.specs.NamesText.{name_inside, names_text, parted_after, place_numbers, place_of};
+ghost use Rattle.bpfspec_causes.specs.NamesText.{shown_name, variable_here, variable_of, variables_from, whole_element};
+ghost use Rattle.bpfspec_causes.specs.Cuts.{after_front, cut_at};
+
+use crate::cuts::{after_front, cut_at, number_of, split_line};
+use crate::variable::Variable;
+use std::alloc::{AllocError, Global};
 
 /// The most variables of a map that the comments list.
 const MOST_LISTED: usize = 64;
 /// The most bytes of a name that are shown.
 const MOST_BYTES: usize = 100;
 
-/// A variable, and where in its map it begins.
-#[derive(Clone, Copy)]
-struct Variable<'a> {
-    name: &'a str,
-    element: u32,
-    /// The byte of that element.
-    byte: u32,
+/// The number and the name of the map that a line heads, if it heads one.
+fn map_headed(line: &str) -> Option<(u32, &str)>
+    ensures { head_of result ≡ map_headed line.now }
+{
+    let rest = after_front(line, "; map ")?;
+    let (number, name) = cut_at(rest, ": ")?;
+    let number = number_of(number)?;
+    Some((number, name))
+}
+
+/// What comes before the first comma of a list.
+fn before_comma(words: &str) -> &str
+    ensures { result.now ≡ before_comma words.now (cut_at (codes ", ") words.now) }
+{
+    match cut_at(words, ", ") {
+        Some((front, _)) => front,
+        None => words,
+    }
+}
+
+/// Reads `element 3`.
+fn whole_element(place: &str) -> Option<(u32, u32)>
+    ensures { result ≡ whole_element place.now }
+{
+    let rest = after_front(place, "element ")?;
+    let element = number_of(rest)?;
+    Some((element, 0))
+}
+
+/// The numbers of an element, and of a byte in it.
+fn place_numbers(byte: &str, element: &str) -> Option<(u32, u32)>
+    ensures { result ≡ place_numbers byte.now element.now }
+{
+    let element = number_of(element)?;
+    let byte = number_of(byte)?;
+    Some((element, byte))
+}
+
+/// Reads `4 of element 3`.
+fn byte_of_element(rest: &str) -> Option<(u32, u32)>
+    ensures { result ≡ byte_of_element rest.now }
+{
+    match cut_at(rest, " of element ") {
+        Some((byte, element)) => place_numbers(byte, element),
+        None => None,
+    }
 }
 
 /// Reads `element 3`, or `byte 4 of element 3`: the element, and the byte in it. More may follow after a comma.
-fn place_of(words: &str) -> Option<(u32, u32)> {
-    let place = match words.split_once(", ") {
-        Some((front, _)) => front,
-        None => words,
-    };
-    match place.strip_prefix("byte ") {
-        None => {
-            let element = place.strip_prefix("element ")?;
-            Some((element.parse::<u32>().ok()?, 0))
-        }
-        Some(rest) => {
-            let (byte, element) = rest.split_once(" of element ")?;
-            Some((element.parse::<u32>().ok()?, byte.parse::<u32>().ok()?))
-        }
+fn place_of(words: &str) -> Option<(u32, u32)>
+    ensures { result ≡ place_of words.now }
+{
+    let place = before_comma(words);
+    match after_front(place, "byte ") {
+        None => whole_element(place),
+        Some(rest) => byte_of_element(rest),
     }
 }
 
 /// The variable that a line lists, if it lists one.
-fn variable_of(line: &str) -> Option<Variable<'_>> {
-    let (name, place) = line.strip_prefix(";   ")?.split_once(" from ")?;
+fn variable_of(line: &str) -> Option<Variable<'_>>
+    ensures { result ≡ variable_of line.now }
+{
+    let rest = after_front(line, ";   ")?;
+    let (name, place) = cut_at(rest, " from ")?;
     let (element, byte) = place_of(place)?;
-    Some(Variable {
-        name,
-        element,
-        byte,
-    })
+    Some(Variable::of(name, element, byte))
 }
 
-/// The number and the name of the map that a line heads the variables of, if it does.
-fn map_headed(line: &str) -> Option<(u32, &str)> {
-    let (number, name) = line.strip_prefix("; map ")?.split_once(": ")?;
-    Some((number.parse::<u32>().ok()?, name))
+/// The variable that a line lists which belongs to the list of a map, if it does and lists one.
+fn variable_here(is_here: bool, line: &str) -> Option<Variable<'_>>
+    ensures { result ≡ variable_here is_here line.now }
+{
+    if is_here { variable_of(line) } else { None }
 }
 
-/// Writes a name, after what parts it from the one before.
-fn write_name(out: &mut String, parted: &str, name: &str) -> Result<(), AllocError> {
-    let (front, _) = name.split_at(name.floor_char_boundary(MOST_BYTES));
-    write!(out, "{parted}{front}")
+/// Whether a line belongs to the list of a map, by whether the line before does.
+fn is_in_list(line: &str, map: usize, before: bool) -> bool
+    ensures { result ≡ is_in_list map before (map_headed line.now) }
+{
+    match map_headed(line) {
+        None => before,
+        Some((number, _)) => number as usize == map,
+    }
 }
 
-/// The variables at an element, as they are found line by line.
-#[derive(Clone, Copy)]
-struct Found<'a> {
-    /// The last one that begins with the element or before it.
-    over: Option<Variable<'a>>,
-    /// How many of its map were listed with it.
-    listed: usize,
+/// Adds a variable, if there is one.
+fn add_variable<'a>(
+    variables: &mut Vec<Variable<'a>>,
+    variable: Option<Variable<'a>>,
+) -> Result<(), AllocError>
+    ensures { OnOk result (variables.new.items ≡ variables.old.items ++ before_others variable.entry []) }
+{
+    match variable {
+        None => Ok(()),
+        Some(variable) => Ok(variables.push(variable)?),
+    }
 }
 
-/// What is found of the variable over an element of a map: the last one listed that begins with it or before it.
-fn find_over<'a>(text: &'a str, map: u32, at: u32) -> Found<'a> {
-    let mut found = Found {
-        over: None,
-        listed: 0,
-    };
-    let mut here = None;
-    let mut listed: usize = 0;
-    for line in text.split('\n') {
-        if let Some((number, _)) = map_headed(line) {
-            here = Some(number);
-        }
-        if here == Some(map) {
-            if let Some(variable) = variable_of(line) {
-                listed = listed.saturating_add(1);
-                if variable.element < at || (variable.element == at && variable.byte == 0) {
-                    found = Found {
-                        over: Some(variable),
-                        listed,
-                    };
-                }
+/// The variables that the comments of a text list of a map.
+fn listed<'a>(alloc: Global, text: &'a str, map: usize) -> Result<Vec<Variable<'a>>, AllocError>
+    ensures { IfOk result (λ variables. variables.items ≡ listed map false (lines_of text.now)) }
+{
+    let mut variables = Vec::new(alloc);
+    let mut rest = text;
+    let mut is_here = false;
+    while !rest.is_empty() {
+        let (line, behind) = split_line(rest);
+        is_here = is_in_list(line, map, is_here);
+        add_variable(&mut variables, variable_here(is_here, line))?;
+        rest = behind;
+    }
+    Ok(variables)
+}
+
+/// Whether a name of a map isn't that of a section of a program from C.
+fn is_plain(name: &str) -> bool
+    ensures { result ≡ is_plain name.now }
+{
+    if after_front(name, ".").is_some() {
+        return false;
+    }
+    cut_at(name, ";").is_none()
+}
+
+/// The name of a map that is no section, if a line heads it.
+fn name_in(line: &str, map: usize) -> Option<&str>
+    ensures { option_copied result ≡ name_in map (map_headed line.now) }
+{
+    match map_headed(line) {
+        None => None,
+        Some((number, name)) => {
+            if number as usize != map || !is_plain(name) {
+                return None;
             }
+            Some(name)
         }
     }
-    found
 }
 
-/// Writes the names of the variables that begin inside an element of a map, after its first byte.
+/// The name of a map that is no section, if the comments tell it.
+fn map_name(text: &str, map: usize) -> Option<&str>
+    ensures { option_copied result ≡ map_name map (lines_of text.now) }
+{
+    let mut rest = text;
+    while !rest.is_empty() {
+        let (line, behind) = split_line(rest);
+        if let Some(name) = name_in(line, map) {
+            return Some(name);
+        }
+        rest = behind;
+    }
+    None
+}
+
+/// The characters of a name that are shown.
+fn shown_name(name: &str) -> &str
+    ensures { result.now ≡ shown_name name.now }
+{
+    if name.len() <= MOST_BYTES {
+        return name;
+    }
+    let (front, _) = name.split_at(name.floor_char_boundary(MOST_BYTES));
+    front
+}
+
+/// Writes a name, after what parts it from what stands before.
+fn write_name(out: &mut String, parted: &str, name: &str) -> Result<(), AllocError>
+    ensures { OnOk result (string_bytes out.new ≡ string_bytes out.old ++ (parted.now ++ shown_name name.now)) }
+{
+    out.push_str(parted)?;
+    out.push_str(shown_name(name))
+}
+
+/// Whether a variable begins with an element, or before it.
+fn has_begun(at: u32, variable: &Variable<'_>) -> bool
+    ensures { result ≡ has_begun at variable.now }
+{
+    variable.element() < at || (variable.element() == at && variable.byte() == 0)
+}
+
+/// Whether a variable begins inside an element, after its first byte.
+fn begins_inside(at: u32, variable: &Variable<'_>) -> bool
+    ensures { result ≡ begins_inside at variable.now }
+{
+    variable.element() == at && variable.byte() != 0
+}
+
+/// Whether a variable of this number may be the last of a list that was cut, and begins before an element.
+fn may_be_cut(at: u32, number: usize, variable: &Variable<'_>) -> bool
+    ensures { result ≡ may_be_cut at number variable.now }
+{
+    number >= MOST_LISTED - 1 && variable.element() < at
+}
+
+/// The number of a variable that has begun, or else an earlier one.
+fn begun_or(
+    at: u32,
+    earlier: Option<usize>,
+    number: usize,
+    variable: &Variable<'_>,
+) -> Option<usize>
+    ensures { result ≡ (if has_begun at variable.now then Some number else earlier) }
+{
+    if has_begun(at, variable) {
+        Some(number)
+    } else {
+        earlier
+    }
+}
+
+/// The number of the last variable that begins with an element or before it, if one does.
+fn last_begun(at: u32, variables: &[Variable<'_>]) -> Option<usize>
+    ensures { result ≡ last_begun at None 0 variables.now }
+{
+    let mut last = None;
+    for (number, variable) in variables.iter().enumerate() {
+        last = begun_or(at, last, number, variable);
+    }
+    last
+}
+
+/// Writes the name of a variable that begins inside an element, after what parts it from what stands before.
+fn write_if_inside(
+    out: &mut String,
+    at: u32,
+    parted: &str,
+    variable: &Variable<'_>,
+) -> Result<(), AllocError>
+    ensures { OnOk result (string_bytes out.new ≡ string_bytes out.old ++ name_inside at parted.now variable.now) }
+{
+    if !begins_inside(at, variable) {
+        return Ok(());
+    }
+    write_name(out, parted, variable.name())
+}
+
+/// What parts the next name from what stands before.
+fn parted_after(at: u32, parted: &'static str, variable: &Variable<'_>) -> &'static str
+    ensures { result.now ≡ parted_after at parted.now variable.now }
+{
+    if begins_inside(at, variable) {
+        " and "
+    } else {
+        parted
+    }
+}
+
+/// Writes the names of the variables that begin inside an element, after what parts the first from what stands before.
 fn write_inside(
     out: &mut String,
-    text: &str,
-    map: u32,
     at: u32,
-    first: &'static str,
-) -> Result<(), AllocError> {
-    let mut here = None;
-    let mut is_first = true;
-    for line in text.split('\n') {
-        if let Some((number, _)) = map_headed(line) {
-            here = Some(number);
-        }
-        if here == Some(map) {
-            if let Some(variable) = variable_of(line) {
-                if variable.element == at && variable.byte != 0 {
-                    write_name(out, if is_first { first } else { " and " }, variable.name)?;
-                    is_first = false;
-                }
-            }
-        }
+    parted: &'static str,
+    variables: &[Variable<'_>],
+) -> Result<(), AllocError>
+    ensures { OnOk result (string_bytes out.new ≡ string_bytes out.old ++ inside_text at parted.now variables.now) }
+{
+    let mut before = parted;
+    for variable in variables {
+        write_if_inside(out, at, before, variable)?;
+        before = parted_after(at, before, variable);
     }
     Ok(())
 }
 
-/// The name of a map that is no section, if the comments tell it.
-fn map_name(text: &str, map: u32) -> Option<&str> {
-    for line in text.split('\n') {
-        if let Some((number, name)) = map_headed(line) {
-            if number == map && !name.starts_with('.') && !name.contains(';') {
-                return Some(name);
-            }
-        }
+/// Writes the names of the variables at an element, of which this one begins with it or before it.
+fn write_from(
+    out: &mut String,
+    at: u32,
+    variables: &[Variable<'_>],
+    number: usize,
+    variable: &Variable<'_>,
+) -> Result<(), AllocError>
+    ensures { OnOk result (string_bytes out.new ≡ string_bytes out.old
+        ++ from_begun at variables.now number (Some variable.now)) }
+{
+    if may_be_cut(at, number, variable) {
+        return Ok(());
     }
-    None
+    write_name(out, ": ", variable.name())?;
+    write_inside(out, at, " and ", variables)
+}
+
+/// Writes the names of the variables at an element.
+fn write_variables(out: &mut String, at: u32, variables: &[Variable<'_>]) -> Result<(), AllocError>
+    ensures { OnOk result (string_bytes out.new ≡ string_bytes out.old
+        ++ variables_from at variables.now (last_begun at None 0 variables.now)) }
+{
+    let Some(number) = last_begun(at, variables) else {
+        return write_inside(out, at, ": ", variables);
+    };
+    match variables.get(number) {
+        Some(variable) => write_from(out, at, variables, number, variable),
+        None => write_inside(out, at, ": ", variables),
+    }
 }
 
 /// Writes the name of a map that is no section, or the names of the variables that lie at an element of one, where the
@@ -136,22 +322,15 @@ fn map_name(text: &str, map: u32) -> Option<&str> {
 /// that it begins in.
 pub(crate) fn write_names(
     out: &mut String,
+    alloc: Global,
     text: &str,
-    map: u32,
+    map: usize,
     at: u32,
-) -> Result<(), AllocError> {
-    if let Some(name) = map_name(text, map) {
-        return write_name(out, ": ", name);
-    }
-    let found = find_over(text, map, at);
-    match found.over {
-        Some(variable) => {
-            if found.listed >= MOST_LISTED && variable.element < at {
-                return Ok(());
-            }
-            write_name(out, ": ", variable.name)?;
-            write_inside(out, text, map, at, " and ")
-        }
-        None => write_inside(out, text, map, at, ": "),
+) -> Result<(), AllocError>
+    ensures { OnOk result (string_bytes out.new ≡ string_bytes out.old ++ names_text text.now map at) }
+{
+    match map_name(text, map) {
+        Some(name) => write_name(out, ": ", name),
+        None => write_variables(out, at, &listed(alloc, text, map)?),
     }
 }

@@ -1,2 +1,5 @@
 pub mod Truth
 pub mod Misfits
+pub mod Parts
+pub mod Printed
+pub mod Told

@@ -1,11 +1,13 @@
 //! Explanations, piece by piece.
 
 ghost use Rattle.std.specs.Prelude.{◌≡◌, ◌≤◌, slice_get, None, OnOk};
+ghost use Rattle.std.specs.String.{string_bytes};
 ghost use Rattle.bpfspec_reasons.specs.Truth.{AreTrue, slot_or, first_line, slot_told};
+ghost use Rattle.bpfspec_reasons.specs.Told.{Adds};
 
 use crate::page::Page;
 use crate::piece::Piece;
-use crate::words::write_piece;
+use crate::words::write_pieces;
 use bpf_insn_types::Reg;
 use bpf_verify_model::AbstractValue;
 use bpf_verify_origin::Inspection;
@@ -210,15 +212,9 @@ impl<'a> Explanation<'a> {
     }
 
     /// Writes the explanation at the end of a text, or memory runs out. Lines are those of the page.
-    pub fn write(
-        &self,
-        out: &mut String,
-        alloc: Global,
-        page: &Page<'_>,
-    ) -> Result<(), AllocError> {
-        for piece in self.pieces.as_slice() {
-            write_piece(out, alloc, page, piece)?;
-        }
-        Ok(())
+    pub fn write(&self, out: &mut String, alloc: Global, page: &Page<'_>) -> Result<(), AllocError>
+        ensures { OnOk result (Adds page.now self.now (string_bytes out.old) (string_bytes out.new)) }
+    {
+        write_pieces(out, alloc, page, self.pieces())
     }
 }

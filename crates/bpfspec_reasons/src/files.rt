@@ -1,5 +1,8 @@
 //! Texts that are none of a unit, and characters that an editor put into one unseen.
 
+ghost use Rattle.std.specs.Prelude.{◌≡◌, ◌==◌};
+ghost use Rattle.std.specs.List.{before_first};
+
 use crate::shown::Shown;
 use bpf_text_lines::line_at;
 use std::alloc::AllocError;
@@ -29,7 +32,9 @@ const C_LINES: [&str; 17] = [
 const C_COMMENTS: [&str; 2] = ["//", "/*"];
 
 /// A line without its comment, as it stands.
-pub(crate) fn before_comment(line: &str) -> &str {
+pub(crate) fn before_comment(line: &str) -> &str
+    ensures { result.now ≡ before_first (λ b. b == 59) line.now }
+{
     match line.split_once(';') {
         Some((content, _)) => content,
         None => line,

@@ -1,8 +1,9 @@
 //! The lines of a unit's text, and the line of each of its slots.
 
-ghost use Rattle.std.specs.Prelude.{◌≡◌, ◌≤◌, [], length, slice_get, IfOk};
-ghost use Rattle.bpf_text_lex.specs.Lines.{contents_of};
-ghost use Rattle.bpf_text_lines.specs.SlotLines.{lines_by_slot};
+ghost use Rattle.std.specs.Prelude.{◌≡◌, slice_get, IfOk};
+ghost use Rattle.bpfspec_reasons.specs.Parts.{part_of};
+ghost use Rattle.bpfspec_reasons.specs.Printed.{after_comma, comment_part, instruction_part, no_page, page_of};
+ghost use Rattle.bpfspec_reasons.specs.Printed.{without_slot};
 
 use crate::files::before_comment;
 use crate::shown::Shown;
@@ -12,7 +13,9 @@ use std::alloc::{AllocError, Global};
 use std::marker::Model;
 
 /// A comment without the slot that the loader from C writes at its front.
-fn without_slot(comment: &str) -> &str {
+fn without_slot(comment: &str) -> &str
+    ensures { result.now ≡ without_slot comment.now (after_comma comment.now) }
+{
     if !comment.starts_with("slot ") {
         return comment;
     }
@@ -23,7 +26,7 @@ fn without_slot(comment: &str) -> &str {
 }
 
 /// The lines of a unit's text, and for each slot the number of the line whose instruction takes it. Of a unit in hex
-/// form there are no lines, and places are slots. In contracts it is the list of these numbers.
+/// form there are no lines, and places are slots. In contracts it is these lines and numbers.
 #[derive(Drop)]
 pub struct Page<'a> {
     lines: Listing<'a>,
@@ -31,17 +34,17 @@ pub struct Page<'a> {
 }
 
 impl<'a> Model for Page<'a> {
-    ghost use Rattle.std.specs.Prelude.{ℕ, List};
+    ghost use Rattle.bpfspec_reasons.specs.Printed.{PageText};
 
-    ghost Value = { List ℕ };
+    ghost Value = { PageText };
 
-    ghost view = { λ page. page.numbers.items };
+    ghost view = { λ page. record { lines = page.lines; numbers = page.numbers.items } };
 }
 
 impl<'a> Page<'a> {
     /// The page of a unit's text; of none where it is longer than a text may be.
     pub fn of(alloc: Global, text: &'a str) -> Result<Page<'a>, AllocError>
-        ensures { IfOk result (λ page. length text.now ≤ 1048576 → page ≡ lines_by_slot (contents_of text.now)) }
+        ensures { IfOk result (λ page. page ≡ page_of text.now) }
     {
         if text.len() > MAX_TEXT {
             return Ok(Page::none(alloc));
@@ -53,7 +56,7 @@ impl<'a> Page<'a> {
 
     /// The page of no text.
     pub fn none(alloc: Global) -> Page<'a>
-        ensures { result ≡ [] }
+        ensures { result ≡ no_page }
     {
         Page {
             lines: Listing::none(alloc),
@@ -63,18 +66,22 @@ impl<'a> Page<'a> {
 
     /// The number of the line whose instruction takes a slot.
     pub fn number(&self, slot: u32) -> Option<u32>
-        ensures { result ≡ slice_get self.now slot }
+        ensures { result ≡ slice_get self.now.numbers slot }
     {
         self.numbers.get(slot as usize).copied()
     }
 
     /// The instruction of a line as it is written, without its comment.
-    pub fn instruction(&self, number: u32) -> Shown<'_> {
+    pub fn instruction(&self, number: u32) -> Shown<'_>
+        ensures { part_of result ≡ instruction_part self.now number }
+    {
         Shown::of(before_comment(self.lines.line(number)).trim())
     }
 
     /// The comment of a line, without the slot that the loader from C writes at its front.
-    pub fn comment(&self, number: u32) -> Shown<'_> {
+    pub fn comment(&self, number: u32) -> Shown<'_>
+        ensures { part_of result ≡ comment_part self.now number }
+    {
         Shown::of(without_slot(self.lines.comment(number)))
     }
 }

@@ -1,5 +1,11 @@
 //! Instructions in words: their lines, and themselves.
 
+ghost use Rattle.std.specs.Prelude.{◌≡◌, ◌++◌, slice_get, OnOk, IfOk};
+ghost use Rattle.std.specs.String.{string_bytes};
+ghost use Rattle.bpf_text_mnemonics.specs.PrintedLines.{insn_spelling};
+ghost use Rattle.bpfspec_reasons.specs.Parts.{part_of};
+ghost use Rattle.bpfspec_reasons.specs.Printed.{comment_text, line_text, step_text};
+
 use crate::page::Page;
 use crate::shown::Shown;
 use bpf_insn_types::Insn;
@@ -7,14 +13,21 @@ use bpf_text_mnemonics::print_insn;
 use std::alloc::{AllocError, Global};
 
 /// An instruction as text.
-fn insn_text(alloc: Global, insn: &Insn) -> Result<String, AllocError> {
+fn insn_text(alloc: Global, insn: &Insn) -> Result<String, AllocError>
+    ensures { IfOk result (λ text. string_bytes text ≡ insn_spelling insn.now) }
+{
     let mut line = String::new(alloc);
     print_insn(&mut line, insn)?;
-    String::from_str(alloc, line.as_str().trim_end())
+    match line.as_str().strip_suffix('\n') {
+        Some(text) => String::from_str(alloc, text),
+        None => Ok(line),
+    }
 }
 
 /// Writes a comment, if there is one.
-fn write_comment(out: &mut String, comment: Shown<'_>) -> Result<(), AllocError> {
+fn write_comment(out: &mut String, comment: Shown<'_>) -> Result<(), AllocError>
+    ensures { OnOk result (string_bytes out.new ≡ string_bytes out.old ++ comment_text (part_of comment.entry)) }
+{
     if comment.is_empty() {
         return Ok(());
     }
@@ -29,7 +42,10 @@ pub(crate) fn write_line(
     page: &Page<'_>,
     slot: u32,
     insn: &Insn,
-) -> Result<(), AllocError> {
+) -> Result<(), AllocError>
+    ensures { OnOk result (string_bytes out.new ≡ string_bytes out.old
+        ++ line_text page.now slot insn.now (slice_get page.now.numbers slot)) }
+{
     match page.number(slot) {
         Some(number) => {
             let text = page.instruction(number);
@@ -49,7 +65,9 @@ pub(crate) fn write_step(
     alloc: Global,
     slot: u32,
     insn: &Insn,
-) -> Result<(), AllocError> {
+) -> Result<(), AllocError>
+    ensures { OnOk result (string_bytes out.new ≡ string_bytes out.old ++ step_text slot insn.now) }
+{
     let text = insn_text(alloc, insn)?;
     let text = text.as_str();
     write!(out, "slot {slot:>3}  {text:<24}  ")

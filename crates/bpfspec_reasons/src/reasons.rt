@@ -2,7 +2,8 @@
 
 ghost use Rattle.std.specs.Prelude.{◌≡◌, IfOk, OnOk};
 ghost use Rattle.bpf_verify_model.specs.Accepted.{first_fault};
-ghost use Rattle.bpfspec_reasons.specs.Truth.{slot_or, slot_told, line_of_fault};
+ghost use Rattle.bpfspec_reasons.specs.Truth.{slot_or, slot_told};
+ghost use Rattle.bpfspec_reasons.specs.Told.{Explains};
 
 use crate::access_rules::add_access_rule;
 use crate::accessing::access_of;
@@ -191,9 +192,7 @@ pub fn explain_refusal<'a>(
     alloc: Global,
     inspection: &'a Inspection,
 ) -> Result<Explanation<'a>, AllocError>
-    ensures program { IfOk result (λ explanation. explanation.program ≡ inspection.now) }
-    ensures line { IfOk result (λ explanation. explanation.line
-        ≡ line_of_fault inspection.now (first_fault inspection.now)) }
+    ensures { IfOk result (Explains inspection.now (first_fault inspection.now)) }
 {
     let mut out = Explanation::new(alloc, inspection);
     let Some(fault) = inspection.fault() else {

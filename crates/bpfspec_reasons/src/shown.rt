@@ -1,5 +1,9 @@
 //! Parts of an untrusted text, as they are shown.
 
+ghost use Rattle.std.specs.Prelude.{◌≡◌, ◌==◌, length, Some};
+ghost use Rattle.bpfspec_reasons.specs.Printed.{shown_part};
+ghost use Rattle.bpfspec_reasons.specs.Parts.{part_of};
+
 use std::fmt;
 
 /// The most bytes of a part that are shown.
@@ -13,17 +17,23 @@ pub struct Shown<'a> {
 
 impl<'a> Shown<'a> {
     /// This part of a text.
-    pub(crate) fn of(text: &'a str) -> Shown<'a> {
+    pub(crate) fn of(text: &'a str) -> Shown<'a>
+        ensures { part_of result ≡ text.now }
+    {
         Shown { text }
     }
 
     /// Whether there is nothing in it.
-    pub fn is_empty(&self) -> bool {
+    pub fn is_empty(&self) -> bool
+        ensures { result ≡ (length (part_of self.now) == 0) }
+    {
         self.text.is_empty()
     }
 }
 
 impl<'a> fmt::Display for Shown<'a> {
+    ghost output = { λ shown. Some (shown_part (part_of shown)) };
+
     fn fmt<W: fmt::Write>(&self, f: &mut fmt::Formatter<W>) -> fmt::Result {
         let text = self.text;
         if text.len() <= MOST_BYTES {

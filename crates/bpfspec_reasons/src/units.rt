@@ -1,5 +1,15 @@
 //! Why a unit in one of its two forms is refused.
 
+ghost use Rattle.std.specs.Prelude.{[], OnOk, IfOk};
+ghost use Rattle.std.specs.String.{string_bytes};
+ghost use Rattle.bpf_insn.specs.Reading.{reading};
+ghost use Rattle.bpf_text_asm.specs.AssemblerText.{assembler_text};
+ghost use Rattle.bpf_text_hex.specs.HexText.{hex_text};
+ghost use Rattle.bpf_verify_model.specs.Accepted.{first_fault};
+ghost use Rattle.bpfspec_reasons.specs.Printed.{no_page, page_of};
+ghost use Rattle.bpfspec_reasons.specs.Told.{AddsRefusal, AddsStates, TellsProgram, TellsUnit, program_decoded};
+ghost use Rattle.bpfspec_reasons.specs.Told.{program_read, with_insns};
+
 use crate::given::write_given_reasons;
 use crate::hexes::write_byte_reasons;
 use crate::page::Page;
@@ -10,7 +20,7 @@ use crate::texts::{write_hex_reasons, write_text_reasons};
 use bpf_insn::{CodecError, decode};
 use bpf_insn_types::Unit;
 use bpf_text::{HexUnit, TextError, parse_unit, read_hex};
-use bpf_verify_origin::inspect;
+use bpf_verify_origin::{Inspection, inspect};
 use std::alloc::{AllocError, Global};
 
 /// How much of a program is explained.
@@ -22,6 +32,38 @@ pub enum Extent {
     States,
 }
 
+/// Adds why a program is refused, if it is.
+fn write_refusal(
+    out: &mut String,
+    alloc: Global,
+    page: &Page<'_>,
+    inspection: &Inspection,
+) -> Result<(), AllocError>
+    ensures { OnOk result (AddsRefusal page.now inspection.now (first_fault inspection.now) (string_bytes out.old)
+        (string_bytes out.new)) }
+{
+    match inspection.fault() {
+        None => Ok(()),
+        Some(_) => {
+            let refusal = explain_refusal(alloc, inspection)?;
+            refusal.write(out, alloc, page)
+        }
+    }
+}
+
+/// Adds each instruction with the values of the registers that it reads.
+fn write_states(
+    out: &mut String,
+    alloc: Global,
+    page: &Page<'_>,
+    inspection: &Inspection,
+) -> Result<(), AllocError>
+    ensures { OnOk result (AddsStates page.now inspection.now (string_bytes out.old) (string_bytes out.new)) }
+{
+    let states = explain_states(alloc, inspection)?;
+    states.write(out, alloc, page)
+}
+
 /// Writes the reasons of a unit.
 fn write_unit_reasons(
     out: &mut String,
@@ -29,22 +71,23 @@ fn write_unit_reasons(
     extent: Extent,
     page: &Page<'_>,
     unit: Unit,
-) -> Result<(), AllocError> {
+) -> Result<(), AllocError>
+    ensures { OnOk result (TellsProgram extent page.now unit (string_bytes out.old) (string_bytes out.new)) }
+{
     let inspection = inspect(alloc, unit)?;
-    let refusal = explain_refusal(alloc, &inspection)?;
-    refusal.write(out, alloc, page)?;
+    write_refusal(out, alloc, page, &inspection)?;
     match extent {
         Extent::Refusal => Ok(()),
-        Extent::States => {
-            let states = explain_states(alloc, &inspection)?;
-            states.write(out, alloc, page)
-        }
+        Extent::States => write_states(out, alloc, page, &inspection),
     }
 }
 
 /// Why a unit in assembler text is refused. It is empty of an accepted unit where its refusal alone is wanted. Memory
 /// may run out.
-pub fn reasons_of_text(alloc: Global, extent: Extent, text: &str) -> Result<String, AllocError> {
+pub fn reasons_of_text(alloc: Global, extent: Extent, text: &str) -> Result<String, AllocError>
+    ensures { IfOk result (λ reasons. TellsUnit extent (page_of text.now) (program_read (assembler_text text.now)) []
+        (string_bytes reasons)) }
+{
     let mut out = String::new(alloc);
     match parse_unit(alloc, text) {
         Ok(unit) => {
@@ -65,7 +108,10 @@ fn write_parts_reasons(
     alloc: Global,
     extent: Extent,
     parts: HexUnit,
-) -> Result<(), AllocError> {
+) -> Result<(), AllocError>
+    ensures { OnOk result (TellsUnit extent no_page (with_insns parts.sizes (reading parts.bytes))
+        (string_bytes out.old) (string_bytes out.new)) }
+{
     match decode(alloc, &parts.bytes) {
         Ok(insns) => {
             let page = Page::none(alloc);
@@ -81,7 +127,10 @@ fn write_parts_reasons(
 
 /// Why a unit in hex form is refused. It is empty of an accepted unit where its refusal alone is wanted. Memory may run
 /// out.
-pub fn reasons_of_hex(alloc: Global, extent: Extent, text: &str) -> Result<String, AllocError> {
+pub fn reasons_of_hex(alloc: Global, extent: Extent, text: &str) -> Result<String, AllocError>
+    ensures { IfOk result (λ reasons. TellsUnit extent no_page (program_decoded (hex_text text.now)) []
+        (string_bytes reasons)) }
+{
     let mut out = String::new(alloc);
     match read_hex(alloc, text) {
         Ok(parts) => write_parts_reasons(&mut out, alloc, extent, parts)?,

@@ -1,21 +1,31 @@
 //! Registers, bytes and maps in words.
 
+ghost use Rattle.std.specs.Prelude.{◌≡◌, ◌++◌, codes, OnOk};
+ghost use Rattle.std.specs.String.{string_bytes};
+ghost use Rattle.bpfspec_reasons.specs.Printed.{any_text, area_text, elements_text, known_text, missing_text};
+ghost use Rattle.bpfspec_reasons.specs.Printed.{number_text, numbers_text, position_text, range_text, register_text};
+ghost use Rattle.bpfspec_reasons.specs.Printed.{step_of, steps_text, value_text};
+
 use bpf_insn_types::Reg;
 use bpf_verify_model::AbstractValue;
 use std::alloc::AllocError;
 use value_range_model::Range;
 
 /// Adds one number; above 2^63 its signed value too.
-fn write_number(out: &mut String, number: u64) -> Result<(), AllocError> {
-    let signed = number.cast_signed();
-    if signed < 0 {
-        return write!(out, "{number} (signed, {signed})");
+fn write_number(out: &mut String, number: u64) -> Result<(), AllocError>
+    ensures { OnOk result (string_bytes out.new ≡ string_bytes out.old ++ number_text number) }
+{
+    if number < 1 << 63 {
+        return write!(out, "{number}");
     }
-    write!(out, "{number}")
+    let signed = number.cast_signed();
+    write!(out, "{number} (signed, {signed})")
 }
 
 /// Adds the steps between a range's numbers, where they are more than one apart.
-fn write_steps(out: &mut String, step: u64) -> Result<(), AllocError> {
+fn write_steps(out: &mut String, step: u64) -> Result<(), AllocError>
+    ensures { OnOk result (string_bytes out.new ≡ string_bytes out.old ++ steps_text step) }
+{
     if step == 1 {
         return Ok(());
     }
@@ -23,7 +33,9 @@ fn write_steps(out: &mut String, step: u64) -> Result<(), AllocError> {
 }
 
 /// How far apart a range's numbers are.
-fn step_of(range: Range) -> u64 {
+fn step_of(range: Range) -> u64
+    ensures { result ≡ step_of range }
+{
     let zeros = range.zeros();
     if zeros > 63 {
         return 1;
@@ -32,7 +44,9 @@ fn step_of(range: Range) -> u64 {
 }
 
 /// Adds that a number may be any, or any multiple of a step.
-fn write_any(out: &mut String, step: u64) -> Result<(), AllocError> {
+fn write_any(out: &mut String, step: u64) -> Result<(), AllocError>
+    ensures { OnOk result (string_bytes out.new ≡ string_bytes out.old ++ any_text step) }
+{
     if step == 1 {
         return out.push_str("any number");
     }
@@ -40,7 +54,9 @@ fn write_any(out: &mut String, step: u64) -> Result<(), AllocError> {
 }
 
 /// Adds a range of more than one number: `0 to 7992 in steps of 8`, `any number`.
-fn write_numbers(out: &mut String, least: u64, greatest: u64, step: u64) -> Result<(), AllocError> {
+fn write_numbers(out: &mut String, least: u64, greatest: u64, step: u64) -> Result<(), AllocError>
+    ensures { OnOk result (string_bytes out.new ≡ string_bytes out.old ++ numbers_text least greatest step) }
+{
     if least == 0 && greatest > u64::MAX - step {
         return write_any(out, step);
     }
@@ -54,7 +70,10 @@ fn write_numbers(out: &mut String, least: u64, greatest: u64, step: u64) -> Resu
 }
 
 /// Adds a range: `7`, `0 to 7992 in steps of 8`, `any number`.
-fn write_range(out: &mut String, range: Range) -> Result<(), AllocError> {
+#[tactic(auto, unfolding(crate::specs::Printed::range_text))]
+fn write_range(out: &mut String, range: Range) -> Result<(), AllocError>
+    ensures { OnOk result (string_bytes out.new ≡ string_bytes out.old ++ range_text range) }
+{
     let least = range.lo();
     let greatest = range.hi();
     if least == greatest {
@@ -64,7 +83,9 @@ fn write_range(out: &mut String, range: Range) -> Result<(), AllocError> {
 }
 
 /// Adds the place of a byte in a frame, by the frame pointer of main or the callback.
-fn write_position(out: &mut String, pointer: &str, position: u32) -> Result<(), AllocError> {
+fn write_position(out: &mut String, pointer: &str, position: u32) -> Result<(), AllocError>
+    ensures { OnOk result (string_bytes out.new ≡ string_bytes out.old ++ position_text pointer.now position) }
+{
     out.push_str(pointer)?;
     if position >= 512 {
         return Ok(());
@@ -74,7 +95,9 @@ fn write_position(out: &mut String, pointer: &str, position: u32) -> Result<(), 
 }
 
 /// Adds that a byte of a frame isn't written, by the frame pointer.
-fn write_missing(out: &mut String, pointer: &str, position: u32) -> Result<(), AllocError> {
+fn write_missing(out: &mut String, pointer: &str, position: u32) -> Result<(), AllocError>
+    ensures { OnOk result (string_bytes out.new ≡ string_bytes out.old ++ missing_text pointer.now position) }
+{
     if position >= 512 {
         return Ok(());
     }
@@ -83,30 +106,40 @@ fn write_missing(out: &mut String, pointer: &str, position: u32) -> Result<(), A
 }
 
 /// Adds that a byte of the own frame isn't written.
-pub(crate) fn write_unwritten(out: &mut String, position: u32) -> Result<(), AllocError> {
+pub(crate) fn write_unwritten(out: &mut String, position: u32) -> Result<(), AllocError>
+    ensures { OnOk result (string_bytes out.new ≡ string_bytes out.old ++ missing_text (codes "r10") position) }
+{
     write_missing(out, "r10", position)
 }
 
 /// Adds that a byte of main's frame isn't written.
-pub(crate) fn write_unwritten_of_main(out: &mut String, position: u32) -> Result<(), AllocError> {
+pub(crate) fn write_unwritten_of_main(out: &mut String, position: u32) -> Result<(), AllocError>
+    ensures { OnOk result (string_bytes out.new ≡ string_bytes out.old ++ missing_text (codes "main's r10") position) }
+{
     write_missing(out, "main's r10", position)
 }
 
 /// Adds how many elements a map has, and how many bytes they have.
-pub(crate) fn write_elements(out: &mut String, map: u32, count: u32) -> Result<(), AllocError> {
+pub(crate) fn write_elements(out: &mut String, map: u32, count: u32) -> Result<(), AllocError>
+    ensures { OnOk result (string_bytes out.new ≡ string_bytes out.old ++ elements_text map count) }
+{
     let elements = if count == 1 { "element" } else { "elements" };
     let bytes = u64::from(count) * 8;
     write!(out, "map {map} has {count} {elements}, {bytes} bytes")
 }
 
 /// Adds an offset in the values of a map.
-fn write_area(out: &mut String, map: u32, offset: Range) -> Result<(), AllocError> {
+fn write_area(out: &mut String, map: u32, offset: Range) -> Result<(), AllocError>
+    ensures { OnOk result (string_bytes out.new ≡ string_bytes out.old ++ area_text map offset) }
+{
     write!(out, "in map {map}, at byte ")?;
     write_range(out, offset)
 }
 
 /// Adds an abstract value, so that it can stand after "is".
-fn write_value(out: &mut String, value: &AbstractValue) -> Result<(), AllocError> {
+fn write_value(out: &mut String, value: &AbstractValue) -> Result<(), AllocError>
+    ensures { OnOk result (string_bytes out.new ≡ string_bytes out.old ++ value_text value.now) }
+{
     match *value {
         AbstractValue::Unwritten => out.push_str("not written"),
         AbstractValue::Number(range) => write_range(out, range),
@@ -123,7 +156,9 @@ fn write_value(out: &mut String, value: &AbstractValue) -> Result<(), AllocError
 }
 
 /// Adds a register's name.
-pub(crate) fn write_reg(out: &mut String, reg: Reg) -> Result<(), AllocError> {
+pub(crate) fn write_reg(out: &mut String, reg: Reg) -> Result<(), AllocError>
+    ensures { OnOk result (string_bytes out.new ≡ string_bytes out.old ++ register_text reg) }
+{
     let number = reg.number();
     write!(out, "r{number}")
 }
@@ -133,7 +168,9 @@ pub(crate) fn write_known(
     out: &mut String,
     reg: Reg,
     value: &AbstractValue,
-) -> Result<(), AllocError> {
+) -> Result<(), AllocError>
+    ensures { OnOk result (string_bytes out.new ≡ string_bytes out.old ++ known_text reg value.now) }
+{
     write_reg(out, reg)?;
     out.push_str(" is ")?;
     write_value(out, value)

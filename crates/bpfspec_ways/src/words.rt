@@ -1,13 +1,48 @@
 //! Which way a loop call went, in words.
 
+ghost use Rattle.std.specs.Prelude.{◌≡◌, ◌++◌, OnOk, codes};
+ghost use Rattle.std.specs.String.{string_bytes};
+ghost use Rattle.bpfspec_ways.specs.WayText.{plural, count_text, before_blocks, after_blocks, sums_text, steps_text};
+ghost use Rattle.bpfspec_ways.specs.WayText.{workers_of, way_text, sums_reason, blocks_reason, reason_text};
+
 use loop_core_model::Verdict;
 use spec_run_loop::{BlocksReason, Course};
 use std::alloc::AllocError;
 
+/// The ending of the name of this many things.
+fn plural(count: usize) -> &'static str
+    ensures { result.now ≡ plural count }
+{
+    if count == 1 { "" } else { "s" }
+}
+
 /// Adds a number of things, whose name takes an `s` where there isn't one.
-pub fn write_count(out: &mut String, count: usize, thing: &str) -> Result<(), AllocError> {
-    let ending = if count == 1 { "" } else { "s" };
-    write!(out, "{count} {thing}{ending}")
+pub fn write_count(out: &mut String, count: usize, thing: &str) -> Result<(), AllocError>
+    ensures { OnOk result (string_bytes out.new ≡ string_bytes out.old ++ count_text count thing.now) }
+{
+    write!(out, "{count} ")?;
+    out.push_str(thing)?;
+    out.push_str(plural(count))
+}
+
+/// What a loop by blocks did before them.
+fn before_blocks(why: BlocksReason) -> &'static str
+    ensures { result.now ≡ before_blocks why }
+{
+    match why {
+        BlocksReason::ReadsWritten => "watched then ",
+        BlocksReason::Asked | BlocksReason::Lrpd | BlocksReason::Work => "",
+    }
+}
+
+/// What it did after them.
+fn after_blocks(verdict: Verdict) -> &'static str
+    ensures { result.now ≡ after_blocks verdict }
+{
+    match verdict {
+        Verdict::Parallel => "",
+        Verdict::Conflict { .. } | Verdict::Refused | Verdict::InOrder => " then in order",
+    }
 }
 
 /// Adds the steps of the way by blocks.
@@ -16,29 +51,38 @@ fn write_blocks(
     blocks: u32,
     why: BlocksReason,
     verdict: Verdict,
-) -> Result<(), AllocError> {
-    if let BlocksReason::ReadsWritten = why {
-        out.push_str("watched then ")?;
-    }
+) -> Result<(), AllocError>
+    ensures { OnOk result (string_bytes out.new ≡ string_bytes out.old ++ (before_blocks why
+        ++ count_text blocks (codes "block") ++ after_blocks verdict)) }
+{
+    out.push_str(before_blocks(why))?;
     write_count(out, blocks as usize, "block")?;
-    match verdict {
-        Verdict::Parallel => Ok(()),
-        _ => out.push_str(" then in order"),
-    }
+    out.push_str(after_blocks(verdict))
+}
+
+/// The step of a loop whose iterations only reduce elements.
+fn sums_words(workers: u32) -> &'static str
+    ensures { result.now ≡ sums_text workers }
+{
+    if workers == 1 { "in order" } else { "sums" }
 }
 
 /// Adds the steps of a way.
-fn write_steps(out: &mut String, course: Course, verdict: Verdict) -> Result<(), AllocError> {
+fn write_steps(out: &mut String, course: Course, verdict: Verdict) -> Result<(), AllocError>
+    ensures { OnOk result (string_bytes out.new ≡ string_bytes out.old ++ steps_text course verdict) }
+{
     match course {
         Course::InOrder => out.push_str("in order"),
-        Course::Sums { workers } => out.push_str(if workers == 1 { "in order" } else { "sums" }),
+        Course::Sums { workers } => out.push_str(sums_words(workers)),
         Course::Watched => out.push_str("watched"),
         Course::Blocks { blocks, why, .. } => write_blocks(out, blocks, why, verdict),
     }
 }
 
 /// How many workers a loop had.
-fn workers_of(course: Course) -> u32 {
+fn workers_of(course: Course) -> u32
+    ensures { result ≡ workers_of course }
+{
     match course {
         Course::InOrder | Course::Watched => 1,
         Course::Sums { workers } => workers,
@@ -47,26 +91,45 @@ fn workers_of(course: Course) -> u32 {
 }
 
 /// Adds which way a loop went that came out so, and how many workers it had.
-pub fn write_way(out: &mut String, course: Course, verdict: Verdict) -> Result<(), AllocError> {
+pub fn write_way(out: &mut String, course: Course, verdict: Verdict) -> Result<(), AllocError>
+    ensures { OnOk result (string_bytes out.new ≡ string_bytes out.old ++ way_text course verdict) }
+{
     write_steps(out, course, verdict)?;
     out.push_str(", ")?;
     write_count(out, workers_of(course) as usize, "worker")
 }
 
+/// Why a loop went that way whose iterations only reduce elements.
+fn sums_reason(workers: u32) -> &'static str
+    ensures { result.now ≡ sums_reason workers }
+{
+    if workers == 1 {
+        "iterations only reduce elements, several workers don't pay"
+    } else {
+        "iterations only reduce elements"
+    }
+}
+
+/// Why a loop went by blocks.
+fn blocks_reason(why: BlocksReason) -> &'static str
+    ensures { result.now ≡ blocks_reason why }
+{
+    match why {
+        BlocksReason::Asked => "asked for by --way blocks",
+        BlocksReason::Lrpd => "judged by the lrpd test",
+        BlocksReason::Work => "private copies pay",
+        BlocksReason::ReadsWritten => "an iteration read what was written",
+    }
+}
+
 /// Why a loop went that way.
-pub fn reason_of(course: Course) -> &'static str {
+pub fn reason_of(course: Course) -> &'static str
+    ensures { result.now ≡ reason_text course }
+{
     match course {
         Course::InOrder => "asked for",
-        Course::Sums { workers: 1 } => {
-            "iterations only reduce elements, several workers don't pay"
-        }
-        Course::Sums { .. } => "iterations only reduce elements",
+        Course::Sums { workers } => sums_reason(workers),
         Course::Watched => "no iteration read what an earlier one wrote",
-        Course::Blocks { why, .. } => match why {
-            BlocksReason::Asked => "asked for by --way blocks",
-            BlocksReason::Lrpd => "judged by the lrpd test",
-            BlocksReason::Work => "private copies pay",
-            BlocksReason::ReadsWritten => "an iteration read what was written",
-        },
+        Course::Blocks { why, .. } => blocks_reason(why),
     }
 }

@@ -1,0 +1,5 @@
+pub mod CutLaws
+pub mod NameLaws
+pub mod StartLaws
+pub mod TextLaws
+pub mod ToldLaws

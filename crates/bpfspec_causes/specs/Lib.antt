@@ -1,0 +1,10 @@
+pub mod DeedWords
+pub mod AdviceText
+pub mod ListingOf
+pub mod Places
+pub mod Cuts
+pub mod VariableOf
+pub mod NamesText
+pub mod LoopText
+pub mod Starting
+pub mod Told
