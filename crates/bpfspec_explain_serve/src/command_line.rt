@@ -19,6 +19,9 @@ use std::convert::AsStr;
 use std::env;
 use std::env::Env;
 
+/// What the program is called.
+const NAME: &str = "bpfspec explain";
+
 /// A flag of this name.
 fn flag<'a>(alloc: Global, name: &'a str, help: &'a str) -> Arg<'a>
     ensures { IsArg (flag_rule name.entry.now) result }
@@ -62,20 +65,22 @@ fn picture_flag<'a>(alloc: Global) -> Arg<'a>
     )
 }
 
-/// The command without its flags.
-fn top_command<'a>(alloc: Global) -> Command<'a>
-    ensures { IsCommand bare_app result }
+/// The command without its flags. Its usage is that of `bpfspec explain`, whatever file it is started from.
+fn top_command<'a>(alloc: Global) -> Result<Command<'a>, AllocError>
+    ensures { IfOk result (IsCommand bare_app) }
 {
-    Command::new(alloc, "bpfspec explain")
+    let command = Command::new(alloc, NAME)
         .version("0.1.0")
         .about("Tells why a program is refused, or why its loops conflict")
+        .bin_name(NAME)?;
+    Ok(command)
 }
 
 /// The command, as clap is told of it.
 pub(crate) fn explain_command<'a>(alloc: Global) -> Result<Command<'a>, AllocError>
     ensures { IfOk result (IsCommand explain_app) }
 {
-    top_command(alloc)
+    top_command(alloc)?
         .arg(hex_flag(alloc))?
         .arg(arg_option(alloc))?
         .arg(test_option(alloc))?

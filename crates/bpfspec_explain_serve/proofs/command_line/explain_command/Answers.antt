@@ -4,7 +4,7 @@ use Rattle.bpfspec_explain_serve.proofs.command_line.explain_command.Goals as go
 
 pub returns : goal.returns
 returns c =
-    let one = with_arg c.hex_flag.result c.top_command.ensures c.hex_flag.ensures c.in_ok-arg.ensures in
+    let one = with_arg c.hex_flag.result c.in_ok-top_command.ensures c.hex_flag.ensures c.in_ok-arg.ensures in
     let two = with_arg c.arg_option.result one c.arg_option.ensures c.in_ok-arg-2.ensures in
     let three = with_arg c.test_option.result two c.test_option.ensures c.in_ok-arg-3.ensures in
     let four = with_arg c.states_flag.result three c.states_flag.ensures c.in_ok-arg-4.ensures in
