@@ -9,7 +9,7 @@ pub(crate) fn assert_same<T: Debug + Drop + PartialEq>(rt: &impl Abort, found: T
     assert_eq!(rt; found, wanted);
 }
 
-/// Asserts the same, and tells the row of a table where it fails.
+/// Asserts the same, and names the row of a table where it fails.
 pub(crate) fn assert_same_in<T: Debug + Drop + PartialEq>(
     rt: &impl Abort,
     row: &str,

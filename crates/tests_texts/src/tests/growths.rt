@@ -6,8 +6,10 @@ use bpf_insn::{CodecError, CodecFault, Insn, Unit, decode, encode};
 use bpf_text::{
     TextError, TextFault, parse_events, parse_maps, parse_unit, print_unit, read_hex, write_hex,
 };
+use bpf_verify::{Verified, VerifyError, verify};
 use std::alloc::Global;
 use std::process::Abort;
+use std::test::Fail;
 
 /// A loop, and its callback.
 const TEXT: &str = "maps 1 2\nldcode r2, +2\ncall 181\nexit\nmov64 r0, 0\nexit\n";
@@ -103,4 +105,41 @@ fn of_maps(rt: HostRuntime) {
         Ok(maps) => assert_same(&rt, maps[0].as_slice(), [5].as_slice()),
         Err(error) => assert_same(&rt, error, TextError::Memory),
     }
+}
+
+/// A program with one callback.
+const PROGRAM: &str = "maps 1\nldcode r2, cb\nmov64 r0, 7\nexit\ncb:\nmov64 r0, 0\nexit\n";
+
+/// The program of a text; `None` for want of memory.
+fn program_of(rt: &impl Abort, alloc: Global, text: &str) -> Option<Verified> {
+    match parse_unit(alloc, text) {
+        Ok(unit) => accepted(rt, alloc, unit),
+        Err(error) => {
+            assert_same(rt, error, TextError::Memory);
+            None
+        }
+    }
+}
+
+fn accepted(rt: &impl Abort, alloc: Global, unit: Unit) -> Option<Verified> {
+    match verify(alloc, unit) {
+        Ok(program) => Some(program),
+        Err(error) => {
+            assert_same(rt, error, VerifyError::Memory);
+            None
+        }
+    }
+}
+
+/// A second try has the memory.
+#[test]
+fn of_a_program(rt: HostRuntime) -> Result<(), Fail> {
+    let alloc = rt.alloc();
+    let program = match program_of(&rt, alloc, PROGRAM) {
+        None => program_of(&rt, alloc, PROGRAM),
+        made => made,
+    };
+    let program = program.ok_or("a program")?;
+    assert_same(&rt, [program.callbacks(), program.count(0)], [1, 3]);
+    Ok(())
 }

@@ -1,6 +1,0 @@
-//! The tests themselves.
-
-mod examples;
-mod growths;
-mod marks;
-mod workers;

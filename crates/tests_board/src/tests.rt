@@ -1,5 +1,0 @@
-//! The tests themselves.
-
-mod asserts;
-mod board;
-mod examples;

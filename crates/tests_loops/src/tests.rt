@@ -1,0 +1,6 @@
+//! The tests themselves.
+
+mod blocks;
+mod pictures;
+mod replays;
+mod runs;

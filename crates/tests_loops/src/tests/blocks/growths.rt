@@ -1,0 +1,90 @@
+//! Under `rt try --test --fail-alloc N` each growth is refused in turn: the maps that were lent are then as they were,
+//! and a second try has the memory.
+
+ghost use Rattle.std.specs.Prelude.{IfSome};
+ghost use Rattle.tests_loops.specs.Stages.{IsStage};
+
+use crate::stage::{Stage, outcome_of, stage_of};
+use loop_core_gather::GatherError;
+use loop_core_model::{Test, Verdict};
+use std::alloc::Global;
+use std::process::Abort;
+use std::test::Fail;
+
+/// A row with a loop in n blocks, the words of its maps, and what the loop comes to.
+#[derive(Clone, Copy)]
+struct Case {
+    row: &'static str,
+    blocks: u32,
+    words: &'static [u64],
+    verdict: Verdict,
+    answer: u32,
+    left: &'static [u64],
+}
+
+/// Sixteen iterations write an element each; that of 5 breaks.
+const BREAKS_AT_5: Case = Case {
+    row: "maps 16 | mov64 r1, 16 | LOOP | AT | st64 [r3+0], 1 | mov64 r0, 0 | jne64 r1, 5, done | mov64 r0, 1 | done: | exit",
+    blocks: 4,
+    words: &[0; 16],
+    verdict: Verdict::Parallel,
+    answer: 6,
+    left: &[1, 1, 1, 1, 1, 1, 0, 0, 0, 0, 0, 0, 0, 0, 0, 0],
+};
+
+/// Each iteration copies its element to the next.
+const COPIES_ON: Case = Case {
+    row: "maps 5 | mov64 r1, 4 | LOOP | AT | ldx64 r4, [r3+0] | stx64 [r3+8], r4 | END | %% | map 0: 9 0 0 0 0",
+    blocks: 2,
+    words: &[9, 0, 0, 0, 0],
+    verdict: Verdict::Conflict { count: 3, least: 1 },
+    answer: 4,
+    left: &[9, 9, 9, 9, 9],
+};
+
+/// The loop of a case, by a second try where there was no memory at the first.
+fn stage_at_last(alloc: Global, case: &Case) -> Option<Stage>
+    ensures { IfSome result IsStage }
+{
+    match stage_of(alloc, case.row, case.blocks) {
+        None => stage_of(alloc, case.row, case.blocks),
+        made => made,
+    }
+}
+
+/// Runs a loop's blocks, gathers them, and commits them or runs it in order, again where memory was refused, and asserts
+/// what it comes to.
+fn comes_to(rt: &impl Abort, alloc: Global, case: &Case, test: Test) -> Result<(), Fail> {
+    let stage = stage_at_last(alloc, case).ok_or("a row has a loop")?;
+    let mut told = outcome_of(alloc, &stage, test);
+    if let Err(GatherError::Memory) = told {
+        assert_eq!(rt; stage.maps.words(), case.words);
+        told = outcome_of(alloc, &stage, test);
+    }
+    let outcome = told?;
+    assert_eq!(rt; outcome.verdict, case.verdict);
+    assert_eq!(rt; outcome.answer, case.answer);
+    assert_eq!(rt; outcome.maps.words(), case.left);
+    assert_eq!(rt; stage.maps.words(), case.words);
+    Ok(())
+}
+
+#[test]
+fn lent_maps_stay_after_a_pass(rt: HostRuntime) -> Result<(), Fail> {
+    comes_to(&rt, rt.alloc(), &BREAKS_AT_5, Test::Flow)
+}
+
+#[test]
+fn lent_maps_stay_after_a_pass_by_pairs(rt: HostRuntime) -> Result<(), Fail> {
+    comes_to(&rt, rt.alloc(), &BREAKS_AT_5, Test::Lrpd)
+}
+
+#[test]
+fn lent_maps_stay_after_a_conflict(rt: HostRuntime) -> Result<(), Fail> {
+    comes_to(&rt, rt.alloc(), &COPIES_ON, Test::Flow)
+}
+
+#[test]
+fn lent_maps_stay_after_a_conflict_by_pairs(rt: HostRuntime) -> Result<(), Fail> {
+    comes_to(&rt, rt.alloc(), &COPIES_ON, Test::Lrpd)
+}

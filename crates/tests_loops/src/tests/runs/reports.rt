@@ -1,0 +1,83 @@
+//! What is told of a row that is run by a plan: of its first loop alone, of its program, and of it as an input.
+
+ghost use Rattle.bpf_verify_sound.specs.Soundness.{OverApproximatesCall};
+
+use crate::rows::{FirstLoop, Row, spelled_out};
+use bpfspec_output::{print_replay, print_report};
+use bpfspec_serve::{Counted, UnitForm, Unobserved, serve_run};
+use loop_core_model::LoopReport;
+use loop_core_split::{Gate, Split};
+use spec_run::{Plan, run};
+use spec_run_loop::{LoopRun, run_loop};
+use std::alloc::Global;
+use std::test::Fail;
+use std::thread::Threads;
+
+/// What is told of the first loop of a row: its line, and the maps after it.
+pub(crate) fn loop_report<R: Threads + Sync, G: Gate>(
+    rt: &R,
+    alloc: Global,
+    row: &Row,
+    first: &FirstLoop,
+    plan: &Plan,
+    gate: &G,
+) -> Result<String, Fail>
+    requires { OverApproximatesCall row.now.program first.now.call }
+{
+    let split = Split::even(first.call.n(), plan.blocks)?;
+    let by = LoopRun {
+        alloc,
+        program: &row.program,
+        call: &first.call,
+        start: &first.maps,
+        split: &split,
+        workers: plan.workers,
+        test: plan.test,
+    };
+    let outcome = run_loop(rt, &by, gate)?;
+    let told = LoopReport {
+        slot: first.call.slot(),
+        answer: i64::from(outcome.answer),
+        verdict: outcome.verdict,
+    };
+    Ok(print_replay(alloc, 0, &told, &outcome.maps)?)
+}
+
+/// What is told of the program of a row: its return value, its loops, and the maps after it.
+pub(crate) fn report<R: Threads + Sync, G: Gate>(
+    rt: &R,
+    alloc: Global,
+    row: &Row,
+    plan: &Plan,
+    gate: &G,
+) -> Result<String, Fail> {
+    let mut maps = row.maps.try_copy(alloc)?;
+    let told = run(rt, alloc, &row.program, &mut maps, 0, plan, gate)?;
+    Ok(print_report(alloc, told.ret, &told.loops, &maps)?)
+}
+
+/// What is written where a row is the input.
+pub(crate) fn served<R: Threads + Sync, G: Gate>(
+    rt: &R,
+    alloc: Global,
+    row: &str,
+    plan: &Plan,
+    gate: &G,
+) -> Result<String, Fail> {
+    let input = spelled_out(alloc, row)?;
+    let mut source = Counted::new(input.as_bytes());
+    let mut sink = Counted::new(Vec::new(alloc));
+    serve_run(
+        rt,
+        alloc,
+        UnitForm::Assembler,
+        0,
+        plan,
+        gate,
+        &mut Unobserved,
+        &mut source,
+        &mut sink,
+    );
+    let output = sink.into_inner();
+    Ok(String::from_str(alloc, str::from_utf8(&output)?)?)
+}

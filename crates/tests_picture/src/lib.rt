@@ -1,6 +1,0 @@
-//! Tests of pictures of loops that pass, which `explain` doesn't draw: of a whole small loop, and of which iterations and
-//! elements are drawn of larger ones.
-#![tactic(auto)]
-
-#[cfg(test)]
-mod tests;

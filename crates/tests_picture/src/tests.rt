@@ -1,4 +1,0 @@
-//! The tests themselves.
-
-mod drawing;
-mod pictures;

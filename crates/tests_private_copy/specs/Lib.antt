@@ -1,2 +1,0 @@
-pub mod Resting
-pub mod Marking

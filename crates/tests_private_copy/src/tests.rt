@@ -1,9 +1,0 @@
-//! The tests themselves.
-
-mod accesses;
-mod examples;
-mod iterations;
-mod kernels;
-mod loops;
-mod marked_planes;
-mod tellings;

@@ -1,5 +1,0 @@
-//! The tests themselves.
-
-mod cases;
-mod sums;
-mod watched;

@@ -1,4 +1,0 @@
-//! The tests themselves.
-
-mod asserts;
-mod counted;
