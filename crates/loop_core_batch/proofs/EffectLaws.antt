@@ -19,13 +19,14 @@ use Rattle.loop_core_model.specs.Kept.{OperatorsAssociate}
 use Rattle.loop_core_batch.specs.declared.site.Site.{Site}
 use Rattle.loop_core_batch.specs.Sites.{MayAccess, kind_leaves}
 use Rattle.loop_core_batch.specs.BySite.{by_one_operator, Commute, AllCommute}
-use Rattle.loop_core_batch.specs.Effects.{Deed, Load, Store, Change, Apply, action_on, kind_of_deed, Effect, kind_loads}
+use Rattle.loop_core_batch.specs.Effects.{Deed, Load, Store, Fetch, Change, Apply, action_on, kind_of_deed, Effect}
 use Rattle.loop_core_batch.specs.Effects.{words_after_effect, accesses_on, words_after_effects, EffectLog, with_effect}
 use Rattle.loop_core_batch.specs.Effects.{effects_of, words_after_any_effect, words_after_lane_effects}
-use Rattle.loop_core_batch.specs.Effects.{words_after_site_effects, LoadsSame, IsEffectAtSite, IsEffectLogOf}
-use Rattle.loop_core_batch.specs.Effects.{Unloaded, AllUnloaded}
+use Rattle.loop_core_batch.specs.Effects.{words_after_site_effects, words_after_each_lane, LoadsSame, IsEffectAtSite}
+use Rattle.loop_core_batch.specs.Effects.{IsEffectLogOf}
+use Rattle.loop_core_batch.specs.Effects.{deed_loads, site_loads, Unloaded, AllUnloaded}
 use Rattle.loop_core_batch.specs.LoopByBatch.{EndsInZero}
-use Rattle.loop_core_batch.specs.LoopByEffects.{GoesOn, LoopByEffects}
+use Rattle.loop_core_batch.specs.LoopByEffects.{GoesOn, LoopByEffects, LoopByEachLane}
 use Rattle.loop_core_batch.proofs.BatchLaws.{loop_by_batch}
 use Rattle.loop_core_batch.proofs.Swapping.{other_place, reduces_swap}
 
@@ -33,11 +34,6 @@ use Rattle.loop_core_batch.proofs.Swapping.{other_place, reduces_swap}
 abbrev pub Exchange : Effect → Effect → Type 0
 Exchange a b = (words : List ℕ) → words_after_effect a (words_after_effect b words)
     ≡ words_after_effect b (words_after_effect a words)
-
--- the words after n lanes, one after another
-abbrev pub after_lanes : EffectLog → (lanes : ℕ) → List ℕ → List ℕ
-after_lanes log zero words = words
-after_lanes log (suc lanes) words = words_after_effects (effects_of log lanes) (after_lanes log lanes words)
 
 -- accesses leave what the effects leave
 pub accesses_leave : (effects : List Effect) (words : List ℕ) → words_after_all (accesses_on words effects) words
@@ -71,12 +67,12 @@ swap_each a (at ∷ log) lane all = with_swap a (at lane) (effects_of log lane) 
 
 past_lanes : (a : Effect) (log : EffectLog) (lanes : ℕ)
     → ((lane : ℕ) → lane < lanes → AllByRecursion (λ (at : ℕ → Option Effect). IfSome (at lane) (Exchange a)) log)
-    → (words : List ℕ) → after_lanes log lanes (words_after_effect a words)
-    ≡ words_after_effect a (after_lanes log lanes words)
+    → (words : List ℕ) → words_after_each_lane log lanes (words_after_effect a words)
+    ≡ words_after_effect a (words_after_each_lane log lanes words)
 past_lanes a log zero each words = refl
 past_lanes a log (suc lanes) each words =
     ap (words_after_effects (effects_of log lanes)) (past_lanes a log lanes (λ lane within. each lane (omega arith)) words)
-    ∙ past_all a (effects_of log lanes) (swap_each a log lanes (each lanes (omega arith))) (after_lanes log
+    ∙ past_all a (effects_of log lanes) (swap_each a log lanes (each lanes (omega arith))) (words_after_each_lane log
     lanes words)
 
 -- each later lane's effect at a site may change places with earlier lanes' at the sites after it
@@ -89,8 +85,8 @@ GoesFirst at log lanes = (later earlier : ℕ) → earlier < later → later < l
 one_first : (made : Option Effect) (log : EffectLog) (lanes : ℕ)
     → IfSome made (λ effect. (lane : ℕ) → lane < lanes
     → AllByRecursion (λ (other : ℕ → Option Effect). IfSome (other lane) (Exchange effect)) log) → (words : List ℕ)
-    → words_after_effects (effects_of log lanes) (after_lanes log lanes (words_after_any_effect made words))
-    ≡ words_after_effects (with_effect made (effects_of log lanes)) (after_lanes log lanes words)
+    → words_after_effects (effects_of log lanes) (words_after_each_lane log lanes (words_after_any_effect made words))
+    ≡ words_after_effects (with_effect made (effects_of log lanes)) (words_after_each_lane log lanes words)
 one_first None log lanes first words = refl
 one_first (Some effect) log lanes first words =
     ap (words_after_effects (effects_of log lanes)) (past_lanes effect log lanes first words)
@@ -103,8 +99,8 @@ for_each None lanes P each = tt
 for_each (Some effect) lanes P each = each
 
 first_site : (at : ℕ → Option Effect) (log : EffectLog) (lanes : ℕ) → GoesFirst at log lanes → (words : List ℕ) →
-    after_lanes log lanes (words_after_lane_effects at lanes words)
-    ≡ after_lanes (at ∷ log) lanes words
+    words_after_each_lane log lanes (words_after_lane_effects at lanes words)
+    ≡ words_after_each_lane (at ∷ log) lanes words
 first_site at log zero first words = refl
 first_site at log (suc lanes) first words =
     one_first (at lanes) log lanes
@@ -115,7 +111,7 @@ first_site at log (suc lanes) first words =
     (first_site at log lanes (λ later earlier order within. first later earlier order (omega arith)) words)
 
 -- no site, no effect
-nothing_left : (lanes : ℕ) (words : List ℕ) → words ≡ after_lanes [] lanes words
+nothing_left : (lanes : ℕ) (words : List ℕ) → words ≡ words_after_each_lane [] lanes words
 nothing_left zero words = refl
 nothing_left (suc lanes) words = nothing_left lanes words
 
@@ -125,7 +121,7 @@ EachGoesFirst [] lanes = Unit {0}
 EachGoesFirst (at ∷ log) lanes = GoesFirst at log lanes × EachGoesFirst log lanes
 
 site_by_site : (log : EffectLog) (lanes : ℕ) → EachGoesFirst log lanes → (words : List ℕ) → words_after_site_effects log lanes words
-    ≡ after_lanes log lanes words
+    ≡ words_after_each_lane log lanes words
 site_by_site [] lanes each words = nothing_left lanes words
 site_by_site (at ∷ log) lanes each words = site_by_site log lanes each.1 (words_after_lane_effects at lanes words)
     ∙ first_site at log lanes each.0 words
@@ -135,6 +131,7 @@ kind_keeps : (deed : Deed) (word : ℕ) → kind_leaves (kind_of_deed deed) ≡ 
     ≡ word
 kind_keeps Load word h = refl
 kind_keeps (Store left) word h = absurd (cc)
+kind_keeps (Fetch left) word h = absurd (cc)
 kind_keeps (Change left) word h = absurd (cc)
 kind_keeps (Apply op operand) word h = absurd (cc)
 
@@ -241,7 +238,7 @@ module _ (laws : OperatorsAssociate) (lanes : ℕ) where
 
 effects_apply : OperatorsAssociate → (lanes : ℕ) (sites : List Site) (log : EffectLog)
     → IsEffectLogOf lanes sites log → AllCommute lanes sites → (words : List ℕ)
-    → words_after_site_effects log lanes words ≡ after_lanes log lanes words
+    → words_after_site_effects log lanes words ≡ words_after_each_lane log lanes words
 effects_apply laws lanes sites log tells commute words =
     site_by_site log lanes (each_goes_first laws lanes sites log tells commute) words
 
@@ -266,23 +263,23 @@ still_after (effect ∷ effects) words element all =
     still_after effects (words_after_effect effect words) element all.1 ∙ still_one effect words element all.0
 
 -- before a lane an element is as it was, where no earlier one changes it
-before_lane : (log : EffectLog) (words : List ℕ) (lane element : ℕ)
+pub before_lane : (log : EffectLog) (words : List ℕ) (lane element : ℕ)
     → ((earlier : ℕ) → earlier < lane → AllByRecursion (LeavesAlone element) (effects_of log earlier))
-    → get_or (after_lanes log lane words) element 0 ≡ get_or words element 0
+    → get_or (words_after_each_lane log lane words) element 0 ≡ get_or words element 0
 before_lane log words zero element alone = refl
 before_lane log words (suc lane) element alone =
-    still_after (effects_of log lane) (after_lanes log lane words) element (alone lane (omega arith))
+    still_after (effects_of log lane) (words_after_each_lane log lane words) element (alone lane (omega arith))
     ∙ before_lane log words lane element (λ earlier below. alone earlier (omega arith))
 
-length-before : (log : EffectLog) (words : List ℕ) (lane : ℕ) → length (after_lanes log lane words) ≡ length words
+pub length-before : (log : EffectLog) (words : List ℕ) (lane : ℕ) → length (words_after_each_lane log lane words) ≡ length words
 length-before log words zero = refl
 length-before log words (suc lane) =
-    length-after_effects (effects_of log lane) (after_lanes log lane words) ∙ length-before log words lane
+    length-after_effects (effects_of log lane) (words_after_each_lane log lane words) ∙ length-before log words lane
 
 module _ (lanes : ℕ) where
   -- an earlier lane leaves an element alone that a later one loads at a site
   module _ (reader : Site) (earlier later element : ℕ) (order : earlier < later) (within : later < lanes)
-      (loads : kind_loads reader.kind ≡ true) (may : MayAccess reader.elements later element) where
+      (loads : site_loads reader ≡ true) (may : MayAccess reader.elements later element) where
     one_alone : (writer : Site) (made : Option Effect) (rest : List Effect)
         → IfSome made (IsEffectAtSite writer earlier) → Unloaded lanes reader writer
         → AllByRecursion (LeavesAlone element) rest → AllByRecursion (LeavesAlone element) (with_effect made rest)
@@ -314,8 +311,8 @@ module _ (lanes : ℕ) where
   module _ (sites : List Site) (log : EffectLog) (told : IsEffectLogOf lanes sites log) (words : List ℕ) (lane : ℕ)
       (within : lane < lanes) where
     abbrev pub SameLoad : Effect → Type 0
-    SameLoad effect = kind_loads (kind_of_deed effect.deed) ≡ true
-        → slice_index (after_lanes log lane words) effect.element ≡ slice_index words effect.element
+    SameLoad effect = deed_loads effect.deed ≡ true
+        → slice_index (words_after_each_lane log lane words) effect.element ≡ slice_index words effect.element
 
     one_load : (reader : Site) (made : Option Effect) (rest : List Effect) → IfSome made (IsEffectAtSite reader lane)
         → All (Unloaded lanes reader) sites → AllByRecursion SameLoad rest
@@ -323,7 +320,7 @@ module _ (lanes : ℕ) where
     one_load reader None rest is unloaded all = all
     one_load reader (Some effect) rest is unloaded all = (
       λ loads. before_lane log words lane effect.element (λ earlier order.
-          all_alone reader earlier lane effect.element order within (sym (ap kind_loads is.kind) ∙ loads) is.element
+          all_alone reader earlier lane effect.element order within (sym is.loads ∙ loads) is.element
           sites log told (recursion_from_All (Unloaded lanes reader) sites unloaded)),
       all,
     )
@@ -338,63 +335,69 @@ module _ (lanes : ℕ) where
         one_load reader (at lane) (effects_of rest lane) (tells.0 lane within) unloaded.0
         (all_loads readers rest tells.1 unloaded.1)
 
-    loads_same : AllUnloaded lanes sites → LoadsSame words (after_lanes log lane words) (effects_of log lane)
+    loads_same : AllUnloaded lanes sites → LoadsSame words (words_after_each_lane log lane words) (effects_of log lane)
     loads_same unloaded = record {
       count = length-before log words lane;
       loads = all_loads sites log told
           (recursion_from_All (λ (reader : Site). All (Unloaded lanes reader) sites) sites unloaded);
     }
 
-module _ (program : Program) (bound : ℕ) (call : LoopCall) (first lanes : ℕ) (words : List ℕ) (sites : List Site)
-    (log : EffectLog) (fit : AreWords words)
+module _ (program : Program) (bound : ℕ) (call : LoopCall) (first lanes : ℕ) (words : List ℕ) (log : EffectLog)
+    (fit : AreWords words)
     (goes_on : (lane : ℕ) → lane < lanes → (now : List ℕ) → AreWords now → LoadsSame words now (effects_of log lane)
     → GoesOn program bound call (first + lane) now (effects_of log lane))
-    (told : IsEffectLogOf lanes sites log) (unloaded : AllUnloaded lanes sites) where
-  -- a lane goes on after those before it
-  goes : (lane : ℕ) → lane < lanes → AreWords (after_lanes log lane words)
-      → GoesOn program bound call (first + lane) (after_lanes log lane words) (effects_of log lane)
-  goes lane within fits = goes_on lane within (after_lanes log lane words) fits
-      (loads_same lanes sites log told words lane within unloaded)
+    (same : (lane : ℕ) → lane < lanes → LoadsSame words (words_after_each_lane log lane words) (effects_of log lane))
+  where
+    -- a lane goes on after those before it
+    goes : (lane : ℕ) → lane < lanes → AreWords (words_after_each_lane log lane words)
+        → GoesOn program bound call (first + lane) (words_after_each_lane log lane words) (effects_of log lane)
+    goes lane within fits = goes_on lane within (words_after_each_lane log lane words) fits
+        (same lane within)
 
-  fit_before : (lane : ℕ) → lane ≤ lanes → AreWords (after_lanes log lane words)
-  fit_before zero within = fit
-  fit_before (suc lane) within = (goes lane (omega arith) (fit_before lane (omega arith))).fit
+    fit_before : (lane : ℕ) → lane ≤ lanes → AreWords (words_after_each_lane log lane words)
+    fit_before zero within = fit
+    fit_before (suc lane) within = (goes lane (omega arith) (fit_before lane (omega arith))).fit
 
-  -- a batch of one lane
-  one_lane : (lane left : ℕ) → lane < lanes →
-      loop_from program bound call (suc left) (first + lane) (after_lanes log lane words)
-      ≡ loop_from program bound call left (first + lane + 1) (after_lanes log (suc lane) words)
-  one_lane lane left within =
-      let now : List ℕ = after_lanes log lane words in
-      let made : List Access = accesses_on now (effects_of log lane) in
-      let one : suc left ≡ 1 + left = omega arith in
-      ap (λ (n : ℕ). loop_from program bound call n (first + lane) now) one
-      ∙ loop_by_batch program bound call (first + lane) 1 left now (λ other. made)
-      (λ other below.
-      let same : first + lane ≡ first + lane + other = omega arith in
-      subst (λ (index : ℕ). EndsInZero program bound call index now made) same
-      (goes lane within (fit_before lane (omega arith))).ends)
-      (λ element earlier later order below written. let none : ⊥ = omega (arith, order, below) in absurd none)
-      ∙ ap (loop_from program bound call left (first + lane + 1)) (accesses_leave (effects_of log lane) now)
+    -- a batch of one lane
+    one_lane : (lane left : ℕ) → lane < lanes →
+        loop_from program bound call (suc left) (first + lane) (words_after_each_lane log lane words)
+        ≡ loop_from program bound call left (first + lane + 1) (words_after_each_lane log (suc lane) words)
+    one_lane lane left within =
+        let now : List ℕ = words_after_each_lane log lane words in
+        let made : List Access = accesses_on now (effects_of log lane) in
+        let one : suc left ≡ 1 + left = omega arith in
+        ap (λ (n : ℕ). loop_from program bound call n (first + lane) now) one
+        ∙ loop_by_batch program bound call (first + lane) 1 left now (λ other. made)
+        (λ other below.
+        let same : first + lane ≡ first + lane + other = omega arith in
+        subst (λ (index : ℕ). EndsInZero program bound call index now made) same
+        (goes lane within (fit_before lane (omega arith))).ends)
+        (λ element earlier later order below written. let none : ⊥ = omega (arith, order, below) in absurd none)
+        ∙ ap (loop_from program bound call left (first + lane + 1)) (accesses_leave (effects_of log lane) now)
 
-  lanes_done : (lane left : ℕ) → lane ≤ lanes →
-      loop_from program bound call (lane + left) first words
-      ≡ loop_from program bound call left (first + lane) (after_lanes log lane words)
-  lanes_done zero left within =
-      let all : 0 + left ≡ left = omega arith in
-      let here : first ≡ first + 0 = omega arith in
-      ap (λ (n : ℕ). loop_from program bound call n first words) all
-      ∙ ap (λ (index : ℕ). loop_from program bound call left index words) here
-  lanes_done (suc lane) left within =
-      let one_less : suc lane + left ≡ lane + suc left = omega arith in
-      let next : first + lane + 1 ≡ first + suc lane = omega arith in
-      ap (λ (n : ℕ). loop_from program bound call n first words) one_less
-      ∙ lanes_done lane (suc left) (omega arith)
-      ∙ one_lane lane left (omega arith)
-      ∙ ap (λ (index : ℕ). loop_from program bound call left index (after_lanes log (suc lane) words)) next
+    lanes_done : (lane left : ℕ) → lane ≤ lanes →
+        loop_from program bound call (lane + left) first words
+        ≡ loop_from program bound call left (first + lane) (words_after_each_lane log lane words)
+    lanes_done zero left within =
+        let all : 0 + left ≡ left = omega arith in
+        let here : first ≡ first + 0 = omega arith in
+        ap (λ (n : ℕ). loop_from program bound call n first words) all
+        ∙ ap (λ (index : ℕ). loop_from program bound call left index words) here
+    lanes_done (suc lane) left within =
+        let one_less : suc lane + left ≡ lane + suc left = omega arith in
+        let next : first + lane + 1 ≡ first + suc lane = omega arith in
+        ap (λ (n : ℕ). loop_from program bound call n first words) one_less
+        ∙ lanes_done lane (suc left) (omega arith)
+        ∙ one_lane lane left (omega arith)
+        ∙ ap (λ (index : ℕ). loop_from program bound call left index (words_after_each_lane log (suc lane) words)) next
+
+pub loop_by_each_lane : LoopByEachLane
+loop_by_each_lane program bound call first lanes left words log fit goes_on same =
+    lanes_done program bound call first lanes words log fit goes_on same lanes left (omega arith)
 
 pub loop_by_effects : OperatorsAssociate → LoopByEffects
 loop_by_effects laws program bound call first lanes left words sites log fit goes_on told unloaded commute =
-    lanes_done program bound call first lanes words sites log fit goes_on told unloaded lanes left (omega arith)
+    lanes_done program bound call first lanes words log fit goes_on
+    (λ lane within. loads_same lanes sites log told words lane within unloaded) lanes left (omega arith)
     ∙ ap (loop_from program bound call left (first + lanes))
     (sym (effects_apply laws lanes sites log told commute words))

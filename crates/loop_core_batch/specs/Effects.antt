@@ -10,11 +10,12 @@ use Rattle.loop_core_model.specs.declared.access.Access.TheVariants.{Read as Rea
 use Rattle.loop_core_batch.specs.declared.site.Site.{Site}
 use Rattle.loop_core_batch.specs.Sites.{MayAccess, MayMeet, kind_leaves}
 
--- the word of an element is loaded; another is stored; it becomes a function of itself, as where a half is replaced; or
--- an operator is applied to it
+-- the word of an element is loaded; another is stored; it is loaded and another stored, as by a fetch; it becomes a
+-- function of itself, as where a half is replaced; or an operator is applied to it
 pub data Deed : Type 0 where
   Load : Deed
   Store : (left : ℕ) → Deed
+  Fetch : (left : ℕ) → Deed
   Change : (left : ℕ → ℕ) → Deed
   Apply : (op : Op) (operand : ℕ) → Deed
 
@@ -22,6 +23,7 @@ pub data Deed : Type 0 where
 abbrev pub action_on : Deed → (word : ℕ) → Action
 action_on Load word = Read word
 action_on (Store left) word = Write left
+action_on (Fetch left) word = ReadWrite word left
 action_on (Change left) word = ReadWrite word (left word)
 action_on (Apply op operand) word = Reduces op operand
 
@@ -29,6 +31,7 @@ action_on (Apply op operand) word = Reduces op operand
 abbrev pub kind_of_deed : Deed → Kind
 kind_of_deed Load = Reads
 kind_of_deed (Store left) = Writes
+kind_of_deed (Fetch left) = Both
 kind_of_deed (Change left) = Both
 kind_of_deed (Apply op operand) = Reduce op
 
@@ -87,22 +90,41 @@ words_after_site_effects [] lanes words = words
 words_after_site_effects (site ∷ sites) lanes words =
     words_after_site_effects sites lanes (words_after_lane_effects site lanes words)
 
--- accesses of this kind load the word, and leave none
-abbrev pub kind_loads : Kind → Bool
-kind_loads Reads = true
-kind_loads Writes = false
-kind_loads Both = false
-kind_loads (Reduce op) = false
+-- it loads the word: what it leads to depends on it
+abbrev pub deed_loads : Deed → Bool
+deed_loads Load = true
+deed_loads (Store left) = false
+deed_loads (Fetch left) = true
+deed_loads (Change left) = false
+deed_loads (Apply op operand) = false
+
+-- the words after the effects of n lanes, one lane after another
+abbrev pub words_after_each_lane : EffectLog → (lanes : ℕ) → List ℕ → List ℕ
+words_after_each_lane log zero words = words
+words_after_each_lane log (suc lanes) words =
+    words_after_effects (effects_of log lanes) (words_after_each_lane log lanes words)
+
+-- accesses of this kind load the word: where they read and write it, they do if they fetch it
+abbrev pub kind_loads : Kind → (fetches : Bool) → Bool
+kind_loads Reads fetches = true
+kind_loads Writes fetches = false
+kind_loads Both fetches = fetches
+kind_loads (Reduce op) fetches = false
+
+-- those at a site do
+abbrev pub site_loads : Site → Bool
+site_loads site = kind_loads site.kind site.fetches
 
 -- on other words, which are as many, the same is loaded
 pub record LoadsSame (words now : List ℕ) (effects : List Effect) : Type 0 where
   pub count : length now ≡ length words
-  pub loads : AllByRecursion (λ effect. kind_loads (kind_of_deed effect.deed) ≡ true
+  pub loads : AllByRecursion (λ effect. deed_loads effect.deed ≡ true
       → slice_index now effect.element ≡ slice_index words effect.element) effects
 
--- a lane's effect is what its site tells: of its kind, and at one of its elements
+-- a lane's effect is what its site tells: of its kind, with a load where that loads, and at one of its elements
 pub record IsEffectAtSite (site : Site) (lane : ℕ) (effect : Effect) : Type 0 where
   pub kind : kind_of_deed effect.deed ≡ site.kind
+  pub loads : deed_loads effect.deed ≡ site_loads site
   pub element : MayAccess site.elements lane effect.element
 
 -- the sites tell of each effect of n lanes
@@ -112,7 +134,7 @@ IsEffectLogOf lanes sites log = AllZip (λ site (at : ℕ → Option Effect). (l
 
 -- no lane may load at one site an element that an earlier one may write at the other
 abbrev pub Unloaded : (lanes : ℕ) (reader writer : Site) → Type 0
-Unloaded lanes reader writer = kind_leaves writer.kind ≡ true → kind_loads reader.kind ≡ true
+Unloaded lanes reader writer = kind_leaves writer.kind ≡ true → site_loads reader ≡ true
     → ¬ (MayMeet writer.elements reader.elements lanes)
 
 -- no site's writes may be loaded at any of them

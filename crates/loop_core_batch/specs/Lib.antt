@@ -1,4 +1,5 @@
 pub mod Lanes
+pub mod Strides
 pub mod Sites
 pub mod BySite
 pub mod LoopByBatch

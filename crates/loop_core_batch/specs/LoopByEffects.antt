@@ -7,7 +7,8 @@ use Rattle.bpf_step_model.specs.LoopInOrder.{loop_from}
 use Rattle.loop_core_batch.specs.declared.site.Site.{Site}
 use Rattle.loop_core_batch.specs.BySite.{AllCommute}
 use Rattle.loop_core_batch.specs.Effects.{Effect, accesses_on, words_after_effects, EffectLog, effects_of}
-use Rattle.loop_core_batch.specs.Effects.{words_after_site_effects, LoadsSame, IsEffectLogOf, AllUnloaded}
+use Rattle.loop_core_batch.specs.Effects.{words_after_site_effects, words_after_each_lane, LoadsSame, IsEffectLogOf}
+use Rattle.loop_core_batch.specs.Effects.{AllUnloaded}
 use Rattle.loop_core_batch.specs.LoopByBatch.{EndsInZero}
 
 -- the iteration of this index goes on with these effects, on these words, and leaves words below 2 ^ 64
@@ -29,3 +30,15 @@ LoopByEffects = (program : Program) (bound : ℕ) (call : LoopCall) (first lanes
     AllUnloaded lanes sites → AllCommute lanes sites →
     loop_from program bound call (lanes + left) first words
     ≡ loop_from program bound call left (first + lanes) (words_after_site_effects log lanes words)
+
+-- The same lane by lane: where the iterations from an index on, one a lane, go on with these effects on all words on
+-- which a lane loads the same, and each loads the same after those before it, the loop from that index is the loop after
+-- them, on the words after the effects of one lane after another.
+abbrev pub LoopByEachLane : Type 0
+LoopByEachLane = (program : Program) (bound : ℕ) (call : LoopCall) (first lanes left : ℕ) (words : List ℕ)
+    (log : EffectLog) → AreWords words →
+    ((lane : ℕ) → lane < lanes → (now : List ℕ) → AreWords now → LoadsSame words now (effects_of log lane)
+    → GoesOn program bound call (first + lane) now (effects_of log lane)) →
+    ((lane : ℕ) → lane < lanes → LoadsSame words (words_after_each_lane log lane words) (effects_of log lane)) →
+    loop_from program bound call (lanes + left) first words
+    ≡ loop_from program bound call left (first + lanes) (words_after_each_lane log lanes words)

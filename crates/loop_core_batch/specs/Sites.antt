@@ -1,5 +1,5 @@
 -- The accesses of a batch, site by site. Each lane made one access at each site, or none where it went another way.
-use Rattle.std.specs.Prelude.{◌≡◌, ℕ, ◌+◌, ◌-◌, ◌*◌, ◌<◌, ◌≤◌, max, min, Bool, true, false, List, [], ◌∷◌, Option, Some, None, IfSome}
+use Rattle.std.specs.Prelude.{◌≡◌, ℕ, ◌+◌, ◌-◌, ◌<◌, ◌≤◌, max, min, Bool, true, false, List, [], ◌∷◌, Option, Some, None, IfSome}
 use Rattle.std.specs.List.{All, AllZip, Contains}
 use Rattle.array_maps.specs.Accesses.{Access}
 use Rattle.loop_core_model.specs.declared.access.Access.{Access as Kind}
@@ -8,7 +8,9 @@ use Rattle.loop_core_model.specs.Flags.{kind_of}
 use Rattle.loop_core_batch.specs.declared.elements.Elements.{Elements}
 use Rattle.loop_core_batch.specs.declared.elements.Elements.TheVariants.{One, Run, Every, Between}
 use Rattle.loop_core_batch.specs.declared.site.Site.{Site}
+use Rattle.loop_core_batch.specs.declared.stride.Stride.{Stride}
 use Rattle.loop_core_batch.specs.Lanes.{NoneSees}
+use Rattle.loop_core_batch.specs.Strides.{StepsTo, least_step, greatest_step}
 
 -- what lanes did: at each site each lane's access, by its number, if it made one
 abbrev pub Log : Type 0
@@ -25,11 +27,11 @@ of_lane [] lane = []
 of_lane (site ∷ sites) lane = with_access (site lane) (of_lane sites lane)
 
 -- a lane may access the element: all lanes the same, each the one that is its number after the base, each the one that
--- is its number of steps after the first, or each any from the low one to the high one
+-- is its number of steps from the first, or each any from the low one to the high one
 abbrev pub MayAccess : Elements → (lane element : ℕ) → Type 0
 MayAccess (One only) lane element = element ≡ only
 MayAccess (Run base) lane element = element ≡ base + lane
-MayAccess (Every first step) lane element = element ≡ first + lane * step
+MayAccess (Every first step) lane element = StepsTo step first lane element
 MayAccess (Between low high) lane element = (low ≤ element) × (element ≤ high)
 
 -- a row, which has an element for each lane, lies between the least of them and the greatest
@@ -50,19 +52,19 @@ pub record MayMeet (first second : Elements) (lanes : ℕ) : Type 0 where
   pub by_first : MayAccess first earlier element
   pub by_second : MayAccess second later element
 
--- the least element that a lane, or one after it, may access
-abbrev pub least_from : Elements → (lane : ℕ) → ℕ
-least_from (One only) lane = only
-least_from (Run base) lane = base + lane
-least_from (Every first step) lane = first + lane * step
-least_from (Between low high) lane = low
+-- no lane from one to another, both among them, accesses an element before this one
+abbrev pub least_of : Elements → (from upto : ℕ) → ℕ
+least_of (One only) from upto = only
+least_of (Run base) from upto = base + from
+least_of (Every first step) from upto = least_step step first from upto
+least_of (Between low high) from upto = low
 
--- the greatest element that a lane, or one before it, may access
-abbrev pub greatest_of : Elements → (lane : ℕ) → ℕ
-greatest_of (One only) lane = only
-greatest_of (Run base) lane = base + lane
-greatest_of (Every first step) lane = first + lane * step
-greatest_of (Between low high) lane = high
+-- none of them accesses an element after this one
+abbrev pub greatest_of : Elements → (from upto : ℕ) → ℕ
+greatest_of (One only) from upto = only
+greatest_of (Run base) from upto = base + upto
+greatest_of (Every first step) from upto = greatest_step step first from upto
+greatest_of (Between low high) from upto = high
 
 -- a lane from one up to another may access the element
 pub record IsReached (elements : Elements) (element from upto : ℕ) : Type 0 where
@@ -70,6 +72,12 @@ pub record IsReached (elements : Elements) (element from upto : ℕ) : Type 0 wh
   pub after : from ≤ lane
   pub before : lane < upto
   pub by : MayAccess elements lane element
+
+-- a lane from one up to another may access the element that is another lane's number of steps from a first one
+pub record IsReachedBySteps (elements : Elements) (step : Stride) (first lane from upto : ℕ) : Type 0 where
+  pub element : ℕ
+  pub by_steps : StepsTo step first lane element
+  pub reached : IsReached elements element from upto
 
 -- not two runs
 abbrev pub NotRuns : Elements → Elements → Type 0
@@ -79,8 +87,8 @@ NotRuns _ _ = Unit {0}
 -- the range of the elements that all but the last of n lanes may access by the first, and the range of those that all
 -- but the first may access by the second, overlap
 abbrev pub Overlap : Elements → Elements → ℕ → Type 0
-Overlap first second lanes = max (least_from first 0) (least_from second 1) ≤ min (greatest_of first (lanes - 2))
-    (greatest_of second (lanes - 1))
+Overlap first second lanes = max (least_of first 0 (lanes - 2)) (least_of second 1 (lanes - 1))
+    ≤ min (greatest_of first 0 (lanes - 2)) (greatest_of second 1 (lanes - 1))
 
 -- accesses of this kind see the word
 abbrev pub kind_sees : Kind → Bool

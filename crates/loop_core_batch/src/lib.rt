@@ -3,34 +3,38 @@
 //! tells that, and in which order the accesses may be applied.
 //!
 //! ```text
-//! let load = Site { kind: Access::Read, elements: Elements::Run(8) };
-//! let store = Site { kind: Access::Write, elements: Elements::Run(9) };
+//! let load = Site { kind: Access::Read, fetches: false, elements: Elements::Run(8) };
+//! let store = Site { kind: Access::Write, fetches: false, elements: Elements::Run(9) };
 //! none_sees(&[load, store], 64)       // false: lane 1 reads element 9, and lane 0 writes it
 //! ```
 #![tactic(auto)]
 
 pub mod elements;
 pub mod site;
+pub mod stride;
 
 ghost use Rattle.loop_core_batch.specs.BySite.{SitesApply, SumsAtOnce};
 ghost use Rattle.loop_core_batch.specs.Lanes.{SumsSeeNothing};
 ghost use Rattle.loop_core_batch.specs.LoopByBatch.{LoopByBatch, LoopBySites};
-ghost use Rattle.loop_core_batch.specs.LoopByEffects.{LoopByEffects};
+ghost use Rattle.loop_core_batch.specs.LoopByEffects.{LoopByEachLane, LoopByEffects};
 ghost use Rattle.loop_core_batch.specs.Sites.{SitesTell};
 
 pub use elements::Elements;
 pub use loop_core_model::Access;
 use loop_core_model::law_of_operators;
 pub use site::{Site, all_commute, leaves, none_loads, none_sees};
+pub use stride::Stride;
 
 /// The law of batches: where iterations go on that ran on the words from before them, and none sees an
 /// element that an earlier one writes, the loop in order is the loop after them, on the words after
 /// their accesses. The same is told by sites. Lanes may change one element, where none loads it: then
-/// the loop goes on after their effects, each on the word that it finds.
+/// the loop goes on after their effects, each on the word that it finds; and lane by lane, where each
+/// loads the same after those before it.
 pub fn law_of_batches()
     ensures lanes { LoopByBatch }
     ensures sites { LoopBySites }
     ensures effects { LoopByEffects }
+    ensures each { LoopByEachLane }
 {
     law_of_operators();
 }

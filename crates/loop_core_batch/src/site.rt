@@ -2,7 +2,7 @@
 
 ghost use Rattle.std.specs.Prelude.{◌≡◌, ◌↔◌, IsTrue, All};
 ghost use Rattle.loop_core_batch.specs.BySite.{Commute, AllCommute, by_one_operator};
-ghost use Rattle.loop_core_batch.specs.Effects.{Unloaded, AllUnloaded, kind_loads};
+ghost use Rattle.loop_core_batch.specs.Effects.{Unloaded, AllUnloaded, site_loads};
 ghost use Rattle.loop_core_batch.specs.Sites.{Unseen, AllUnseen, kind_sees, kind_leaves};
 
 use crate::elements::Elements;
@@ -13,11 +13,25 @@ use loop_core_model::Access;
 pub struct Site {
     /// The kind of all these accesses.
     pub kind: Access,
+    /// Whether the lanes go on with the word that they find, where they read and write it: they fetch it, and don't
+    /// replace a half.
+    pub fetches: bool,
     /// The elements that they are of.
     pub elements: Elements,
 }
 
 impl Site {
+    /// Whether the lanes go on with the word that they find.
+    pub fn loads(self) -> bool
+        ensures { result ≡ site_loads self }
+    {
+        match self.kind {
+            Access::Read => true,
+            Access::Both => self.fetches,
+            Access::Write | Access::Reduce(_) => false,
+        }
+    }
+
     /// Whether no lane may see at `reader` an element that an earlier one may write here.
     fn is_unseen(self, reader: Site, lanes: u32) -> bool
         ensures { IsTrue result ↔ Unseen lanes self reader }
@@ -44,7 +58,7 @@ impl Site {
     fn is_unwritten(self, writer: Site, lanes: u32) -> bool
         ensures { IsTrue result ↔ Unloaded lanes self writer }
     {
-        if leaves(writer.kind) && loads(self.kind) {
+        if leaves(writer.kind) && self.loads() {
             return !writer.elements.may_meet(self.elements, lanes);
         }
         true
@@ -130,16 +144,6 @@ fn sees(kind: Access) -> bool
     match kind {
         Access::Read | Access::Both => true,
         Access::Write | Access::Reduce(_) => false,
-    }
-}
-
-/// Whether an access of this kind loads the word of its element, and leaves none.
-fn loads(kind: Access) -> bool
-    ensures { result ≡ kind_loads kind }
-{
-    match kind {
-        Access::Read => true,
-        Access::Write | Access::Both | Access::Reduce(_) => false,
     }
 }
 

@@ -1,7 +1,7 @@
 -- Sites that are folded in one after another.
 use Rattle.std.proofs.Common.{◌≡◌, ℕ, zero, suc, ◌+◌, ◌<◌, ◌≤◌, true, List, [], length, take, drop, slice_index_or}
 use Rattle.std.proofs.Common.{map, Option, Some, None, refl, sym, ◌∙◌, ap, subst, arith, drop_of_length-le}
-use Rattle.std.specs.Prelude.{slice_index}
+use Rattle.std.specs.Prelude.{false, slice_index}
 use Rattle.std.specs.List.{All, AllByRecursion}
 use Rattle.std.proofs.lemmas.List.{drop_more, take_more, get_or_default, get_or-take, length-take}
 use Rattle.std.proofs.lemmas.List.Elements.{All-from_recursion}
@@ -22,6 +22,7 @@ use Rattle.private_copy.specs.Copies.{PrivateCopy}
 use Rattle.private_copy.specs.Noting.{last_by_lane, reduction_by_lane, NotesSite}
 use Rattle.loop_core_batch.specs.declared.elements.Elements.{Elements}
 use Rattle.loop_core_batch.specs.declared.elements.Elements.TheVariants.{One, Every, Between}
+use Rattle.loop_core_batch.specs.declared.stride.Stride.{Stride}
 use Rattle.bpf_step_batch.specs.declared.mask.Mask.TheVariants.{All as AllLanes}
 use Rattle.bpf_step_batch.specs.declared.entry.Entry.{Entry}
 use Rattle.bpf_step_batch.specs.Logs.{element_by, action_by, access_by, site_of}
@@ -35,7 +36,7 @@ use Rattle.loop_core_block.specs.Whole.{sites_by}
 -- what stands past the end of entries
 abbrev pub no_entry : Entry
 no_entry = record {
-  site = record { kind = Reads; elements = One 0 };
+  site = record { kind = Reads; fetches = false; elements = One 0 };
   mask = AllLanes;
   elements = [];
   values = [];
@@ -54,7 +55,7 @@ pub own_row : (entry : Entry) (low high lanes : ℕ) → entry.site.elements ≡
 own_row entry low high lanes is lane below =
     sym (ap (λ (elements : Elements). element_by elements entry.elements lane) is)
 
-pub steps_row : (entry : Entry) (first step lanes : ℕ) → entry.site.elements ≡ Every first step
+pub steps_row : (entry : Entry) (first : ℕ) (step : Stride) (lanes : ℕ) → entry.site.elements ≡ Every first step
     → IsRow entry.elements entry lanes
 steps_row entry first step lanes is lane below =
     sym (ap (λ (elements : Elements). element_by elements entry.elements lane) is)

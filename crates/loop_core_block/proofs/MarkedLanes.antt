@@ -18,7 +18,10 @@ use Rattle.loop_core_model.proofs.FlagLaws.{flags_follow_kinds}
 use Rattle.loop_core_model.proofs.MarkLaws.{marks_merge}
 use Rattle.loop_core_batch.specs.declared.elements.Elements.{Elements}
 use Rattle.loop_core_batch.specs.declared.elements.Elements.TheVariants.{One, Run, Every, Between}
+use Rattle.loop_core_batch.specs.declared.stride.Stride.{Stride}
+use Rattle.loop_core_batch.specs.declared.stride.Stride.TheVariants.{Up, Down}
 use Rattle.loop_core_batch.specs.Sites.{MayAccess}
+use Rattle.loop_core_batch.specs.Strides.{StepsTo, is_same}
 use Rattle.shadow_marks.specs.Lanes.{over_lanes}
 use Rattle.shadow_marks.proofs.EndLaws.{merged-none}
 use Rattle.private_copy.specs.Visits.{visits_of}
@@ -77,6 +80,17 @@ abbrev pub AllAgree : (lane : ℕ) → List Entry → Type 0
 AllAgree lane [] = Unit {0}
 AllAgree lane (entry ∷ entries) = AllByRecursion (Agree lane entry) entries × AllAgree lane entries
 
+same_steps : (step own : Stride) (first other lane x y : ℕ) → first ≡ other → is_same step own ≡ true
+    → StepsTo step first lane x → StepsTo own other lane y → x ≡ y
+same_steps (Up step) (Up own) first other lane x y start same at there =
+    let far : lane * step ≡ lane * own = ap (λ (n : ℕ). lane * n) (eqb-true step own same) in
+    omega (arith, start, far, at, there)
+same_steps (Up step) (Down own) first other lane x y start same at there = absurd (cc)
+same_steps (Down step) (Up own) first other lane x y start same at there = absurd (cc)
+same_steps (Down step) (Down own) first other lane x y start same at there =
+    let far : lane * step ≡ lane * own = ap (λ (n : ℕ). lane * n) (eqb-true step own same) in
+    omega (arith, start, far, at, there)
+
 same_at : (a b : Elements) (lane x y : ℕ) → are_same a b ≡ true → MayAccess a lane x → MayAccess b lane y → x ≡ y
 same_at (One only) (One other) lane x y same at there = at ∙ eqb-true only other same ∙ sym there
 same_at (One only) (Run other) lane x y same at there = absurd (cc)
@@ -90,11 +104,8 @@ same_at (Run first) (Every other own) lane x y same at there = absurd (cc)
 same_at (Every first step) (One other) lane x y same at there = absurd (cc)
 same_at (Every first step) (Run other) lane x y same at there = absurd (cc)
 same_at (Every first step) (Every other own) lane x y same at there =
-    let parts = and_parts (first == other) (step == own) same in
-    at
-    ∙ ap (λ (n : ℕ). n + lane * step) (eqb-true first other parts.0)
-    ∙ ap (λ (n : ℕ). other + lane * n) (eqb-true step own parts.1)
-    ∙ sym there
+    let parts = and_parts (first == other) (is_same step own) same in
+    same_steps step own first other lane x y (eqb-true first other parts.0) parts.1 at there
 same_at (Every first step) (Between low high) lane x y same at there = absurd (cc)
 same_at (Between low high) (Every other own) lane x y same at there = absurd (cc)
 same_at (Between low high) (One other) lane x y same at there = absurd (cc)

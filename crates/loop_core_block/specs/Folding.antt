@@ -9,6 +9,7 @@ use Rattle.loop_core_batch.specs.declared.elements.Elements.{Elements}
 use Rattle.loop_core_batch.specs.declared.elements.Elements.TheVariants.{One, Run, Every}
 use Rattle.loop_core_batch.specs.declared.site.Site.{Site}
 use Rattle.loop_core_batch.specs.Sites.{kind_leaves}
+use Rattle.loop_core_batch.specs.Strides.{is_same}
 use Rattle.shadow_marks.specs.declared.planes.Planes.{Planes}
 use Rattle.shadow_marks.specs.Standing.{StandAt}
 use Rattle.shadow_marks.specs.Ending.{KeepsShape}
@@ -34,7 +35,7 @@ over_sites step (site ∷ sites) lane x = over_sites step sites lane (step site 
 abbrev pub are_same : Elements → Elements → Bool
 are_same (One only) (One other) = only == other
 are_same (Run first) (Run other) = first == other
-are_same (Every first step) (Every other own) = (first == other) && (step == own)
+are_same (Every first step) (Every other own) = (first == other) && is_same step own
 are_same _ _ = false
 
 -- of two sites one at most writes, or no lane accesses by one what any lane accesses by the other; and each lane

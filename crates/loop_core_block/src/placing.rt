@@ -6,18 +6,17 @@ ghost use Rattle.private_copy.specs.Shown.{copy_of};
 ghost use Rattle.private_copy.specs.Touched.{has_page, page_of};
 ghost use Rattle.private_copy.specs.Placed.{ArePlaced};
 ghost use Rattle.loop_core_batch.specs.Sites.{MayAccess};
+ghost use Rattle.loop_core_batch.specs.Strides.{StepsTo};
 ghost use Rattle.bpf_step_batch.specs.Logs.{element_by, IsLogged};
 ghost use Rattle.loop_core_block.specs.Batches.{HasElement};
 ghost use Rattle.loop_core_block.specs.Placing.{HasPlaces, PlacesLanes, PlacesLane, KeepsPage};
 
 use crate::repeating::element;
 use bpf_step_batch::Entry;
-use loop_core_batch::Elements;
+use loop_core_batch::{Elements, Stride};
+use loop_core_model::PAGE;
 use private_copy::Private;
 use std::alloc::{AllocError, Global};
-
-/// Elements in a page.
-const PAGE: u32 = 64;
 
 /// Sees that the pages of the elements of the first lanes are placed, lane by lane. It looks at those lanes alone at
 /// which a site may enter another page, and at none where all pages that they may touch are placed.
@@ -69,15 +68,31 @@ fn is_site_placed(copy: &Private, elements: Elements, lanes: u32) -> bool
     match elements {
         Elements::One(only) => copy.are_placed(only, only),
         Elements::Run(first) => copy.are_placed(first, first.saturating_add(lanes - 1)),
-        Elements::Every { first, step } => match last_step(first, step, lanes) {
-            Some(last) => is_range_placed(copy, first, last, lanes),
-            None => false,
-        },
+        Elements::Every { first, step } => are_steps_placed(copy, first, step, lanes),
         Elements::Between { low, high } => is_range_placed(copy, low, high, lanes),
     }
 }
 
-/// The element of the last of some lanes that go by steps from a first one; `None` where it is no element of any map.
+/// The same of elements by steps from a first one.
+fn are_steps_placed(copy: &Private, first: u32, step: Stride, lanes: u32) -> bool
+    requires some { 0 < lanes }
+    requires room { lanes ≤ 128 }
+    ensures { result ≡ true → (lane e : ℕ) → lane < lanes → StepsTo step first lane e
+        → has_page (copy_of copy.now).pages (page_of e) ≡ true }
+{
+    match step {
+        Stride::Up(step) => match last_step(first, step, lanes) {
+            Some(last) => is_range_placed(copy, first, last, lanes),
+            None => false,
+        },
+        Stride::Down(step) => {
+            is_range_placed(copy, last_step_down(first, step, lanes), first, lanes)
+        }
+    }
+}
+
+/// The element of the last of some lanes that go up by steps from a first one; `None` where it is no element of any
+/// map.
 fn last_step(first: u32, step: u32, lanes: u32) -> Option<u32>
     requires { 0 < lanes }
     ensures { IfSome result (λ last. last ≡ first + (lanes - 1) * step) }
@@ -85,7 +100,15 @@ fn last_step(first: u32, step: u32, lanes: u32) -> Option<u32>
     u32::try_from(u64::from(first) + u64::from(lanes - 1) * u64::from(step)).ok()
 }
 
-/// The same of the elements from one to another.
+/// The element of the last of some lanes that go down by steps from a first one, or 0 where it would be before that.
+fn last_step_down(first: u32, step: u32, lanes: u32) -> u32
+    requires { 0 < lanes }
+    ensures { result ≡ first - (lanes - 1) * step }
+{
+    u64::from(first).saturating_sub(u64::from(lanes - 1) * u64::from(step)) as u32
+}
+
+/// The same as of a site, of the elements from one to another.
 fn is_range_placed(copy: &Private, low: u32, high: u32, lanes: u32) -> bool
     requires room { lanes ≤ 128 }
     ensures { result ≡ true → ArePlaced (copy_of copy.now) low high }

@@ -19,25 +19,26 @@ use Rattle.loop_core_sequential.specs.Tries.{replaced_if_made}
 use Rattle.loop_core_sequential.proofs.ApplyLaws.{by_kind}
 
 -- an entry's effect by its kind
-effect_by_kind : (entry : Entry) (kind : Kind) → entry.site.kind ≡ kind → (lane : ℕ) → effect_by entry lane ≡ record {
+pub effect_by_kind : (entry : Entry) (kind : Kind) → entry.site.kind ≡ kind → (lane : ℕ) → effect_by entry lane ≡ record {
   element = element_by entry.site.elements entry.elements lane;
-  deed = deed_by kind (half_by entry lane) (slice_index entry.values lane);
+  deed = deed_by kind entry.site.fetches (half_by entry lane) (slice_index entry.values lane);
 }
 effect_by_kind entry kind is lane = ap (λ (k : Kind). record {
   element = element_by entry.site.elements entry.elements lane;
-  deed = deed_by k (half_by entry lane) (slice_index entry.values lane);
+  deed = deed_by k entry.site.fetches (half_by entry lane) (slice_index entry.values lane);
 }) is
 
 -- lanes whose accesses leave what their effects leave
-any_leaves : (access : Access) (effect : Effect) → ((words : List ℕ) → words_after access words
+pub any_leaves : (access : Access) (effect : Effect) → ((words : List ℕ) → words_after access words
     ≡ words_after_effect effect words) → (makes : Bool) (words : List ℕ)
     → words_after_any (if makes then Some access else None) words
     ≡ words_after_any_effect (if makes then Some effect else None) words
 any_leaves access effect same false words = refl
 any_leaves access effect same true words = same words
 
-some_leave : (words : List ℕ) (entry : Entry) → ((lane : ℕ) (now : List ℕ) → words_after (access_by words entry lane) now
-    ≡ words_after_effect (effect_by entry lane) now) → (lanes : ℕ) (now : List ℕ)
+some_leave : (words : List ℕ) (entry : Entry) → ((lane : ℕ) (now : List ℕ)
+    → words_after (access_by words entry lane) now ≡ words_after_effect (effect_by entry lane) now)
+    → (lanes : ℕ) (now : List ℕ)
     → words_after_some (made_by words entry) lanes now ≡ words_after_lane_effects (effect_made_by entry) lanes now
 some_leave words entry same zero now = refl
 some_leave words entry same (suc lanes) now =
@@ -59,7 +60,7 @@ applies_are words entry op is = some_leave words entry (λ lane now.
     ∙ sym (ap (λ (e : Effect). words_after_effect e now) (effect_by_kind entry (Reduces op) is lane)))
 
 -- loads leave all as it was
-any_still : (effect : Effect) → ((words : List ℕ) → words ≡ words_after_effect effect words) → (makes : Bool)
+pub any_still : (effect : Effect) → ((words : List ℕ) → words ≡ words_after_effect effect words) → (makes : Bool)
     (words : List ℕ) → words ≡ words_after_any_effect (if makes then Some effect else None) words
 any_still effect still false words = refl
 any_still effect still true words = still words
@@ -74,15 +75,35 @@ loads_are entry is (suc lanes) now =
     ∙ sym (ap (λ (e : Effect). words_after_effect e ws) (effect_by_kind entry Reads is lanes)))
     (has_lane entry.mask lanes) (words_after_lane_effects (effect_made_by entry) lanes now)
 
+-- so where it is known whether it fetches
+pub both_by_kind : (entry : Entry) (fetches : Bool) → entry.site.kind ≡ Both → entry.site.fetches ≡ fetches → (lane : ℕ)
+    → effect_by entry lane ≡ record {
+      element = element_by entry.site.elements entry.elements lane;
+      deed = deed_by Both fetches (half_by entry lane) (slice_index entry.values lane);
+    }
+both_by_kind entry fetches is does lane =
+    effect_by_kind entry Both is lane
+    ∙ ap (λ (b : Bool). record {
+      element = element_by entry.site.elements entry.elements lane;
+      deed = deed_by Both b (half_by entry lane) (slice_index entry.values lane);
+    }) does
+
+pub fetches_are : (words : List ℕ) (entry : Entry) → entry.site.kind ≡ Both → entry.site.fetches ≡ true → (lanes : ℕ)
+    (now : List ℕ)
+    → words_after_some (made_by words entry) lanes now ≡ words_after_lane_effects (effect_made_by entry) lanes now
+fetches_are words entry is does = some_leave words entry (λ lane now.
+    ap (λ (a : Access). words_after a now) (by_kind words entry Both is lane)
+    ∙ sym (ap (λ (e : Effect). words_after_effect e now) (both_by_kind entry true is does lane)))
+
 -- halves are replaced
-pub replaces_are : (entry : Entry) → entry.site.kind ≡ Both → (lanes : ℕ) (now : List ℕ)
+pub replaces_are : (entry : Entry) → entry.site.kind ≡ Both → entry.site.fetches ≡ false → (lanes : ℕ) (now : List ℕ)
     → words_after_lane_effects (replaced_if_made entry) lanes now
     ≡ words_after_lane_effects (effect_made_by entry) lanes now
-replaces_are entry is zero now = refl
-replaces_are entry is (suc lanes) now =
-    ap (words_after_any_effect (replaced_if_made entry lanes)) (replaces_are entry is lanes now)
+replaces_are entry is plain zero now = refl
+replaces_are entry is plain (suc lanes) now =
+    ap (words_after_any_effect (replaced_if_made entry lanes)) (replaces_are entry is plain lanes now)
     ∙ sym (ap (λ (effect : Effect). words_after_any_effect (if has_lane entry.mask lanes then Some effect else None)
-    (words_after_lane_effects (effect_made_by entry) lanes now)) (effect_by_kind entry Both is lanes))
+    (words_after_lane_effects (effect_made_by entry) lanes now)) (both_by_kind entry false is plain lanes))
 
 -- the words stay as many
 length-after_any : (made : Option Effect) (words : List ℕ) → length (words_after_any_effect made words) ≡ length words

@@ -7,6 +7,7 @@ pub mod SameOutcomes
 pub mod Together
 pub mod ApplyLaws
 pub mod ApplyEffects
+pub mod FirstLaws
 pub mod WatchedFlow
 pub mod WatchedLaws
 pub mod WatchedEntries

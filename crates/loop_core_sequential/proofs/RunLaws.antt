@@ -12,7 +12,7 @@ use Rattle.loop_core_sequential.specs.LoopRuns.{IsLoopRun}
 use Rattle.loop_core_sequential.specs.Rests.{RanOn, RanTo}
 use Rattle.loop_core_sequential.specs.Noting.{GoesWatched}
 use Rattle.loop_core_sequential.specs.WatchedRuns.{WatchedTo, WatchedToEnd}
-use Rattle.loop_core_sequential.proofs.InOrder.{went_both, went_to, ran_both}
+use Rattle.loop_core_sequential.proofs.InOrder.{went_both, ran_both}
 
 -- its callback is of the program and the call
 pub callback_is : (run first : LoopRun) → run ≡ first → IsLoopRun first
@@ -38,19 +38,18 @@ pub ran_by : (run first : LoopRun) → run ≡ first → (index next : ℕ) (old
 ran_by run first same index next old new answer =
     subst (λ (r : LoopRun). RanTo r.program.now r.call.now index next old new answer) same
 
--- after a batch that left the index where it was
-pub rest_ran_by : (run first : LoopRun) → run ≡ first → (from index next to : ℕ) → next ≡ index
+-- after a batch
+pub rest_ran_by : (run first : LoopRun) → run ≡ first → (from index next to : ℕ)
     → (start old now new : MapList) (answer : Option ℕ)
     → RanOn first.program.now first.call.now from index start old
     → RanOn run.program.now run.call.now index next old now
-    → RanTo run.program.now run.call.now index to now new answer
+    → RanTo run.program.now run.call.now next to now new answer
     → RanTo first.program.now first.call.now from to start new answer
-rest_ran_by run first same from index next to stays start old now new answer before went ran =
-    ran_both first.program.now first.call.now from index to start now new answer
-    (went_to first.program.now first.call.now from next index start now stays
+rest_ran_by run first same from index next to start old now new answer before went ran =
+    ran_both first.program.now first.call.now from next to start now new answer
     (went_both first.program.now first.call.now from index next start old now before
-    (went_by run first same index next old now went)))
-    (ran_by run first same index to now new answer ran)
+    (went_by run first same index next old now went))
+    (ran_by run first same next to now new answer ran)
 
 -- watched iterations do
 pub goes_by : (run first : LoopRun) → run ≡ first → (index next : ℕ) (old new : MapList) (log last : UndoLog)

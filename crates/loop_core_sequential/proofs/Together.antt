@@ -17,7 +17,8 @@ use Rattle.bpf_step.proofs.Callbacks.{begins}
 use Rattle.bpf_step.proofs.Limits.{few_counts}
 use Rattle.loop_core_batch.specs.BySite.{AllCommute, words_after_sites}
 use Rattle.loop_core_batch.specs.Sites.{AllUnseen}
-use Rattle.loop_core_batch.specs.Effects.{Effect, accesses_on, words_after_effects, words_after_site_effects, AllUnloaded}
+use Rattle.loop_core_batch.specs.Effects.{Effect, accesses_on, words_after_effects, words_after_site_effects}
+use Rattle.loop_core_batch.specs.Effects.{AllUnloaded}
 use Rattle.loop_core_batch.specs.LoopByBatch.{EndsInZero, LoopBySites}
 use Rattle.loop_core_batch.specs.LoopByEffects.{LoopByEffects}
 use Rattle.loop_core_batch.proofs.EffectLaws.{accesses_leave}

@@ -2,6 +2,7 @@ pub mod Loops
 pub mod Rests
 pub mod LoopRuns
 pub mod Tries
+pub mod FirstLanes
 pub mod FilledCalls
 pub mod Watched
 pub mod Noting

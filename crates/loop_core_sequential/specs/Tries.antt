@@ -14,7 +14,7 @@ use Rattle.loop_core_batch.specs.Effects.{Change, Effect, LoadsSame}
 use Rattle.loop_core_batch.specs.LoopByBatch.{EndsInZero}
 use Rattle.loop_core_batch.specs.LoopByEffects.{GoesOn}
 use Rattle.loop_core_sequential.specs.declared.trying.Tried.{Tried}
-use Rattle.loop_core_sequential.specs.declared.trying.Tried.TheVariants.{Applied, Dependent, Diverged}
+use Rattle.loop_core_sequential.specs.declared.trying.Tried.TheVariants.{Applied, Partly, Dependent, Diverged}
 use Rattle.loop_core_sequential.specs.Rests.{RanOn}
 
 -- the lanes of a batch are the iterations from an index on, each on these words: each goes on, with the accesses that
@@ -26,18 +26,21 @@ pub record LanesAreIterations (program : Program) (call : LoopCall) (index lanes
       (accesses_by words entries lane)
   pub logged : AllByRecursion (IsLogged lanes words) entries
   pub fit : AreWords words
-  pub anywhere : (lane : ℕ) → lane < lanes → (now : List ℕ) → AreWords now → LoadsSame words now (effects_by entries lane)
+  pub anywhere : (lane : ℕ) → lane < lanes → (now : List ℕ) → AreWords now
+      → LoadsSame words now (effects_by entries lane)
       → GoesOn program 4096 call (index + lane) now (effects_by entries lane)
 
--- a batch of iterations from an index on went, or nothing was done
+-- a batch of iterations from an index on went, or its first ones, or nothing was done
 abbrev pub TriedIn : Program → LoopCall → (index lanes : ℕ) → (old new : MapList) → Tried → Type 0
 TriedIn program call index lanes old new Applied = RanOn program call index (index + lanes) old new
+TriedIn program call index lanes old new (Partly count) = RanOn program call index (index + count) old new
 TriedIn program call index lanes old new Dependent = new ≡ old
 TriedIn program call index lanes old new Diverged = new ≡ old
 
--- the index after a batch that was tried: after its lanes where they went
+-- the index after a batch that was tried: after those of its lanes that went
 abbrev pub index_after : Tried → (index lanes : ℕ) → ℕ
 index_after Applied index lanes = index + lanes
+index_after (Partly count) index lanes = index + count
 index_after Dependent index lanes = index
 index_after Diverged index lanes = index
 

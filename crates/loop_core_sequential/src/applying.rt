@@ -8,6 +8,7 @@ ghost use Rattle.loop_core_batch.specs.Effects.{words_after_site_effects};
 ghost use Rattle.loop_core_batch.specs.BySite.{AllCommute, combined_to, words_after_any, words_after_site};
 ghost use Rattle.loop_core_batch.specs.BySite.{words_after_some, words_after_sites};
 ghost use Rattle.loop_core_batch.specs.declared.elements.Elements.TheVariants as elements;
+ghost use Rattle.loop_core_model.specs.declared.access.Access.TheVariants as access;
 ghost use Rattle.bpf_step_batch.specs.declared.mask.Mask.TheVariants as mask;
 ghost use Rattle.bpf_step_batch.specs.Logs.{IsLogged, access_by, element_by, log_by, made_by};
 ghost use Rattle.bpf_step_batch.specs.Logs.{effect_log_by, effect_made_by, reduced_by, site_of, stored_by};
@@ -79,6 +80,7 @@ fn sites_of<const N: usize>(entries: &[Entry]) -> [Site; N]
 {
     let none = Site {
         kind: Access::Read,
+        fetches: false,
         elements: Elements::One(0),
     };
     let mut sites = [none; N];
@@ -119,8 +121,27 @@ fn apply_effect(entry: &Entry, lanes: u32, maps: &mut Maps)
     match entry.site.kind {
         Access::Read => (),
         Access::Write => apply_entry(entry, lanes, maps),
-        Access::Both => replace_some(entry, lanes, maps),
+        Access::Both => apply_change(entry, lanes, maps),
         Access::Reduce(_) => apply_entry(entry, lanes, maps),
+    }
+}
+
+/// The same of fetches, which leave whole words, or of halves that are replaced.
+fn apply_change(entry: &Entry, lanes: u32, maps: &mut Maps)
+    requires kind { entry.now.site.kind ≡ access.Both }
+    requires some { 0 < lanes }
+    requires room { lanes ≤ 128 }
+    requires few { length maps.old.words ≤ 65536 }
+    requires within { AreWithin lanes entry.now maps.old.words }
+    ensures { maps.new ≡ record {
+      sizes = maps.old.sizes;
+      words = words_after_lane_effects (effect_made_by entry.now) lanes maps.old.words;
+    } }
+{
+    if entry.site.fetches {
+        apply_entry(entry, lanes, maps);
+    } else {
+        replace_some(entry, lanes, maps);
     }
 }
 
@@ -141,7 +162,7 @@ fn replace_some(entry: &Entry, lanes: u32, maps: &mut Maps)
 
 /// Replaces a lane's half, if it made the access.
 #[inline(always)]
-fn replace_if_made(entry: &Entry, lane: u32, maps: &mut Maps)
+pub(crate) fn replace_if_made(entry: &Entry, lane: u32, maps: &mut Maps)
     requires lane { lane < 128 }
     requires few { length maps.old.words ≤ 65536 }
     requires within { element_by entry.now.site.elements entry.now.elements lane < length maps.old.words }
@@ -230,7 +251,7 @@ fn store_some(entry: &Entry, lanes: u32, maps: &mut Maps)
 
 /// Stores a lane's value, if it made the access.
 #[inline(always)]
-fn store_if_made(entry: &Entry, lane: u32, maps: &mut Maps)
+pub(crate) fn store_if_made(entry: &Entry, lane: u32, maps: &mut Maps)
     requires lane { lane < 128 }
     requires few { length maps.old.words ≤ 65536 }
     requires within { element_by entry.now.site.elements entry.now.elements lane < length maps.old.words }
@@ -264,7 +285,7 @@ fn reduce_some(op: Op, entry: &Entry, lanes: u32, maps: &mut Maps)
 
 /// Applies a lane's value, if it made the access.
 #[inline(always)]
-fn reduce_if_made(op: Op, entry: &Entry, lane: u32, maps: &mut Maps)
+pub(crate) fn reduce_if_made(op: Op, entry: &Entry, lane: u32, maps: &mut Maps)
     requires lane { lane < 128 }
     requires few { length maps.old.words ≤ 65536 }
     requires within { element_by entry.now.site.elements entry.now.elements lane < length maps.old.words }

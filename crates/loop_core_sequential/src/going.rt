@@ -8,6 +8,7 @@ ghost use Rattle.loop_core_sequential.specs.Tries.{LanesAreIterations, TriedIn, 
 
 use crate::applying::{apply_effects, are_unloaded};
 use crate::batches::Batches;
+use crate::first_lanes::apply_first;
 use crate::running::LoopRun;
 use crate::trying::Tried;
 use array_maps::Maps;
@@ -61,23 +62,24 @@ impl Batches {
             .run(ops, start, index, lanes, frame, maps.words())
     }
 
-    /// Does so many iterations from an index on together, where they are the loop in order so; else nothing.
+    /// Does so many iterations from an index on together, where they are the loop in order so; else the first of them up
+    /// to one that would load what these left, or nothing.
     fn tried(&mut self, run: &LoopRun<'_>, index: u32, lanes: u32, maps: &mut Maps) -> Tried
         requires ready { IsLoopRun run.now }
         requires some { 0 < lanes }
         requires room { lanes ≤ 128 }
         requires within { index + lanes ≤ run.now.call.now.n }
         requires sizes { maps.old.sizes ≡ run.now.program.now.sizes }
-        ensures { TriedIn run.now.program.now run.now.call.now index lanes maps.old maps.new result }
+        ensures few { index_after result index lanes ≤ index + lanes }
+        ensures tried { TriedIn run.now.program.now run.now.call.now index lanes maps.old maps.new result }
     {
         law_of_batches();
         if !self.ran_together(run, index, lanes, maps) {
             return Tried::Diverged;
         }
-        let tried = &*self;
-        let entries = tried.batch.entries();
+        let entries = self.batch.entries();
         if !are_unloaded(entries, lanes) {
-            return Tried::Dependent;
+            return Tried::Partly(apply_first(entries, lanes, &mut self.marks, maps));
         }
         apply_effects(entries, lanes, maps);
         Tried::Applied

@@ -5,6 +5,7 @@
 
 mod applying;
 mod batches;
+mod first_lanes;
 mod going;
 mod noting;
 mod one_by_one;

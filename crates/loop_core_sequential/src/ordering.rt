@@ -75,12 +75,12 @@ fn in_batches(run: &mut LoopRun<'_>, from: u32, to: u32, maps: &mut Maps) -> Opt
     let mut index = from;
     while index < to {
         let next = batches.go(run, index, to, maps);
-        if index < next {
+        if batches.goes_on(index, next, to) {
             index = next;
             continue;
         }
-        let resume = batches.resume(index, to);
-        if let Some(answer) = alone(run, index, resume, maps) {
+        let resume = batches.resume(next, to);
+        if let Some(answer) = alone(run, next, resume, maps) {
             return Some(answer);
         }
         index = resume;

@@ -5,6 +5,8 @@
 pub(crate) enum Tried {
     /// They were done.
     Applied,
+    /// The first of them were done, so many: the next one would have loaded what one of these left.
+    Partly(u32),
     /// One would have seen what an earlier one wrote, or their accesses can't be applied site by site.
     Dependent,
     /// They took several ways, one returned 1, or an operation isn't done for many at a time.

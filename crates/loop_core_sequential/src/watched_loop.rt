@@ -29,8 +29,8 @@ pub enum WatchedLoop {
 /// Runs the iterations of a loop call that main of this program made as `in_order` does, and watches them: where none
 /// has an exposed read of an element that an earlier one wrote, the loop passes by the flow test, and its answer is
 /// given. Else it is given up after the first iteration that sees or reduces an element that an earlier one wrote, or
-/// that it wrote itself before that: then the maps are as before, and the log has those after this iteration, from which
-/// `go_on_in_order` goes on. The maps are of the program's sizes, and the log is for as many elements.
+/// that it wrote itself before that: then the maps are as before, and the log has those after this iteration, from
+/// which `go_on_in_order` goes on. The maps are of the program's sizes, and the log is for as many elements.
 pub fn in_order_watched(
     program: &Verified,
     call: &LoopCall,

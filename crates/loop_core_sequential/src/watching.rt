@@ -73,6 +73,7 @@ impl Batches {
         requires within { index + lanes ≤ run.now.call.now.n }
         requires sizes { maps.old.sizes ≡ run.now.program.now.sizes }
         requires count { length maps.old.words ≡ log_elements log.old }
+        ensures few { index_after result index lanes ≤ index + lanes }
         ensures sizes { maps.new.sizes ≡ maps.old.sizes }
         ensures count { length maps.new.words ≡ log_elements log.new }
         ensures goes { (start : MapList) → GoesWatched run.now.program.now run.now.call.now index start maps.old log.old

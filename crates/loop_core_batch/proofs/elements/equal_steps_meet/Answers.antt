@@ -1,20 +1,18 @@
-use Rattle.std.proofs.Common.{◌-◌, ◌/◌, refl, arith}
-use Rattle.std.proofs.lemmas.Bool.{ltb-true, lt-ltb}
-use Rattle.loop_core_batch.proofs.Meeting.{steps_meet, whole_steps, few_steps}
+use Rattle.loop_core_batch.specs.declared.elements.Elements.TheVariants.{Every}
+use Rattle.loop_core_batch.specs.declared.stride.Stride.{Stride}
+use Rattle.loop_core_batch.specs.Sites.{MayMeet}
+use Rattle.loop_core_batch.specs.Strides.{size_of}
+use Rattle.std.proofs.Common.{◌↔◌, ◌<◌, IsTrue, sym, subst}
+use Rattle.loop_core_batch.proofs.Meeting.{steps_down_meet, steps_meet_up}
 use Rattle.loop_core_batch.proofs.elements.equal_steps_meet.Goals as goal
 
-pub returns-then-apart-step-ne0 : goal.returns-then-apart-step-ne0
-returns-then-apart-step-ne0 c = (
-  λ yes. absurd (cc yes),
-  λ meet. absurd (c.if-apart-step-ne0.true (whole_steps c.args.first c.args.other c.args.step c.args.lanes c.requires
-      meet)),
-)
-
-pub returns : goal.returns
-returns c = (
-  λ yes. steps_meet c.args.first c.args.other c.args.step c.args.lanes (c.args.first - c.args.other) c.requires
-      (omega (arith, c.if-first-other.false)) refl c.if-apart-step-ne0.false
-      (ltb-true ((c.args.first - c.args.other) / c.args.step) c.args.lanes yes),
-  λ meet. lt-ltb ((c.args.first - c.args.other) / c.args.step) c.args.lanes
-      (few_steps c.args.first c.args.other c.args.step c.args.lanes c.requires meet),
-)
+pub returns-in-Down : goal.returns-in-Down
+returns-in-Down c =
+    subst (λ (step : Stride). IsTrue c.steps_up_meet-in-Down.result
+    ↔ MayMeet (Every c.args.first step) (Every c.args.other step) c.args.lanes) (sym c.in-Down.is) (
+      λ yes. steps_down_meet c.args.first c.args.other c.in-Down.step c.args.lanes
+          (subst (λ (step : Stride). 0 < size_of step) c.in-Down.is c.requires)
+          (c.steps_up_meet-in-Down.ensures.0 yes),
+      λ meet. c.steps_up_meet-in-Down.ensures.1
+          (steps_meet_up c.args.first c.args.other c.in-Down.step c.args.lanes meet),
+    )

@@ -1,5 +1,4 @@
-use Rattle.std.proofs.Common.{◌≡◌, ◌+◌, ◌-◌, ◌*◌, ◌≤◌, subst, arith}
-use Rattle.std.proofs.lemmas.Nat.{mul-le}
+use Rattle.std.proofs.Common.{◌≡◌, ◌+◌, ◌≤◌, subst, arith}
 use Rattle.loop_core_batch.specs.declared.elements.Elements.{Elements}
 use Rattle.loop_core_batch.specs.Sites.{MayAccess}
 use Rattle.loop_core_block.proofs.placing.is_site_placed.Goals as goal
@@ -21,12 +20,8 @@ pub returns-in-Between : goal.returns-in-Between
 returns-in-Between c = λ placed lane e below at.
     let here : (c.in-Between.low ≤ e) × (e ≤ c.in-Between.high) =
     subst (λ (x : Elements). MayAccess x lane e) c.in-Between.is at in
-    (c.is_range_placed-in-Between.ensures placed).each e here.0 here.1
+    (c.is_range_placed.ensures placed).each e here.0 here.1
 
-pub returns-in-Some : goal.returns-in-Some
-returns-in-Some c = λ placed lane e below at.
-    let here : e ≡ c.in-Every.first + lane * c.in-Every.step =
-    subst (λ (x : Elements). MayAccess x lane e) c.in-Every.is at in
-    let far : lane * c.in-Every.step ≤ (c.args.lanes - 1) * c.in-Every.step =
-    mul-le lane c.in-Every.step (c.args.lanes - 1) c.in-Every.step (omega (arith, below)) (omega arith) in
-    (c.is_range_placed.ensures placed).each e (omega (arith, here)) (omega (arith, here, far, c.in-Some.ensures))
+pub returns-in-Every : goal.returns-in-Every
+returns-in-Every c = λ placed lane e below at.
+    c.are_steps_placed.ensures placed lane e below (subst (λ (x : Elements). MayAccess x lane e) c.in-Every.is at)

@@ -46,7 +46,8 @@ returns-in-Between c =
     (flags_in c.in-Some.flags) c.in-Some.ensures c.end_row-in-Between.ensures
 
 pub end_row-requires-in-Every-clause-row : goal.end_row-requires-in-Every-clause-row
-end_row-requires-in-Every-clause-row c = steps_row c.args.entry.now c.in-Every.first c.in-Every.step c.args.lanes c.in-Every.is
+end_row-requires-in-Every-clause-row c =
+    steps_row c.args.entry.now c.in-Every.first c.in-Every.step c.args.lanes c.in-Every.is
 
 pub returns-in-Every : goal.returns-in-Every
 returns-in-Every c =

@@ -25,4 +25,5 @@ note_row-requires-in-Between-clause-row c = own_row c.args.entry.now c.in-Betwee
     c.in-Between.is
 
 pub note_row-requires-in-Every-clause-row : goal.note_row-requires-in-Every-clause-row
-note_row-requires-in-Every-clause-row c = steps_row c.args.entry.now c.in-Every.first c.in-Every.step c.args.lanes c.in-Every.is
+note_row-requires-in-Every-clause-row c =
+    steps_row c.args.entry.now c.in-Every.first c.in-Every.step c.args.lanes c.in-Every.is

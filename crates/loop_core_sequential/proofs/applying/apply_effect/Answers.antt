@@ -1,5 +1,5 @@
 use Rattle.std.proofs.Common.{ℕ, List, ap, ◌∙◌}
-use Rattle.loop_core_sequential.proofs.ApplyEffects.{loads_are, writes_are, replaces_are, applies_are}
+use Rattle.loop_core_sequential.proofs.ApplyEffects.{loads_are, writes_are, applies_are}
 use Rattle.loop_core_sequential.proofs.applying.apply_effect.Goals as goal
 
 pub returns-in-Read : goal.returns-in-Read
@@ -12,12 +12,6 @@ returns-in-Write c =
     c.apply_entry.ensures c.args.maps.now.words
     ∙ ap (λ (ws : List ℕ). record { sizes = c.args.maps.now.sizes; words = ws })
     (writes_are c.args.maps.now.words c.args.entry.now c.in-Write.is c.args.lanes c.args.maps.now.words)
-
-pub returns-in-Both : goal.returns-in-Both
-returns-in-Both c =
-    c.replace_some.ensures
-    ∙ ap (λ (ws : List ℕ). record { sizes = c.args.maps.now.sizes; words = ws })
-    (replaces_are c.args.entry.now c.in-Both.is c.args.lanes c.args.maps.now.words)
 
 pub returns-in-Reduce : goal.returns-in-Reduce
 returns-in-Reduce c =

@@ -16,13 +16,14 @@ loop-lane-preserved c =
     let count = c.loop-lane.invariant.grows.count in
     let test = c.loop-lane-test.true in
     record {
-      grows = grows_more c.args.maps.now.words c.args.log.now c.loop-lane.log c.mark.new.self c.loop-lane.invariant.grows
-          (grows_by _ c.args.maps.now.words c.loop-lane.log c.mark.new.self c.mark.ensures);
-      noted = row_told c.args.maps.now.words c.args.row.now c.loop-lane.lane c.loop-lane.log c.mark.new.self c.mark.ensures
+      grows = grows_more c.args.maps.now.words c.args.log.now c.loop-lane.log c.mark.new.self
+          c.loop-lane.invariant.grows (grows_by _ c.args.maps.now.words c.loop-lane.log c.mark.new.self c.mark.ensures);
+      noted = row_told c.args.maps.now.words c.args.row.now c.loop-lane.lane c.loop-lane.log c.mark.new.self
+          c.mark.ensures
           (λ k below. let there = c.requires.within k (omega (arith, below, test)) in omega (arith, there, count))
           c.loop-lane.invariant.noted;
-      only = row_only c.args.maps.now.words c.args.row.now c.loop-lane.lane c.args.log.now c.loop-lane.log c.mark.new.self
-          c.mark.ensures count c.loop-lane.invariant.only;
+      only = row_only c.args.maps.now.words c.args.row.now c.loop-lane.lane c.args.log.now c.loop-lane.log
+          c.mark.new.self c.mark.ensures count c.loop-lane.invariant.only;
     }
 
 pub returns-clause-only : goal.returns-clause-only

@@ -11,8 +11,8 @@ loop-index-init c = record {
       (omega (arith, c.requires.in_order, c.requires.within));
 }
 
-pub loop-index-preserved-then-index-next : goal.loop-index-preserved-then-index-next
-loop-index-preserved-then-index-next c = record {
+pub loop-index-preserved-then-goes_on : goal.loop-index-preserved-then-goes_on
+loop-index-preserved-then-goes_on c = record {
   same = c.loop-index.invariant.same;
   within = c.go-next.ensures.within;
   went = went_both c.args.run.now.program.now c.args.run.now.call.now c.args.from c.loop-index.index c.go-next.result
@@ -26,8 +26,7 @@ returns-in-Some c =
     broke_before c.args.run.now.program.now c.args.run.now.call.now c.args.from c.resume-resume.result c.args.to
     c.args.maps.now c.alone.new.maps c.in-Some.answer c.resume-resume.ensures.within
     (rest_ran_by c.loop-index.run c.args.run.now c.loop-index.invariant.same c.args.from c.loop-index.index
-    c.go-next.result c.resume-resume.result (omega (arith, c.if-index-next.false, c.go-next.ensures.on))
-    c.args.maps.now c.loop-index.maps c.go-next.new.maps c.alone.new.maps (Some c.in-Some.answer)
+    c.go-next.result c.resume-resume.result c.args.maps.now c.loop-index.maps c.go-next.new.maps c.alone.new.maps (Some c.in-Some.answer)
     c.loop-index.invariant.went c.go-next.ensures.went c.in-Some.ensures.ran)
 
 pub loop-index-preserved : goal.loop-index-preserved
@@ -35,8 +34,7 @@ loop-index-preserved c = record {
   same = c.alone.ensures.same ∙ c.loop-index.invariant.same;
   within = c.resume-resume.ensures.within;
   went = rest_ran_by c.loop-index.run c.args.run.now c.loop-index.invariant.same c.args.from c.loop-index.index
-      c.go-next.result c.resume-resume.result (omega (arith, c.if-index-next.false, c.go-next.ensures.on))
-      c.args.maps.now c.loop-index.maps c.go-next.new.maps c.alone.new.maps None c.loop-index.invariant.went
+      c.go-next.result c.resume-resume.result c.args.maps.now c.loop-index.maps c.go-next.new.maps c.alone.new.maps None c.loop-index.invariant.went
       c.go-next.ensures.went c.in_default.ensures.ran;
 }
 
@@ -47,14 +45,15 @@ returns c =
     went_to c.args.run.now.program.now c.args.run.now.call.now c.args.from c.loop-index.index c.args.to
     c.args.maps.now c.loop-index.maps (omega (arith, past, within)) c.loop-index.invariant.went
 
-pub loop-index-smaller-then-index-next : goal.loop-index-smaller-then-index-next
-loop-index-smaller-then-index-next c =
+pub loop-index-smaller-then-goes_on : goal.loop-index-smaller-then-goes_on
+loop-index-smaller-then-goes_on c =
     let within = c.go-next.ensures.within in
-    let up = c.if-index-next.true in
+    let up = c.goes_on.ensures.on c.if-goes_on.true in
     omega (arith, within, up)
 
 pub loop-index-smaller : goal.loop-index-smaller
 loop-index-smaller c =
     let up = c.resume-resume.ensures.on in
+    let on = c.go-next.ensures.on in
     let within = c.resume-resume.ensures.within in
-    omega (arith, up, within)
+    omega (arith, up, on, within)

@@ -44,8 +44,8 @@ returns-in-Dependent c =
     c.go_watched-next.result c.resume-resume.result
     (omega (arith, c.if-index-next.false, c.go_watched-next.ensures.on))
     c.loop-index.maps c.go_watched-next.new.maps c.alone_watched.new.maps c.loop-index.log c.go_watched-next.new.log
-    c.alone_watched.new.log (Dependent c.in-Dependent.progress) c.go_watched-next.ensures.goes c.in-Dependent.ensures.ran c.args.maps.now
-    c.loop-index.invariant.goes
+    c.alone_watched.new.log (Dependent c.in-Dependent.progress) c.go_watched-next.ensures.goes
+    c.in-Dependent.ensures.ran c.args.maps.now c.loop-index.invariant.goes
 
 pub returns : goal.returns
 returns c =

@@ -1,0 +1,10 @@
+use Rattle.std.proofs.Common.{ℕ, List, ap, ◌∙◌}
+use Rattle.loop_core_sequential.proofs.ApplyEffects.{fetches_are}
+use Rattle.loop_core_sequential.proofs.applying.apply_change.Goals as goal
+
+pub returns-then-entry : goal.returns-then-entry
+returns-then-entry c =
+    c.apply_entry.ensures c.args.maps.now.words
+    ∙ ap (λ (ws : List ℕ). record { sizes = c.args.maps.now.sizes; words = ws })
+    (fetches_are c.args.maps.now.words c.args.entry.now c.requires.kind c.if-entry.true c.args.lanes
+    c.args.maps.now.words)

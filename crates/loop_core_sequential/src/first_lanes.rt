@@ -1,0 +1,229 @@
+//! Lanes that are applied one after another, up to the first that loads an element which one before it left.
+
+ghost use Rattle.std.specs.Prelude.{◌≡◌, ◌%◌, ◌<◌, ◌≤◌, true, false, length, slice_index, All};
+ghost use Rattle.std.specs.List.{AllByRecursion};
+ghost use Rattle.loop_core_batch.specs.Effects.{words_after_any_effect, words_after_each_lane, words_after_effects};
+ghost use Rattle.loop_core_model.specs.declared.access.Access.TheVariants as access;
+ghost use Rattle.bpf_step_batch.specs.Logs.{IsLogged, effect_log_by, effect_made_by, effects_by, element_by, has_lane};
+ghost use Rattle.loop_core_sequential.specs.FirstLanes.{AreFirst, IsMarked, IsSpared, IsWithin, Lowers};
+
+use crate::applying::{element, reduce_if_made, replace_if_made, store_if_made};
+use array_maps::Maps;
+use bpf_step_batch::Entry;
+use loop_core_batch::leaves;
+use loop_core_model::Access;
+
+/// How many elements are told apart.
+const MARKS: usize = 8192;
+
+/// No lane.
+const NONE: u8 = 255;
+
+/// The first lane that leaves a word at an element, by the remainder of the element's number.
+#[derive(Drop)]
+pub(crate) struct Marks {
+    pub(crate) first: [u8; MARKS],
+}
+
+impl Marks {
+    /// None.
+    pub(crate) fn new() -> Marks {
+        Marks {
+            first: [NONE; MARKS],
+        }
+    }
+
+    /// The mark of an element.
+    #[inline(always)]
+    fn at(element: u32) -> usize
+        ensures { result ≡ element % 8192 }
+    {
+        element as usize % MARKS
+    }
+
+    /// Marks the elements at which the lanes leave words.
+    fn mark_all(&mut self, entries: &[Entry], lanes: u32)
+        requires room { lanes ≤ 128 }
+        requires within { All (IsWithin 65536 lanes) entries.now }
+        ensures { All (IsMarked self.new lanes) entries.now }
+    {
+        for entry in entries {
+            if leaves(entry.site.kind) {
+                self.mark(entry, lanes);
+            }
+        }
+    }
+
+    /// The same of one entry.
+    fn mark(&mut self, entry: &Entry, lanes: u32)
+        requires room { lanes ≤ 128 }
+        requires within { IsWithin 65536 lanes entry.now }
+        ensures marked { IsMarked self.new lanes entry.now }
+        ensures lowers { Lowers self.old self.new }
+    {
+        for lane in 0..lanes {
+            self.mark_if_made(entry, lane);
+        }
+    }
+
+    /// The same of one lane.
+    #[inline(always)]
+    fn mark_if_made(&mut self, entry: &Entry, lane: u32)
+        requires lane { lane < 128 }
+        requires within { element_by entry.now.site.elements entry.now.elements lane < 65536 }
+        ensures marked { has_lane entry.now.mask lane ≡ true → slice_index self.new.first
+            (element_by entry.now.site.elements entry.now.elements lane % 8192) ≤ lane }
+        ensures lowers { Lowers self.old self.new }
+    {
+        if entry.mask.has(lane) {
+            let at = Marks::at(element(entry.site.elements, entry, lane));
+            self.first[at] = self.first[at].min(lane as u8);
+        }
+    }
+
+    /// Takes the marks away.
+    fn clear(&mut self, entries: &[Entry], lanes: u32)
+        requires room { lanes ≤ 128 }
+        requires within { All (IsWithin 65536 lanes) entries.now }
+    {
+        for entry in entries {
+            if leaves(entry.site.kind) {
+                for lane in 0..lanes {
+                    self.first[Marks::at(element(entry.site.elements, entry, lane))] = NONE;
+                }
+            }
+        }
+    }
+
+    /// Of the lanes the first that loads an element at which one before it leaves a word; their number where none does.
+    fn first_loading(&self, entries: &[Entry], lanes: u32) -> u32
+        requires room { lanes ≤ 128 }
+        requires within { All (IsWithin 65536 lanes) entries.now }
+        ensures few { result ≤ lanes }
+        ensures spared { All (IsSpared self.now result) entries.now }
+    {
+        let mut first = lanes;
+        for entry in entries {
+            if entry.site.loads() {
+                first = self.first_loading_at(entry, first);
+            }
+        }
+        first
+    }
+
+    /// The same of one entry.
+    fn first_loading_at(&self, entry: &Entry, lanes: u32) -> u32
+        requires room { lanes ≤ 128 }
+        requires within { IsWithin 65536 lanes entry.now }
+        ensures few { result ≤ lanes }
+        ensures spared { IsSpared self.now result entry.now }
+    {
+        for lane in 0..lanes {
+            if self.is_left_before(entry, lane) {
+                return lane;
+            }
+        }
+        lanes
+    }
+
+    /// Whether a lane makes an access at an entry, of an element at which one before it leaves a word.
+    #[inline(always)]
+    fn is_left_before(&self, entry: &Entry, lane: u32) -> bool
+        requires lane { lane < 128 }
+        requires within { element_by entry.now.site.elements entry.now.elements lane < 65536 }
+        ensures { result ≡ false → has_lane entry.now.mask lane ≡ true → lane ≤ slice_index self.now.first
+            (element_by entry.now.site.elements entry.now.elements lane % 8192) }
+    {
+        if !entry.mask.has(lane) {
+            return false;
+        }
+        let at = Marks::at(element(entry.site.elements, entry, lane));
+        u32::from(self.first[at]) < lane
+    }
+}
+
+/// Applies what the first lanes did, one after another, up to the first that loads an element at which one before it
+/// left a word. Gives how many they are.
+pub(crate) fn apply_first(entries: &[Entry], lanes: u32, marks: &mut Marks, maps: &mut Maps) -> u32
+    requires room { lanes ≤ 128 }
+    requires logged { AllByRecursion (IsLogged lanes maps.old.words) entries.now }
+    ensures few { result ≤ lanes }
+    ensures first { AreFirst entries.now result maps.old maps.new }
+{
+    // It tells the proof that elements are few.
+    let _words = maps.words();
+    marks.mark_all(entries, lanes);
+    let count = marks.first_loading(entries, lanes);
+    marks.clear(entries, lanes);
+    apply_lanes(entries, count, maps);
+    count
+}
+
+/// Applies what lanes did, one after another.
+fn apply_lanes(entries: &[Entry], lanes: u32, maps: &mut Maps)
+    requires room { lanes ≤ 128 }
+    requires few { length maps.old.words ≤ 65536 }
+    requires within { All (IsWithin (length maps.old.words) lanes) entries.now }
+    ensures { maps.new ≡ record {
+      sizes = maps.old.sizes;
+      words = words_after_each_lane (effect_log_by entries.now) lanes maps.old.words;
+    } }
+{
+    for lane in 0..lanes {
+        apply_lane(entries, lane, maps);
+    }
+}
+
+/// Applies what a lane did.
+fn apply_lane(entries: &[Entry], lane: u32, maps: &mut Maps)
+    requires lane { lane < 128 }
+    requires few { length maps.old.words ≤ 65536 }
+    requires within { All (λ entry. element_by entry.site.elements entry.elements lane < length maps.old.words)
+        entries.now }
+    ensures { maps.new ≡ record {
+      sizes = maps.old.sizes;
+      words = words_after_effects (effects_by entries.now lane) maps.old.words;
+    } }
+{
+    for entry in entries {
+        apply_if_made(entry, lane, maps);
+    }
+}
+
+/// Applies what a lane did at an entry, if it made the access.
+#[inline(always)]
+fn apply_if_made(entry: &Entry, lane: u32, maps: &mut Maps)
+    requires lane { lane < 128 }
+    requires few { length maps.old.words ≤ 65536 }
+    requires within { element_by entry.now.site.elements entry.now.elements lane < length maps.old.words }
+    ensures { maps.new ≡ record {
+      sizes = maps.old.sizes;
+      words = words_after_any_effect (effect_made_by entry.now lane) maps.old.words;
+    } }
+{
+    match entry.site.kind {
+        Access::Read => (),
+        Access::Write => store_if_made(entry, lane, maps),
+        Access::Both => change_if_made(entry, lane, maps),
+        Access::Reduce(op) => reduce_if_made(op, entry, lane, maps),
+    }
+}
+
+/// The same of a fetch, or of a half that is replaced.
+#[inline(always)]
+fn change_if_made(entry: &Entry, lane: u32, maps: &mut Maps)
+    requires kind { entry.now.site.kind ≡ access.Both }
+    requires lane { lane < 128 }
+    requires few { length maps.old.words ≤ 65536 }
+    requires within { element_by entry.now.site.elements entry.now.elements lane < length maps.old.words }
+    ensures { maps.new ≡ record {
+      sizes = maps.old.sizes;
+      words = words_after_any_effect (effect_made_by entry.now lane) maps.old.words;
+    } }
+{
+    if entry.site.fetches {
+        store_if_made(entry, lane, maps);
+    } else {
+        replace_if_made(entry, lane, maps);
+    }
+}
