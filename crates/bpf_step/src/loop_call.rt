@@ -21,7 +21,13 @@ impl Model for LoopCall {
 
     ghost Value = { Call };
 
-    ghost view = { λ c. record { slot = c.slot; callback = c.callback; n = c.n; ctx = c.ctx; frame = map Some c.frame } };
+    ghost view = { λ c. record {
+      slot = c.slot;
+      callback = c.callback;
+      n = c.n;
+      ctx = c.ctx;
+      frame = map Some c.frame;
+    } };
 }
 
 impl LoopCall {

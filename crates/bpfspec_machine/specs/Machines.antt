@@ -22,8 +22,8 @@ pub record IsMachine (program : Program) (maps : MapList) (lines : List LoopRepo
   pub sizes : maps.sizes ≡ program.sizes
   pub room : most_from program 0 ≤ length lines
 
--- a run of a machine, its argument in R1, gave this answer and this machine: the program in order, from the words of its
--- maps, which it leaves to the next run
+-- a run of a machine, its argument in R1, gave this answer and this machine: the program in order, from the words of
+-- its maps, which it leaves to the next run
 pub record MachineRan (argument : ℕ) (old new : MachineState) (answer : ℕ) : Type 0 where
   pub program : new.program ≡ old.program
   pub ran : RanInOrder old.program argument old.maps new.maps answer new.loops

@@ -27,7 +27,8 @@ fn print_function(out: &mut String, number: usize, function: &Function) -> Resul
 
 /// Adds the lines of all functions.
 fn print_functions(out: &mut String, functions: &[Function]) -> Result<(), AllocError>
-    ensures { OnOk result (string_bytes out.new ≡ string_bytes out.old ++ numbered_lines function_line 0 functions.now) }
+    ensures { OnOk result (string_bytes out.new
+        ≡ string_bytes out.old ++ numbered_lines function_line 0 functions.now) }
 {
     for (number, function) in functions.iter().enumerate() {
         print_function(out, number, function)?;

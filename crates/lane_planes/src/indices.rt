@@ -41,7 +41,8 @@ pub(crate) fn keep_into<const N: usize>(
 fn keep_at<const N: usize>(kept: Kept, into: &mut [u32], from: &[u32], at: usize)
     requires same { length into.old ≡ length from.now }
     requires room { at + N ≤ length into.old }
-    ensures { Writes (λ i. kept_of kept (slice_index into.old i) (slice_index from.now i)) at (at + N) into.old into.new }
+    ensures { Writes (λ i. kept_of kept (slice_index into.old i) (slice_index from.now i)) at (at + N) into.old
+        into.new }
 {
     let mine = numbers_at::<N>(into, at);
     let theirs = numbers_at::<N>(from, at);

@@ -55,7 +55,8 @@ pub are_conflicts : (test : Test) (program : Program) (call : LoopCall) (words :
     ((visits : ℕ → List Visit) → StandFor b.planes visits → elements_in_plane plane
     ≡ filter (λ e. marked_conflict (test_of b.planes.tested) (marks_of (visits e)))
     (range_with_len 0 b.planes.elements)) → told.verdict ≡ plane_verdict plane
-    → told.broke ≡ b.broke → told.least.items ≡ take most (elements_in_plane plane) → AreConflicts test program call words most told
+    → told.broke ≡ b.broke → told.least.items ≡ take most (elements_in_plane plane)
+    → AreConflicts test program call words most told
 are_conflicts test program call words most b plane told records first past fit tells judges broke listed =
     let runs : List (List Access) = accesses_of_each records.ran in
     let elements : elements_in_plane plane ≡ conflicting test runs (length words) =

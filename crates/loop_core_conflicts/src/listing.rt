@@ -3,15 +3,8 @@
 ghost use Rattle.std.specs.Prelude.{◌≡◌, ◌<◌, ◌≤◌, ◌/◌, if◌then◌else◌, [], ◌∷◌, ◌++◌, length, take, IfOk, OnOk};
 ghost use Rattle.loop_core_model.specs.Planes.{bit_of, elements_in_plane};
 
+use shadow_marks::is_set;
 use std::alloc::{AllocError, Global};
-
-/// Whether an element's bit is set in a plane.
-fn is_set(plane: &[u64], e: u32) -> bool
-    requires { e / 64 < length plane.now }
-    ensures { result ≡ bit_of plane.now e }
-{
-    plane[e as usize / 64] >> (e % 64) & 1 == 1
-}
 
 /// Adds an element, if its bit is set in a plane.
 fn add_if_set(elements: &mut Vec<u32>, plane: &[u64], e: u32) -> Result<(), AllocError>

@@ -6,7 +6,7 @@ ghost use Rattle.loop_core_gather.specs.Pages.{IsPageOf, ChangesWithin, AreLeft}
 use crate::kept::{combined, last_written};
 use crate::merged::{is_reduction, reduced_in_page};
 use crate::order::PLACES;
-use crate::pages::{PAGE, overwrite_in_turn, page_by_elements, page_of};
+use crate::pages::{PAGE_WORDS, overwrite_in_turn, page_by_elements, page_of};
 use crate::sharing::{SHARED_PAGES, left_in_threads, left_in_turn, touched_numbers};
 use crate::storing::LeftPage;
 use arrayvec::ArrayVec;
@@ -91,7 +91,7 @@ impl<'a> Gathered<'a> {
 
     /// What the loop leaves at the elements of a page after a pass, and 0 past the last: worked out block after block
     /// where no element of it was reduced, and else element after element.
-    pub(crate) fn page(&self, page: u32) -> [u64; PAGE]
+    pub(crate) fn page(&self, page: u32) -> [u64; PAGE_WORDS]
         ensures { IsPageOf self.now.words page result }
     {
         if page as usize >= self.touched.len() {

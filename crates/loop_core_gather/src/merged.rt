@@ -12,7 +12,7 @@ ghost use Rattle.loop_core_gather.specs.Held.{is_reduction as is_reduced, AreInO
 use lane_planes::merge_touched;
 use loop_core_block::Block;
 use loop_core_model::Test;
-use shadow_marks::{OperatorPlanes, Planes};
+use shadow_marks::{OperatorPlanes, Planes, is_set};
 use std::alloc::{AllocError, Global};
 
 /// The lanes of a vector.
@@ -86,12 +86,4 @@ pub(crate) fn reduced_in_page(planes: &OperatorPlanes, page: u32) -> u64
 {
     let page = page as usize;
     planes.add[page] | planes.or[page] | planes.and[page] | planes.xor[page] | planes.addh[page]
-}
-
-/// Whether an element's bit is set in a plane.
-fn is_set(plane: &[u64], e: u32) -> bool
-    requires { e / 64 < length plane.now }
-    ensures { result ≡ bit_of plane.now e }
-{
-    plane[e as usize / 64] >> (e % 64) & 1 == 1
 }

@@ -11,9 +11,10 @@ ghost use Rattle.loop_core_gather.specs.Pages.{IsPageOf};
 use crate::gathered::Gathered;
 use crate::kept::has_bit;
 use loop_core_block::Block;
+use loop_core_model::PAGE;
 
-/// Elements in a page.
-pub(crate) const PAGE: usize = 64;
+/// Words of a page.
+pub(crate) const PAGE_WORDS: usize = PAGE as usize;
 
 /// A word, and 0 past the last.
 #[tactic(auto, using(crate::proofs::PageLaws::past_all))]
@@ -24,28 +25,28 @@ fn word_at(words: &[u64], e: usize) -> u64
 }
 
 /// The words of a page that has all 64.
-fn whole_page(words: &[u64], page: u32) -> [u64; PAGE]
+fn whole_page(words: &[u64], page: u32) -> [u64; PAGE_WORDS]
     requires { page * 64 + 64 ≤ length words.now }
     ensures { IsPageOf words.now page result }
 {
-    let first = page as usize * PAGE;
-    let mut own = [0; PAGE];
-    for k in 0..PAGE {
+    let first = page as usize * PAGE_WORDS;
+    let mut own = [0; PAGE_WORDS];
+    for k in 0..PAGE_WORDS {
         own[k] = words[first + k];
     }
     own
 }
 
 /// The words of a page, and 0 past the last.
-pub(crate) fn page_of(words: &[u64], page: u32) -> [u64; PAGE]
+pub(crate) fn page_of(words: &[u64], page: u32) -> [u64; PAGE_WORDS]
     ensures { IsPageOf words.now page result }
 {
-    if (page as usize + 1) * PAGE <= words.len() {
+    if (page as usize + 1) * PAGE_WORDS <= words.len() {
         return whole_page(words, page);
     }
-    let mut own = [0; PAGE];
-    for k in 0..PAGE {
-        own[k] = word_at(words, page as usize * PAGE + k);
+    let mut own = [0; PAGE_WORDS];
+    for k in 0..PAGE_WORDS {
+        own[k] = word_at(words, page as usize * PAGE_WORDS + k);
     }
     own
 }
@@ -63,19 +64,19 @@ fn left_at(gathered: &Gathered, e: usize) -> u64
 }
 
 /// What a pass leaves at the elements of a page, asked one by one.
-pub(crate) fn page_by_elements(gathered: &Gathered, page: u32) -> [u64; PAGE]
+pub(crate) fn page_by_elements(gathered: &Gathered, page: u32) -> [u64; PAGE_WORDS]
     ensures { IsPageOf gathered.now.words page result }
 {
-    let mut own = [0; PAGE];
-    for k in 0..PAGE {
-        own[k] = left_at(gathered, page as usize * PAGE + k);
+    let mut own = [0; PAGE_WORDS];
+    for k in 0..PAGE_WORDS {
+        own[k] = left_at(gathered, page as usize * PAGE_WORDS + k);
     }
     own
 }
 
 /// Sets each element of a page, of n elements in all, to a block's last value, where it has one, if the block touched
 /// the page.
-fn overwrite(own: &mut [u64; PAGE], page: u32, elements: u32, block: &Block, touched: bool)
+fn overwrite(own: &mut [u64; PAGE_WORDS], page: u32, elements: u32, block: &Block, touched: bool)
     requires { length (shown block.now).copy.start ≡ elements }
     ensures each { (k : ℕ) → k < 64 → page * 64 + k < elements → slice_index own.new k ≡
         (if touched then unwrap_or ((shown block.now).copy.last (page * 64 + k)) (slice_index own.old k)
@@ -85,18 +86,18 @@ fn overwrite(own: &mut [u64; PAGE], page: u32, elements: u32, block: &Block, tou
     if !touched {
         return;
     }
-    let first = page as usize * PAGE;
+    let first = page as usize * PAGE_WORDS;
     if first >= elements as usize {
         return;
     }
-    let count = (elements as usize - first).min(PAGE);
+    let count = (elements as usize - first).min(PAGE_WORDS);
     block.overwrite(page, count as u32, own);
 }
 
 /// Sets each element of a page, of n elements in all, to the last value of the last of the blocks at these places that
 /// has one. A bit of a word tells of each whether it touched the page.
 pub(crate) fn overwrite_in_turn(
-    own: &mut [u64; PAGE],
+    own: &mut [u64; PAGE_WORDS],
     page: u32,
     elements: u32,
     touched: u64,

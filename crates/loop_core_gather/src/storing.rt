@@ -3,7 +3,7 @@
 ghost use Rattle.std.specs.Prelude.{◌≡◌, ℕ, List};
 ghost use Rattle.loop_core_gather.specs.Pages.{SetsPage, AreLeft};
 
-use crate::pages::PAGE;
+use crate::pages::PAGE_WORDS;
 use array_maps::Maps;
 
 /// A page of 64 elements, and what a pass leaves there.
@@ -12,7 +12,7 @@ pub struct LeftPage {
     /// Its number: its first element is 64 times that.
     pub number: u32,
     /// The words of its elements, and 0 past the last.
-    pub words: [u64; PAGE],
+    pub words: [u64; PAGE_WORDS],
 }
 
 /// Stores the words of a page, where there is such a page.
@@ -21,9 +21,9 @@ fn store_page(maps: &mut Maps, page: &LeftPage)
     ensures words { SetsPage maps.old.words maps.new.words page.now }
 {
     let elements = maps.words().len();
-    let first = page.number as usize * PAGE;
+    let first = page.number as usize * PAGE_WORDS;
     if first < elements {
-        let count = (elements - first).min(PAGE);
+        let count = (elements - first).min(PAGE_WORDS);
         maps.store_run(first as u32, &page.words[..count]);
     }
 }

@@ -5,7 +5,6 @@ ghost use Rattle.bpf_verify_sound.specs.Soundness.{OverApproximatesCall};
 ghost use Rattle.loop_core_block.specs.Ran.{RecordsRun};
 ghost use Rattle.loop_core_block.specs.Shown.{shown};
 ghost use Rattle.loop_core_model.specs.declared.loop_test.Test.TheVariants.{Flow};
-ghost use Rattle.loop_core_model.specs.Planes.{bit_of};
 ghost use Rattle.shadow_marks.specs.Standing.{ArePlanes, EachPlane};
 ghost use Rattle.loop_core_grid.specs.Touching.{AreTouched, is_reduced, is_marked, marked_by};
 
@@ -16,16 +15,8 @@ use bpf_verify::Verified;
 use loop_core_block::{Block, run_block};
 use loop_core_model::Test;
 use loop_core_split::{NoGate, Split};
-use shadow_marks::{OperatorPlanes, Planes};
+use shadow_marks::{OperatorPlanes, Planes, is_set};
 use std::alloc::{AllocError, Global};
-
-/// Whether an element's bit is set in a plane.
-fn is_set(plane: &[u64], element: u32) -> bool
-    requires { element / 64 < length plane.now }
-    ensures { result ≡ bit_of plane.now element }
-{
-    plane[element as usize / 64] >> (element % 64) & 1 == 1
-}
 
 /// Whether an iteration reduced an element, as planes tell.
 fn is_reduced(planes: &OperatorPlanes, element: u32) -> bool

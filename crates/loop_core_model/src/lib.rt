@@ -8,6 +8,7 @@
 pub mod access;
 pub mod faults;
 pub mod loop_test;
+pub mod pages;
 pub mod replay_fault;
 pub mod verdict;
 
@@ -37,6 +38,7 @@ pub use access::Access;
 pub use faults::{GatherFault, SplitFault};
 pub use loop_core_event::{Event, EventKind};
 pub use loop_test::Test;
+pub use pages::PAGE;
 pub use replay_fault::ReplayFault;
 pub use verdict::{LoopReport, Verdict};
 

@@ -5,8 +5,9 @@ ghost use Rattle.loop_core_undo.specs.Undo.{log_elements, is_saved};
 ghost use Rattle.loop_core_undo.specs.Pages.{KeepsBefore, PageIsBack, PageIsExchanged};
 
 use crate::runs::{copy_words, exchange_words, set_flags};
-use crate::undo_log::{PAGE, UndoLog};
+use crate::undo_log::UndoLog;
 use array_maps::Maps;
+use loop_core_model::PAGE;
 
 impl UndoLog {
     /// Sees that a page, which is in range, is saved. The log is for as many elements as the maps have.

@@ -5,10 +5,8 @@ ghost use Rattle.std.specs.Prelude.{nat_le, nat_lt, length, slice_index_or, IfOk
 
 use crate::runs::{is_any_set, set_flags};
 use array_maps::Maps;
+use loop_core_model::PAGE;
 use std::alloc::{AllocError, Global};
-
-/// Elements in a page.
-pub(crate) const PAGE: u32 = 64;
 
 /// Which elements of maps were written since it was empty, and the words that their pages of 64 elements had then.
 #[derive(Drop)]

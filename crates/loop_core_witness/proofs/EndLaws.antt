@@ -90,7 +90,8 @@ module _ (program : Program) (call : LoopCall) (words : List ℕ) (element : ℕ
   many_quiet count kept (suc many) index quiet within so_far =
       let last = quiet (index + many) (omega arith) (omega arith) in
       one_quiet count kept (index + many) (index + suc many) (omega (arith, within)) (omega arith) last.0 last.1 last.2
-      (many_quiet count kept many index (λ k low high. quiet k low (omega (arith, high))) (omega (arith, within)) so_far)
+      (many_quiet count kept many index (λ k low high. quiet k low (omega (arith, high))) (omega (arith, within))
+      so_far)
 
   pub all_quiet : (count : ℕ) (kept : Option Op) (index past next : ℕ) → index ≤ next → next ≤ past → next ≤ count
       → AreQuiet program call words element kept index past → KeptUpTo count kept index → KeptUpTo count kept next

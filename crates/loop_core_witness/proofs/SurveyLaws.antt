@@ -120,8 +120,8 @@ module _ (iterate : ℕ → BoundedResult Iterated) where
       by_break it told false on h later =
           let parts = mapped_from (λ others. it ∷ others) (scan iterate left (first + 1)) ran h in
           let rest : break_from (first + 1) parts.0 ≡ None =
-          sym (ap (break_from first) parts.2 ∙ ap (λ (b : Bool). if b then Some first else break_from (first + 1) parts.0)
-          on) ∙ unbroken in
+          sym (ap (break_from first) parts.2
+          ∙ ap (λ (b : Bool). if b then Some first else break_from (first + 1) parts.0) on) ∙ unbroken in
           goes_on left first it parts.0 ran told parts.2 index low high (later parts.0 parts.1 rest index)
 
       by_first : (e : BoundedResult Iterated) → iterate first ≡ e
@@ -219,7 +219,8 @@ module _ (program : Program) (call : LoopCall) (words : List ℕ) (element : ℕ
       (none (λ run. exposed (actions_at element run) && not (writes (actions_at element run)))
       (sym (any_at element (λ actions. exposed actions && not (writes actions)) runs first) ∙ sym stand.read_only
       ∙ not_true (bit_of planes.read_only.items element)
-      (and_left (not (bit_of planes.read_only.items element)) (not (bit_of planes.read_and_written.items element)) lack)))
+      (and_left (not (bit_of planes.read_only.items element)) (not (bit_of planes.read_and_written.items element))
+      lack)))
       (none (λ run. exposed (actions_at element run) && writes (actions_at element run))
       (sym (any_at element (λ actions. exposed actions && writes actions) runs first) ∙ sym stand.read_and_written
       ∙ not_true (bit_of planes.read_and_written.items element)

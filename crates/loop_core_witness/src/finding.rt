@@ -59,8 +59,8 @@ impl Search<'_> {
         }
     }
 
-    /// The index, or past the stretch that it is in, where no iteration of that ends a reduction by this operator; where
-    /// there was none yet, where none of them accesses the element.
+    /// The index, or past the stretch that it is in, where no iteration of that ends a reduction by this operator;
+    /// where there was none yet, where none of them accesses the element.
     pub(crate) fn skip_quiet(&self, op: Option<Op>, index: u32) -> u32
         requires { IsSearch self.now }
         ensures { IsQuietUpTo self.now op index result }

@@ -72,8 +72,8 @@ fn least_pair(search: &Search<'_>, test: Test) -> Result<Option<Witness>, AllocE
 
 /// Of the counted iterations of a loop call that main of this program made, each run on the start maps, the two that
 /// fail a test at an element, where two do: of all such pairs the one with the least reader, and of these the one with
-/// the least writer. The start maps are of the program's sizes, `broke` is what `find_break` told of them, and the survey
-/// is of the call on them.
+/// the least writer. The start maps are of the program's sizes, `broke` is what `find_break` told of them, and the
+/// survey is of the call on them.
 pub fn find_pair(
     alloc: Global,
     program: &Verified,

@@ -1,14 +1,13 @@
 //! What the iterations of a loop did, stretch by stretch.
 
 ghost use Rattle.std.specs.Prelude.{◌≡◌, ◌/◌, ◌<◌, length};
-ghost use Rattle.loop_core_model.specs.Planes.{bit_of};
 ghost use Rattle.shadow_marks.specs.Standing.{EachPlane};
 ghost use Rattle.shadow_marks.specs.Ending.{LrpdHave};
 ghost use Rattle.loop_core_witness.specs.Surveys.{lacks_kind, reduces_by_other};
 
 use crate::kind::Kind;
 use array_maps::Op;
-use shadow_marks::{LrpdPlanes, OperatorPlanes, Planes, Tested};
+use shadow_marks::{LrpdPlanes, OperatorPlanes, Planes, Tested, is_set};
 
 /// Iterations of a loop call that follow each other, each run on the start maps. None of them breaks the loop.
 #[derive(Drop)]
@@ -28,14 +27,6 @@ pub struct Survey {
     pub size: u32,
     /// The stretches.
     pub stretches: Vec<Stretch>,
-}
-
-/// Whether an element's bit is set in a plane.
-fn is_set(plane: &[u64], e: u32) -> bool
-    requires { e / 64 < length plane.now }
-    ensures { result ≡ bit_of plane.now e }
-{
-    plane[e as usize / 64] >> (e % 64) & 1 == 1
 }
 
 /// Whether no iteration does what is looked for at an element, as planes tell.

@@ -7,10 +7,7 @@ ghost use Rattle.private_copy.specs.Noting.{NotesSite};
 ghost use Rattle.private_copy.specs.Runs.{run_site};
 
 use crate::private::Private;
-use loop_core_model::Access;
-
-/// Elements in a page.
-const PAGE: u32 = 64;
+use loop_core_model::{Access, PAGE};
 
 impl<'a> Private<'a> {
     /// Notes an access of this kind at each of n elements that follow each other from a first one on, one by each

@@ -9,12 +9,9 @@ ghost use Rattle.private_copy.specs.Touched.{has_page, with_page};
 use crate::page::{BLANK, Cell, Page};
 use array_maps::Op;
 use indexmap::IndexSet;
-use loop_core_model::Access;
+use loop_core_model::{Access, PAGE};
 use std::alloc::{AllocError, Global};
 use std::marker::Model;
-
-/// Elements in a page.
-const PAGE: u32 = 64;
 
 /// The place of a page's number among all of them. The next one is looked at first: pages that are placed by rising
 /// numbers are found without their hash.

@@ -5,9 +5,7 @@ ghost use Rattle.private_copy.specs.Shown.{copy_of};
 ghost use Rattle.private_copy.specs.Placed.{ArePlaced, LacksPage};
 
 use crate::private::Private;
-
-/// Elements in a page.
-const PAGE: u32 = 64;
+use loop_core_model::PAGE;
 
 impl<'a> Private<'a> {
     /// Whether all elements from one to another, both among them, are there, and their pages placed. It takes a step

@@ -4,9 +4,9 @@ ghost use Rattle.std.specs.Prelude.{◌≡◌, ◌/◌, ◌%◌, ◌^◌, ◌<�
 ghost use Rattle.loop_core_model.specs.Planes.{bit_of};
 ghost use Rattle.shadow_marks.specs.Bits.{OrsBit};
 
-/// Whether an element's bit is set.
+/// Whether an element's bit is set in a plane.
 #[inline]
-pub(crate) fn is_set(words: &[u64], e: u32) -> bool
+pub fn is_set(words: &[u64], e: u32) -> bool
     requires { e / 64 < length words.now }
     ensures { result ≡ bit_of words.now e }
 {

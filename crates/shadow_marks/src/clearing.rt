@@ -12,9 +12,7 @@ ghost use Rattle.shadow_marks.specs.Clearing.{FlowClears, TestedClears, ClearsPa
 
 use crate::iter_flags::IterFlags;
 use crate::planes::{FlowPlanes, LrpdPlanes, NO_WRITER, OperatorPlanes, Planes, Tested};
-
-/// Elements in a page.
-const PAGE: usize = 64;
+use loop_core_model::PAGE;
 
 impl Planes {
     /// Takes away the marks of all iterations: the planes are as if none had ended on them. Only pages of 64 elements
@@ -119,8 +117,8 @@ fn set_numbers(numbers: &mut [u32], page: usize, number: u32)
     requires { PAGE * page ≤ length numbers.old }
     ensures { SetsNumbers numbers.old numbers.new page number }
 {
-    let first = PAGE * page;
-    let past = numbers.len().min(first + PAGE);
+    let first = PAGE as usize * page;
+    let past = numbers.len().min(first + PAGE as usize);
     set_all(numbers, first, past, number);
 }
 

@@ -18,6 +18,7 @@ mod lanes;
 pub mod planes;
 mod runs;
 
+pub use bits::is_set;
 pub use element_flags::ElementFlags;
 pub use iter_flags::{IterFlags, MAX_MARKS};
 pub use loop_core_model::{Access, Test};

@@ -18,8 +18,8 @@ use Rattle.spec_run_loop.specs.declared.decision.LoopAnswer.{LoopAnswer}
 
 -- a loop that ran in order and passes by the flow test has this outcome
 pub passed_in_order : (program : Program) (call : LoopCall) (start left : MapList) (answer : ℕ) (course : Course)
-    (told : LoopAnswer) → told ≡ record { verdict = Parallel; answer = answer; course = course } → RanAndPasses program call start left answer
-    → IsOutcome Flow program call start told.verdict told.answer left
+    (told : LoopAnswer) → told ≡ record { verdict = Parallel; answer = answer; course = course }
+    → RanAndPasses program call start left answer → IsOutcome Flow program call start told.verdict told.answer left
 passed_in_order program call start left answer course told told_is is =
     let looped : Looped = record { answer = answer; words = left.words } in
     subst (λ (a : LoopAnswer). IsOutcome Flow program call start a.verdict a.answer left) (sym told_is) (record {

@@ -1,6 +1,6 @@
-//! A loop call by its plan: one function chooses which way it goes. A loop that adds up needs no marks: each worker adds
-//! up a share of it. Other loops of little work are run in order first, and watched. All others are run by blocks on
-//! private copies, by workers over one board; what they ran is gathered, and committed, or the loop is run in order.
+//! A loop call by its plan: one function chooses which way it goes. A loop that adds up needs no marks: each worker
+//! adds up a share of it. Other loops of little work are run in order first, and watched. All others are run by blocks
+//! on private copies, by workers over one board; what they ran is gathered, and committed, or the loop is run in order.
 #![tactic(auto)]
 
 mod by_blocks;

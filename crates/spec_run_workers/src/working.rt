@@ -55,8 +55,8 @@ pub fn work<'a, G: Gate>(
     requires blocks { board.now.blocks ≡ blocks_of of.now.bounds }
     ensures worked { IfOk result (λ blocks. Worked of.now.bounds seat.old seat.new (map shown blocks.items)) }
     ensures ran { IfOk result (λ blocks. All (λ b. RecordsRunOf of.now (shown b)) blocks.items) }
-    ensures stopped { OnErr result (WorkerStopped of.now.test of.now.program of.now.call of.now.start.words of.now.bounds
-        seat.old seat.new) }
+    ensures stopped { OnErr result (WorkerStopped of.now.test of.now.program of.now.call of.now.start.words
+        of.now.bounds seat.old seat.new) }
 {
     let mut blocks = Vec::new(of.alloc);
     while let Some(number) = board.claim(seat) {
