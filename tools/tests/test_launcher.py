@@ -15,9 +15,11 @@ from pathlib import Path
 
 TOP = Path(__file__).resolve().parents[2]
 PROGRAMS = ("bpfspec", "bpfspec_explain")
-# Tells each build, and makes programs that print their words, and whether they hold the launcher's lock.
+# Tells each build and what it is given, and makes programs that print their words, and whether they hold the launcher's
+# lock.
 RT = """#!/bin/bash
 echo built >>"$BUILDS"
+find crates crates.txt -type f >"$GIVEN"
 for crate in crates/*; do
     mkdir -p "$crate/out"
     name=${crate##*/}
@@ -46,6 +48,7 @@ class Launcher(unittest.TestCase):
         self.top = self.folder / "top"
         self.builds = self.folder / "builds"
         self.builds.touch()
+        self.given = self.folder / "given"
         for crate in (*PROGRAMS, "bpfspec_c", "other"):
             (self.top / "crates" / crate / "src").mkdir(parents=True)
             (self.top / "crates" / crate / "src" / "main.rt").write_text("fn main() {}\n")
@@ -54,6 +57,8 @@ class Launcher(unittest.TestCase):
         shutil.copy(TOP / "bpfspec", self.top)
         words = self.folder / "words"
         self.write_command(words / "rt", RT)
+        self.kit = self.folder / "KIT-ID"
+        self.kit.write_text("kit 1\n")
         self.write_command(self.top / "tools" / "build_for", BUILD_FOR)
         self.write_command(self.top / "tools" / "make_library", MAKE_LIBRARY)
         self.environment = {
@@ -61,6 +66,7 @@ class Launcher(unittest.TestCase):
             "PATH": f"{words}:{os.environ['PATH']}",
             "XDG_CACHE_HOME": str(self.folder / "cache"),
             "BUILDS": str(self.builds),
+            "GIVEN": str(self.given),
             "BPFSPEC_CPU": "x86-64-v2",
         }
 
@@ -101,6 +107,38 @@ class Launcher(unittest.TestCase):
         self.assertEqual(self.number_of_builds(), 4)
         self.printed("explain")
         self.assertEqual(self.number_of_builds(), 4)
+
+    def test_it_builds_anew_with_another_kit(self) -> None:
+        self.printed("verify")
+        self.kit.write_text("kit 2\n")
+        self.printed("verify")
+        self.assertEqual(self.number_of_builds(), 2)
+        self.printed("explain")
+        self.assertEqual(self.number_of_builds(), 2)
+        self.kit.unlink()
+        self.assertEqual(self.printed("verify"), "bpfspec verify\n")  # what is built needs no kit
+        self.assertEqual(self.number_of_builds(), 2)
+
+    def test_it_follows_links_to_the_kit(self) -> None:
+        word = self.folder / "words" / "rt"
+        command = self.folder / "kit" / "bin" / "rt"
+        command.parent.mkdir(parents=True)
+        word.rename(command)
+        word.symlink_to(command)
+        kit = self.kit.rename(self.folder / "kit" / "KIT-ID")
+        self.printed("verify")
+        kit.write_text("kit 2\n")
+        self.printed("verify")
+        self.assertEqual(self.number_of_builds(), 2)
+
+    def test_it_builds_from_sources_alone(self) -> None:
+        crate = self.top / "crates" / "bpfspec"
+        for file in crate / "out" / "left", crate / "must-fail" / "wrong.edit", crate / "data" / "out" / "read":
+            file.parent.mkdir(parents=True)
+            file.touch()
+        self.printed("verify")
+        given = {"crates.txt", "crates/bpfspec/data/out/read"} | {f"crates/{name}/src/main.rt" for name in PROGRAMS}
+        self.assertEqual(set(self.given.read_text().split()), given)
 
     def test_it_is_found_through_links(self) -> None:
         self.printed("verify")
