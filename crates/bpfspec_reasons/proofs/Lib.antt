@@ -1,4 +1,8 @@
 pub mod TruthLaws
+pub mod TellLaws
+pub mod OperandLaws
+pub mod ChainLaws
+pub mod FaultLaws
 pub mod MisfitLaws
 pub mod PageLaws
 pub mod PartLaws

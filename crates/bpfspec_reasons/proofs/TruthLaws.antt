@@ -1,7 +1,8 @@
 -- Pieces that are true, and one more.
 use Rattle.std.proofs.Common.{◌≡◌, ℕ, Bool, true, false, if◌then◌else◌, List, [], ◌∷◌}
-use Rattle.std.proofs.Common.{◌++◌, sym, ◌∙◌, subst, ap, refl, Option, Some, None}
+use Rattle.std.proofs.Common.{◌++◌, sym, ◌∙◌, subst, ap, refl, append-nil, Option, Some, None}
 use Rattle.std.specs.Prelude.{IfSome, OnOk, Result, Ok, Err, is_ok, slice_get}
+use Rattle.std.specs.List.{cons_option}
 use Rattle.std.specs.Option.{option_map}
 use Rattle.bpf_insn_types.specs.declared.insn.Insn.{Insn}
 use Rattle.bpf_insn_types.specs.Program.{Program, insn_at}
@@ -19,7 +20,8 @@ use Rattle.bpf_verify_origin.specs.Runs.{HoldsBefore, HoldsBetween}
 use Rattle.bpfspec_reasons.specs.declared.piece.Piece.{Piece}
 use Rattle.bpfspec_reasons.specs.declared.piece.Piece.TheVariants as pieces
 use Rattle.bpfspec_reasons.specs.Truth.{AreTrue, IsValueBefore, IsValueBetween, IsUnwritten, ExplanationOf, slot_or}
-use Rattle.bpfspec_reasons.specs.Truth.{IsUnwrittenOfMain}
+use Rattle.bpfspec_reasons.specs.Truth.{IsUnwrittenOfMain, nothing_told, with_mentions}
+use Rattle.bpfspec_reasons.specs.Mentions.{Mention, mention_of, mentions_in}
 use Rattle.bpfspec_reasons.specs.Truth.{line_of, first_line, slot_with, slot_told, line_of_fault}
 
 pub true-none : (program : Program) (told : List Piece) → told ≡ [] → AreTrue program told
@@ -38,7 +40,7 @@ true-pushed program before after more true is all others =
 true-pushed program before after more false is all others = subst (AreTrue program) (sym is) all
 
 -- a register's value is contained where the machine is
-register-contained : (found : Option State) (state : State) (value : AbstractValue) (reg : ℕ) (m : Machine)
+pub register-contained : (found : Option State) (state : State) (value : AbstractValue) (reg : ℕ) (m : Machine)
     → found ≡ Some state → value ≡ known_register state reg → ContainedIf found m → ContainsValue value (register m reg)
 register-contained found state value reg m is known c =
     let contained : Contained state m = subst (λ (f : Option State). ContainedIf f m) is c in
@@ -132,13 +134,44 @@ line-pushed program before after slot insn (Err e) is here = tt
 
 -- ---- explanations
 
--- pieces are added that are no lines
+cons-append : {X : Type 0} (x : Option X) (xs ys : List X) → cons_option x (xs ++ ys) ≡ cons_option x xs ++ ys
+cons-append (Some x) xs ys = refl
+cons-append None xs ys = refl
+
+-- what is told of registers, with more pieces
+mentions-more : (told more : List Piece) → mentions_in (told ++ more) ≡ mentions_in told ++ mentions_in more
+mentions-more [] more = refl
+mentions-more (first ∷ told) more =
+    ap (cons_option (mention_of first)) (mentions-more told more)
+    ∙ cons-append (mention_of first) (mentions_in told) (mentions_in more)
+
+pub mentions-pushed : (before after more : List Piece) (ok : Bool) → after ≡ (if ok then before ++ more else before)
+    → mentions_in more ≡ [] → mentions_in after ≡ mentions_in before
+mentions-pushed before after more true is beside =
+    ap mentions_in is ∙ mentions-more before more ∙ ap (λ (l : List Mention). mentions_in before ++ l) beside
+    ∙ append-nil (mentions_in before)
+mentions-pushed before after more false is beside = ap mentions_in is
+
+-- pieces are added that are no lines and tell nothing of registers
 pub told-pushed : (program : Program) (before after more : List Piece) (ok : Bool) (told : ExplanationOf) →
-    after ≡ (if ok then before ++ more else before) → first_line more ≡ None
-    → told ≡ record { program = program; line = first_line before }
-    → told ≡ record { program = program; line = first_line after }
-told-pushed program before after more ok told is within was =
-    rw (first_line-pushed before after more ok is within) was
+    after ≡ (if ok then before ++ more else before) → first_line more ≡ None → mentions_in more ≡ []
+    → told ≡ record { program = program; line = first_line before; mentions = mentions_in before }
+    → told ≡ record { program = program; line = first_line after; mentions = mentions_in after }
+told-pushed program before after more ok told is within beside was =
+    rw (first_line-pushed before after more ok is within, mentions-pushed before after more ok is beside) was
+
+-- pieces are added that are no lines, and perhaps tell of registers
+pub told-more : {X E : Type 0} (program : Program) (before after more : List Piece) (told : ExplanationOf)
+    (result : Result X E) → after ≡ (if is_ok result then before ++ more else before) → first_line more ≡ None
+    → told ≡ record { program = program; line = first_line before; mentions = mentions_in before }
+    → OnOk result (record { program = program; line = first_line after; mentions = mentions_in after }
+    ≡ with_mentions told (mentions_in more))
+told-more program before after more told (Ok x) is within was =
+    let line : first_line after ≡ first_line before = first_line-pushed before after more true is within in
+    let mentions : mentions_in after ≡ mentions_in before ++ mentions_in more =
+    ap mentions_in is ∙ mentions-more before more in
+    rw (was, line, mentions) refl
+told-more program before after more told (Err e) is within was = tt
 
 pub told-step : (program : Program) (told : ExplanationOf) (slot : ℕ) (insn : Insn) → program ≡ told.program
     → insn_at program.insns slot ≡ Some insn → AreTrue told.program (pieces.Step slot insn ∷ [])
@@ -188,7 +221,7 @@ told-elements program told map count same there =
 
 -- of no fault
 pub fault-none : (program : Program) (fault : Option Fault) (told : ExplanationOf) →
-    option_map broken_rule fault ≡ first_fault program → fault ≡ None → told ≡ record { program = program; line = None }
+    option_map broken_rule fault ≡ first_fault program → fault ≡ None → told ≡ nothing_told program
     → told.line ≡ line_of_fault program (first_fault program)
 fault-none program fault told is missing begun =
     ap (λ (t : ExplanationOf). t.line) begun
@@ -198,7 +231,7 @@ fault-none program fault told is missing begun =
 -- of a fault, where nothing was told before
 pub fault-line : (program : Program) (fault : Option Fault) (found : Fault) (told after : ExplanationOf) →
     option_map broken_rule fault ≡ first_fault program → fault ≡ Some found
-    → told ≡ record { program = program; line = None }
+    → told ≡ nothing_told program
     → after.line ≡ slot_or told.line (slot_told told.program found.slot)
     → after.line ≡ line_of_fault program (first_fault program)
 fault-line program fault found told after is there begun added =

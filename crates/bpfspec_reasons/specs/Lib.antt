@@ -1,4 +1,8 @@
+pub mod Mentions
 pub mod Truth
+pub mod Operands
+pub mod Chains
+pub mod Faults
 pub mod Misfits
 pub mod Parts
 pub mod Printed

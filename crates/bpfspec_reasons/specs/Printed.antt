@@ -118,6 +118,13 @@ register_text reg = codes "r" ++ decimal reg
 abbrev pub known_text : ℕ → AbstractValue → List ℕ
 known_text reg value = register_text reg ++ codes " is " ++ value_text value
 
+-- what main starts with in a register
+abbrev pub start_text : ℕ → List ℕ
+start_text reg =
+    if reg == 1 then codes "main's argument: any number"
+    else if reg == 10 then codes "the frame pointer"
+    else register_text reg ++ codes " is written by no instruction before"
+
 -- that a byte isn't written, below a frame pointer of this name
 abbrev pub missing_text : List ℕ → ℕ → List ℕ
 missing_text pointer position =
@@ -169,9 +176,16 @@ piece_text page (pieces.Register reg) = register_text reg
 piece_text page (pieces.Line slot insn) = line_text page slot insn (slice_get page.numbers slot)
 piece_text page (pieces.Step slot insn) = step_text slot insn
 piece_text page (pieces.Before slot reg value) = known_text reg value
+piece_text page (pieces.Operand slot reg value) = known_text reg value
+piece_text page (pieces.Differing slot reg) = register_text reg ++ codes " is different things on different paths"
+piece_text page (pieces.Unreadable slot reg) = register_text reg
 piece_text page (pieces.Between from to reg value) = known_text reg value
 piece_text page (pieces.Unwritten slot position) = missing_text (codes "r10") position
 piece_text page (pieces.UnwrittenOfMain slot position) = missing_text (codes "main's r10") position
+piece_text page (pieces.Chain slot reg) = register_text reg
+piece_text page (pieces.Origin slot insn) = step_text slot insn
+piece_text page (pieces.Meeting slot) = decimal slot
+piece_text page (pieces.Start reg) = start_text reg
 piece_text page (pieces.Elements map count) = elements_text map count
 
 -- the text of an explanation: that of its pieces, one after the other

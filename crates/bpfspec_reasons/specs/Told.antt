@@ -1,5 +1,5 @@
 -- What is told of a program, and where it is written.
-use Rattle.std.specs.Prelude.{◌≡◌, ℕ, List, ◌++◌, Option, Some, None, Result, Ok, Err}
+use Rattle.std.specs.Prelude.{◌≡◌, ℕ, List, [], ◌++◌, Option, Some, None, Result, Ok, Err}
 use Rattle.bpf_insn_types.specs.declared.insn.Insn.{Insn}
 use Rattle.bpf_insn_types.specs.Program.{Program}
 use Rattle.bpf_insn.specs.declared.codec_error.CodecError.{CodecError}
@@ -11,19 +11,29 @@ use Rattle.bpfspec_reasons.specs.declared.piece.Piece.{Piece}
 use Rattle.bpfspec_reasons.specs.declared.units.Extent.{Extent}
 use Rattle.bpfspec_reasons.specs.declared.units.Extent.TheVariants.{Refusal, States}
 use Rattle.bpfspec_reasons.specs.Printed.{PageText, printed}
+use Rattle.bpfspec_reasons.specs.Mentions.{Mention, mentions_in}
 use Rattle.bpfspec_reasons.specs.Truth.{AreTrue, ExplanationOf, first_line, line_of_fault}
+use Rattle.bpfspec_reasons.specs.Faults.{TellsAt}
 
--- an explanation is added to a text: the text of pieces that are true of its program, the first line of which is its
+-- an explanation is added to a text: the text of pieces that are true of its program, with its first line and
+-- what it tells of registers
 pub record Adds (page : PageText) (told : ExplanationOf) (before after : List ℕ) : Type 0 where
   pub pieces : List Piece
   pub true : AreTrue told.program pieces
   pub line : first_line pieces ≡ told.line
+  pub mentions : mentions_in pieces ≡ told.mentions
   pub written : after ≡ before ++ printed page pieces
 
--- an explanation tells of a program's fault: its first line is that of the fault
+-- what is told of the registers of a program's fault, if there is one
+abbrev pub TellsFault : Program → Option BrokenRule → List Mention → Type 0
+TellsFault program None told = told ≡ []
+TellsFault program (Some fault) told = TellsAt program fault.rule fault.slot told
+
+-- an explanation tells of a program's fault: its first line is that of the fault, and it tells of its registers
 pub record Explains (program : Program) (fault : Option BrokenRule) (told : ExplanationOf) : Type 0 where
   pub of : told.program ≡ program
   pub line : told.line ≡ line_of_fault program fault
+  pub mentions : TellsFault program fault told.mentions
 
 -- an explanation of a program's fault is added; of an accepted program nothing is
 abbrev pub AddsRefusal : PageText → Program → Option BrokenRule → (before after : List ℕ) → Type 0

@@ -1,5 +1,5 @@
 -- What the pieces of an explanation say of a program.
-use Rattle.std.specs.Prelude.{◌≡◌, ℕ, Bool, false, List, [], ◌∷◌, slice_get, Option, Some, None}
+use Rattle.std.specs.Prelude.{◌≡◌, ℕ, Bool, true, false, List, [], ◌∷◌, ◌++◌, slice_get, Option, Some, None}
 use Rattle.std.specs.List.{AllByRecursion}
 use Rattle.bpf_insn_types.specs.declared.insn.Insn.{Insn}
 use Rattle.bpf_insn_types.specs.Program.{Program, insn_at}
@@ -7,13 +7,15 @@ use Rattle.bpf_verify_written.specs.Written.{all_written}
 use Rattle.bpf_verify_model.specs.declared.abstract_value.AbstractValue.{AbstractValue}
 use Rattle.bpf_verify_model.specs.declared.state.State.{State}
 use Rattle.bpf_verify_model.specs.States.{known_register}
+use Rattle.bpf_verify_model.specs.Values.{is_unwritten}
 use Rattle.bpf_verify_model.specs.Accepted.{BrokenRule}
 use Rattle.bpf_step_model.specs.State.{Machine, register}
 use Rattle.bpf_verify_sound.specs.Containment.{ContainsValue}
 use Rattle.bpf_verify_origin.specs.Inspected.{IsStateBefore, IsStateBetween}
-use Rattle.bpf_verify_origin.specs.Runs.{ComesTo}
+use Rattle.bpf_verify_origin.specs.Runs.{ComesTo, HoldsBefore}
 use Rattle.bpfspec_reasons.specs.declared.piece.Piece.{Piece}
 use Rattle.bpfspec_reasons.specs.declared.piece.Piece.TheVariants as pieces
+use Rattle.bpfspec_reasons.specs.Mentions.{Mention}
 
 -- on each run that comes to a slot, having passed only slots before the first fault, an abstract value contains a
 -- register's
@@ -54,19 +56,37 @@ pub record IsUnwrittenOfMain (program : Program) (slot position : ℕ) : Type 0 
   pub called : state.caller ≡ Some caller
   pub unwritten : all_written caller position 1 ≡ false
 
+-- a register can't be read at a slot
+pub record IsUnreadable (program : Program) (slot reg : ℕ) : Type 0 where
+  pub value : AbstractValue
+  pub before : IsValueBefore program slot reg value
+  pub unwritten : is_unwritten value ≡ true
+
+-- the abstract state before a slot, which contains the machine on each run that comes there
+pub record IsKnownBefore (program : Program) (slot : ℕ) (state : State) : Type 0 where
+  pub before : IsStateBefore program slot state
+  pub holds : HoldsBefore program slot (Some state)
+
 -- what a piece says of a program is true; words and numbers alone say nothing of it
 abbrev pub IsTrue : Program → Piece → Type 0
 IsTrue program (pieces.Line slot insn) = insn_at program.insns slot ≡ Some insn
 IsTrue program (pieces.Step slot insn) = insn_at program.insns slot ≡ Some insn
 IsTrue program (pieces.Before slot reg value) = IsValueBefore program slot reg value
+IsTrue program (pieces.Operand slot reg value) = IsValueBefore program slot reg value
+IsTrue program (pieces.Differing slot reg) = IsUnreadable program slot reg
+IsTrue program (pieces.Unreadable slot reg) = IsUnreadable program slot reg
 IsTrue program (pieces.Between from to reg value) = IsValueBetween program from to reg value
 IsTrue program (pieces.Unwritten slot position) = IsUnwritten program slot position
 IsTrue program (pieces.UnwrittenOfMain slot position) = IsUnwrittenOfMain program slot position
+IsTrue program (pieces.Origin slot insn) = insn_at program.insns slot ≡ Some insn
 IsTrue program (pieces.Elements map count) = slice_get program.sizes map ≡ Some count
 IsTrue program (pieces.Words words) = Unit {0}
 IsTrue program (pieces.Number number) = Unit {0}
 IsTrue program (pieces.Offset offset) = Unit {0}
 IsTrue program (pieces.Register reg) = Unit {0}
+IsTrue program (pieces.Chain slot reg) = Unit {0}
+IsTrue program (pieces.Meeting slot) = Unit {0}
+IsTrue program (pieces.Start reg) = Unit {0}
 
 -- what each piece says is
 abbrev pub AreTrue : Program → List Piece → Type 0
@@ -87,10 +107,31 @@ abbrev pub first_line : List Piece → Option ℕ
 first_line [] = None
 first_line (piece ∷ told) = slot_or (line_of piece) (first_line told)
 
--- an explanation: its program, and the slot of its first line
+-- an explanation: its program, the slot of its first line, and what it tells of registers
 pub record ExplanationOf : Type 0 where
   pub program : Program
   pub line : Option ℕ
+  pub mentions : List Mention
+
+-- one with no piece yet
+abbrev pub nothing_told : Program → ExplanationOf
+nothing_told program = record { program = program; line = None; mentions = [] }
+
+-- one that tells more of registers
+abbrev pub with_mentions : ExplanationOf → List Mention → ExplanationOf
+with_mentions told more = record { program = told.program; line = told.line; mentions = told.mentions ++ more }
+
+-- more is told of registers, of which this holds
+pub record Tells (Holds : List Mention → Type 0) (before after : ExplanationOf) : Type 0 where
+  pub more : List Mention
+  pub holds : Holds more
+  pub added : after ≡ with_mentions before more
+
+-- the same of what is told of registers alone
+pub record TellsMore (Holds : List Mention → Type 0) (before after : List Mention) : Type 0 where
+  pub more : List Mention
+  pub holds : Holds more
+  pub joined : after ≡ before ++ more
 
 -- a slot, if an instruction starts there
 abbrev pub slot_with : Option Insn → ℕ → Option ℕ

@@ -1,10 +1,12 @@
 //! What breaks the rules of accesses of memory.
 
-ghost use Rattle.std.specs.Prelude.{◌≡◌, ◌≤◌};
+ghost use Rattle.std.specs.Prelude.{◌≡◌, ◌≤◌, [], ◌∷◌, OnOk};
+ghost use Rattle.bpfspec_reasons.specs.Truth.{IsKnownBefore, with_mentions};
+ghost use Rattle.bpfspec_reasons.specs.Mentions.{Reads};
 
 use crate::accessing::Access;
 use crate::explanation::Explanation;
-use bpf_verify_model::{AbstractValue, Rule};
+use bpf_verify_model::{AbstractValue, Rule, State};
 use std::alloc::AllocError;
 
 /// Adds what the base of an access isn't.
@@ -156,24 +158,39 @@ fn add_size(out: &mut Explanation<'_>, size: u32) -> Result<(), AllocError>
     out.words("\n")
 }
 
+/// Adds what is wrong with an access, behind the address that it is at.
+fn add_broken_access(
+    out: &mut Explanation<'_>,
+    rule: Rule,
+    slot: u32,
+    access: &Access,
+    value: &AbstractValue,
+) -> Result<(), AllocError>
+    ensures { out.new ≡ out.old }
+{
+    match rule {
+        Rule::AccessBase => add_base(out, value),
+        Rule::AreaAccessSize => add_size(out, access.size),
+        Rule::AccessAlignment => add_alignment(out, access),
+        Rule::AccessBounds => add_bounds(out, access, value),
+        Rule::UnwrittenByte => add_unwritten(out, slot, access, value),
+        _ => out.words("; a callback may read main's frame and not write it\n"),
+    }
+}
+
 /// Adds what breaks a rule of accesses.
 pub(crate) fn add_access_rule(
     out: &mut Explanation<'_>,
     rule: Rule,
     slot: u32,
     access: &Access,
+    state: &State,
 ) -> Result<(), AllocError>
-    ensures { out.new ≡ out.old }
+    requires { IsKnownBefore out.old.program slot state.now }
+    ensures { OnOk result (out.new ≡ with_mentions out.old (Reads slot access.now.base ∷ [])) }
 {
-    let value = out.value_before(slot, access.base);
+    let value = state.register(access.base);
     out.words("  ")?;
-    out.before(slot, access.base)?;
-    match rule {
-        Rule::AccessBase => add_base(out, &value),
-        Rule::AreaAccessSize => add_size(out, access.size),
-        Rule::AccessAlignment => add_alignment(out, access),
-        Rule::AccessBounds => add_bounds(out, access, &value),
-        Rule::UnwrittenByte => add_unwritten(out, slot, access, &value),
-        _ => out.words("; a callback may read main's frame and not write it\n"),
-    }
+    out.operand(slot, access.base, &value)?;
+    add_broken_access(out, rule, slot, access, &value)
 }

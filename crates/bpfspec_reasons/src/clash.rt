@@ -1,6 +1,8 @@
 //! Paths that meet, and left different things in a register, so that it can't be read from there on.
 
-ghost use Rattle.std.specs.Prelude.{◌≡◌};
+ghost use Rattle.std.specs.Prelude.{◌≡◌, [], ◌∷◌, OnOk};
+ghost use Rattle.bpfspec_reasons.specs.Truth.{IsUnreadable, with_mentions};
+ghost use Rattle.bpfspec_reasons.specs.Mentions.{Reads};
 
 use crate::differing::value_between;
 use crate::explanation::Explanation;
@@ -61,12 +63,19 @@ fn add_sides(out: &mut Explanation<'_>, to: u32, followed: Reg) -> Result<(), Al
     Ok(())
 }
 
-/// Adds that paths meet at a slot which left different things in a register: what, and where each was written.
-pub(crate) fn add_clash(out: &mut Explanation<'_>, at: u32, followed: Reg) -> Result<(), AllocError>
-    ensures { out.new ≡ out.old }
+/// Adds that paths meet at a slot which left different things in a register that the instruction at another reads:
+/// what, and where each was written.
+pub(crate) fn add_clash(
+    out: &mut Explanation<'_>,
+    slot: u32,
+    at: u32,
+    followed: Reg,
+) -> Result<(), AllocError>
+    requires { IsUnreadable out.old.program slot followed }
+    ensures { OnOk result (out.new ≡ with_mentions out.old (Reads slot followed ∷ [])) }
 {
     out.words("  ")?;
-    out.register(followed)?;
+    out.unreadable(slot, followed)?;
     out.words(" is written on each path to here, but at slot ")?;
     out.number(i64::from(at))?;
     out.words(" paths meet that left different things in it:\n")?;

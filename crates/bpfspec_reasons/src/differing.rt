@@ -1,6 +1,9 @@
 //! Registers that can't be read: since some path doesn't write them, or since each does and left something else.
 
-ghost use Rattle.std.specs.Prelude.{◌≡◌};
+ghost use Rattle.std.specs.Prelude.{◌≡◌, [], ◌∷◌, true, IfSome, OnOk};
+ghost use Rattle.bpfspec_reasons.specs.Truth.{IsValueBefore, with_mentions};
+ghost use Rattle.bpfspec_reasons.specs.Mentions.{Reads};
+ghost use Rattle.bpfspec_reasons.specs.Chains.{IsEdge};
 
 use crate::explanation::Explanation;
 use bpf_insn_types::{MAX_SLOTS, Reg};
@@ -66,15 +69,19 @@ pub(crate) fn value_between(
     from: u32,
     to: u32,
     followed: Reg,
-) -> Option<AbstractValue> {
-    match out.inspection().edge(from, to) {
+) -> Option<AbstractValue>
+    ensures { IfSome result (λ value. IsEdge out.now.program from to) }
+{
+    match out.edge(from, to) {
         None => None,
         Some(state) => Some(state.register(followed)),
     }
 }
 
 /// Whether edges lead from one slot to another on which a register isn't written.
-fn is_unwritten_between(out: &Explanation<'_>, from: u32, to: u32, followed: Reg) -> bool {
+fn is_unwritten_between(out: &Explanation<'_>, from: u32, to: u32, followed: Reg) -> bool
+    ensures { result ≡ true → IsEdge out.now.program from to }
+{
     match value_between(out, from, to, followed) {
         None => false,
         Some(value) => is_unwritten(value),
@@ -121,7 +128,9 @@ fn is_missing(
 }
 
 /// The first slot from which edges lead to another on which a register isn't written since a path doesn't write it.
-pub(crate) fn missing_edge(out: &Explanation<'_>, to: u32, followed: Reg) -> Option<u32> {
+pub(crate) fn missing_edge(out: &Explanation<'_>, to: u32, followed: Reg) -> Option<u32>
+    ensures { IfSome result (λ from. IsEdge out.now.program from to) }
+{
     let mut meetings = Meetings::none();
     for from in 0..to {
         if is_unwritten_between(out, from, to, followed) {
@@ -173,14 +182,20 @@ fn add_differing(out: &mut Explanation<'_>, known: Reg) -> Result<(), AllocError
     out.words(" is different things on different paths")
 }
 
-/// Adds what a register is before a slot.
-pub(crate) fn add_value(out: &mut Explanation<'_>, slot: u32, known: Reg) -> Result<(), AllocError>
-    ensures { out.new ≡ out.old }
+/// Adds what a register is before a slot, at which the instruction reads it.
+pub(crate) fn add_value(
+    out: &mut Explanation<'_>,
+    slot: u32,
+    known: Reg,
+    value: &AbstractValue,
+) -> Result<(), AllocError>
+    requires { IsValueBefore out.old.program slot known value.now }
+    ensures { OnOk result (out.new ≡ with_mentions out.old (Reads slot known ∷ [])) }
 {
-    if clash_of(out, slot, known).is_some() {
-        return add_differing(out, known);
+    if is_unwritten(*value) && clash_of(out, slot, known).is_some() {
+        return out.differing(slot, known);
     }
-    out.before(slot, known)
+    out.operand(slot, known, value)
 }
 
 /// Adds what a register is on the edges from one slot to another.

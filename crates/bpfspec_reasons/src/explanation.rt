@@ -1,21 +1,27 @@
 //! Explanations, piece by piece.
 
-ghost use Rattle.std.specs.Prelude.{◌≡◌, ◌≤◌, slice_get, None, OnOk};
+ghost use Rattle.std.specs.Prelude.{◌≡◌, ◌≤◌, [], ◌∷◌, slice_get, None, Some, IfSome, OnOk};
 ghost use Rattle.std.specs.String.{string_bytes};
-ghost use Rattle.bpfspec_reasons.specs.Truth.{AreTrue, slot_or, first_line, slot_told};
+ghost use Rattle.bpf_insn_types.specs.Program.{insn_at};
+ghost use Rattle.bpf_verify_model.specs.declared.state.State.{State};
+ghost use Rattle.bpf_verify_origin.specs.Inspected.{IsStateBefore};
+ghost use Rattle.bpfspec_reasons.specs.Truth.{AreTrue, IsKnownBefore, IsUnreadable, IsValueBefore, first_line};
+ghost use Rattle.bpfspec_reasons.specs.Truth.{nothing_told, slot_or, slot_told, with_mentions};
+ghost use Rattle.bpfspec_reasons.specs.Mentions.{Follows, MadeAt, MainStarts, PathsMeet, Reads, mentions_in};
+ghost use Rattle.bpfspec_reasons.specs.Chains.{IsEdge};
 ghost use Rattle.bpfspec_reasons.specs.Told.{Adds};
 
 use crate::page::Page;
 use crate::piece::Piece;
 use crate::words::write_pieces;
-use bpf_insn_types::Reg;
-use bpf_verify_model::AbstractValue;
+use bpf_insn_types::{Insn, Reg};
+use bpf_verify_model::{AbstractValue, State};
 use bpf_verify_origin::Inspection;
 use std::alloc::{AllocError, Global};
 use std::marker::Model;
 
 /// An explanation of an inspected program: a list of pieces, each of which is true of it. In contracts it is the
-/// program, and the slot of the first line.
+/// program, the slot of the first line, and what it tells of registers.
 #[derive(Drop)]
 pub struct Explanation<'a> {
     inspection: &'a Inspection,
@@ -24,10 +30,15 @@ pub struct Explanation<'a> {
 
 impl<'a> Model for Explanation<'a> {
     ghost use Rattle.bpfspec_reasons.specs.Truth.{ExplanationOf, AreTrue, first_line};
+    ghost use Rattle.bpfspec_reasons.specs.Mentions.{mentions_in};
 
     ghost Value = { ExplanationOf };
 
-    ghost view = { λ e. record { program = e.inspection.now; line = first_line e.pieces.items } };
+    ghost view = { λ e. record {
+      program = e.inspection.now;
+      line = first_line e.pieces.items;
+      mentions = mentions_in e.pieces.items;
+    } };
 
     ghost invariant = { λ e. AreTrue e.inspection.now e.pieces.items };
 }
@@ -42,7 +53,7 @@ fn size_of_map(sizes: &[u32], map: u32) -> Option<u32>
 impl<'a> Explanation<'a> {
     /// An explanation with no piece yet.
     pub(crate) fn new(alloc: Global, inspection: &'a Inspection) -> Explanation<'a>
-        ensures { result ≡ record { program = inspection.now; line = None } }
+        ensures { result ≡ nothing_told inspection.now }
     {
         Explanation {
             inspection,
@@ -61,15 +72,26 @@ impl<'a> Explanation<'a> {
     pub fn pieces(&self) -> &[Piece]
         ensures hold { AreTrue self.now.program result.now }
         ensures line { first_line result.now ≡ self.now.line }
+        ensures mentions { mentions_in result.now ≡ self.now.mentions }
     {
         self.pieces.as_slice()
     }
 
-    /// Adds pieces that are true of the program, and no line.
+    /// Adds pieces that are true of the program, are no line, and tell nothing of registers.
     fn add(&mut self, pieces: &[Piece]) -> Result<(), AllocError>
         requires hold { AreTrue self.old.program pieces.now }
         requires within { first_line pieces.now ≡ None }
+        requires beside { mentions_in pieces.now ≡ [] }
         ensures { self.new ≡ self.old }
+    {
+        self.pieces.extend_from_slice(pieces)
+    }
+
+    /// Adds pieces that are true of the program and are no line.
+    fn tell(&mut self, pieces: &[Piece]) -> Result<(), AllocError>
+        requires hold { AreTrue self.old.program pieces.now }
+        requires within { first_line pieces.now ≡ None }
+        ensures { OnOk result (self.new ≡ with_mentions self.old (mentions_in pieces.now)) }
     {
         self.pieces.extend_from_slice(pieces)
     }
@@ -106,11 +128,42 @@ impl<'a> Explanation<'a> {
     pub(crate) fn line(&mut self, slot: u32) -> Result<(), AllocError>
         ensures program { self.new.program ≡ self.old.program }
         ensures line { OnOk result (self.new.line ≡ slot_or self.old.line (slot_told self.old.program slot)) }
+        ensures mentions { self.new.mentions ≡ self.old.mentions }
     {
         match self.inspection.insn(slot) {
             None => Ok(()),
             Some(insn) => self.pieces.extend_from_slice(&[Piece::Line { slot, insn }]),
         }
+    }
+
+    /// Adds the name of a register of which it is told next where the value comes from that it has before a slot.
+    pub(crate) fn chain(&mut self, slot: u32, reg: Reg) -> Result<(), AllocError>
+        ensures { OnOk result (self.new ≡ with_mentions self.old (Follows slot reg ∷ [])) }
+    {
+        self.tell(&[Piece::Chain { slot, reg }])
+    }
+
+    /// Adds a slot and the instruction that starts there, as one that such a value comes from.
+    pub(crate) fn origin(&mut self, slot: u32, insn: &Insn) -> Result<(), AllocError>
+        requires { insn_at self.old.program.insns slot ≡ Some insn.now }
+        ensures { OnOk result (self.new ≡ with_mentions self.old (MadeAt slot ∷ [])) }
+    {
+        let insn = *insn;
+        self.tell(&[Piece::Origin { slot, insn }])
+    }
+
+    /// Adds the number of a slot where paths meet that have such a value.
+    pub(crate) fn meeting(&mut self, slot: u32) -> Result<(), AllocError>
+        ensures { OnOk result (self.new ≡ with_mentions self.old (PathsMeet slot ∷ [])) }
+    {
+        self.tell(&[Piece::Meeting { slot }])
+    }
+
+    /// Adds what main starts with in a register.
+    pub(crate) fn start(&mut self, reg: Reg) -> Result<(), AllocError>
+        ensures { OnOk result (self.new ≡ with_mentions self.old (MainStarts reg ∷ [])) }
+    {
+        self.tell(&[Piece::Start { reg }])
     }
 
     /// Adds a slot and the instruction that starts there.
@@ -134,6 +187,52 @@ impl<'a> Explanation<'a> {
                 self.add(&[Piece::Before { slot, reg, value }])
             }
         }
+    }
+
+    /// Adds the abstract value of a register that the instruction at a slot reads.
+    pub(crate) fn operand(
+        &mut self,
+        slot: u32,
+        reg: Reg,
+        value: &AbstractValue,
+    ) -> Result<(), AllocError>
+        requires { IsValueBefore self.old.program slot reg value.now }
+        ensures { OnOk result (self.new ≡ with_mentions self.old (Reads slot reg ∷ [])) }
+    {
+        let value = *value;
+        self.tell(&[Piece::Operand { slot, reg, value }])
+    }
+
+    /// Adds that a register which the instruction at a slot reads is different things on different paths.
+    pub(crate) fn differing(&mut self, slot: u32, reg: Reg) -> Result<(), AllocError>
+        requires { IsUnreadable self.old.program slot reg }
+        ensures { OnOk result (self.new ≡ with_mentions self.old (Reads slot reg ∷ [])) }
+    {
+        self.tell(&[Piece::Differing { slot, reg }])
+    }
+
+    /// Adds the name of a register that the instruction at a slot reads, and that can't be read.
+    pub(crate) fn unreadable(&mut self, slot: u32, reg: Reg) -> Result<(), AllocError>
+        requires { IsUnreadable self.old.program slot reg }
+        ensures { OnOk result (self.new ≡ with_mentions self.old (Reads slot reg ∷ [])) }
+    {
+        self.tell(&[Piece::Unreadable { slot, reg }])
+    }
+
+    /// The abstract state before a slot, if it is reached.
+    pub(crate) fn state(&self, slot: u32) -> Option<State>
+        ensures known { IfSome result (IsKnownBefore self.now.program slot) }
+        ensures none { result ≡ None → (state : State) → IsStateBefore self.now.program slot state → ⊥ }
+    {
+        self.inspection.state(slot)
+    }
+
+    /// The abstract state on the edges from one slot to another, if one leads there.
+    pub(crate) fn edge(&self, from: u32, to: u32) -> Option<State>
+        ensures there { IfSome result (λ state. IsEdge self.now.program from to) }
+        ensures none { result ≡ None → IsEdge self.now.program from to → ⊥ }
+    {
+        self.inspection.edge(from, to)
     }
 
     /// Adds the abstract value of a register on the edges from one slot to another.

@@ -15,6 +15,7 @@ mod accessing;
 mod advice;
 mod chain;
 mod clash;
+mod concern;
 mod differing;
 mod explanation;
 mod files;

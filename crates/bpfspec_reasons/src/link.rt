@@ -1,5 +1,8 @@
 //! The links of a chain: which register an instruction made another of.
 
+ghost use Rattle.std.specs.Prelude.{◌≡◌};
+ghost use Rattle.bpfspec_reasons.specs.Chains.{made_by_alu, made_of, wider};
+
 use crate::values::width_of;
 use bpf_insn_types::{AluOp, Insn, Operand, Reg};
 use bpf_verify_model::State;
@@ -16,7 +19,9 @@ pub enum Made {
 }
 
 /// Of two registers the one whose value says less.
-fn wider(state: &State, a: Reg, b: Reg) -> Reg {
+fn wider(state: &State, a: Reg, b: Reg) -> Reg
+    ensures { result ≡ wider state.now a b }
+{
     let first = state.register(a);
     let second = state.register(b);
     if width_of(&second) > width_of(&first) {
@@ -27,7 +32,9 @@ fn wider(state: &State, a: Reg, b: Reg) -> Reg {
 }
 
 /// What arithmetic makes its first operand of.
-fn made_by_alu(state: &State, op: AluOp, dst: Reg, operand: Operand) -> Made {
+fn made_by_alu(state: &State, op: AluOp, dst: Reg, operand: Operand) -> Made
+    ensures { result ≡ made_by_alu state.now op dst operand }
+{
     match (op, operand) {
         (AluOp::Mov, Operand::Imm(_)) => Made::Anew,
         (AluOp::Mov, Operand::Reg(src)) => Made::Copy(src),
@@ -37,7 +44,9 @@ fn made_by_alu(state: &State, op: AluOp, dst: Reg, operand: Operand) -> Made {
 }
 
 /// What an instruction makes the register of that it writes, by the abstract state before it.
-pub(crate) fn made_of(state: &State, insn: &Insn) -> Made {
+pub(crate) fn made_of(state: &State, insn: &Insn) -> Made
+    ensures { result ≡ made_of state.now insn.now }
+{
     match *insn {
         Insn::Alu {
             op,

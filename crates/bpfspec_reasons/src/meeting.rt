@@ -1,6 +1,7 @@
 //! What a register is where paths meet.
 
-ghost use Rattle.std.specs.Prelude.{◌≡◌};
+ghost use Rattle.std.specs.Prelude.{◌≡◌, ◌⊎◌, None, Some, IfSome};
+ghost use Rattle.bpfspec_reasons.specs.Chains.{HasNoEdge, IsEdge};
 
 use crate::differing::{add_value_between, missing_edge};
 use crate::explanation::Explanation;
@@ -13,13 +14,11 @@ pub(crate) const MOST_EDGES: u32 = 6;
 
 /// How far apart the least and the greatest number are that a register has on the edges from one slot to another, if
 /// one leads there.
-pub(crate) fn width_between(
-    out: &Explanation<'_>,
-    from: u32,
-    to: u32,
-    followed: Reg,
-) -> Option<u64> {
-    match out.inspection().edge(from, to) {
+pub(crate) fn width_between(out: &Explanation<'_>, from: u32, to: u32, followed: Reg) -> Option<u64>
+    ensures there { IfSome result (λ width. IsEdge out.now.program from to) }
+    ensures none { result ≡ None → IsEdge out.now.program from to → ⊥ }
+{
+    match out.edge(from, to) {
         None => None,
         Some(state) => {
             let value = state.register(followed);
@@ -69,24 +68,70 @@ pub(crate) fn add_edges(out: &mut Explanation<'_>, to: u32, followed: Reg) -> Re
     Ok(())
 }
 
-/// The slot from which the edges lead to another on which a register has the most values.
-fn widest_edge(out: &Explanation<'_>, to: u32, followed: Reg) -> Option<u32> {
-    let mut widest: Option<u32> = None;
-    let mut most: u64 = 0;
-    for from in 0..to {
-        if let Some(width) = width_between(out, from, to, followed) {
-            if widest.is_none() || width > most {
-                widest = Some(from);
-                most = width;
+/// An edge into a slot, and how far apart the least and the greatest number are that a register has on it.
+#[derive(Clone, Copy)]
+pub struct EdgeWidth {
+    /// The slot from which it leads.
+    pub from: u32,
+    /// How far apart they are.
+    pub numbers: u64,
+}
+
+/// Of two edges the one on which a register has more values.
+fn wider(found: Option<EdgeWidth>, other: EdgeWidth) -> EdgeWidth
+    ensures { (result ≡ other) ⊎ (found ≡ Some result) }
+{
+    match found {
+        None => other,
+        Some(width) => {
+            if other.numbers > width.numbers {
+                other
+            } else {
+                width
             }
         }
     }
-    widest
+}
+
+/// The same of one that was found and those from one slot to another, if one leads there.
+fn wider_from(
+    out: &Explanation<'_>,
+    found: Option<EdgeWidth>,
+    from: u32,
+    to: u32,
+    followed: Reg,
+) -> Option<EdgeWidth>
+    requires { IfSome found (λ width. IsEdge out.now.program width.from to) }
+    ensures there { IfSome result (λ width. IsEdge out.now.program width.from to) }
+    ensures none { result ≡ None → (found ≡ None) × (IsEdge out.now.program from to → ⊥) }
+{
+    match width_between(out, from, to, followed) {
+        None => found,
+        Some(numbers) => Some(wider(found, EdgeWidth { from, numbers })),
+    }
+}
+
+/// The slot from which the edges lead to another on which a register has the most values.
+fn widest_edge(out: &Explanation<'_>, to: u32, followed: Reg) -> Option<u32>
+    ensures there { IfSome result (λ from. IsEdge out.now.program from to) }
+    ensures none { result ≡ None → HasNoEdge out.now.program to }
+{
+    let mut widest: Option<EdgeWidth> = None;
+    for from in 0..to {
+        widest = wider_from(out, widest, from, to, followed);
+    }
+    match widest {
+        None => None,
+        Some(width) => Some(width.from),
+    }
 }
 
 /// The slot from which the edges lead to another that say the most of a register: that it isn't written, since a path
 /// doesn't write it, or else that it has the most values.
-pub(crate) fn edge_back(out: &Explanation<'_>, to: u32, followed: Reg) -> Option<u32> {
+pub(crate) fn edge_back(out: &Explanation<'_>, to: u32, followed: Reg) -> Option<u32>
+    ensures there { IfSome result (λ from. IsEdge out.now.program from to) }
+    ensures none { result ≡ None → HasNoEdge out.now.program to }
+{
     match missing_edge(out, to, followed) {
         Some(from) => Some(from),
         None => widest_edge(out, to, followed),

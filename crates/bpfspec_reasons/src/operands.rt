@@ -1,14 +1,19 @@
 //! The registers that an instruction reads.
 
-ghost use Rattle.std.specs.Prelude.{◌≡◌};
+ghost use Rattle.std.specs.Prelude.{◌≡◌, ◌<◌, ◌≤◌, ◌==◌, ◌||◌, ◌⊎◌, ℕ, [], ◌∷◌, true, false, None, IfSome, OnOk};
+ghost use Rattle.bpfspec_reasons.specs.Truth.{IsKnownBefore, with_mentions};
+ghost use Rattle.bpfspec_reasons.specs.Mentions.{Reads};
+ghost use Rattle.bpfspec_reasons.specs.Operands.{at_slot, if_read, is_operand, is_wanted, is_wanted_of};
+ghost use Rattle.bpfspec_reasons.specs.Operands.{reads_register, registers_read};
+ghost use Rattle.bpfspec_reasons.specs.Faults.{IsBlameless, computes_with, is_blamable, stores};
 
 use crate::differing::add_value;
 use crate::explanation::Explanation;
 use crate::reading::reads;
 use crate::values::width_of;
 use bpf_insn_types::{AluOp, Insn, MAX_OFFSET, Operand, Reg, Width};
-use bpf_verify_model::{AbstractValue, Rule, State, reg};
-use bpf_verify_values::{is_number, is_unwritten};
+use bpf_verify_model::{AbstractValue, Helper, Rule, State, reg};
+use bpf_verify_values::{helper_of, is_number, is_unwritten};
 use std::alloc::AllocError;
 
 /// Whether an instruction reads no register.
@@ -21,29 +26,62 @@ pub(crate) fn reads_none(insn: &Insn) -> bool {
     true
 }
 
+/// Adds what a register is that an instruction reads, perhaps after others. It answers true.
+fn add_read(
+    out: &mut Explanation<'_>,
+    slot: u32,
+    state: &State,
+    read: Reg,
+    begun: bool,
+) -> Result<bool, AllocError>
+    requires { IsKnownBefore out.old.program slot state.now }
+    ensures { OnOk result (out.new ≡ with_mentions out.old (Reads slot read ∷ [])) }
+{
+    out.words(if begun { ", " } else { "" })?;
+    let value = state.register(read);
+    add_value(out, slot, read, &value)?;
+    Ok(true)
+}
+
+/// Adds what a register is, if an instruction reads it, perhaps after others, and says whether one was added.
+fn add_if_read(
+    out: &mut Explanation<'_>,
+    slot: u32,
+    insn: &Insn,
+    state: &State,
+    read: Reg,
+    begun: bool,
+) -> Result<bool, AllocError>
+    requires { IsKnownBefore out.old.program slot state.now }
+    ensures { OnOk result (out.new ≡ with_mentions out.old (at_slot slot (if_read read insn.now))) }
+{
+    if reads(insn, read) {
+        add_read(out, slot, state, read, begun)
+    } else {
+        Ok(begun)
+    }
+}
+
 /// Adds what each register is that an instruction reads, on one line: `r1 is 5, r2 is not written`.
 pub(crate) fn add_operands(
     out: &mut Explanation<'_>,
     slot: u32,
     insn: &Insn,
+    state: &State,
 ) -> Result<(), AllocError>
-    ensures { out.new ≡ out.old }
+    requires { IsKnownBefore out.old.program slot state.now }
+    ensures { OnOk result (out.new ≡ with_mentions out.old (at_slot slot (registers_read insn.now))) }
 {
-    let mut between = "";
+    let mut begun = false;
     for number in 0..11u8 {
-        let read = reg(number);
-        if reads(insn, read) {
-            out.words(between)?;
-            add_value(out, slot, read)?;
-            between = ", ";
-        }
+        begun = add_if_read(out, slot, insn, state, reg(number), begun)?;
     }
     Ok(())
 }
 
 /// What is looked for in an instruction's registers.
 #[derive(Clone, Copy)]
-enum Wanted {
+pub enum Wanted {
     /// One that isn't written.
     Unwritten,
     /// One that is no number.
@@ -52,7 +90,9 @@ enum Wanted {
 
 impl Wanted {
     /// Whether a value is one that is looked for.
-    fn is_met(self, value: &AbstractValue) -> bool {
+    fn is_met(self, value: &AbstractValue) -> bool
+        ensures { result ≡ is_wanted self value.now }
+    {
         match self {
             Wanted::Unwritten => is_unwritten(*value),
             Wanted::NoNumber => !is_number(*value),
@@ -60,13 +100,22 @@ impl Wanted {
     }
 }
 
+/// Whether an instruction reads a register whose value is one that is looked for.
+fn is_wanted_of(state: &State, insn: &Insn, wanted: Wanted, read: Reg) -> bool
+    ensures { result ≡ is_wanted_of wanted state.now insn.now read }
+{
+    let value = state.register(read);
+    reads(insn, read) && wanted.is_met(&value)
+}
+
 /// The first register that an instruction reads whose value is one that is looked for.
-fn first_that(state: &State, insn: &Insn, wanted: Wanted) -> Option<Reg> {
+pub(crate) fn first_that(state: &State, insn: &Insn, wanted: Wanted) -> Option<Reg>
+    ensures there { IfSome result (λ reg. is_wanted_of wanted state.now insn.now reg ≡ true) }
+    ensures none { result ≡ None → (reg : ℕ) → reg < 11 → is_wanted_of wanted state.now insn.now reg ≡ false }
+{
     for number in 0..11u8 {
-        let read = reg(number);
-        let value = state.register(read);
-        if reads(insn, read) && wanted.is_met(&value) {
-            return Some(read);
+        if is_wanted_of(state, insn, wanted, reg(number)) {
+            return Some(reg(number));
         }
     }
     None
@@ -74,7 +123,9 @@ fn first_that(state: &State, insn: &Insn, wanted: Wanted) -> Option<Reg> {
 
 /// Of an address and the number that it is to be moved by, the one that is in the way: the number where no address can
 /// be moved so far, or where it says less than the address.
-fn moved_by(address: &AbstractValue, number: &AbstractValue, dst: Reg, src: Reg) -> Reg {
+fn moved_by(address: &AbstractValue, number: &AbstractValue, dst: Reg, src: Reg) -> Reg
+    ensures { (result ≡ dst) ⊎ (result ≡ src) }
+{
     match (*address, *number) {
         (AbstractValue::Frame(_) | AbstractValue::Ctx(_), AbstractValue::Number(_)) => {
             if width_of(number) == 0 { dst } else { src }
@@ -91,7 +142,9 @@ fn moved_by(address: &AbstractValue, number: &AbstractValue, dst: Reg, src: Reg)
 }
 
 /// The same of a number that is to be taken away: from an address of a map's values none can be.
-fn taken_away(address: &AbstractValue, number: &AbstractValue, dst: Reg, src: Reg) -> Reg {
+fn taken_away(address: &AbstractValue, number: &AbstractValue, dst: Reg, src: Reg) -> Reg
+    ensures { (result ≡ dst) ⊎ (result ≡ src) }
+{
     match *address {
         AbstractValue::Area(_, _) => dst,
         _ => moved_by(address, number, dst, src),
@@ -99,7 +152,9 @@ fn taken_away(address: &AbstractValue, number: &AbstractValue, dst: Reg, src: Re
 }
 
 /// Of two registers the one that arithmetic doesn't take.
-fn of_two(state: &State, width: Width, op: AluOp, dst: Reg, src: Reg) -> Reg {
+fn of_two(state: &State, width: Width, op: AluOp, dst: Reg, src: Reg) -> Reg
+    ensures { (result ≡ dst) ⊎ (result ≡ src) }
+{
     let first = state.register(dst);
     let second = state.register(src);
     if !is_number(second) {
@@ -112,29 +167,51 @@ fn of_two(state: &State, width: Width, op: AluOp, dst: Reg, src: Reg) -> Reg {
     }
 }
 
+/// Of a register and an operand the register that arithmetic doesn't take.
+fn of_operands(state: &State, width: Width, op: AluOp, dst: Reg, operand: Operand) -> Reg
+    ensures { ((dst == result) || is_operand operand result) ≡ true }
+{
+    match operand {
+        Operand::Imm(_) => dst,
+        Operand::Reg(src) => of_two(state, width, op, dst, src),
+    }
+}
+
 /// The operand that arithmetic doesn't take.
-fn computed_with(state: &State, insn: &Insn) -> Option<Reg> {
+fn computed_with(state: &State, insn: &Insn) -> Option<Reg>
+    ensures there { IfSome result (λ reg. computes_with insn.now reg ≡ true) }
+    ensures none { result ≡ None → (reg : ℕ) → computes_with insn.now reg ≡ false }
+{
     match *insn {
         Insn::Alu {
             width,
             op,
             dst,
-            operand: Operand::Reg(src),
-        } => Some(of_two(state, width, op, dst, src)),
-        Insn::Alu { dst, .. } | Insn::Neg { dst, .. } | Insn::Endian { dst, .. } => Some(dst),
+            operand,
+        } => Some(of_operands(state, width, op, dst, operand)),
+        Insn::Neg { dst, .. } => Some(dst),
+        Insn::Endian { dst, .. } => Some(dst),
         Insn::Movsx { src, .. } => Some(src),
         _ => None,
     }
 }
 
+/// Of an atomic operation's operand and R0, to which it may compare, the first that has no number.
+fn compared_with(state: &State, src: Reg) -> Reg
+    ensures { (result ≡ src) ⊎ (result ≡ 0) }
+{
+    let value = state.register(src);
+    if is_number(value) { reg(0) } else { src }
+}
+
 /// The register that is stored, or is an operand of an atomic operation, and has no number.
-fn stored(state: &State, insn: &Insn) -> Option<Reg> {
+fn stored(state: &State, insn: &Insn) -> Option<Reg>
+    ensures there { IfSome result (λ reg. stores insn.now reg ≡ true) }
+    ensures none { result ≡ None → (reg : ℕ) → stores insn.now reg ≡ false }
+{
     match *insn {
         Insn::Store { src, .. } => Some(src),
-        Insn::Atomic { src, .. } => {
-            let value = state.register(src);
-            Some(if is_number(value) { reg(0) } else { src })
-        }
+        Insn::Atomic { src, .. } => Some(compared_with(state, src)),
         _ => None,
     }
 }
@@ -152,7 +229,9 @@ pub(crate) fn is_loop_argument(number: u8, value: &AbstractValue) -> bool {
 }
 
 /// The first argument of `bpf_loop` that can't be one.
-fn loop_argument(state: &State) -> Option<Reg> {
+fn loop_argument(state: &State) -> Option<Reg>
+    ensures { IfSome result (λ reg. (1 ≤ reg) × (reg ≤ 4)) }
+{
     for number in 1..5u8 {
         let value = state.register(reg(number));
         if !is_loop_argument(number, &value) {
@@ -180,25 +259,42 @@ pub(crate) fn is_lookup_argument(number: u8, value: &AbstractValue) -> bool {
     }
 }
 
-/// The argument that a helper doesn't take.
-fn argument(state: &State, insn: &Insn) -> Option<Reg> {
-    match *insn {
-        Insn::Call { imm: 1, .. } => match state.register(reg(1)) {
-            AbstractValue::Map(_) => Some(reg(2)),
-            _ => Some(reg(1)),
-        },
-        _ => loop_argument(state),
+/// The argument of `bpf_map_lookup_elem` that isn't taken.
+fn lookup_argument(state: &State) -> Reg
+    ensures { (1 ≤ result) × (result ≤ 2) }
+{
+    match state.register(reg(1)) {
+        AbstractValue::Map(_) => reg(2),
+        _ => reg(1),
     }
 }
 
-/// The register whose value breaks a rule that speaks of registers.
-pub(crate) fn blamed(rule: Rule, state: &State, insn: &Insn) -> Option<Reg> {
+/// The argument that a helper doesn't take.
+pub(crate) fn argument(state: &State, insn: &Insn) -> Option<Reg>
+    ensures { IfSome result (λ reg. reads_register insn.now reg ≡ true) }
+{
+    match *insn {
+        Insn::Call { callee, imm } => match helper_of(callee, imm) {
+            Some(Helper::Lookup) => Some(lookup_argument(state)),
+            Some(Helper::Loop) => loop_argument(state),
+            None => None,
+        },
+        _ => None,
+    }
+}
+
+/// The register whose value breaks a rule that speaks of the registers which an instruction reads.
+#[tactic(auto, unfolding(crate::specs::Faults::is_blamable))]
+pub(crate) fn blamed(rule: Rule, state: &State, insn: &Insn) -> Option<Reg>
+    ensures there { IfSome result (λ reg. is_blamable rule state.now insn.now reg ≡ true) }
+    ensures none { result ≡ None → IsBlameless rule state.now insn.now }
+{
     match rule {
         Rule::UnwrittenRegister => first_that(state, insn, Wanted::Unwritten),
         Rule::ArithmeticOperand => computed_with(state, insn),
+        Rule::ComparisonOperand => first_that(state, insn, Wanted::NoNumber),
         Rule::StoredOperand => stored(state, insn),
-        Rule::HelperArgument => argument(state, insn),
         Rule::CallbackResult | Rule::MainResult => Some(reg(0)),
-        _ => first_that(state, insn, Wanted::NoNumber),
+        _ => None,
     }
 }

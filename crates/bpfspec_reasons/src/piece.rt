@@ -30,6 +30,41 @@ pub enum Piece {
         reg: Reg,
         value: AbstractValue,
     },
+    /// The abstract value of a register that the instruction at a slot reads.
+    Operand {
+        slot: u32,
+        reg: Reg,
+        value: AbstractValue,
+    },
+    /// A register that the instruction at a slot reads, as one that is different things on different paths, and can't
+    /// be read.
+    Differing {
+        slot: u32,
+        reg: Reg,
+    },
+    /// The name of a register that the instruction at a slot reads, and that can't be read.
+    Unreadable {
+        slot: u32,
+        reg: Reg,
+    },
+    /// The name of a register of which it is told next where the value comes from that it has before a slot.
+    Chain {
+        slot: u32,
+        reg: Reg,
+    },
+    /// A slot and the instruction that starts there, in columns, as one that such a value comes from.
+    Origin {
+        slot: u32,
+        insn: Insn,
+    },
+    /// The number of a slot where paths meet that have such a value.
+    Meeting {
+        slot: u32,
+    },
+    /// What main starts with in a register.
+    Start {
+        reg: Reg,
+    },
     /// The abstract value of a register on the edges from one slot to another.
     Between {
         from: u32,

@@ -1,16 +1,25 @@
 //! Which registers an instruction reads.
 
+ghost use Rattle.std.specs.Prelude.{◌≡◌, ◌==◌, ◌&&◌, nat_le};
+ghost use Rattle.bpf_verify_model.specs.Helpers.{helper_called};
+ghost use Rattle.bpfspec_reasons.specs.Operands.{argument_count, arithmetic_reads, atomic_reads, is_operand};
+ghost use Rattle.bpfspec_reasons.specs.Operands.{reads_register};
+
 use bpf_insn_types::{AluOp, AtomicOp, Callee, Insn, Operand, Reg};
 use bpf_verify_model::Helper;
 use bpf_verify_values::helper_of;
 
 /// Whether two registers are one.
-pub(crate) fn same(a: Reg, b: Reg) -> bool {
+pub(crate) fn same(a: Reg, b: Reg) -> bool
+    ensures { result ≡ (a == b) }
+{
     a.number() == b.number()
 }
 
 /// Whether an operand is this register.
-fn is_operand(operand: Operand, reg: Reg) -> bool {
+fn is_operand(operand: Operand, reg: Reg) -> bool
+    ensures { result ≡ is_operand operand reg }
+{
     match operand {
         Operand::Imm(_) => false,
         Operand::Reg(src) => same(src, reg),
@@ -18,7 +27,9 @@ fn is_operand(operand: Operand, reg: Reg) -> bool {
 }
 
 /// Whether arithmetic reads a register: a move reads its second operand alone.
-fn alu_reads(op: AluOp, dst: Reg, operand: Operand, reg: Reg) -> bool {
+fn alu_reads(op: AluOp, dst: Reg, operand: Operand, reg: Reg) -> bool
+    ensures { result ≡ arithmetic_reads op dst operand reg }
+{
     match op {
         AluOp::Mov => is_operand(operand, reg),
         _ => same(dst, reg) || is_operand(operand, reg),
@@ -26,7 +37,9 @@ fn alu_reads(op: AluOp, dst: Reg, operand: Operand, reg: Reg) -> bool {
 }
 
 /// Whether a call reads a register: two of a lookup, and four of a loop.
-fn call_reads(callee: Callee, imm: i32, reg: Reg) -> bool {
+fn call_reads(callee: Callee, imm: i32, reg: Reg) -> bool
+    ensures { result ≡ (nat_le 1 reg && nat_le reg (argument_count (helper_called callee imm))) }
+{
     let most = match helper_of(callee, imm) {
         Some(Helper::Lookup) => 2,
         Some(Helper::Loop) => 4,
@@ -36,7 +49,9 @@ fn call_reads(callee: Callee, imm: i32, reg: Reg) -> bool {
 }
 
 /// Whether an atomic operation reads a register.
-fn atomic_reads(op: AtomicOp, dst: Reg, src: Reg, reg: Reg) -> bool {
+fn atomic_reads(op: AtomicOp, dst: Reg, src: Reg, reg: Reg) -> bool
+    ensures { result ≡ atomic_reads op dst src reg }
+{
     match op {
         AtomicOp::Cmpxchg => same(dst, reg) || same(src, reg) || reg.number() == 0,
         _ => same(dst, reg) || same(src, reg),
@@ -44,7 +59,9 @@ fn atomic_reads(op: AtomicOp, dst: Reg, src: Reg, reg: Reg) -> bool {
 }
 
 /// Whether an instruction reads a register.
-pub(crate) fn reads(insn: &Insn, reg: Reg) -> bool {
+pub(crate) fn reads(insn: &Insn, reg: Reg) -> bool
+    ensures { result ≡ reads_register insn.now reg }
+{
     match *insn {
         Insn::Alu {
             op,

@@ -1,8 +1,14 @@
 //! Why a program is refused.
 
-ghost use Rattle.std.specs.Prelude.{◌≡◌, IfOk, OnOk};
+ghost use Rattle.std.specs.Prelude.{◌≡◌, ◌==◌, ◌++◌, true, IfOk, IfSome, OnOk, Some};
+ghost use Rattle.bpf_insn_types.specs.Program.{insn_at};
+ghost use Rattle.bpf_verify_model.specs.declared.rule.Rule.TheVariants.{UnwrittenRegister};
 ghost use Rattle.bpf_verify_model.specs.Accepted.{first_fault};
-ghost use Rattle.bpfspec_reasons.specs.Truth.{slot_or, slot_told};
+ghost use Rattle.bpfspec_reasons.specs.declared.operands.Wanted.TheVariants.{Unwritten};
+ghost use Rattle.bpfspec_reasons.specs.Truth.{IsKnownBefore, Tells, TellsMore, slot_or, slot_told, with_mentions};
+ghost use Rattle.bpfspec_reasons.specs.Operands.{access_base, at_slot, is_wanted_of, registers_read};
+ghost use Rattle.bpfspec_reasons.specs.Faults.{IsBlame, IsOriginUnless, TellsAddress, TellsArguments, TellsAt};
+ghost use Rattle.bpfspec_reasons.specs.Faults.{TellsBy, TellsIfReached, TellsOfRule, TellsRegisters, concern_of};
 ghost use Rattle.bpfspec_reasons.specs.Told.{Explains};
 
 use crate::access_rules::add_access_rule;
@@ -10,14 +16,15 @@ use crate::accessing::access_of;
 use crate::advice::advice;
 use crate::chain::add_chain;
 use crate::clash::{add_clash, mend_of_clash};
+use crate::concern::{Concern, concern_of};
 use crate::differing::clash_of;
 use crate::explanation::Explanation;
 use crate::insn_rules::add_insn_rule;
 use crate::mending::mend;
-use crate::operands::{add_operands, blamed};
-use crate::state_rules::add_state_rule;
+use crate::operands::{Wanted, add_operands, argument, blamed, first_that};
+use crate::state_rules::{add_arguments, add_state_rule};
 use bpf_insn_types::{Insn, Reg};
-use bpf_verify_model::Rule;
+use bpf_verify_model::{Rule, State};
 use bpf_verify_origin::{Fault, Inspection};
 use std::alloc::{AllocError, Global};
 
@@ -25,47 +32,42 @@ use std::alloc::{AllocError, Global};
 fn add_line(out: &mut Explanation<'_>, slot: u32) -> Result<(), AllocError>
     ensures program { out.new.program ≡ out.old.program }
     ensures line { OnOk result (out.new.line ≡ slot_or out.old.line (slot_told out.old.program slot)) }
+    ensures mentions { out.new.mentions ≡ out.old.mentions }
 {
     out.words("  ")?;
     out.line(slot)?;
     out.words("\n")
 }
 
-/// Adds why an access of memory breaks a rule, and where its address comes from, unless that is the frame pointer; and
-/// says whether it comes from a signed number.
+/// Adds where the address of an access comes from, unless that is the frame pointer; and says whether it comes from a
+/// signed number.
+fn add_address_chain(out: &mut Explanation<'_>, slot: u32, base: Reg) -> Result<bool, AllocError>
+    ensures { OnOk result (Tells (IsOriginUnless (base == 10) out.old.program slot base) out.old out.new) }
+{
+    if base.number() == 10 {
+        return Ok(false);
+    }
+    add_chain(out, slot, base)
+}
+
+/// Adds why an access of memory breaks a rule, and where its address comes from; and says whether it comes from a
+/// signed number.
 fn add_access_reasons(
     out: &mut Explanation<'_>,
     fault: &Fault,
     insn: &Insn,
+    state: &State,
 ) -> Result<bool, AllocError>
-    ensures { out.new ≡ out.old }
+    requires { IsKnownBefore out.old.program fault.now.slot state.now }
+    ensures { OnOk result
+        (Tells (TellsAddress out.old.program fault.now.slot (access_base insn.now)) out.old out.new) }
 {
     match access_of(insn) {
         None => Ok(false),
         Some(access) => {
-            add_access_rule(out, fault.rule, fault.slot, &access)?;
-            if access.base.number() == 10 {
-                return Ok(false);
-            }
-            add_chain(out, fault.slot, access.base)
+            add_access_rule(out, fault.rule, fault.slot, &access, state)?;
+            add_address_chain(out, fault.slot, access.base)
         }
-    }
-}
-
-/// Adds what the registers are that an instruction reads.
-fn add_operand_line(out: &mut Explanation<'_>, slot: u32, insn: &Insn) -> Result<(), AllocError>
-    ensures { out.new ≡ out.old }
-{
-    out.words("  ")?;
-    add_operands(out, slot, insn)?;
-    out.words("\n")
-}
-
-/// The register whose value breaks a rule, if it is one.
-fn blamed_at(out: &Explanation<'_>, fault: &Fault, insn: &Insn) -> Option<Reg> {
-    match out.inspection().state(fault.slot) {
-        None => None,
-        Some(state) => blamed(fault.rule, &state, insn),
     }
 }
 
@@ -74,42 +76,104 @@ fn add_blamed_chain(
     out: &mut Explanation<'_>,
     fault: &Fault,
     insn: &Insn,
+    state: &State,
 ) -> Result<bool, AllocError>
-    ensures { out.new ≡ out.old }
+    ensures { OnOk result (Tells
+        (IsBlame out.old.program fault.now.rule fault.now.slot insn.now state.now) out.old out.new) }
 {
-    match blamed_at(out, fault, insn) {
+    match blamed(fault.rule, state, insn) {
         None => Ok(false),
         Some(found) => add_chain(out, fault.slot, found),
     }
 }
 
-/// Where paths meet that left different things in the register which an instruction reads and isn't written, if that is
-/// why it isn't; and that register.
-fn clash_at(out: &Explanation<'_>, fault: &Fault, insn: &Insn) -> Option<(u32, Reg)> {
-    if fault.rule != Rule::UnwrittenRegister {
-        return None;
-    }
-    let found = blamed_at(out, fault, insn)?;
-    let at = clash_of(out, fault.slot, found)?;
-    Some((at, found))
+/// Paths that meet and left different things in a register.
+#[derive(Clone, Copy)]
+pub struct Clash {
+    /// The slot where they meet.
+    pub at: u32,
+    /// The register.
+    pub reg: Reg,
 }
 
-/// Adds why an instruction breaks a rule that speaks of registers, and says whether a signed number does.
-fn add_state_reasons(
+/// The paths that left different things in the register which an instruction reads and isn't written, if they are why
+/// it isn't.
+fn clash_at(out: &Explanation<'_>, fault: &Fault, insn: &Insn, state: &State) -> Option<Clash>
+    ensures broken { IfSome result (λ clash. fault.now.rule ≡ UnwrittenRegister) }
+    ensures read { IfSome result (λ clash. is_wanted_of Unwritten state.now insn.now clash.reg ≡ true) }
+{
+    match fault.rule {
+        Rule::UnwrittenRegister => {
+            let reg = first_that(state, insn, Wanted::Unwritten)?;
+            let at = clash_of(out, fault.slot, reg)?;
+            Some(Clash { at, reg })
+        }
+        _ => None,
+    }
+}
+
+/// Adds what the registers are that an instruction reads, on a line.
+fn add_operand_line(
+    out: &mut Explanation<'_>,
+    slot: u32,
+    insn: &Insn,
+    state: &State,
+) -> Result<(), AllocError>
+    requires { IsKnownBefore out.old.program slot state.now }
+    ensures { OnOk result (out.new ≡ with_mentions out.old (at_slot slot (registers_read insn.now))) }
+{
+    out.words("  ")?;
+    add_operands(out, slot, insn, state)?;
+    out.words("\n")
+}
+
+/// Adds what the registers are that an instruction reads, why it breaks a rule that speaks of them, and where the value
+/// comes from that does; and says whether that is from a signed number.
+fn add_register_reasons(
     out: &mut Explanation<'_>,
     fault: &Fault,
     insn: &Insn,
+    state: &State,
 ) -> Result<bool, AllocError>
-    ensures { out.new ≡ out.old }
+    requires { IsKnownBefore out.old.program fault.now.slot state.now }
+    ensures { OnOk result (Tells
+        (TellsRegisters out.old.program fault.now.rule fault.now.slot insn.now state.now) out.old out.new) }
 {
-    if fault.rule != Rule::HelperArgument {
-        add_operand_line(out, fault.slot, insn)?;
-    }
+    add_operand_line(out, fault.slot, insn, state)?;
     add_state_rule(out, fault.rule, fault.slot, insn)?;
-    add_blamed_chain(out, fault, insn)
+    add_blamed_chain(out, fault, insn, state)
 }
 
-/// Adds why an instruction breaks a rule, and says whether a signed number does.
+/// Adds where the argument comes from that a helper doesn't take, and says whether that is from a signed number.
+fn add_argument_chain(
+    out: &mut Explanation<'_>,
+    slot: u32,
+    insn: &Insn,
+    state: &State,
+) -> Result<bool, AllocError>
+    ensures { OnOk result (Tells (TellsArguments out.old.program slot insn.now) out.old out.new) }
+{
+    match argument(state, insn) {
+        None => Ok(false),
+        Some(found) => add_chain(out, slot, found),
+    }
+}
+
+/// Adds which arguments of a helper aren't what they have to be, and where the first of them comes from; and says
+/// whether that is from a signed number.
+fn add_argument_reasons(
+    out: &mut Explanation<'_>,
+    slot: u32,
+    insn: &Insn,
+    state: &State,
+) -> Result<bool, AllocError>
+    ensures { OnOk result (Tells (TellsArguments out.old.program slot insn.now) out.old out.new) }
+{
+    add_arguments(out, slot, insn)?;
+    add_argument_chain(out, slot, insn, state)
+}
+
+/// Adds why an instruction breaks a rule that speaks of it alone. No signed number does.
 fn add_insn_reasons(
     out: &mut Explanation<'_>,
     fault: &Fault,
@@ -117,46 +181,74 @@ fn add_insn_reasons(
 ) -> Result<bool, AllocError>
     ensures { out.new ≡ out.old }
 {
-    match fault.rule {
-        Rule::AccessBase
-        | Rule::AreaAccessSize
-        | Rule::AccessAlignment
-        | Rule::AccessBounds
-        | Rule::UnwrittenByte
-        | Rule::CtxWrite => add_access_reasons(out, fault, insn),
-        Rule::UnwrittenRegister
-        | Rule::ArithmeticOperand
-        | Rule::ComparisonOperand
-        | Rule::StoredOperand
-        | Rule::HelperArgument
-        | Rule::CallbackResult
-        | Rule::MainResult => add_state_reasons(out, fault, insn),
-        _ => {
-            add_insn_rule(out, fault.rule, fault.slot, insn)?;
-            Ok(false)
-        }
+    add_insn_rule(out, fault.rule, fault.slot, insn)?;
+    Ok(false)
+}
+
+/// Adds why an instruction breaks a rule, and says whether a signed number does.
+fn add_rule_reasons(
+    out: &mut Explanation<'_>,
+    fault: &Fault,
+    insn: &Insn,
+    state: &State,
+) -> Result<bool, AllocError>
+    requires { IsKnownBefore out.old.program fault.now.slot state.now }
+    ensures { OnOk result (Tells (TellsBy (concern_of fault.now.rule) out.old.program fault.now.rule fault.now.slot
+        insn.now state.now) out.old out.new) }
+{
+    match concern_of(fault.rule) {
+        Concern::Address => add_access_reasons(out, fault, insn, state),
+        Concern::Registers => add_register_reasons(out, fault, insn, state),
+        Concern::Arguments => add_argument_reasons(out, fault.slot, insn, state),
+        Concern::Instruction => add_insn_reasons(out, fault, insn),
     }
 }
 
 /// Adds that paths meet with different things in a register, if they do, or else why an instruction breaks a rule; and
 /// says whether a signed number does.
-fn add_cause(out: &mut Explanation<'_>, fault: &Fault, insn: &Insn) -> Result<bool, AllocError>
-    ensures { out.new ≡ out.old }
+fn add_cause(
+    out: &mut Explanation<'_>,
+    fault: &Fault,
+    insn: &Insn,
+    state: &State,
+) -> Result<bool, AllocError>
+    requires { IsKnownBefore out.old.program fault.now.slot state.now }
+    ensures { OnOk result (Tells
+        (TellsOfRule out.old.program fault.now.rule fault.now.slot insn.now state.now) out.old out.new) }
 {
-    match clash_at(out, fault, insn) {
-        None => add_insn_reasons(out, fault, insn),
-        Some((at, found)) => {
-            add_clash(out, at, found)?;
+    match clash_at(out, fault, insn, state) {
+        None => add_rule_reasons(out, fault, insn, state),
+        Some(clash) => {
+            add_clash(out, fault.slot, clash.at, clash.reg)?;
             Ok(false)
         }
     }
 }
 
+/// The same, of an instruction to which perhaps no path leads.
+fn add_cause_if_reached(
+    out: &mut Explanation<'_>,
+    fault: &Fault,
+    insn: &Insn,
+) -> Result<bool, AllocError>
+    ensures { OnOk result (Tells
+        (TellsIfReached out.old.program fault.now.rule fault.now.slot insn.now) out.old out.new) }
+{
+    match out.state(fault.slot) {
+        None => add_insn_reasons(out, fault, insn),
+        Some(state) => add_cause(out, fault, insn, &state),
+    }
+}
+
 /// What usually mends a program in which an instruction breaks a rule, perhaps since a number is signed.
 fn mend_of(out: &Explanation<'_>, fault: &Fault, insn: &Insn, signed: bool) -> &'static str {
-    match clash_at(out, fault, insn) {
+    let clash = match out.state(fault.slot) {
+        None => None,
+        Some(state) => clash_at(out, fault, insn, &state),
+    };
+    match clash {
         None => advice(out, fault, insn, signed),
-        Some((at, found)) => mend_of_clash(out, at, found),
+        Some(clash) => mend_of_clash(out, clash.at, clash.reg),
     }
 }
 
@@ -171,18 +263,30 @@ fn add_mend(out: &mut Explanation<'_>, rule: Rule, mend: &'static str) -> Result
     out.words("\n")
 }
 
+/// Adds why an instruction is the first that breaks a rule.
+fn add_told_reasons(out: &mut Explanation<'_>, fault: &Fault, insn: &Insn) -> Result<(), AllocError>
+    ensures program { OnOk result (out.new.program ≡ out.old.program) }
+    ensures line { OnOk result (out.new.line ≡ slot_or out.old.line (slot_told out.old.program fault.now.slot)) }
+    ensures mentions { OnOk result (TellsMore
+        (TellsIfReached out.old.program fault.now.rule fault.now.slot insn.now) out.old.mentions out.new.mentions) }
+{
+    add_line(out, fault.slot)?;
+    let signed = add_cause_if_reached(out, fault, insn)?;
+    let mend = mend_of(out, fault, insn, signed);
+    add_mend(out, fault.rule, mend)
+}
+
 /// Adds why a program has a fault.
 fn add_reasons(out: &mut Explanation<'_>, fault: &Fault) -> Result<(), AllocError>
-    ensures program { out.new.program ≡ out.old.program }
+    ensures program { OnOk result (out.new.program ≡ out.old.program) }
     ensures line { OnOk result (out.new.line ≡ slot_or out.old.line (slot_told out.old.program fault.now.slot)) }
+    ensures mentions { OnOk result (TellsMore (TellsAt out.old.program fault.now.rule fault.now.slot)
+        out.old.mentions out.new.mentions) }
 {
-    let Some(insn) = out.inspection().insn(fault.slot) else {
-        return add_mend(out, fault.rule, mend(fault.rule));
-    };
-    add_line(out, fault.slot)?;
-    let signed = add_cause(out, fault, &insn)?;
-    let mend = mend_of(out, fault, &insn, signed);
-    add_mend(out, fault.rule, mend)
+    match out.inspection().insn(fault.slot) {
+        None => add_mend(out, fault.rule, mend(fault.rule)),
+        Some(insn) => add_told_reasons(out, fault, &insn),
+    }
 }
 
 /// Why a program is refused: the line of its first fault, what the registers are of which the rule speaks, what the

@@ -90,7 +90,11 @@ fn add_loop_arguments(out: &mut Explanation<'_>, slot: u32) -> Result<(), AllocE
 }
 
 /// Adds those arguments of a helper that aren't what they have to be.
-fn add_arguments(out: &mut Explanation<'_>, slot: u32, insn: &Insn) -> Result<(), AllocError>
+pub(crate) fn add_arguments(
+    out: &mut Explanation<'_>,
+    slot: u32,
+    insn: &Insn,
+) -> Result<(), AllocError>
     ensures { out.new ≡ out.old }
 {
     match *insn {
@@ -119,7 +123,6 @@ pub(crate) fn add_state_rule(
         Rule::StoredOperand => out.words(
             "  memory holds numbers alone: an address can't be stored, nor be an operand of an atomic operation\n",
         ),
-        Rule::HelperArgument => add_arguments(out, slot, insn),
         Rule::CallbackResult => out.words(
             "  a callback has to end with 0, to go on, or 1, to stop\n",
         ),

@@ -1,6 +1,6 @@
 //! The abstract state before each instruction, in words.
 
-ghost use Rattle.std.specs.Prelude.{◌≡◌, IfOk};
+ghost use Rattle.std.specs.Prelude.{◌≡◌, IfOk, OnOk};
 
 use crate::explanation::Explanation;
 use crate::operands::{add_operands, reads_none};
@@ -10,20 +10,20 @@ use std::alloc::{AllocError, Global};
 
 /// Adds an instruction's line, and what the registers are that it reads.
 fn add_state(out: &mut Explanation<'_>, slot: u32, insn: &Insn) -> Result<(), AllocError>
-    ensures { out.new.program ≡ out.old.program }
+    ensures { OnOk result (out.new.program ≡ out.old.program) }
 {
     out.words("  ")?;
     out.line(slot)?;
     out.words("\n    slot ")?;
     out.number(i64::from(slot))?;
     out.words(": ")?;
-    if out.inspection().state(slot).is_none() {
+    let Some(state) = out.state(slot) else {
         return out.words("no path leads here\n");
-    }
+    };
     if reads_none(insn) {
         return out.words("it reads no register\n");
     }
-    add_operands(out, slot, insn)?;
+    add_operands(out, slot, insn, &state)?;
     out.words("\n")
 }
 

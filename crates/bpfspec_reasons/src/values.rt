@@ -1,10 +1,11 @@
 //! Registers, bytes and maps in words.
 
-ghost use Rattle.std.specs.Prelude.{◌≡◌, ◌++◌, codes, OnOk};
+ghost use Rattle.std.specs.Prelude.{◌≡◌, ◌-◌, ◌++◌, codes, OnOk};
 ghost use Rattle.std.specs.String.{string_bytes};
 ghost use Rattle.bpfspec_reasons.specs.Printed.{any_text, area_text, elements_text, known_text, missing_text};
 ghost use Rattle.bpfspec_reasons.specs.Printed.{number_text, numbers_text, position_text, range_text, register_text};
-ghost use Rattle.bpfspec_reasons.specs.Printed.{step_of, steps_text, value_text};
+ghost use Rattle.bpfspec_reasons.specs.Printed.{start_text, step_of, steps_text, value_text};
+ghost use Rattle.bpfspec_reasons.specs.Chains.{width_of};
 
 use bpf_insn_types::Reg;
 use bpf_verify_model::AbstractValue;
@@ -176,12 +177,44 @@ pub(crate) fn write_known(
     write_value(out, value)
 }
 
+/// Adds that a register is different things on different paths.
+pub(crate) fn write_differing(out: &mut String, reg: Reg) -> Result<(), AllocError>
+    ensures { OnOk result (string_bytes out.new ≡ string_bytes out.old
+        ++ (register_text reg ++ codes " is different things on different paths")) }
+{
+    write_reg(out, reg)?;
+    out.push_str(" is different things on different paths")
+}
+
+/// Adds what main starts with in a register.
+pub(crate) fn write_start(out: &mut String, reg: Reg) -> Result<(), AllocError>
+    ensures { OnOk result (string_bytes out.new ≡ string_bytes out.old ++ start_text reg) }
+{
+    match reg.number() {
+        1 => out.push_str("main's argument: any number"),
+        10 => out.push_str("the frame pointer"),
+        _ => {
+            write_reg(out, reg)?;
+            out.push_str(" is written by no instruction before")
+        }
+    }
+}
+
+/// How far apart a range's least and greatest number are.
+fn width_of_range(range: Range) -> u64
+    ensures { result ≡ range.hi - range.lo }
+{
+    range.hi() - range.lo()
+}
+
 /// How far apart a value's least and greatest number are: 0 where it is one number alone or no number.
-pub(crate) fn width_of(value: &AbstractValue) -> u64 {
+pub(crate) fn width_of(value: &AbstractValue) -> u64
+    ensures { result ≡ width_of value.now }
+{
     match *value {
-        AbstractValue::Number(range) => range.hi().wrapping_sub(range.lo()),
+        AbstractValue::Number(range) => width_of_range(range),
         AbstractValue::Area(_, range) | AbstractValue::AreaOrNull(_, range) => {
-            range.hi().wrapping_sub(range.lo())
+            width_of_range(range)
         }
         AbstractValue::Unwritten => u64::MAX,
         _ => 0,

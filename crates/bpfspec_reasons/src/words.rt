@@ -9,7 +9,8 @@ use crate::page::Page;
 use crate::piece::Piece;
 use crate::placing::{write_line, write_step};
 use crate::values::{
-    write_elements, write_known, write_reg, write_unwritten, write_unwritten_of_main,
+    write_differing, write_elements, write_known, write_reg, write_start, write_unwritten,
+    write_unwritten_of_main,
 };
 use std::alloc::{AllocError, Global};
 
@@ -36,10 +37,16 @@ pub(crate) fn write_piece(
         Piece::Offset(offset) => write_offset(out, offset),
         Piece::Register(reg) => write_reg(out, reg),
         Piece::Line { slot, insn } => write_line(out, alloc, page, slot, &insn),
-        Piece::Step { slot, insn } => write_step(out, alloc, slot, &insn),
-        Piece::Before { reg, value, .. } | Piece::Between { reg, value, .. } => {
-            write_known(out, reg, &value)
+        Piece::Step { slot, insn } | Piece::Origin { slot, insn } => {
+            write_step(out, alloc, slot, &insn)
         }
+        Piece::Before { reg, value, .. }
+        | Piece::Between { reg, value, .. }
+        | Piece::Operand { reg, value, .. } => write_known(out, reg, &value),
+        Piece::Differing { reg, .. } => write_differing(out, reg),
+        Piece::Unreadable { reg, .. } | Piece::Chain { reg, .. } => write_reg(out, reg),
+        Piece::Meeting { slot } => write!(out, "{slot}"),
+        Piece::Start { reg } => write_start(out, reg),
         Piece::Unwritten { position, .. } => write_unwritten(out, position),
         Piece::UnwrittenOfMain { position, .. } => write_unwritten_of_main(out, position),
         Piece::Elements { map, count } => write_elements(out, map, count),

@@ -14,4 +14,4 @@ pub returns : goal.returns
 returns c =
     sym (told-pushed c.self.inside.inspection.now c.self.inside.pieces.items c.extend_from_slice.new.self.items
     c.args.pieces.now (is_ok c.extend_from_slice.result) c.args.self.now c.extend_from_slice.ensures.items
-    c.requires.within (sym c.self.view_is))
+    c.requires.within c.requires.beside (sym c.self.view_is))
