@@ -1,6 +1,6 @@
 -- What is told of loop calls.
 use Rattle.std.specs.Prelude.{ℕ, ◌-◌, ◌==◌, nat_lt, if◌then◌else◌, ℤ, negsuc, List, [], ◌++◌, length, codes}
-use Rattle.std.specs.Prelude.{Option, Some, None}
+use Rattle.std.specs.Prelude.{Option, Some, None, slice_get}
 use Rattle.std.specs.Fmt.{decimal}
 use Rattle.std.specs.List.{flat_map}
 use Rattle.std.specs.Ordering.{int_eq}
@@ -11,6 +11,7 @@ use Rattle.loop_core_model.specs.declared.verdict.Verdict.{Verdict}
 use Rattle.loop_core_model.specs.declared.verdict.Verdict.TheVariants.{Parallel, Conflict, Refused, InOrder}
 use Rattle.loop_core_witness.specs.declared.place.Place.{Place}
 use Rattle.loop_core_witness.specs.declared.witness.Witness.{Witness}
+use Rattle.spec_run_arguments.specs.declared.loop_arguments.LoopArguments.{LoopArguments}
 use Rattle.spec_run_explain.specs.declared.explained.Cause.{Cause}
 use Rattle.spec_run_explain.specs.declared.explained.LoopExplained.{LoopExplained}
 use Rattle.spec_run_loop.specs.declared.course.Course.{Course}
@@ -21,10 +22,13 @@ use Rattle.bpfspec_causes.specs.ListingOf.{ListingOf}
 use Rattle.bpfspec_causes.specs.NamesText.{names_text}
 use Rattle.bpfspec_causes.specs.Places.{access_line, deed_at, map_of, place_line}
 
--- why a loop call is refused that answers this: -7, or -22
-abbrev pub refusal_text : ℤ → List ℕ
-refusal_text answer = if int_eq answer (negsuc 6) then codes "  it asks for more than 8388608 iterations (r1)\n"
-    else codes "  its flags aren't 0 (r4)\n"
+-- why a loop call with these arguments is refused that answers this: -7, or -22
+abbrev pub refusal_text : ℤ → Option LoopArguments → List ℕ
+refusal_text answer None = []
+refusal_text answer (Some asked) =
+    if int_eq answer (negsuc 6)
+    then codes "  it asks for " ++ decimal asked.iterations ++ codes " iterations (r1), and 8388608 are the most\n"
+    else codes "  its flags are " ++ decimal asked.flags ++ codes " (r4), and have to be 0\n"
 
 -- which way it goes, and why
 abbrev pub course_text : Verdict → Option Course → List ℕ
@@ -100,16 +104,26 @@ made_text listing told = course_text told.line.verdict told.course ++ flat_map (
     ++ rest_text told.line.verdict (length told.causes.items) ++ break_text listing told.broke
 
 -- what comes below the line of a loop call that came out so
-abbrev pub below_line : ListingOf → LoopExplained → Verdict → List ℕ
-below_line listing told Refused = refusal_text told.line.answer
-below_line listing told Parallel = made_text listing told
-below_line listing told (Conflict count least) = made_text listing told
-below_line listing told InOrder = made_text listing told
+abbrev pub below_line : ListingOf → LoopExplained → Option LoopArguments → Verdict → List ℕ
+below_line listing told arguments Refused = refusal_text told.line.answer arguments
+below_line listing told arguments Parallel = made_text listing told
+below_line listing told arguments (Conflict count least) = made_text listing told
+below_line listing told arguments InOrder = made_text listing told
+
+-- what is told at a place, if there is one
+abbrev pub told_there : Option (Option LoopArguments) → Option LoopArguments
+told_there None = None
+told_there (Some told) = told
+
+-- the arguments of the loop call that has this number, if it is refused
+abbrev pub arguments_at : List (Option LoopArguments) → ℕ → Option LoopArguments
+arguments_at arguments number = told_there (slice_get arguments number)
 
 -- a loop call, which has this number: its line, as `run` prints it, and what comes below
-abbrev pub loop_text : ListingOf → ℕ → LoopExplained → List ℕ
-loop_text listing number told = loop_line number told.line ++ below_line listing told told.line.verdict
+abbrev pub loop_text : ListingOf → List (Option LoopArguments) → ℕ → LoopExplained → List ℕ
+loop_text listing arguments number told =
+    loop_line number told.line ++ below_line listing told (arguments_at arguments number) told.line.verdict
 
--- all loop calls of a program
-abbrev pub loops_text : ListingOf → List LoopExplained → List ℕ
-loops_text listing loops = numbered_lines (loop_text listing) 0 loops
+-- all loop calls of a program, with the arguments of those that are refused
+abbrev pub loops_text : ListingOf → List LoopExplained → List (Option LoopArguments) → List ℕ
+loops_text listing loops arguments = numbered_lines (loop_text listing arguments) 0 loops

@@ -25,7 +25,7 @@ pub record PrintsLoops (wish : Wish) (listing : ListingOf) (start : MapList) (ou
   pub end : MapList
   pub told : Explained
   pub explained : IsProgramExplained wish.test listing.program wish.most wish.argument start end told
-  pub printed : out ≡ loops_text listing told.loops.items
+  pub printed : out ≡ loops_text listing told.loops.items told.arguments.items
 
 -- what is told of a program by what it starts with
 abbrev pub TellsFrom : Wish → ListingOf → Option Start → List ℕ → Type 0

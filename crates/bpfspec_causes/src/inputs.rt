@@ -49,7 +49,7 @@ fn causes_from(
         wish.most,
     )?;
     let mut out = String::new(alloc);
-    write_loops(&mut out, alloc, listing, &told.loops)?;
+    write_loops(&mut out, alloc, listing, &told.loops, &told.arguments)?;
     Ok(out)
 }
 

@@ -4,7 +4,8 @@ ghost use Rattle.std.specs.Prelude.{◌≡◌, ◌++◌, OnOk};
 ghost use Rattle.std.specs.List.{flat_map};
 ghost use Rattle.std.specs.String.{string_bytes};
 ghost use Rattle.bpfspec_output.specs.ReportText.{loop_line, verdict_text};
-ghost use Rattle.bpfspec_causes.specs.LoopText.{below_line, break_text, cause_text, course_text, earlier, element_text};
+ghost use Rattle.bpfspec_causes.specs.LoopText.{arguments_at, below_line, break_text, cause_text, course_text};
+ghost use Rattle.bpfspec_causes.specs.LoopText.{earlier, element_text};
 ghost use Rattle.bpfspec_causes.specs.LoopText.{end_text, help_text, later, loop_text, loops_text};
 ghost use Rattle.bpfspec_causes.specs.AdviceText.{reduction_among};
 ghost use Rattle.bpfspec_causes.specs.Places.{deed_at};
@@ -20,6 +21,7 @@ use crate::places::{deed_at, map_of, write_access, write_place};
 use bpfspec_ways::{reason_of, write_way};
 use loop_core_model::{LoopReport, Verdict};
 use loop_core_witness::{Place, Witness};
+use spec_run_arguments::LoopArguments;
 use spec_run_explain::{Cause, LoopExplained};
 use spec_run_loop::Course;
 use std::alloc::{AllocError, Global};
@@ -47,14 +49,26 @@ fn write_line(out: &mut String, number: usize, line: LoopReport) -> Result<(), A
     out.push_str("\n")
 }
 
-/// Why a loop call is refused.
-fn refusal_words(answer: i64) -> &'static str
-    ensures { result.now ≡ refusal_text answer }
+/// Writes why a loop call is refused that gave this answer.
+fn write_refusal(
+    out: &mut String,
+    answer: i64,
+    arguments: Option<LoopArguments>,
+) -> Result<(), AllocError>
+    ensures { OnOk result (string_bytes out.new ≡ string_bytes out.old ++ refusal_text answer arguments) }
 {
+    let Some(asked) = arguments else {
+        return Ok(());
+    };
+    let iterations = asked.iterations;
+    let flags = asked.flags;
     if answer == -7 {
-        "  it asks for more than 8388608 iterations (r1)\n"
+        write!(
+            out,
+            "  it asks for {iterations} iterations (r1), and 8388608 are the most\n"
+        )
     } else {
-        "  its flags aren't 0 (r4)\n"
+        write!(out, "  its flags are {flags} (r4), and have to be 0\n")
     }
 }
 
@@ -263,15 +277,26 @@ fn write_below(
     alloc: Global,
     listing: &Listing<'_>,
     told: &LoopExplained,
+    arguments: Option<LoopArguments>,
 ) -> Result<(), AllocError>
     ensures { OnOk result (string_bytes out.new ≡ string_bytes out.old
-        ++ below_line listing.now told.now told.now.line.verdict) }
+        ++ below_line listing.now told.now arguments told.now.line.verdict) }
 {
     match told.line.verdict {
-        Verdict::Refused => out.push_str(refusal_words(told.line.answer)),
+        Verdict::Refused => write_refusal(out, told.line.answer, arguments),
         Verdict::Parallel | Verdict::Conflict { .. } | Verdict::InOrder => {
             write_made(out, alloc, listing, told)
         }
+    }
+}
+
+/// The arguments of a refused loop call, which has this number.
+fn arguments_at(arguments: &[Option<LoopArguments>], number: usize) -> Option<LoopArguments>
+    ensures { result ≡ arguments_at arguments.now number }
+{
+    match arguments.get(number).copied() {
+        Some(told) => told,
+        None => None,
     }
 }
 
@@ -280,26 +305,30 @@ fn write_loop(
     out: &mut String,
     alloc: Global,
     listing: &Listing<'_>,
+    arguments: &[Option<LoopArguments>],
     number: usize,
     told: &LoopExplained,
 ) -> Result<(), AllocError>
-    ensures { OnOk result (string_bytes out.new ≡ string_bytes out.old ++ loop_text listing.now number told.now) }
+    ensures { OnOk result (string_bytes out.new ≡ string_bytes out.old
+        ++ loop_text listing.now arguments.now number told.now) }
 {
     write_line(out, number, told.line)?;
-    write_below(out, alloc, listing, told)
+    write_below(out, alloc, listing, told, arguments_at(arguments, number))
 }
 
-/// Writes what is told of a program's loop calls.
+/// Writes what is told of a program's loop calls, with the arguments of those that are refused.
 pub(crate) fn write_loops(
     out: &mut String,
     alloc: Global,
     listing: &Listing<'_>,
     loops: &[LoopExplained],
+    arguments: &[Option<LoopArguments>],
 ) -> Result<(), AllocError>
-    ensures { OnOk result (string_bytes out.new ≡ string_bytes out.old ++ loops_text listing.now loops.now) }
+    ensures { OnOk result (string_bytes out.new ≡ string_bytes out.old
+        ++ loops_text listing.now loops.now arguments.now) }
 {
     for (number, told) in loops.iter().enumerate() {
-        write_loop(out, alloc, listing, number, told)?;
+        write_loop(out, alloc, listing, arguments, number, told)?;
     }
     Ok(())
 }

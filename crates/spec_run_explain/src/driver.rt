@@ -6,6 +6,7 @@ ghost use Rattle.spec_run_explain.specs.Programs.{IsProgramExplained};
 
 use crate::call::explain_call;
 use crate::explained::{Explained, LoopExplained};
+use crate::refused::arguments_of_refused;
 use array_maps::Maps;
 use bpf_step::LoopCall;
 use bpf_verify::Verified;
@@ -79,7 +80,8 @@ impl LoopRunner for Explainer {
 }
 
 /// Runs the program in order on the maps, its argument in R1, and explains each loop call by a test: at most so many
-/// elements of each. The maps are of the program's sizes, and are left as the program leaves them.
+/// elements of each, and of one that is refused its arguments. The maps are of the program's sizes, and are left as the
+/// program leaves them.
 pub fn explain_loops(
     alloc: Global,
     program: &Verified,
@@ -91,6 +93,7 @@ pub fn explain_loops(
     requires sizes { maps.old.sizes ≡ program.now.sizes }
     ensures { IfOk result (IsProgramExplained test program.now most argument maps.old maps.new) }
 {
+    let start = maps.try_copy(alloc)?;
     let mut explainer = Explainer {
         alloc,
         test,
@@ -99,11 +102,13 @@ pub fn explain_loops(
         loops: Vec::new(alloc),
     };
     let ret = run_main(program, maps, argument, &mut explainer)?;
+    let arguments = arguments_of_refused(alloc, program, start, argument, &explainer.lines)?;
     Ok(Explained {
         report: Report {
             ret,
             loops: explainer.lines,
         },
         loops: explainer.loops,
+        arguments,
     })
 }

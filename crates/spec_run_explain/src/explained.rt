@@ -3,6 +3,7 @@
 use loop_core_model::LoopReport;
 use loop_core_witness::{Place, Witness};
 use spec_run::Report;
+use spec_run_arguments::LoopArguments;
 use spec_run_loop::Course;
 
 /// Why an element conflicts.
@@ -37,4 +38,6 @@ pub struct Explained {
     pub report: Report,
     /// Its loop calls, in order.
     pub loops: Vec<LoopExplained>,
+    /// For each of them, in order, by which arguments it is refused: `None` of one that isn't. Empty where none is.
+    pub arguments: Vec<Option<LoopArguments>>,
 }

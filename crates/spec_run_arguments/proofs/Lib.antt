@@ -1,0 +1,5 @@
+pub mod RefusedSteps
+pub mod RefusedOps
+pub mod RunsThrough
+pub mod Stops
+pub mod TurnLaws
