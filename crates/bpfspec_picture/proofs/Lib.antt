@@ -1,1 +1,3 @@
+pub mod PrintLaws
+pub mod PairLaws
 pub mod PictureLaws

@@ -1,1 +1,10 @@
+pub mod Pieces
+pub mod Layouts
+pub mod Shapes
+pub mod Figures
+pub mod Labels
+pub mod Printed
+pub mod LoopPictures
+pub mod LoopDrawings
+pub mod EventPictures
 pub mod Pictures

@@ -1,17 +1,18 @@
-//! Loop calls, judged and drawn.
+//! Loop calls that conflict, drawn.
 
-ghost use Rattle.std.specs.Prelude.{◌≡◌, ◌||◌, pos, is_some, IfOk};
+ghost use Rattle.std.specs.Prelude.{◌≡◌, option_map, IfOk};
+ghost use Rattle.std.specs.String.{string_bytes};
 ghost use Rattle.bpf_step_model.specs.Run.{Ended};
 ghost use Rattle.bpf_verify_sound.specs.Soundness.{OverApproximatesCall};
 ghost use Rattle.loop_core_model.specs.Report.{verdict};
-ghost use Rattle.bpfspec_picture.specs.Pictures.{is_conflict};
+ghost use Rattle.bpfspec_picture.specs.Pictures.{is_conflict, IsDrawnIfConflict};
 
 use crate::drawing::draw_loop;
 use array_maps::Maps;
 use bpf_step::LoopCall;
 use bpf_verify::Verified;
 use loop_core_conflicts::find_conflicts;
-use loop_core_model::{LoopReport, Test, Verdict};
+use loop_core_model::{Test, Verdict};
 use std::alloc::{AllocError, Global};
 
 /// Whether a loop conflicts.
@@ -24,68 +25,42 @@ fn is_conflict(verdict: Verdict) -> bool
     }
 }
 
-/// A loop call that main of this program made, the maps that it starts on, which are of the program's sizes, and the
-/// test that judges it.
-#[derive(Drop)]
-pub(crate) struct MadeCall<'a> {
-    pub(crate) alloc: Global,
-    pub(crate) program: &'a Verified,
-    pub(crate) call: &'a LoopCall,
-    pub(crate) start: &'a Maps,
-    pub(crate) test: Test,
+/// The verdict on a loop call by a test.
+#[tactic(auto, using(spec_run_explain::proofs::ExplainLaws::verdict_told))]
+fn verdict_of(
+    alloc: Global,
+    program: &Verified,
+    call: &LoopCall,
+    start: &Maps,
+    test: Test,
+) -> Result<Verdict, AllocError>
+    requires known { OverApproximatesCall program.now call.now }
+    requires sizes { start.now.sizes ≡ program.now.sizes }
+    ensures { IfOk result (λ told. verdict test program.now 4096 call.now start.now.words ≡ Ended told) }
+{
+    let conflicts = find_conflicts(alloc, program, call, start, test, 1)?;
+    Ok(conflicts.verdict)
 }
 
-impl MadeCall<'_> {
-    /// Its line, where it answers this in order.
-    #[tactic(auto, using(spec_run_explain::proofs::ExplainLaws::verdict_told))]
-    pub(crate) fn judge(&self, answer: u32) -> Result<LoopReport, AllocError>
-        requires known { OverApproximatesCall self.now.program.now self.now.call.now }
-        requires sizes { self.now.start.now.sizes ≡ self.now.program.now.sizes }
-        ensures slot { IfOk result (λ line. line.slot ≡ self.now.call.now.slot) }
-        ensures answer { IfOk result (λ line. line.answer ≡ pos answer) }
-        ensures verdict { IfOk result (λ line. verdict self.now.test self.now.program.now 4096 self.now.call.now
-            self.now.start.now.words ≡ Ended line.verdict) }
-    {
-        let conflicts = find_conflicts(
-            self.alloc,
-            self.program,
-            self.call,
-            self.start,
-            self.test,
-            1,
-        )?;
-        Ok(LoopReport {
-            slot: self.call.slot(),
-            answer: i64::from(answer),
-            verdict: conflicts.verdict,
-        })
+/// Draws a loop call that main of this program made, from these maps, which are of its sizes, if it conflicts by a
+/// test.
+pub(crate) fn draw_if_conflict(
+    alloc: Global,
+    program: &Verified,
+    call: &LoopCall,
+    start: &Maps,
+    test: Test,
+) -> Result<Option<String>, AllocError>
+    requires known { OverApproximatesCall program.now call.now }
+    requires sizes { start.now.sizes ≡ program.now.sizes }
+    ensures { IfOk result (λ picture. IsDrawnIfConflict test program.now call.now start.now.words
+        (option_map string_bytes picture)) }
+{
+    let told = verdict_of(alloc, program, call, start, test)?;
+    if is_conflict(told) {
+        let mut picture = String::new(alloc);
+        draw_loop(&mut picture, alloc, program, call, start, test)?;
+        return Ok(Some(picture));
     }
-
-    /// The picture that was drawn before, or else its own, where its verdict is that it conflicts.
-    pub(crate) fn draw_if_first(
-        &self,
-        verdict: Verdict,
-        before: Option<String>,
-    ) -> Result<Option<String>, AllocError>
-        requires known { OverApproximatesCall self.now.program.now self.now.call.now }
-        requires sizes { self.now.start.now.sizes ≡ self.now.program.now.sizes }
-        ensures { IfOk result (λ picture. is_some picture ≡ (is_some before || is_conflict verdict)) }
-    {
-        if before.is_some() {
-            return Ok(before);
-        }
-        if !is_conflict(verdict) {
-            return Ok(None);
-        }
-        let mut picture = String::new(self.alloc);
-        draw_loop(
-            &mut picture,
-            self.alloc,
-            self.program,
-            self.call,
-            self.start,
-            self.test,
-        )?;
-        Ok(Some(picture))
-    }
+    Ok(None)
 }

@@ -1,5 +1,9 @@
 //! Where things are in a picture, in pixels from its upper left corner.
 
+ghost use Rattle.std.specs.Prelude.{◌≡◌};
+ghost use Rattle.bpfspec_picture.specs.Layouts.{layout_of, half, reach, left, top, right, lower};
+ghost use Rattle.bpfspec_picture.specs.Layouts.{column_middle, row_middle, width, height};
+
 /// The width of the numbers of rows.
 const LEFT: u32 = 70;
 
@@ -25,7 +29,9 @@ pub(crate) struct Layout {
 
 impl Layout {
     /// The layout of so many columns and rows. A cell is smaller where there are many.
-    pub(crate) fn of(columns: usize, rows: usize) -> Layout {
+    pub(crate) fn of(columns: usize, rows: usize) -> Layout
+        ensures { result ≡ layout_of columns rows }
+    {
         let columns = u32::try_from(columns).unwrap_or(64).min(64);
         let rows = u32::try_from(rows).unwrap_or(64).min(64);
         let most = columns.max(rows).max(1);
@@ -38,56 +44,76 @@ impl Layout {
     }
 
     /// Half of a cell.
-    pub(crate) fn half(&self) -> u32 {
+    pub(crate) fn half(&self) -> u32
+        ensures { result ≡ half self.now }
+    {
         self.cell / 2
     }
 
     /// How far marks go from the middle of their cell.
-    pub(crate) fn reach(&self) -> u32 {
+    pub(crate) fn reach(&self) -> u32
+        ensures { result ≡ reach self.now }
+    {
         self.half().saturating_mul(3) / 5
     }
 
     /// The left edge of the cells.
-    pub(crate) fn left(&self) -> u32 {
+    pub(crate) fn left(&self) -> u32
+        ensures { result ≡ left }
+    {
         LEFT
     }
 
     /// The upper edge of the cells.
-    pub(crate) fn top(&self) -> u32 {
+    pub(crate) fn top(&self) -> u32
+        ensures { result ≡ top }
+    {
         TOP
     }
 
     /// The right edge of the cells.
-    pub(crate) fn right(&self) -> u32 {
+    pub(crate) fn right(&self) -> u32
+        ensures { result ≡ right self.now }
+    {
         LEFT.saturating_add(self.columns.saturating_mul(self.cell))
     }
 
     /// The lower edge of the cells.
-    pub(crate) fn lower(&self) -> u32 {
+    pub(crate) fn lower(&self) -> u32
+        ensures { result ≡ lower self.now }
+    {
         TOP.saturating_add(self.rows.saturating_mul(self.cell))
     }
 
     /// The middle of a column.
-    pub(crate) fn x(&self, column: usize) -> u32 {
-        let number = u32::try_from(column).unwrap_or(64);
+    pub(crate) fn x(&self, column: usize) -> u32
+        ensures { result ≡ column_middle self.now column }
+    {
+        let number = u32::try_from(column).unwrap_or(u32::MAX);
         LEFT.saturating_add(number.saturating_mul(self.cell))
             .saturating_add(self.half())
     }
 
     /// The middle of a row.
-    pub(crate) fn y(&self, row: usize) -> u32 {
-        let number = u32::try_from(row).unwrap_or(64);
+    pub(crate) fn y(&self, row: usize) -> u32
+        ensures { result ≡ row_middle self.now row }
+    {
+        let number = u32::try_from(row).unwrap_or(u32::MAX);
         TOP.saturating_add(number.saturating_mul(self.cell))
             .saturating_add(self.half())
     }
 
     /// The width of the picture.
-    pub(crate) fn width(&self) -> u32 {
+    pub(crate) fn width(&self) -> u32
+        ensures { result ≡ width self.now }
+    {
         self.right().saturating_add(48).max(LEAST_WIDTH)
     }
 
     /// The height of the picture.
-    pub(crate) fn height(&self) -> u32 {
+    pub(crate) fn height(&self) -> u32
+        ensures { result ≡ height self.now }
+    {
         self.lower().saturating_add(BOTTOM)
     }
 }

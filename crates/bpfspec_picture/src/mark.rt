@@ -1,7 +1,9 @@
 //! The marks of what iterations do.
 
+ghost use Rattle.std.specs.Prelude.{◌≡◌};
+ghost use Rattle.bpfspec_picture.specs.LoopPictures.{mark_of, words_of, shape_of};
+
 use crate::shape::Shape;
-use bpf_insn_types::{AtomicOp, Insn, slots};
 use loop_core_trace::Slots;
 
 /// What an iteration does at an element.
@@ -25,40 +27,29 @@ pub(crate) const MARKS: [Mark; 4] = [
     Mark::Reduces,
 ];
 
-/// Whether the instruction that starts at a slot changes memory alone.
-fn is_reduce(insns: &[Insn], slot: u32) -> bool {
-    let mut at: u32 = 0;
-    for insn in insns {
-        if at == slot {
-            return match insn {
-                Insn::Atomic { op, .. } => match op {
-                    AtomicOp::Simple(_) => true,
-                    _ => false,
-                },
-                _ => false,
-            };
-        }
-        at = at.saturating_add(slots(insn));
-    }
-    false
-}
-
 /// What an iteration with these slots at an element does there, if it touches it.
-pub(crate) fn mark_of(insns: &[Insn], at: Slots) -> Option<Mark> {
-    match (at.read, at.write) {
-        (None, None) => None,
-        (Some(_), None) => Some(Mark::Reads),
-        (None, Some(_)) => Some(Mark::Writes),
-        (Some(read), Some(write)) => if read == write && is_reduce(insns, read) {
-            Some(Mark::Reduces)
-        } else {
-            Some(Mark::ReadsAndWrites)
+pub(crate) fn mark_of(at: Slots) -> Option<Mark>
+    ensures { result ≡ mark_of at }
+{
+    match at.read {
+        None => match at.write {
+            None => None,
+            Some(_) => Some(Mark::Writes),
+        },
+        Some(_) => match at.write {
+            None => Some(Mark::Reads),
+            Some(_) => match at.reduce {
+                None => Some(Mark::ReadsAndWrites),
+                Some(_) => Some(Mark::Reduces),
+            },
         },
     }
 }
 
 /// The words of a mark in the legend.
-pub(crate) fn words_of(mark: Mark) -> &'static str {
+pub(crate) fn words_of(mark: Mark) -> &'static str
+    ensures { result.now ≡ words_of mark }
+{
     match mark {
         Mark::Reads => "reads",
         Mark::Writes => "writes",
@@ -68,7 +59,9 @@ pub(crate) fn words_of(mark: Mark) -> &'static str {
 }
 
 /// The shape of a mark.
-pub(crate) fn shape_of(mark: Mark) -> Shape {
+pub(crate) fn shape_of(mark: Mark) -> Shape
+    ensures { result ≡ shape_of mark }
+{
     match mark {
         Mark::Reads => Shape::Ring,
         Mark::Writes => Shape::Square,

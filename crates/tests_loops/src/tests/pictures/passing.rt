@@ -80,7 +80,6 @@ fn titles_are_escaped(rt: HostRuntime) -> Result<(), Fail> {
     let picture = Picture {
         title: "a < b & \"c\" > d",
         grid: &grid,
-        insns: &[],
         conflicts: &[],
         broke: None,
     };
