@@ -356,6 +356,11 @@ class Replays(Reasons):
         told = explained("maps 1", "mov64 r0, 0", "exit", "%%", "%%", "bounds 0 4", "c0 s0")
         self.tells_last(told, self.AWAY + "no loop", "  main comes to no valid loop call with this argument")
 
+    def test_an_empty_line_of_values(self) -> None:
+        told = explained(*self.LOOP, "%%", "", "%%", "bounds 0 4", "c0 s0")
+        self.assertIn("the maps aren't taken: refused A7 at maps line 0", told)
+        self.assertIn("  there is text after `%%` and no map in it: without `%%` all values are 0", told)
+
 
 class Heads(Reasons):
     """Slips on the first line."""

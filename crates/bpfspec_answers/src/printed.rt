@@ -1,7 +1,7 @@
 //! What is printed of an input, in memory.
 
 ghost use Rattle.std.specs.Prelude.{◌≡◌, true, IfOk, OnOk};
-ghost use Rattle.bpfspec_explain_serve.specs.Explained.{is_answered};
+ghost use Rattle.bpfspec_answers.specs.Printing.{is_answered};
 ghost use Rattle.bpfspec_streams.specs.Counting.{inner_of, failures_of};
 
 use bpfspec_serve::{Counted, Served, Sink};

@@ -2,7 +2,7 @@
 
 ghost use Rattle.std.specs.Prelude.{◌≡◌};
 ghost use Rattle.bpfspec_command_line.specs.declared.job.UnitForm.TheVariants.{Assembler, Hex};
-ghost use Rattle.bpfspec_answers.specs.Printing.{Verifies, Explains};
+ghost use Rattle.bpfspec_explain_serve.specs.Explained.{Verifies, Explains};
 ghost use Rattle.bpfspec_c.specs.Options.{ask_of};
 ghost use Rattle.bpfspec_c.specs.Printing.{Gives, Prints, answer_status, given};
 

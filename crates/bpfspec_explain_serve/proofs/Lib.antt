@@ -1,3 +1,3 @@
 pub mod ExplainLaws
-pub mod HeldLaws
+pub mod ReasonLaws
 pub mod ShowingLaws

@@ -1,5 +1,5 @@
 -- How an input was explained.
-use Rattle.std.specs.Prelude.{◌≡◌, ℕ, ◌+◌, Bool, true, false, List, Option}
+use Rattle.std.specs.Prelude.{◌≡◌, ℕ, true, List, ◌++◌, Option, IfSome}
 use Rattle.bpfspec_command_line.specs.Faults.{AsksForHelp}
 use Rattle.bpfspec_command_line.specs.declared.job.Job.TheVariants.{Serve}
 use Rattle.bpfspec_command_line.specs.declared.job.Mode.TheVariants.{Verify}
@@ -9,69 +9,56 @@ use Rattle.bpfspec_serve.specs.declared.program_end.ProgramEnd.{ProgramEnd}
 use Rattle.bpfspec_serve.specs.declared.program_end.ProgramEnd.TheVariants as ends
 use Rattle.bpfspec_serve.specs.declared.serving.Served.{Served}
 use Rattle.bpfspec_serve.specs.declared.serving.Served.TheVariants as served
-use Rattle.bpfspec_serve.specs.HowServed.{AnswersReader, HowServed, HowWritten}
-use Rattle.bpfspec_serve.specs.Output.{Answer}
+use Rattle.bpfspec_serve.specs.HowServed.{HowServed, HowWritten}
+use Rattle.bpfspec_serve.specs.Output.{Answer, Answers}
+use Rattle.bpfspec_streams.specs.Streams.{ReadsToEnd}
 use Rattle.bpfspec_explain_serve.specs.declared.ask.Ask.{Ask}
 use Rattle.bpfspec_explain_serve.specs.Asked.{Asks, explain_app}
-use Rattle.bpfspec_explain_serve.specs.Showing.{IsShowable}
+use Rattle.bpfspec_explain_serve.specs.Reasons.{AreReasons}
+use Rattle.bpfspec_explain_serve.specs.Showing.{IsShowable, shown}
 
--- an answer or a refusal was written whole
-abbrev pub is_answered : Served → Bool
-is_answered served.Done = true
-is_answered served.Refused = true
-is_answered served.Text = true
-is_answered served.Memory = false
-is_answered served.Device = false
+-- what `verify` answers to an input
+abbrev pub Verifies : UnitForm → (input : List ℕ) → Answer → Type 0
+Verifies form input answer = Answers (Serve (Verify form)) input answer
 
--- after an answer nothing is written, or reasons, of which no byte controls a terminal; they don't change how the input
--- was served, unless a write fails
-pub data HowExplained (verified result : Served) (writes_failed : ℕ → Type 0) (before after : Option (List ℕ)) : Type 0
-  where
-    Without : result ≡ verified → writes_failed 0 → before ≡ after
-        → HowExplained verified result writes_failed before after
-    With : (reasons : List ℕ) → IsShowable reasons → HowWritten reasons verified result writes_failed before after
-        → HowExplained verified result writes_failed before after
+-- the reasons of an input as they are shown, so that no byte controls a terminal
+pub record ShowsReasons (ask : Ask) (verified : Served) (input text : List ℕ) : Type 0 where
+  pub told : List ℕ
+  pub reasons : AreReasons ask verified input told
+  pub same : text ≡ shown told
+  pub showable : IsShowable text
 
--- first is written what `verify` answers to what a reader has left, or that memory ran out; then the reasons
-pub record ExplainsInWords (form : UnitForm) (result : Served) (left_before left_after : Option (List ℕ))
-    (reads_failed : ℕ → Type 0) (failed_before failed_after : ℕ) (before after : Option (List ℕ)) : Type 0 where
-  pub verified : Served
-  pub failed_between : ℕ
-  pub between : Option (List ℕ)
-  pub answered : HowServed (AnswersReader (Serve (Verify form)) left_before left_after) verified reads_failed
-      (λ n. failed_between ≡ failed_before + n) before between
-  pub explained : HowExplained verified result (λ n. failed_after ≡ failed_between + n) between after
+-- what `explain` prints of an input: what `verify` answers, and then the reasons; the answer alone, where memory ran
+-- out for them; or where a picture is asked for and the program is accepted, one in place of both
+pub data Explains (ask : Ask) (input : List ℕ) (printed : Answer) : Type 0 where
+  In_words : (answer : Answer) (reasons : List ℕ) → Verifies ask.form input answer
+      → ShowsReasons ask answer.served input reasons
+      → printed ≡ record { served = answer.served; text = answer.text ++ reasons } → Explains ask input printed
+  Without_reasons : Verifies ask.form input printed → Explains ask input printed
+  Drawn : ask.picture ≡ true → (answer : Answer) → Verifies ask.form input answer → answer.served ≡ served.Done
+      → printed.served ≡ served.Done → Explains ask input printed
 
--- a picture in place of what `verify` answers to what a reader has left, which is a program that it accepts
-pub record PicturesReader (form : UnitForm) (left_before left_after : Option (List ℕ)) (picture : Answer) : Type 0 where
-  pub answer : Answer
-  pub answers : AnswersReader (Serve (Verify form)) left_before left_after answer
-  pub accepted : answer.served ≡ served.Done
-  pub done : picture.served ≡ served.Done
-
--- an input is explained in words; or where a picture is asked for, one is written, or that memory ran out
-pub data ExplainsInput (ask : Ask) (result : Served) (left_before left_after : Option (List ℕ)) (reads_failed : ℕ
-    → Type 0)
-    (failed_before failed_after : ℕ) (before after : Option (List ℕ)) : Type 0 where
-  In_words : ExplainsInWords ask.form result left_before left_after reads_failed failed_before failed_after before after
-      → ExplainsInput ask result left_before left_after reads_failed failed_before failed_after before after
-  Drawn : ask.picture ≡ true → HowServed (PicturesReader ask.form left_before left_after) result reads_failed
-      (λ n. failed_after ≡ failed_before + n) before after
-      → ExplainsInput ask result left_before left_after reads_failed failed_before failed_after before after
+-- what it prints of what a reader had left, where that is known, and else of some input; of which no more than one byte
+-- past the limit is read
+pub record ExplainsReader (ask : Ask) (old new : Option (List ℕ)) (printed : Answer) : Type 0 where
+  pub input : List ℕ
+  pub known : IfSome old (λ bytes. input ≡ bytes)
+  pub explains : Explains ask input printed
+  pub read : List ℕ
+  pub to_end : ReadsToEnd old new 3145729 read
 
 -- the words of a command line ask for an explanation of an input; or for help or the version, whose text is written; or
 -- there is no memory for them; or they ask for nothing, and nothing is written to the output
-pub data HowExplainRan (end : ProgramEnd) (left_before left_after : Option (List ℕ)) (reads_failed : ℕ → Type 0)
-    (failed_before failed_after : ℕ) (before after : Option (List ℕ)) : Type 0 where
+pub data HowExplainRan (Is_printed : Ask → Answer → Type 0) (end : ProgramEnd) (reads_failed writes_failed : ℕ → Type 0)
+    (before after : Option (List ℕ)) : Type 0 where
   Explained : (words : List (List ℕ)) (ask : Ask) (result : Served) → Asks words ask → end ≡ ends.Served result
-      → ExplainsInput ask result left_before left_after reads_failed failed_before failed_after before after
-      → HowExplainRan end left_before left_after reads_failed failed_before failed_after before after
+      → HowServed (Is_printed ask) result reads_failed writes_failed before after
+      → HowExplainRan Is_printed end reads_failed writes_failed before after
   Helped : (words : List (List ℕ)) (text : List ℕ) (result : Served) → AsksForHelp explain_app words
-      → end ≡ ends.Served result
-      → HowWritten text served.Done result (λ n. failed_after ≡ failed_before + n) before after
-      → HowExplainRan end left_before left_after reads_failed failed_before failed_after before after
+      → end ≡ ends.Served result → HowWritten text served.Done result writes_failed before after
+      → HowExplainRan Is_printed end reads_failed writes_failed before after
   No_memory : (result : Served) → end ≡ ends.Served result
-      → HowWritten memory_line served.Memory result (λ n. failed_after ≡ failed_before + n) before after
-      → HowExplainRan end left_before left_after reads_failed failed_before failed_after before after
+      → HowWritten memory_line served.Memory result writes_failed before after
+      → HowExplainRan Is_printed end reads_failed writes_failed before after
   No_job : end ≡ ends.Usage → before ≡ after
-      → HowExplainRan end left_before left_after reads_failed failed_before failed_after before after
+      → HowExplainRan Is_printed end reads_failed writes_failed before after

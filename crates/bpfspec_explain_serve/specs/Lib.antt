@@ -1,4 +1,4 @@
-pub mod Recording
 pub mod Asked
 pub mod Showing
+pub mod Reasons
 pub mod Explained

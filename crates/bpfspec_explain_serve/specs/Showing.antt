@@ -17,6 +17,7 @@ shown_byte b =
     if is_control b then (if b == 9 then 32 ∷ [] else 92 ∷ 120 ∷ hex_digit (b / 16) ∷ hex_digit (b % 16) ∷ [])
     else b ∷ []
 
+-- bytes as they are shown
 abbrev pub shown : List ℕ → List ℕ
 shown bytes = flat_map shown_byte bytes
 

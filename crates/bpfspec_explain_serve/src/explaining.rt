@@ -1,143 +1,164 @@
-//! The reasons that follow the answer of `verify`, and the picture in their place.
+//! The reasons that follow the answer of `verify`.
+
+ghost use Rattle.std.specs.Prelude.{◌≡◌, IfOk, MatchResult, Ok, Err};
+ghost use Rattle.std.specs.String.{string_bytes};
+ghost use Rattle.bpfspec_explain_serve.specs.Reasons.{AreReasons, TellsOfLoops, TellsOfMore, TellsOfUnit, TellsText};
+ghost use Rattle.bpfspec_explain_serve.specs.Reasons.{has_more, text_of, wish_of};
 
 use crate::ask::Ask;
 use crate::replaying::replay_reasons;
-use bpfspec_causes::{
-    Wish, causes_of_hex, causes_of_text, picture_of_events, picture_of_hex, picture_of_text,
-};
+use crate::sections::{Sections, sections_of};
+use bpfspec_causes::{Wish, causes_of_hex, causes_of_text};
 use bpfspec_command_line::UnitForm;
 use bpfspec_reasons::{
-    Given, given_reasons_of_hex, given_reasons_of_text, reasons_of_hex, reasons_of_text,
+    Extent, Given, given_reasons_of_hex, given_reasons_of_text, reasons_of_hex, reasons_of_text,
 };
+use bpfspec_serve::{MAX_READ, Served};
 use std::alloc::{AllocError, Global};
 use std::str;
 
-/// The most bytes that an input may have.
-const MAX_INPUT: usize = 3_145_728;
-
-/// The section of an input's unit: all before the first line that is exactly `%%`.
-fn unit_section(input: &str) -> &str {
-    if input == "%%" || input.starts_with("%%\n") {
-        return "";
-    }
-    match input.split_once("\n%%\n") {
-        Some((section, _)) => section,
-        None => input.strip_suffix("\n%%").unwrap_or(input),
-    }
-}
-
-/// What comes after the first line that is exactly `%%`.
-fn after_section(input: &str) -> &str {
-    if let Some(rest) = input.strip_prefix("%%\n") {
-        return rest;
-    }
-    match input.split_once("\n%%\n") {
-        Some((_, rest)) => rest,
-        None => "",
-    }
-}
-
-/// The section of an input's maps: all between the first such line and the next.
-fn maps_section(input: &str) -> &str {
-    unit_section(after_section(input))
-}
-
-/// The section of its events: all after the second such line.
-fn events_section(input: &str) -> &str {
-    after_section(after_section(input))
-}
-
-/// How many elements that conflict are told of a loop at most.
-fn most_elements(all: bool) -> u32 {
-    if all { 64 } else { 1 }
-}
-
-/// Why the loops of an accepted program conflict.
-fn causes(alloc: Global, ask: &Ask, text: &str) -> Result<String, AllocError> {
-    let wish = Wish {
-        argument: ask.argument,
-        test: ask.test,
-        most: most_elements(ask.all),
-    };
-    let section = unit_section(text);
-    let maps = maps_section(text);
-    match ask.form {
-        UnitForm::Assembler => causes_of_text(alloc, &wish, section, maps),
-        UnitForm::Hex => causes_of_hex(alloc, &wish, section, maps),
-    }
-}
-
-/// Why the values of an accepted program's maps, or the events of its replay, aren't taken.
-fn given_reasons(alloc: Global, ask: &Ask, text: &str) -> Result<String, AllocError> {
-    let section = unit_section(text);
-    let given = Given {
-        values: maps_section(text),
-        events: events_section(text),
-    };
-    match ask.form {
-        UnitForm::Assembler => given_reasons_of_text(alloc, section, given),
-        UnitForm::Hex => given_reasons_of_hex(alloc, section, given),
-    }
-}
-
-/// What is said of an input that is no text, by how it begins.
-fn file_words(input: &[u8]) -> Option<&'static str> {
+/// An input as a text, or what is told of one that is none.
+fn text_of(input: &[u8]) -> Result<&str, &'static str>
+    ensures { MatchResult result (λ text. text_of input.now ≡ Ok text.now)
+        (λ words. text_of input.now ≡ Err words.now) }
+{
     if input.starts_with(b"\x7fELF") {
-        return Some("  this is an object of clang: tools/bpfrun or tools/elf2unit reads it\n");
+        return Err("  this is an object of clang: tools/bpfrun or tools/elf2unit reads it\n");
     }
     if input.starts_with(b"\xff\xfe") || input.starts_with(b"\xfe\xff") {
-        return Some(
+        return Err(
             "  the input begins with a byte order mark of UTF-16: save the file as UTF-8 without a mark\n",
         );
     }
-    if input.len() > MAX_INPUT {
-        return Some("  an input has at most 3145728 bytes\n");
+    if input.len() >= MAX_READ {
+        return Err("  an input has at most 3145728 bytes\n");
     }
-    None
+    match str::from_utf8(input) {
+        Ok(text) => Ok(text),
+        Err(_) => Err("  the input isn't UTF-8\n"),
+    }
 }
 
-/// What is written of an input after the answer of `verify`, which has the refusal itself. Memory may run out.
-pub fn reasons(alloc: Global, ask: &Ask, input: &[u8]) -> Result<String, AllocError> {
-    if let Some(words) = file_words(input) {
-        return String::from_str(alloc, words);
+/// Why a unit is refused, and its states, if they are asked for.
+fn unit_reasons(
+    alloc: Global,
+    form: UnitForm,
+    extent: Extent,
+    unit: &str,
+) -> Result<String, AllocError>
+    ensures { IfOk result (λ told. TellsOfUnit form extent unit.now (string_bytes told)) }
+{
+    match form {
+        UnitForm::Assembler => reasons_of_text(alloc, extent, unit),
+        UnitForm::Hex => reasons_of_hex(alloc, extent, unit),
     }
-    let Ok(text) = str::from_utf8(input) else {
-        return String::from_str(alloc, "  the input isn't UTF-8\n");
+}
+
+/// What is wanted of loops.
+fn wish_of(ask: &Ask) -> Wish
+    ensures { result ≡ wish_of ask.now }
+{
+    Wish {
+        argument: ask.argument,
+        test: ask.test,
+        most: if ask.all { 64 } else { 1 },
+    }
+}
+
+/// What the loops of an accepted unit come to.
+fn loop_reasons(
+    alloc: Global,
+    form: UnitForm,
+    wish: &Wish,
+    unit: &str,
+    maps: &str,
+) -> Result<String, AllocError>
+    ensures { IfOk result (λ told. TellsOfLoops form wish.now unit.now maps.now (string_bytes told)) }
+{
+    match form {
+        UnitForm::Assembler => causes_of_text(alloc, wish, unit, maps),
+        UnitForm::Hex => causes_of_hex(alloc, wish, unit, maps),
+    }
+}
+
+/// Whether an accepted unit has sections beside it.
+fn has_more(verified: Served, sections: &Sections<'_>) -> bool
+    ensures { result ≡ has_more verified sections.now.maps.now sections.now.events.now }
+{
+    match verified {
+        Served::Done => !(sections.maps.is_empty() && sections.events.is_empty()),
+        Served::Refused | Served::Text | Served::Memory | Served::Device => false,
+    }
+}
+
+/// Why the values or the events of an accepted unit aren't taken by themselves.
+fn given_reasons(
+    alloc: Global,
+    form: UnitForm,
+    sections: &Sections<'_>,
+) -> Result<String, AllocError> {
+    let given = Given {
+        values: sections.maps,
+        events: sections.events,
     };
-    let section = unit_section(text);
-    let mut out = match ask.form {
-        UnitForm::Assembler => reasons_of_text(alloc, ask.extent, section)?,
-        UnitForm::Hex => reasons_of_hex(alloc, ask.extent, section)?,
-    };
-    out.push_str(causes(alloc, ask, text)?.as_str())?;
-    out.push_str(given_reasons(alloc, ask, text)?.as_str())?;
-    let events = events_section(text);
-    if !events.is_empty() {
-        out.push_str(replay_reasons(alloc, ask, input, events)?.as_str())?;
+    match form {
+        UnitForm::Assembler => given_reasons_of_text(alloc, sections.unit, given),
+        UnitForm::Hex => given_reasons_of_hex(alloc, sections.unit, given),
+    }
+}
+
+/// Why the values or the events of an input aren't taken, if an accepted unit has some.
+fn more_reasons(
+    alloc: Global,
+    ask: &Ask,
+    verified: Served,
+    input: &[u8],
+    sections: &Sections<'_>,
+) -> Result<String, AllocError>
+    ensures { IfOk result (λ told. TellsOfMore (has_more verified sections.now.maps.now sections.now.events.now)
+        (string_bytes told)) }
+{
+    if !has_more(verified, sections) {
+        return Ok(String::new(alloc));
+    }
+    let mut out = given_reasons(alloc, ask.form, sections)?;
+    if !sections.events.is_empty() {
+        out.push_str(&replay_reasons(alloc, ask, input, sections.events)?)?;
     }
     Ok(out)
 }
 
-/// The first loop that conflicts as an SVG, if one does.
-fn picture_of_loops(alloc: Global, ask: &Ask, text: &str) -> Result<Option<String>, AllocError> {
-    let section = unit_section(text);
-    let maps = maps_section(text);
-    match ask.form {
-        UnitForm::Assembler => picture_of_text(alloc, ask.argument, ask.test, section, maps),
-        UnitForm::Hex => picture_of_hex(alloc, ask.argument, ask.test, section, maps),
-    }
+/// What is told of an input that is this text.
+fn text_reasons(
+    alloc: Global,
+    ask: &Ask,
+    verified: Served,
+    input: &[u8],
+    text: &str,
+) -> Result<String, AllocError>
+    ensures { IfOk result (λ told. TellsText ask.now verified text.now (string_bytes told)) }
+{
+    let sections = sections_of(text);
+    let wish = wish_of(ask);
+    let mut out = unit_reasons(alloc, ask.form, ask.extent, sections.unit)?;
+    let loops = loop_reasons(alloc, ask.form, &wish, sections.unit, sections.maps)?;
+    out.push_str(&loops)?;
+    let more = more_reasons(alloc, ask, verified, input, &sections)?;
+    out.push_str(&more)?;
+    Ok(out)
 }
 
-/// The picture of an input, as an SVG: of its events, if it has any; else of its first loop that conflicts, if one
-/// does.
-/// Memory may run out.
-pub fn picture(alloc: Global, ask: &Ask, input: &[u8]) -> Result<Option<String>, AllocError> {
-    let Ok(text) = str::from_utf8(input) else {
-        return Ok(None);
-    };
-    let events = picture_of_events(alloc, events_section(text))?;
-    if events.is_some() {
-        return Ok(events);
+/// What is told of an input after the answer of `verify`, which serves it so. Memory may run out.
+pub(crate) fn reasons(
+    alloc: Global,
+    ask: &Ask,
+    verified: Served,
+    input: &[u8],
+) -> Result<String, AllocError>
+    ensures { IfOk result (λ told. AreReasons ask.now verified input.now (string_bytes told)) }
+{
+    match text_of(input) {
+        Ok(text) => text_reasons(alloc, ask, verified, input, text),
+        Err(words) => String::from_str(alloc, words),
     }
-    picture_of_loops(alloc, ask, text)
 }

@@ -2,7 +2,7 @@
 //! `verify` answers to an input, and then the reasons; or a picture of the first loop that conflicts.
 //!
 //! ```text
-//! let mut input = Recorded::new(alloc, Counted::new(b"maps 1\nexit\n".as_slice()));
+//! let mut input = Counted::new(b"maps 1\nexit\n".as_slice());
 //! let mut output = Counted::new(Vec::new(alloc));
 //! let ask = Ask {
 //!     form: UnitForm::Assembler,
@@ -23,8 +23,8 @@ mod drawing;
 mod explaining;
 mod faults;
 mod program;
-mod recorded;
 mod replaying;
+mod sections;
 mod serving;
 mod showing;
 
@@ -32,7 +32,5 @@ pub use ask::Ask;
 pub use bpfspec_reasons::Extent;
 pub use bpfspec_serve::{Counted, Served, Sink, Source, Test, UnitForm};
 pub use command_line::read_words;
-pub use explaining::{picture, reasons};
 pub use program::run;
-pub use recorded::Recorded;
-pub use serving::explain;
+pub use serving::{explain, explain_input};

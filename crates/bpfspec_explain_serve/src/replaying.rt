@@ -2,25 +2,9 @@
 
 use crate::ask::Ask;
 use bpf_text::parse_events;
-use bpfspec_serve::{Counted, Mode, Served, serve};
+use bpfspec_serve::{Mode, answer_input};
 use loop_core_event::{Event, EventKind};
 use std::alloc::{AllocError, Global};
-use std::str;
-
-/// What `replay` answers to an input.
-fn answer_of(alloc: Global, ask: &Ask, input: &[u8]) -> Result<Vec<u8>, AllocError> {
-    let mode = Mode::Replay {
-        form: ask.form,
-        arg: ask.argument,
-        test: ask.test,
-    };
-    let mut source = Counted::new(input);
-    let mut sink = Counted::new(Vec::new(alloc));
-    match serve(alloc, &mode, &mut source, &mut sink) {
-        Served::Memory | Served::Device => Err(AllocError),
-        Served::Done | Served::Refused | Served::Text => Ok(sink.into_inner()),
-    }
-}
 
 /// Adds which bound is below the one before it.
 fn write_falling(out: &mut String, bounds: &[u32]) -> Result<(), AllocError> {
@@ -177,11 +161,13 @@ pub(crate) fn replay_reasons(
     events: &str,
 ) -> Result<String, AllocError> {
     let mut out = String::new(alloc);
-    let answer = answer_of(alloc, ask, input)?;
-    let Ok(answer) = str::from_utf8(&answer) else {
-        return Ok(out);
+    let mode = Mode::Replay {
+        form: ask.form,
+        arg: ask.argument,
+        test: ask.test,
     };
-    let Some(refusal) = answer.trim_end().strip_prefix("refused ") else {
+    let answer = answer_input(alloc, &mode, input)?;
+    let Some(refusal) = answer.text.trim_end().strip_prefix("refused ") else {
         return Ok(out);
     };
     if !is_of_replay(refusal) {

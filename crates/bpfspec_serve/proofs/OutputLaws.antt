@@ -39,7 +39,7 @@ reads_text input few utf8 =
     sym (short input few ∙ ap (λ (b : Bool). if b then Ok input
     else refused (refusals.Text text_faults.Form sections.Unit 0)) (is_utf8-from_IsUtf8 input utf8))
 
-not_utf8 : (input : List ℕ) (b : Bool) → is_utf8 input ≡ b → ¬ IsUtf8 input → b ≡ false
+pub not_utf8 : (input : List ℕ) (b : Bool) → is_utf8 input ≡ b → ¬ IsUtf8 input → b ≡ false
 not_utf8 input false same other = refl
 not_utf8 input true same other = absurd (other (IsUtf8-from_is_utf8 input same))
 

@@ -28,5 +28,7 @@ pub use bpfspec_streams::{
 pub use loop_core_split::{Gate, NoGate};
 pub use program::run;
 pub use program_end::{ProgramEnd, exit_status};
-pub use serving::{Served, serve, serve_run};
+pub use reading::MAX_READ;
+pub use sections::{Parted, part};
+pub use serving::{Answer, Served, answer_input, serve, serve_run, write};
 pub use spec_run::{Observer, Stats, Unobserved};

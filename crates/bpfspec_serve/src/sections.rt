@@ -38,7 +38,7 @@ fn line_length(text: &[u8]) -> usize
 }
 
 /// The section at the front of a text, and what comes after its mark.
-pub(crate) fn part(text: &str) -> Parted<'_>
+pub fn part(text: &str) -> Parted<'_>
     ensures section { result.section.now ≡ before_mark (whole_lines text.now) }
     ensures rest { whole_lines result.rest.now ≡ behind_mark (whole_lines text.now) }
     ensures text { result.rest.now ≡ concat (behind_mark (whole_lines text.now)) }

@@ -4,7 +4,7 @@ ghost use Rattle.std.specs.Prelude.{◌≡◌, ◌+◌, ◌-◌, ◌^◌, ◌<�
 ghost use Rattle.std.specs.String.{string_bytes};
 ghost use Rattle.bpfspec_command_line.specs.declared.job.Job.TheVariants.{Serve, Run};
 ghost use Rattle.bpfspec_serve.specs.HowServed.{AnswersReader, HowWritten, HowServed};
-ghost use Rattle.bpfspec_serve.specs.Output.{refused_as, AnswerTells};
+ghost use Rattle.bpfspec_serve.specs.Output.{refused_as, AnswerTells, Answers};
 ghost use Rattle.bpfspec_streams.specs.Streams.{ConsumesAtMost};
 
 use crate::answer_error::AnswerError;
@@ -35,9 +35,11 @@ pub enum Served {
 
 /// An answer: its text, and how it is served once that is written.
 #[derive(Drop)]
-struct Answer {
-    served: Served,
-    text: String,
+pub struct Answer {
+    /// How the input is served.
+    pub served: Served,
+    /// The text.
+    pub text: String,
 }
 
 /// How a refusal is served.
@@ -70,8 +72,18 @@ fn answer_to(alloc: Global, outcome: Result<String, AnswerError>) -> Result<Answ
     }
 }
 
+/// The answer to an input in a mode. Memory may run out.
+pub fn answer_input(alloc: Global, mode: &Mode, input: &[u8]) -> Result<Answer, AllocError>
+    ensures { IfOk result (λ answer. Answers (Serve mode.now) input.now (record {
+      served = answer.served;
+      text = string_bytes answer.text;
+    })) }
+{
+    answer_to(alloc, outcome(alloc, mode, input))
+}
+
 /// Writes a text, and returns how it was served: as wanted, unless a write failed.
-pub(crate) fn write<W: Sink>(sink: &mut W, text: &[u8], wanted: Served) -> Served
+pub fn write<W: Sink>(sink: &mut W, text: &[u8], wanted: Served) -> Served
     requires { W.failed sink.old < 2 ^ 64 - 1 }
     ensures { HowWritten text.now wanted result (λ n. W.failed sink.new ≡ W.failed sink.old + n)
         (W.taken sink.old) (W.taken sink.new) }

@@ -1,18 +1,16 @@
-use Rattle.std.proofs.Common.{arith}
-use Rattle.bpfspec_explain_serve.proofs.ExplainLaws.{no-failure}
+use Rattle.std.specs.String.{string_bytes}
+use Rattle.bpfspec_explain_serve.proofs.ExplainLaws.{told_in_words, broken_off}
 use Rattle.bpfspec_explain_serve.proofs.serving.explain_in_words.Goals as goal
 
-pub write_reasons-requires : goal.write_reasons-requires
-write_reasons-requires g c answered =
-    let fine = no-failure _ c.serve-verified.result _ (g.W.Sink.failed c.args.sink.now)
-    (g.W.Sink.failed c.serve-verified.new.sink) _ _ c.serve-verified.ensures.answer answered in
-    omega (arith, fine, c.requires.writes)
+pub returns-in-Ok : goal.returns-in-Ok
+returns-in-Ok g c =
+    told_in_words c.args.ask.now c.args.input.now (string_bytes c.args.verified.now.text) c.as_bytes.result.now
+    c.args.verified.now.served c.write_reasons.result _ _ _ _ _ _ c.shown_reasons-reasons.result c.requires.answers
+    c.as_bytes.ensures.value c.in-Ok.ensures.whole c.in-Ok.ensures.ok c.shown_reasons-reasons.ensures
+    c.write_reasons.ensures
 
-pub returns : goal.returns
-returns g c = record {
-  verified = c.serve-verified.result;
-  failed_between = g.W.Sink.failed c.serve-verified.new.sink;
-  between = g.W.Sink.taken c.serve-verified.new.sink;
-  answered = c.serve-verified.ensures.answer;
-  explained = c.write_reasons.ensures;
-}
+pub returns-in-Err : goal.returns-in-Err
+returns-in-Err g c =
+    broken_off c.args.ask.now c.args.input.now (string_bytes c.args.verified.now.text) c.as_bytes.result.now
+    c.args.verified.now.served _ _ _ _ c.requires.answers c.as_bytes.ensures.value c.in-Err.ensures.err
+    c.in-Err.ensures.beginning

@@ -1,10 +1,10 @@
-use Rattle.std.proofs.Common.{sym, subst}
 use Rattle.std.proofs.lemmas.Result.{IfOk-weaker}
-use Rattle.bpfspec_explain_serve.specs.Showing.{IsShowable}
-use Rattle.bpfspec_explain_serve.proofs.ShowingLaws.{shown-showable}
+use Rattle.std.specs.String.{string_bytes}
+use Rattle.bpfspec_explain_serve.proofs.ReasonLaws.{shows}
 use Rattle.bpfspec_explain_serve.proofs.serving.shown_reasons.Goals as goal
 
 pub returns : goal.returns
 returns c =
-    IfOk-weaker c.shown.result _ _ (λ bytes is. subst IsShowable (sym is) (shown-showable c.as_bytes.result.now))
-    c.shown.ensures
+    IfOk-weaker c.shown.result _ _
+    (λ bytes is. shows c.args.ask.now c.args.verified c.args.input.now (string_bytes c.in_ok-text.text)
+    c.as_bytes.result.now bytes.items c.in_ok-text.ensures c.as_bytes.ensures.value is) c.shown.ensures
