@@ -14,7 +14,9 @@ use Rattle.loop_core_model.specs.Flags.{kind_of}
 use Rattle.loop_core_model.specs.Kept.{OperatorsAssociate}
 use Rattle.loop_core_batch.specs.declared.site.Site.{Site}
 use Rattle.loop_core_batch.specs.Lanes.{words_after_lanes}
-use Rattle.loop_core_batch.specs.Sites.{Log, with_access, of_lane, MayAccess, kind_leaves, IsAtSite, IsLogOf}
+use Rattle.loop_core_batch.specs.declared.elements.Elements.{Elements}
+use Rattle.loop_core_batch.specs.Sites.{Log, with_access, of_lane, MayAccess, MayMeet, HalvesMeet, kind_sees}
+use Rattle.loop_core_batch.specs.Sites.{kind_leaves, Unseen, IsAtSite, IsLogOf}
 use Rattle.loop_core_batch.specs.BySite.{words_after_any, words_after_some, words_after_sites, by_one_operator, Commute}
 use Rattle.loop_core_batch.specs.BySite.{SitesApply}
 use Rattle.loop_core_batch.specs.LoopByBatch.{LoopBySites}
@@ -117,10 +119,21 @@ one_operator_swap laws (Reduce op x) (Reduce other y) d e h =
     (record { element = e; action = Reduce o y })) (same_op op other h) (reduces_swap laws op d e x y)
 one_operator_swap laws _ _ d e h = absurd (cc)
 
+-- what may not meet by elements and halves may not by elements, where halves are told only where that is known
+apart_by_elements : (Meet Sees : Type 0) (lanes : ℕ) (halves others : Option Elements)
+    → ¬ (Meet × HalvesMeet others halves lanes) → IfSome halves (λ told. Sees) → (Sees → ¬ Meet) → ¬ Meet
+apart_by_elements Meet Sees lanes None None none sees unseen meet = none (meet, tt)
+apart_by_elements Meet Sees lanes None (Some other) none sees unseen meet = none (meet, tt)
+apart_by_elements Meet Sees lanes (Some half) None none sees unseen meet = none (meet, tt)
+apart_by_elements Meet Sees lanes (Some half) (Some other) none sees unseen meet = unseen sees meet
+
 module _ (laws : OperatorsAssociate) (lanes : ℕ) where
-  -- accesses at sites that commute may change places, the later lane's at the first with the earlier lane's at the
-  -- second
-  sites_swap : (first second : Site) (a b : Access) (later earlier : ℕ) → Commute lanes first second → earlier < later
+  -- the first of two sites commutes with the second, and doesn't see what that writes
+  abbrev pub CommuteUnseen : (first second : Site) → Type 0
+  CommuteUnseen first second = Commute lanes first second × Unseen lanes second first
+
+  -- accesses at such sites may change places, the later lane's at the first with the earlier lane's at the second
+  sites_swap : (first second : Site) (a b : Access) (later earlier : ℕ) → CommuteUnseen first second → earlier < later
       → later < lanes →
       IsAtSite first later a → IsAtSite second earlier b → Swap a b
   sites_swap first second a b later earlier commute order within at_first at_second =
@@ -139,7 +152,9 @@ module _ (laws : OperatorsAssociate) (lanes : ℕ) where
           (ap (by_one_operator (kind_of a.action)) at_second.kind
           ∙ ap (λ (kind : Kind). by_one_operator kind second.kind) at_first.kind ∙ alike_is)
       go true true false one_is two_is alike_is =
-          apart_swap a b (λ same. commute one_is two_is alike_is (record {
+          apart_swap a b (λ same. apart_by_elements (MayMeet second.elements first.elements lanes)
+          (kind_sees first.kind ≡ true) lanes first.halves second.halves (commute.0 one_is two_is alike_is)
+          at_first.sees (commute.1 two_is) (record {
             earlier = earlier;
             later = later;
             element = b.element;
@@ -150,7 +165,7 @@ module _ (laws : OperatorsAssociate) (lanes : ℕ) where
           }))
 
   -- so of those that may not be there
-  any_swap : (first second : Site) (a b : Option Access) (later earlier : ℕ) → Commute lanes first second
+  any_swap : (first second : Site) (a b : Option Access) (later earlier : ℕ) → CommuteUnseen first second
       → earlier < later → later < lanes → IfSome a (IsAtSite first later) → IfSome b (IsAtSite second earlier)
       → IfSome a (λ access. IfSome b (Swap access))
   any_swap first second None b later earlier commute order within at_first at_second = tt
@@ -173,7 +188,7 @@ module _ (laws : OperatorsAssociate) (lanes : ℕ) where
   goes_first : (site : Site) (at : ℕ → Option Access)
       → ((lane : ℕ) → lane < lanes → IfSome (at lane) (IsAtSite site lane))
       → (sites : List Site) (log : Log) → IsLogOf lanes sites log →
-      AllByRecursion (Commute lanes site) sites → GoesFirst at log lanes
+      AllByRecursion (CommuteUnseen site) sites → GoesFirst at log lanes
   goes_first site at told [] [] tells all later earlier order within = none_behind (at later)
   goes_first site at told [] (other ∷ log) tells all later earlier order within = absurd tells
   goes_first site at told (other ∷ sites) [] tells all later earlier order within = absurd tells
@@ -184,24 +199,26 @@ module _ (laws : OperatorsAssociate) (lanes : ℕ) where
       (tells.0 earlier (omega arith)))
       (goes_first site at told sites log tells.1 all.1 later earlier order within)
 
-  each_goes_first : (sites : List Site) (log : Log) → IsLogOf lanes sites log → AllPairs (Commute lanes) sites
+  each_goes_first : (sites : List Site) (log : Log) → IsLogOf lanes sites log → AllPairs CommuteUnseen sites
       → EachGoesFirst log lanes
   each_goes_first [] [] tells all = tt
   each_goes_first [] (at ∷ log) tells all = absurd tells
   each_goes_first (site ∷ sites) [] tells all = absurd tells
   each_goes_first (site ∷ sites) (at ∷ log) tells all = (
-    goes_first site at tells.0 sites log tells.1 (recursion_from_All (Commute lanes site) sites
+    goes_first site at tells.0 sites log tells.1 (recursion_from_All (CommuteUnseen site) sites
         (λ k d inside. all 0 (suc k) d (omega arith) (omega arith))),
     each_goes_first sites log tells.1 (λ i j d order inside. all (suc i) (suc j) d (omega arith) (omega arith)),
   )
 
 pub sites_apply : OperatorsAssociate → SitesApply
-sites_apply laws lanes sites log tells commute words =
-    site_by_site log lanes (each_goes_first laws lanes sites log tells commute) words
+sites_apply laws lanes sites log tells unseen commute words =
+    site_by_site log lanes (each_goes_first laws lanes sites log tells
+    (λ i j d order inside. (commute i j d order inside, unseen j d inside i d (omega (arith, order, inside))))) words
 
 -- so a loop by sites
 pub loop_by_sites : OperatorsAssociate → LoopBySites
 loop_by_sites laws program bound call first lanes left words sites log goes_on told unseen commute =
     loop_by_batch program bound call first lanes left words (of_lane log) goes_on (sites_tell lanes sites log told
     unseen)
-    ∙ ap (loop_from program bound call left (first + lanes)) (sym (sites_apply laws lanes sites log told commute words))
+    ∙ ap (loop_from program bound call left (first + lanes)) (sym (sites_apply laws lanes sites log told unseen
+    commute words))

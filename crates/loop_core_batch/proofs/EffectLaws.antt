@@ -1,15 +1,16 @@
 -- The effects of lanes: one lane after another they are the loop in order, and sites that commute are applied one after
 -- another.
-use Rattle.std.proofs.Common.{◌≡◌, ◌≢◌, ℕ, zero, suc, ◌+◌, ◌<◌, ◌≤◌, Bool, true, false, List, length}
-use Rattle.std.specs.Prelude.{Option, Some, None, IfSome, slice_index}
-use Rattle.std.proofs.Common.{[], ◌∷◌, set, get_or, refl, sym, ◌∙◌, ap, subst, arith}
+use Rattle.std.proofs.Common.{◌≡◌, ◌≢◌, ℕ, zero, suc, ◌+◌, ◌<◌, ◌≤◌, Bool, true, false, inl, inr, List}
+use Rattle.std.specs.Prelude.{Option, Some, None, IfSome}
+use Rattle.std.proofs.Common.{[], ◌∷◌, refl, sym, ◌∙◌, ap, subst, arith}
 use Rattle.std.specs.List.{All, AllByRecursion, AllPairs}
-use Rattle.std.proofs.lemmas.List.{get_or-set_other, set-get_or}
+use Rattle.std.proofs.lemmas.Bool.{cases_eq}
 use Rattle.std.proofs.lemmas.List.Elements.{recursion_from_All}
+use Rattle.array_maps.specs.declared.access.Half.{Half}
 use Rattle.array_maps.specs.declared.access.Op.{Op}
-use Rattle.array_maps.specs.Accesses.{Access, left_by, words_after_all}
+use Rattle.array_maps.specs.declared.access.Part.TheVariants.{Half as Of}
+use Rattle.array_maps.specs.Accesses.{Access, left_by}
 use Rattle.array_maps.specs.MapList.{AreWords}
-use Rattle.array_maps.proofs.ElementLaws.{length-words_after_all}
 use Rattle.bpf_insn_types.specs.Program.{Program}
 use Rattle.bpf_step_model.specs.State.{LoopCall}
 use Rattle.bpf_step_model.specs.LoopInOrder.{loop_from}
@@ -17,34 +18,25 @@ use Rattle.loop_core_model.proofs.OneElement.{same_op}
 use Rattle.loop_core_model.specs.declared.access.Access.{Access as Kind}
 use Rattle.loop_core_model.specs.Kept.{OperatorsAssociate}
 use Rattle.loop_core_batch.specs.declared.site.Site.{Site}
-use Rattle.loop_core_batch.specs.Sites.{MayAccess, kind_leaves}
+use Rattle.loop_core_batch.specs.declared.elements.Elements.{Elements}
+use Rattle.loop_core_batch.specs.Sites.{MayAccess, MayMeet, HalvesMeet, kind_leaves}
 use Rattle.loop_core_batch.specs.BySite.{by_one_operator, Commute, AllCommute}
-use Rattle.loop_core_batch.specs.Effects.{Deed, Load, Store, Fetch, Change, Apply, action_on, kind_of_deed, Effect}
+use Rattle.loop_core_batch.specs.Effects.{Deed, Apply, action_on, kind_of_deed, deed_part, Effect, IsOfHalf}
 use Rattle.loop_core_batch.specs.Effects.{words_after_effect, accesses_on, words_after_effects, EffectLog, with_effect}
 use Rattle.loop_core_batch.specs.Effects.{effects_of, words_after_any_effect, words_after_lane_effects}
-use Rattle.loop_core_batch.specs.Effects.{words_after_site_effects, words_after_each_lane, LoadsSame, IsEffectAtSite}
-use Rattle.loop_core_batch.specs.Effects.{IsEffectLogOf}
-use Rattle.loop_core_batch.specs.Effects.{deed_loads, site_loads, Unloaded, AllUnloaded}
+use Rattle.loop_core_batch.specs.Effects.{words_after_site_effects, words_after_each_lane, SameIfLoaded, LoadsSame}
+use Rattle.loop_core_batch.specs.Effects.{IsEffectAtSite, IsEffectLogOf, site_loads, Unloaded, AllUnloaded}
 use Rattle.loop_core_batch.specs.LoopByBatch.{EndsInZero}
 use Rattle.loop_core_batch.specs.LoopByEffects.{GoesOn, LoopByEffects, LoopByEachLane}
 use Rattle.loop_core_batch.proofs.BatchLaws.{loop_by_batch}
-use Rattle.loop_core_batch.proofs.Swapping.{other_place, reduces_swap}
+use Rattle.loop_core_batch.proofs.Swapping.{other_place, same_place, reduces_swap}
+use Rattle.loop_core_batch.proofs.Sparing.{keeps, accesses_leave, length-before, Spares, alone_spares, half_spares}
+use Rattle.loop_core_batch.proofs.Sparing.{spared_before, fits_for, word_fits, deeds_exchange, unmet_halves}
 
 -- two effects leave the same in either order
 abbrev pub Exchange : Effect → Effect → Type 0
 Exchange a b = (words : List ℕ) → words_after_effect a (words_after_effect b words)
     ≡ words_after_effect b (words_after_effect a words)
-
--- accesses leave what the effects leave
-pub accesses_leave : (effects : List Effect) (words : List ℕ) → words_after_all (accesses_on words effects) words
-    ≡ words_after_effects effects words
-accesses_leave [] words = refl
-accesses_leave (effect ∷ effects) words = accesses_leave effects (words_after_effect effect words)
-
-pub length-after_effects : (effects : List Effect) (words : List ℕ) → length (words_after_effects effects words)
-    ≡ length words
-length-after_effects effects words =
-    sym (ap length (accesses_leave effects words)) ∙ length-words_after_all (accesses_on words effects) words
 
 -- an effect that may change places with each of a list goes after them
 past_all : (a : Effect) (others : List Effect) → AllByRecursion (Exchange a) others → (words : List ℕ)
@@ -126,19 +118,6 @@ site_by_site [] lanes each words = nothing_left lanes words
 site_by_site (at ∷ log) lanes each words = site_by_site log lanes each.1 (words_after_lane_effects at lanes words)
     ∙ first_site at log lanes each.0 words
 
--- what leaves no word by its kind leaves all as it was
-kind_keeps : (deed : Deed) (word : ℕ) → kind_leaves (kind_of_deed deed) ≡ false → left_by (action_on deed word) word
-    ≡ word
-kind_keeps Load word h = refl
-kind_keeps (Store left) word h = absurd (cc)
-kind_keeps (Fetch left) word h = absurd (cc)
-kind_keeps (Change left) word h = absurd (cc)
-kind_keeps (Apply op operand) word h = absurd (cc)
-
-keeps : (a : Effect) → kind_leaves (kind_of_deed a.deed) ≡ false → (words : List ℕ) → words_after_effect a words ≡ words
-keeps a h words = ap (set words a.element) (kind_keeps a.deed (get_or words a.element 0) h)
-    ∙ set-get_or words a.element 0
-
 first_keeps : (a b : Effect) → kind_leaves (kind_of_deed a.deed) ≡ false → Exchange a b
 first_keeps a b h words = keeps a h (words_after_effect b words) ∙ sym (ap (words_after_effect b) (keeps a h words))
 
@@ -151,6 +130,17 @@ apart_exchange a b apart words =
     other_place (λ (word : ℕ). left_by (action_on a.deed word) word) (λ (word : ℕ). left_by (action_on b.deed word) word)
     words a.element b.element apart
 
+-- two that replace different halves of one element
+halves_exchange : (a b : Effect) (half other : Half) → a.element ≡ b.element → half ≢ other
+    → deed_part a.deed ≡ Of half → deed_part b.deed ≡ Of other → kind_leaves (kind_of_deed a.deed) ≡ true
+    → kind_leaves (kind_of_deed b.deed) ≡ true → Exchange a b
+halves_exchange a b half other same differ is other_is leaves other_leaves words =
+    subst (λ (e : ℕ). words_after_effect (record { element = e; deed = a.deed }) (words_after_effect b words)
+    ≡ words_after_effect b (words_after_effect (record { element = e; deed = a.deed }) words)) (sym same)
+    (same_place (λ (word : ℕ). left_by (action_on a.deed word) word)
+    (λ (word : ℕ). left_by (action_on b.deed word) word)
+    (deeds_exchange a.deed b.deed half other differ is other_is leaves other_leaves) words b.element)
+
 -- two by one operator
 operators_exchange : OperatorsAssociate → (a b : Deed) (d e : ℕ)
     → by_one_operator (kind_of_deed a) (kind_of_deed b) ≡ true
@@ -159,6 +149,22 @@ operators_exchange laws (Apply op x) (Apply other y) d e h =
     subst (λ (o : Op). Exchange (record { element = d; deed = Apply op x })
     (record { element = e; deed = Apply o y })) (same_op op other h) (reduces_swap laws op d e x y)
 operators_exchange laws _ _ d e h = absurd (cc)
+
+-- so where the later lane's and the earlier lane's may not meet, by elements and halves
+unmet_exchange : (lanes : ℕ) (a b : Effect) (later earlier : ℕ) → earlier < later → later < lanes
+    → (firsts seconds : Elements) (halves others : Option Elements) → MayAccess firsts later a.element
+    → MayAccess seconds earlier b.element → IfSome halves (IsOfHalf later a) → IfSome others (IsOfHalf earlier b)
+    → kind_leaves (kind_of_deed a.deed) ≡ true → kind_leaves (kind_of_deed b.deed) ≡ true
+    → ¬ (MayMeet seconds firsts lanes × HalvesMeet others halves lanes) → Exchange a b
+unmet_exchange lanes a b later earlier order within firsts seconds halves others may other_may of_half of_other leaves
+    other_leaves unmet = elim (cases_eq a.element b.element) [
+      | inr apart ↦ apart_exchange a b apart
+      | inl same ↦ unmet_halves lanes b a earlier later order within seconds firsts others halves (sym same) other_may
+          may
+          of_other of_half unmet (Exchange a b)
+          (λ other half differ is_other is_half. halves_exchange a b half other same (λ alike. differ (sym alike)) is_half
+          is_other leaves other_leaves)
+    ]
 
 module _ (laws : OperatorsAssociate) (lanes : ℕ) where
   -- effects at sites that commute may change places, the later lane's at the first with the earlier lane's at the
@@ -180,15 +186,10 @@ module _ (laws : OperatorsAssociate) (lanes : ℕ) where
           (ap (by_one_operator (kind_of_deed a.deed)) at_second.kind
           ∙ ap (λ (kind : Kind). by_one_operator kind second.kind) at_first.kind ∙ alike_is)
       go true true false one_is two_is alike_is =
-          apart_exchange a b (λ same. commute one_is two_is alike_is (record {
-            earlier = earlier;
-            later = later;
-            element = b.element;
-            in_order = order;
-            within = within;
-            by_first = at_second.element;
-            by_second = subst (λ (e : ℕ). MayAccess first.elements later e) same at_first.element;
-          }))
+          unmet_exchange lanes a b later earlier order within first.elements second.elements first.halves
+          second.halves at_first.element at_second.element at_first.halves at_second.halves
+          (ap kind_leaves at_first.kind ∙ one_is) (ap kind_leaves at_second.kind ∙ two_is)
+          (commute one_is two_is alike_is)
 
   -- so of those that may not be there
   any_swap : (first second : Site) (a b : Option Effect) (later earlier : ℕ) → Commute lanes first second
@@ -242,86 +243,59 @@ effects_apply : OperatorsAssociate → (lanes : ℕ) (sites : List Site) (log : 
 effects_apply laws lanes sites log tells commute words =
     site_by_site log lanes (each_goes_first laws lanes sites log tells commute) words
 
--- an effect doesn't change an element
-abbrev pub LeavesAlone : (element : ℕ) → Effect → Type 0
-LeavesAlone element effect = kind_leaves (kind_of_deed effect.deed) ≡ true → effect.element ≢ element
-
-still_one : (effect : Effect) (words : List ℕ) (element : ℕ) → LeavesAlone element effect
-    → get_or (words_after_effect effect words) element 0 ≡ get_or words element 0
-still_one effect words element alone = go (kind_leaves (kind_of_deed effect.deed)) refl
-  where
-    go : (leaves : Bool) → kind_leaves (kind_of_deed effect.deed) ≡ leaves
-        → get_or (words_after_effect effect words) element 0 ≡ get_or words element 0
-    go false none = ap (λ (ws : List ℕ). get_or ws element 0) (keeps effect none words)
-    go true leaves = get_or-set_other words effect.element element _ 0 (λ same. alone leaves (sym same))
-
-pub still_after : (effects : List Effect) (words : List ℕ) (element : ℕ)
-    → AllByRecursion (LeavesAlone element) effects
-    → get_or (words_after_effects effects words) element 0 ≡ get_or words element 0
-still_after [] words element all = refl
-still_after (effect ∷ effects) words element all =
-    still_after effects (words_after_effect effect words) element all.1 ∙ still_one effect words element all.0
-
--- before a lane an element is as it was, where no earlier one changes it
-pub before_lane : (log : EffectLog) (words : List ℕ) (lane element : ℕ)
-    → ((earlier : ℕ) → earlier < lane → AllByRecursion (LeavesAlone element) (effects_of log earlier))
-    → get_or (words_after_each_lane log lane words) element 0 ≡ get_or words element 0
-before_lane log words zero element alone = refl
-before_lane log words (suc lane) element alone =
-    still_after (effects_of log lane) (words_after_each_lane log lane words) element (alone lane (omega arith))
-    ∙ before_lane log words lane element (λ earlier below. alone earlier (omega arith))
-
-pub length-before : (log : EffectLog) (words : List ℕ) (lane : ℕ) → length (words_after_each_lane log lane words) ≡ length words
-length-before log words zero = refl
-length-before log words (suc lane) =
-    length-after_effects (effects_of log lane) (words_after_each_lane log lane words) ∙ length-before log words lane
-
 module _ (lanes : ℕ) where
-  -- an earlier lane leaves an element alone that a later one loads at a site
-  module _ (reader : Site) (earlier later element : ℕ) (order : earlier < later) (within : later < lanes)
-      (loads : site_loads reader ≡ true) (may : MayAccess reader.elements later element) where
-    one_alone : (writer : Site) (made : Option Effect) (rest : List Effect)
-        → IfSome made (IsEffectAtSite writer earlier) → Unloaded lanes reader writer
-        → AllByRecursion (LeavesAlone element) rest → AllByRecursion (LeavesAlone element) (with_effect made rest)
-    one_alone writer None rest is unloaded all = all
-    one_alone writer (Some effect) rest is unloaded all = (
-      λ leaves same. unloaded (sym (ap kind_leaves is.kind) ∙ leaves) loads (record {
-        earlier = earlier;
-        later = later;
-        element = element;
-        in_order = order;
-        within = within;
-        by_first = subst (MayAccess writer.elements earlier) same is.element;
-        by_second = may;
-      }),
-      all,
-    )
+  -- an earlier lane spares what a later one loads at a site
+  module _ (reader : Site) (reading : Effect) (earlier later : ℕ) (order : earlier < later) (within : later < lanes)
+      (loads : site_loads reader ≡ true) (is_read : IsEffectAtSite reader later reading) where
+    abbrev pub SparesIt : Effect → Type 0
+    SparesIt effect = Spares reading.element (deed_part reading.deed) effect
 
-    all_alone : (sites : List Site) (log : EffectLog) → IsEffectLogOf lanes sites log
-        → AllByRecursion (Unloaded lanes reader) sites
-        → AllByRecursion (LeavesAlone element) (effects_of log earlier)
-    all_alone [] [] told unloaded = tt
-    all_alone [] (at ∷ log) told unloaded = absurd told
-    all_alone (writer ∷ sites) [] told unloaded = absurd told
-    all_alone (writer ∷ sites) (at ∷ log) told unloaded =
-        one_alone writer (at earlier) (effects_of log earlier) (told.0 earlier (omega (arith, order, within)))
-        unloaded.0 (all_alone sites log told.1 unloaded.1)
+    one_spared : (writer : Site) (effect : Effect) → IsEffectAtSite writer earlier effect
+        → Unloaded lanes reader writer → SparesIt effect
+    one_spared writer effect is unloaded = go (kind_leaves (kind_of_deed effect.deed)) refl
+      where
+        go : (leaves : Bool) → kind_leaves (kind_of_deed effect.deed) ≡ leaves → SparesIt effect
+        go false none = alone_spares effect reading.element (deed_part reading.deed)
+            (λ yes same. let never : ⊥ = cc in absurd never)
+        go true leaves = elim (cases_eq effect.element reading.element) [
+          | inr apart ↦ alone_spares effect reading.element (deed_part reading.deed) (λ yes. apart)
+          | inl same ↦ unmet_halves lanes effect reading earlier later order within writer.elements reader.elements
+              writer.halves reader.halves same is.element is_read.element is.halves is_read.halves
+              (unloaded (sym (ap kind_leaves is.kind) ∙ leaves) loads) (SparesIt effect)
+              (λ half other differ is_half is_other. subst (λ part. Spares reading.element part effect) (sym is_other)
+              (half_spares effect reading.element half other differ is_half leaves))
+        ]
+
+    spared_with : (writer : Site) (made : Option Effect) (rest : List Effect)
+        → IfSome made (IsEffectAtSite writer earlier) → Unloaded lanes reader writer → AllByRecursion SparesIt rest
+        → AllByRecursion SparesIt (with_effect made rest)
+    spared_with writer None rest is unloaded all = all
+    spared_with writer (Some effect) rest is unloaded all = (one_spared writer effect is unloaded, all)
+
+    all_spared : (sites : List Site) (log : EffectLog) → IsEffectLogOf lanes sites log
+        → AllByRecursion (Unloaded lanes reader) sites → AllByRecursion SparesIt (effects_of log earlier)
+    all_spared [] [] told unloaded = tt
+    all_spared [] (at ∷ log) told unloaded = absurd told
+    all_spared (writer ∷ sites) [] told unloaded = absurd told
+    all_spared (writer ∷ sites) (at ∷ log) told unloaded =
+        spared_with writer (at earlier) (effects_of log earlier) (told.0 earlier (omega (arith, order, within)))
+        unloaded.0 (all_spared sites log told.1 unloaded.1)
 
   -- so a lane loads the same before the batch and after the lanes before it
-  module _ (sites : List Site) (log : EffectLog) (told : IsEffectLogOf lanes sites log) (words : List ℕ) (lane : ℕ)
-      (within : lane < lanes) where
+  module _ (sites : List Site) (log : EffectLog) (told : IsEffectLogOf lanes sites log) (words : List ℕ)
+      (fit : AreWords words) (lane : ℕ) (within : lane < lanes) where
     abbrev pub SameLoad : Effect → Type 0
-    SameLoad effect = deed_loads effect.deed ≡ true
-        → slice_index (words_after_each_lane log lane words) effect.element ≡ slice_index words effect.element
+    SameLoad = SameIfLoaded words (words_after_each_lane log lane words)
 
     one_load : (reader : Site) (made : Option Effect) (rest : List Effect) → IfSome made (IsEffectAtSite reader lane)
         → All (Unloaded lanes reader) sites → AllByRecursion SameLoad rest
         → AllByRecursion SameLoad (with_effect made rest)
     one_load reader None rest is unloaded all = all
     one_load reader (Some effect) rest is unloaded all = (
-      λ loads. before_lane log words lane effect.element (λ earlier order.
-          all_alone reader earlier lane effect.element order within (sym is.loads ∙ loads) is.element
-          sites log told (recursion_from_All (Unloaded lanes reader) sites unloaded)),
+      λ loads. (spared_before log words lane effect.element (deed_part effect.deed)
+          (fits_for (deed_part effect.deed) _ (word_fits words effect.element fit))
+          (λ earlier order. all_spared reader effect earlier lane order within (sym is.loads ∙ loads) is
+          sites log told (recursion_from_All (Unloaded lanes reader) sites unloaded))).0,
       all,
     )
 
@@ -398,6 +372,6 @@ loop_by_each_lane program bound call first lanes left words log fit goes_on same
 pub loop_by_effects : OperatorsAssociate → LoopByEffects
 loop_by_effects laws program bound call first lanes left words sites log fit goes_on told unloaded commute =
     lanes_done program bound call first lanes words log fit goes_on
-    (λ lane within. loads_same lanes sites log told words lane within unloaded) lanes left (omega arith)
+    (λ lane within. loads_same lanes sites log told words fit lane within unloaded) lanes left (omega arith)
     ∙ ap (loop_from program bound call left (first + lanes))
     (sym (effects_apply laws lanes sites log told commute words))

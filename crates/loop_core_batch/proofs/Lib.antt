@@ -4,4 +4,5 @@ pub mod SiteLaws
 pub mod Swapping
 pub mod ApplyLaws
 pub mod Judging
+pub mod Sparing
 pub mod EffectLaws

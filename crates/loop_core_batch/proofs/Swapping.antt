@@ -25,7 +25,7 @@ abbrev pub changed_at : (ℕ → ℕ) → ℕ → List ℕ → List ℕ
 changed_at change e words = set words e (change (get_or words e 0))
 
 -- two changes at one place, which commute
-same_place : (f g : ℕ → ℕ) → ((word : ℕ) → f (g word) ≡ g (f word)) → (words : List ℕ) (e : ℕ)
+pub same_place : (f g : ℕ → ℕ) → ((word : ℕ) → f (g word) ≡ g (f word)) → (words : List ℕ) (e : ℕ)
     → changed_at f e (changed_at g e words) ≡ changed_at g e (changed_at f e words)
 same_place f g comm [] e = refl
 same_place f g comm (word ∷ words) zero = ap (λ (w : ℕ). w ∷ words) (comm word)

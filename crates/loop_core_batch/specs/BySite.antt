@@ -9,7 +9,7 @@ use Rattle.loop_core_model.specs.declared.access.Access.TheVariants.{Reduce}
 use Rattle.loop_core_model.specs.Actions.{is_same}
 use Rattle.loop_core_batch.specs.declared.site.Site.{Site}
 use Rattle.loop_core_batch.specs.Lanes.{words_after_lanes}
-use Rattle.loop_core_batch.specs.Sites.{Log, of_lane, MayMeet, kind_leaves, IsLogOf}
+use Rattle.loop_core_batch.specs.Sites.{Log, of_lane, SitesMeet, kind_leaves, AllUnseen, IsLogOf}
 
 -- the words after one site's accesses of n lanes, each of which made one
 abbrev pub words_after_site : (site : ℕ → Access) (lanes : ℕ) → List ℕ → List ℕ
@@ -37,21 +37,21 @@ by_one_operator (Reduce op) (Reduce other) = is_same op other
 by_one_operator _ _ = false
 
 -- of two sites, one after the other, the first may be applied for all lanes before the second is for any: one of them
--- writes nothing, or both reduce by one operator, or no lane may write at the second an element that a later one may
--- write at the first
+-- writes nothing, or both reduce by one operator, or no lane may write at the second what a later one may write at the
+-- first
 abbrev pub Commute : (lanes : ℕ) (first second : Site) → Type 0
 Commute lanes first second = kind_leaves first.kind ≡ true → kind_leaves second.kind ≡ true
     → by_one_operator first.kind second.kind ≡ false →
-    ¬ (MayMeet second.elements first.elements lanes)
+    ¬ (SitesMeet lanes second first)
 
 -- each two sites commute, the earlier as the first
 abbrev pub AllCommute : (lanes : ℕ) → List Site → Type 0
 AllCommute lanes sites = AllPairs (Commute lanes) sites
 
--- where all sites commute, a batch leaves the same site by site as lane by lane
+-- where no site's writes may be seen, and all sites commute, a batch leaves the same site by site as lane by lane
 abbrev pub SitesApply : Type 0
-SitesApply = (lanes : ℕ) (sites : List Site) (log : Log) → IsLogOf lanes sites log → AllCommute lanes sites
-    → (words : List ℕ) →
+SitesApply = (lanes : ℕ) (sites : List Site) (log : Log) → IsLogOf lanes sites log → AllUnseen lanes sites
+    → AllCommute lanes sites → (words : List ℕ) →
     words_after_sites log lanes words ≡ words_after_lanes (of_lane log) lanes words
 
 -- the operands of lanes up to a last one, combined by an operator, beginning with lane 0's

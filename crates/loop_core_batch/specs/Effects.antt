@@ -1,38 +1,44 @@
 -- What the lanes of a batch do on any words: each deed of a lane is at one element, and what is done there may depend on
 -- the word that stands there.
-use Rattle.std.specs.Prelude.{◌≡◌, ℕ, zero, suc, ◌<◌, Bool, true, false, List, [], ◌∷◌, length, slice_index}
+use Rattle.std.specs.Prelude.{◌≡◌, ℕ, zero, suc, ◌+◌, ◌*◌, ◌<◌, Bool, true, false, List, [], ◌∷◌, length, slice_index}
 use Rattle.std.specs.Prelude.{Option, Some, None, IfSome}
 use Rattle.std.specs.List.{All, AllByRecursion, AllZip}
+use Rattle.array_maps.specs.declared.access.Half.{Half}
+use Rattle.array_maps.specs.declared.access.Half.TheVariants.{Low, High}
 use Rattle.array_maps.specs.declared.access.Op.{Op}
+use Rattle.array_maps.specs.declared.access.Part.{Part}
+use Rattle.array_maps.specs.declared.access.Part.TheVariants.{Whole, Half as Of}
+use Rattle.array_maps.specs.Halves.{part_of, with_half}
 use Rattle.array_maps.specs.Accesses.{Action, Read, Write, ReadWrite, Reduce as Reduces, Access, words_after}
 use Rattle.loop_core_model.specs.declared.access.Access.{Access as Kind}
 use Rattle.loop_core_model.specs.declared.access.Access.TheVariants.{Read as Reads, Write as Writes, Both, Reduce}
 use Rattle.loop_core_batch.specs.declared.site.Site.{Site}
-use Rattle.loop_core_batch.specs.Sites.{MayAccess, MayMeet, kind_leaves}
+use Rattle.loop_core_batch.specs.declared.elements.Elements.{Elements}
+use Rattle.loop_core_batch.specs.Sites.{MayAccess, SitesMeet, kind_leaves}
 
--- the word of an element is loaded; another is stored; it is loaded and another stored, as by a fetch; it becomes a
--- function of itself, as where a half is replaced; or an operator is applied to it
+-- the word of an element is loaded, or a half of it; another is stored; it is loaded and another stored, as by a fetch;
+-- a half of it is replaced; or an operator is applied to it
 pub data Deed : Type 0 where
-  Load : Deed
+  Load : (part : Part) → Deed
   Store : (left : ℕ) → Deed
   Fetch : (left : ℕ) → Deed
-  Change : (left : ℕ → ℕ) → Deed
+  Replace : (half : Half) (number : ℕ) → Deed
   Apply : (op : Op) (operand : ℕ) → Deed
 
 -- the action that it is, where a word stands
 abbrev pub action_on : Deed → (word : ℕ) → Action
-action_on Load word = Read word
+action_on (Load part) word = Read word
 action_on (Store left) word = Write left
 action_on (Fetch left) word = ReadWrite word left
-action_on (Change left) word = ReadWrite word (left word)
+action_on (Replace half number) word = ReadWrite word (with_half half word number)
 action_on (Apply op operand) word = Reduces op operand
 
 -- its kind
 abbrev pub kind_of_deed : Deed → Kind
-kind_of_deed Load = Reads
+kind_of_deed (Load part) = Reads
 kind_of_deed (Store left) = Writes
 kind_of_deed (Fetch left) = Both
-kind_of_deed (Change left) = Both
+kind_of_deed (Replace half number) = Both
 kind_of_deed (Apply op operand) = Reduce op
 
 -- a deed at an element
@@ -92,11 +98,19 @@ words_after_site_effects (site ∷ sites) lanes words =
 
 -- it loads the word: what it leads to depends on it
 abbrev pub deed_loads : Deed → Bool
-deed_loads Load = true
+deed_loads (Load part) = true
 deed_loads (Store left) = false
 deed_loads (Fetch left) = true
-deed_loads (Change left) = false
+deed_loads (Replace half number) = false
 deed_loads (Apply op operand) = false
+
+-- the part of the word that it is of
+abbrev pub deed_part : Deed → Part
+deed_part (Load part) = part
+deed_part (Store left) = Whole
+deed_part (Fetch left) = Whole
+deed_part (Replace half number) = Of half
+deed_part (Apply op operand) = Whole
 
 -- the words after the effects of n lanes, one lane after another
 abbrev pub words_after_each_lane : EffectLog → (lanes : ℕ) → List ℕ → List ℕ
@@ -115,27 +129,45 @@ kind_loads (Reduce op) fetches = false
 abbrev pub site_loads : Site → Bool
 site_loads site = kind_loads site.kind site.fetches
 
--- on other words, which are as many, the same is loaded
+-- on other words the same is loaded: where it loads a half of a word, that half alone has to be the same
+abbrev pub SameIfLoaded : (words now : List ℕ) → Effect → Type 0
+SameIfLoaded words now effect = deed_loads effect.deed ≡ true
+    → part_of (deed_part effect.deed) (slice_index now effect.element)
+    ≡ part_of (deed_part effect.deed) (slice_index words effect.element)
+
+-- so of several, on words that are as many
 pub record LoadsSame (words now : List ℕ) (effects : List Effect) : Type 0 where
   pub count : length now ≡ length words
-  pub loads : AllByRecursion (λ effect. deed_loads effect.deed ≡ true
-      → slice_index now effect.element ≡ slice_index words effect.element) effects
+  pub loads : AllByRecursion (SameIfLoaded words now) effects
 
--- a lane's effect is what its site tells: of its kind, with a load where that loads, and at one of its elements
+-- halves are numbered: an element's lower one has twice its number, and the upper one is the next
+abbrev pub half_number : (element : ℕ) → Half → ℕ
+half_number element Low = 2 * element
+half_number element High = 2 * element + 1
+
+-- an effect is of a half alone, one of those that its lane may access
+pub record IsOfHalf (lane : ℕ) (effect : Effect) (halves : Elements) : Type 0 where
+  pub half : Half
+  pub alone : deed_part effect.deed ≡ Of half
+  pub may : MayAccess halves lane (half_number effect.element half)
+
+-- a lane's effect is what its site tells: of its kind, with a load where that loads, at one of its elements, and of one
+-- of its halves where it tells these
 pub record IsEffectAtSite (site : Site) (lane : ℕ) (effect : Effect) : Type 0 where
   pub kind : kind_of_deed effect.deed ≡ site.kind
   pub loads : deed_loads effect.deed ≡ site_loads site
   pub element : MayAccess site.elements lane effect.element
+  pub halves : IfSome site.halves (IsOfHalf lane effect)
 
 -- the sites tell of each effect of n lanes
 abbrev pub IsEffectLogOf : (lanes : ℕ) → List Site → EffectLog → Type 0
 IsEffectLogOf lanes sites log = AllZip (λ site (at : ℕ → Option Effect). (lane : ℕ) → lane < lanes
     → IfSome (at lane) (IsEffectAtSite site lane)) sites log
 
--- no lane may load at one site an element that an earlier one may write at the other
+-- no lane may load at one site what an earlier one may write at the other
 abbrev pub Unloaded : (lanes : ℕ) (reader writer : Site) → Type 0
 Unloaded lanes reader writer = kind_leaves writer.kind ≡ true → site_loads reader ≡ true
-    → ¬ (MayMeet writer.elements reader.elements lanes)
+    → ¬ (SitesMeet lanes writer reader)
 
 -- no site's writes may be loaded at any of them
 abbrev pub AllUnloaded : (lanes : ℕ) → List Site → Type 0

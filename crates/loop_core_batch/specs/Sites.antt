@@ -52,6 +52,16 @@ pub record MayMeet (first second : Elements) (lanes : ℕ) : Type 0 where
   pub by_first : MayAccess first earlier element
   pub by_second : MayAccess second later element
 
+-- so of the halves that sites tell of; nothing is said where one tells of none
+abbrev pub HalvesMeet : Option Elements → Option Elements → (lanes : ℕ) → Type 0
+HalvesMeet (Some first) (Some second) lanes = MayMeet first second lanes
+HalvesMeet _ _ lanes = Unit {0}
+
+-- of n lanes an earlier one may access at the first site what a later one may access at the second
+abbrev pub SitesMeet : (lanes : ℕ) (first second : Site) → Type 0
+SitesMeet lanes first second = MayMeet first.elements second.elements lanes
+    × HalvesMeet first.halves second.halves lanes
+
 -- no lane from one to another, both among them, accesses an element before this one
 abbrev pub least_of : Elements → (from upto : ℕ) → ℕ
 least_of (One only) from upto = only
@@ -113,10 +123,12 @@ Unseen lanes writer reader = kind_leaves writer.kind ≡ true → kind_sees read
 abbrev pub AllUnseen : (lanes : ℕ) → List Site → Type 0
 AllUnseen lanes sites = All (λ writer. All (λ reader. Unseen lanes writer reader) sites) sites
 
--- a lane's access is what its site tells: of its kind, and at one of its elements
+-- a lane's access is what its site tells: of its kind, and at one of its elements; where that tells of halves, it sees
+-- the word
 pub record IsAtSite (site : Site) (lane : ℕ) (access : Access) : Type 0 where
   pub kind : kind_of access.action ≡ site.kind
   pub element : MayAccess site.elements lane access.element
+  pub sees : IfSome site.halves (λ halves. kind_sees site.kind ≡ true)
 
 -- the sites tell of each access of n lanes
 abbrev pub IsLogOf : (lanes : ℕ) → List Site → Log → Type 0

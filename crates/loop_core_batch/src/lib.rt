@@ -3,8 +3,8 @@
 //! tells that, and in which order the accesses may be applied.
 //!
 //! ```text
-//! let load = Site { kind: Access::Read, fetches: false, elements: Elements::Run(8) };
-//! let store = Site { kind: Access::Write, fetches: false, elements: Elements::Run(9) };
+//! let load = Site { kind: Access::Read, fetches: false, elements: Elements::Run(8), halves: None };
+//! let store = Site { kind: Access::Write, fetches: false, elements: Elements::Run(9), halves: None };
 //! none_sees(&[load, store], 64)       // false: lane 1 reads element 9, and lane 0 writes it
 //! ```
 #![tactic(auto)]

@@ -3,7 +3,7 @@
 ghost use Rattle.std.specs.Prelude.{◌≡◌, ◌↔◌, IsTrue, All};
 ghost use Rattle.loop_core_batch.specs.BySite.{Commute, AllCommute, by_one_operator};
 ghost use Rattle.loop_core_batch.specs.Effects.{Unloaded, AllUnloaded, site_loads};
-ghost use Rattle.loop_core_batch.specs.Sites.{Unseen, AllUnseen, kind_sees, kind_leaves};
+ghost use Rattle.loop_core_batch.specs.Sites.{HalvesMeet, SitesMeet, Unseen, AllUnseen, kind_sees, kind_leaves};
 
 use crate::elements::Elements;
 use loop_core_model::Access;
@@ -18,12 +18,16 @@ pub struct Site {
     pub fetches: bool,
     /// The elements that they are of.
     pub elements: Elements,
+    /// The halves that they are of, where each is of one alone, and these are known better than the elements: the lower
+    /// half of an element has twice its number, and the upper one is the next.
+    pub halves: Option<Elements>,
 }
 
 impl Site {
     /// Whether the lanes go on with the word that they find.
-    pub fn loads(self) -> bool
-        ensures { result ≡ site_loads self }
+    #[inline(always)]
+    pub fn loads(&self) -> bool
+        ensures { result ≡ site_loads self.now }
     {
         match self.kind {
             Access::Read => true,
@@ -54,22 +58,32 @@ impl Site {
         true
     }
 
-    /// Whether no lane may load here an element that an earlier one may write at `writer`.
-    fn is_unwritten(self, writer: Site, lanes: u32) -> bool
-        ensures { IsTrue result ↔ Unloaded lanes self writer }
+    /// Whether, of n lanes, an earlier one may access here what a later one may access at `later`.
+    fn may_meet(&self, later: &Site, lanes: u32) -> bool
+        ensures { IsTrue result ↔ SitesMeet lanes self.now later.now }
+    {
+        self.elements.may_meet(later.elements, lanes)
+            && halves_may_meet(self.halves, later.halves, lanes)
+    }
+
+    /// Whether no lane may load here what an earlier one may write at `writer`.
+    #[inline(always)]
+    fn is_unwritten(&self, writer: &Site, lanes: u32) -> bool
+        ensures { IsTrue result ↔ Unloaded lanes self.now writer.now }
     {
         if leaves(writer.kind) && self.loads() {
-            return !writer.elements.may_meet(self.elements, lanes);
+            return !writer.may_meet(self, lanes);
         }
         true
     }
 
-    /// Whether no lane may load here an element that an earlier one may write at one of the writers.
-    fn is_unwritten_by(self, writers: &[Site], lanes: u32) -> bool
-        ensures { IsTrue result ↔ All (λ writer. Unloaded lanes self writer) writers.now }
+    /// Whether no lane may load here what an earlier one may write at one of the writers.
+    #[inline(always)]
+    fn is_unwritten_by(&self, writers: &[Site], lanes: u32) -> bool
+        ensures { IsTrue result ↔ All (λ writer. Unloaded lanes self.now writer) writers.now }
     {
         for writer in writers {
-            if !self.is_unwritten(*writer, lanes) {
+            if !self.is_unwritten(writer, lanes) {
                 return false;
             }
         }
@@ -77,18 +91,18 @@ impl Site {
     }
 
     /// Whether this site may be applied for all lanes before another, which lies after it, is for any.
-    fn commutes(self, behind: Site, lanes: u32) -> bool
-        ensures { IsTrue result ↔ Commute lanes self behind }
+    fn commutes(&self, behind: &Site, lanes: u32) -> bool
+        ensures { IsTrue result ↔ Commute lanes self.now behind.now }
     {
         if leaves(self.kind) && leaves(behind.kind) && !reduce_alike(self.kind, behind.kind) {
-            return !behind.elements.may_meet(self.elements, lanes);
+            return !behind.may_meet(self, lanes);
         }
         true
     }
 
     /// Whether each of the sites before this one may be applied for all lanes before this one is for any.
-    fn commutes_behind(self, before: &[Site], lanes: u32) -> bool
-        ensures { IsTrue result ↔ All (λ site. Commute lanes site self) before.now }
+    fn commutes_behind(&self, before: &[Site], lanes: u32) -> bool
+        ensures { IsTrue result ↔ All (λ site. Commute lanes site self.now) before.now }
     {
         for site in before {
             if !site.commutes(self, lanes) {
@@ -96,6 +110,16 @@ impl Site {
             }
         }
         true
+    }
+}
+
+/// The same of the halves that two sites are of, where both tell of them.
+fn halves_may_meet(first: Option<Elements>, later: Option<Elements>, lanes: u32) -> bool
+    ensures { IsTrue result ↔ HalvesMeet first later lanes }
+{
+    match (first, later) {
+        (Some(first), Some(later)) => first.may_meet(later, lanes),
+        _ => true,
     }
 }
 
@@ -112,8 +136,9 @@ pub fn none_sees(sites: &[Site], lanes: u32) -> bool
     true
 }
 
-/// Tells whether, by these sites of all their accesses, no lane of n may load an element that an
-/// earlier one may write. What changes an element doesn't load it.
+/// Tells whether, by these sites of all their accesses, no lane of n may load what an earlier one may write. What
+/// replaces a half of an element, or applies an operator to it, doesn't load it.
+#[inline(always)]
 pub fn none_loads(sites: &[Site], lanes: u32) -> bool
     ensures { IsTrue result ↔ AllUnloaded lanes sites.now }
 {

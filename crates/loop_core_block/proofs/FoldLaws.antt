@@ -36,11 +36,12 @@ use Rattle.loop_core_block.specs.Whole.{sites_by}
 -- what stands past the end of entries
 abbrev pub no_entry : Entry
 no_entry = record {
-  site = record { kind = Reads; fetches = false; elements = One 0 };
+  site = record { kind = Reads; fetches = false; elements = One 0; halves = None };
   mask = AllLanes;
   elements = [];
   values = [];
   halves = [];
+  follows_own = false;
 }
 
 -- a row of one element is that of a site of it, and a site of any elements has its own

@@ -14,7 +14,7 @@ use Rattle.bpf_step.proofs.Callbacks.{begins}
 use Rattle.loop_core_batch.specs.LoopByBatch.{EndsInZero}
 use Rattle.bpf_step_batch_planes.specs.Registers.{begun_with}
 use Rattle.bpf_step_batch.specs.declared.entry.Entry.{Entry}
-use Rattle.bpf_step_batch.specs.Logs.{accesses_by, IsLogged}
+use Rattle.bpf_step_batch.specs.Logs.{accesses_by, IsLogged, NoneAfterOwn}
 use Rattle.bpf_step_batch.specs.Steps.{machine}
 use Rattle.bpf_step_batch.specs.Batches.{ReturnsZero, AreLanes}
 use Rattle.loop_core_block.specs.Batches.{HasElement, AreIterations}
@@ -52,13 +52,13 @@ module _ (its : EachIterationSimulates) (program : Program) (sound : IsSoundProg
   -- so all of them are
   pub are_iterations : (start first lanes : ℕ) → start ≡ call.callback → first + lanes ≤ call.n
       → (given : List ℕ) → given ≡ words → (entries : List Entry) → AreLanes ops start first lanes bytes given entries
-      → AreIterations program call words entries first lanes
-  are_iterations start first lanes at within given is entries lanes_are lane below =
+      → NoneAfterOwn entries → AreIterations program call words entries first lanes
+  are_iterations start first lanes at within given is entries lanes_are own lane below =
       let told : AreLanes ops start first lanes bytes words entries =
       subst (λ (ws : List ℕ). AreLanes ops start first lanes bytes ws entries) is lanes_are in
       record {
         goes_on = goes_on (first + lane) (omega (arith, within, below)) (accesses_by words entries lane)
             (subst (λ (slot : ℕ). ReturnsZero ops slot (first + lane) bytes words (accesses_by words entries lane)) at
-            (told.returns lane below));
+            (told.returns own lane below));
         within = elements_within lanes lane words entries below told.logged;
       }

@@ -34,12 +34,15 @@ pub(crate) fn run_together(
     law_of_plain_iterations();
     let (ops, _fast) = program.operations();
     let _sizes = start.sizes();
-    batch.run(
+    if !batch.run(
         ops,
         call.callback(),
         first,
         lanes,
         call.frame(),
         start.words(),
-    )
+    ) {
+        return false;
+    }
+    batch.none_follows_own()
 }

@@ -21,11 +21,11 @@ use Rattle.loop_core_sequential.proofs.ApplyLaws.{by_kind}
 -- an entry's effect by its kind
 pub effect_by_kind : (entry : Entry) (kind : Kind) → entry.site.kind ≡ kind → (lane : ℕ) → effect_by entry lane ≡ record {
   element = element_by entry.site.elements entry.elements lane;
-  deed = deed_by kind entry.site.fetches (half_by entry lane) (slice_index entry.values lane);
+  deed = deed_by kind entry.site.fetches entry.site.halves (half_by entry lane) (slice_index entry.values lane);
 }
 effect_by_kind entry kind is lane = ap (λ (k : Kind). record {
   element = element_by entry.site.elements entry.elements lane;
-  deed = deed_by k entry.site.fetches (half_by entry lane) (slice_index entry.values lane);
+  deed = deed_by k entry.site.fetches entry.site.halves (half_by entry lane) (slice_index entry.values lane);
 }) is
 
 -- lanes whose accesses leave what their effects leave
@@ -79,13 +79,13 @@ loads_are entry is (suc lanes) now =
 pub both_by_kind : (entry : Entry) (fetches : Bool) → entry.site.kind ≡ Both → entry.site.fetches ≡ fetches → (lane : ℕ)
     → effect_by entry lane ≡ record {
       element = element_by entry.site.elements entry.elements lane;
-      deed = deed_by Both fetches (half_by entry lane) (slice_index entry.values lane);
+      deed = deed_by Both fetches entry.site.halves (half_by entry lane) (slice_index entry.values lane);
     }
 both_by_kind entry fetches is does lane =
     effect_by_kind entry Both is lane
     ∙ ap (λ (b : Bool). record {
       element = element_by entry.site.elements entry.elements lane;
-      deed = deed_by Both b (half_by entry lane) (slice_index entry.values lane);
+      deed = deed_by Both b entry.site.halves (half_by entry lane) (slice_index entry.values lane);
     }) does
 
 pub fetches_are : (words : List ℕ) (entry : Entry) → entry.site.kind ≡ Both → entry.site.fetches ≡ true → (lanes : ℕ)

@@ -1,23 +1,25 @@
 -- Lanes that are applied one after another.
-use Rattle.std.proofs.Common.{◌≡◌, ℕ, ◌+◌, ◌-◌, ◌%◌, ◌<◌, ◌≤◌, List, [], ◌∷◌, length, drop}
+use Rattle.std.proofs.Common.{◌≡◌, ℕ, zero, suc, ◌+◌, ◌-◌, ◌<◌, ◌≤◌, List, [], ◌∷◌, length, take, drop}
 use Rattle.std.proofs.Common.{slice_index, slice_index_or, refl, sym, ap, subst, ◌∙◌, arith}
 use Rattle.std.specs.Prelude.{Bool, true, false, Option, Some, None, if◌then◌else◌}
 use Rattle.std.specs.List.{AllByRecursion}
-use Rattle.std.proofs.lemmas.List.{drop_more}
+use Rattle.std.proofs.lemmas.List.{drop_more, length-drop, take_all}
 use Rattle.array_maps.specs.declared.access.Op.{Op}
+use Rattle.array_maps.specs.Halves.{part_of}
 use Rattle.array_maps.specs.MapList.{MapList}
 use Rattle.bpf_insn_types.specs.Program.{Program}
 use Rattle.bpf_step_model.specs.State.{LoopCall}
 use Rattle.bpf_step_model.specs.LoopInOrder.{loop_from}
-use Rattle.loop_core_model.specs.declared.access.Access.TheVariants.{Write as Writes}
+use Rattle.loop_core_model.specs.declared.access.Access.{Access as Kind}
+use Rattle.loop_core_model.specs.declared.access.Access.TheVariants.{Read as Reads, Write as Writes}
 use Rattle.loop_core_model.specs.declared.access.Access.TheVariants.{Both, Reduce as Reduces}
 use Rattle.loop_core_batch.specs.BySite.{words_after_any}
 use Rattle.loop_core_batch.specs.Sites.{kind_leaves}
-use Rattle.loop_core_batch.specs.Effects.{Effect, deed_loads, site_loads, with_effect, LoadsSame}
+use Rattle.loop_core_batch.specs.Effects.{Effect, deed_part, site_loads, with_effect, SameIfLoaded, LoadsSame}
 use Rattle.loop_core_batch.specs.Effects.{words_after_effect, words_after_effects, words_after_any_effect}
-use Rattle.loop_core_batch.specs.Effects.{words_after_each_lane}
+use Rattle.loop_core_batch.specs.Effects.{words_after_each_lane, words_after_lane_effects}
 use Rattle.loop_core_batch.specs.LoopByEffects.{LoopByEachLane}
-use Rattle.loop_core_batch.proofs.EffectLaws.{LeavesAlone, before_lane, length-before}
+use Rattle.loop_core_batch.proofs.Sparing.{LeavesAlone, before_lane, length-before}
 use Rattle.bpf_step_batch.specs.declared.entry.Entry.{Entry}
 use Rattle.bpf_step_batch.specs.Logs.{element_by, has_lane, half_by, effect_by, effect_made_by, effects_by}
 use Rattle.bpf_step_batch.specs.Logs.{effect_log_by, stored_by, reduced_by}
@@ -26,7 +28,7 @@ use Rattle.loop_core_sequential.specs.declared.first_lanes.Marks.{Marks}
 use Rattle.loop_core_sequential.specs.FirstLanes.{mark_at, IsMarked, IsSpared, AreFirst}
 use Rattle.loop_core_sequential.specs.Rests.{rest_to, RanOn}
 use Rattle.loop_core_sequential.specs.Tries.{LanesAreIterations, stored_if_made, reduced_if_made, replaced_if_made}
-use Rattle.loop_core_sequential.proofs.ApplyEffects.{any_leaves, effect_by_kind, both_by_kind}
+use Rattle.loop_core_sequential.proofs.ApplyEffects.{any_leaves, effect_by_kind, both_by_kind, loads_are}
 
 -- one entry more
 pub effects_more : (entries : List Entry) (k : ℕ) (other : Entry) (lane : ℕ) → k < length entries
@@ -58,38 +60,39 @@ module _ (marks : Marks) (lanes count : ℕ) (fewer : count ≤ lanes) (entries 
     (marked : AllByRecursion (IsMarked marks lanes) entries) (spared : AllByRecursion (IsSpared marks count) entries)
   where
     left_alone : (element earlier lane : ℕ) → earlier < lane → lane < count
-        → lane ≤ slice_index marks.first (element % 8192) → (rest : List Entry)
+        → lane ≤ slice_index marks.first element → (rest : List Entry)
         → AllByRecursion (IsMarked marks lanes) rest
         → AllByRecursion (λ entry. has_lane entry.mask earlier ≡ true → LeavesAlone element (effect_by entry earlier)) rest
     left_alone element earlier lane before below mark [] all = tt
     left_alone element earlier lane before below mark (entry ∷ rest) all = (
       λ makes leaves same.
           let leaves_there : kind_leaves entry.site.kind ≡ true =
-          sym (ap kind_leaves (deed_kind entry.site.kind entry.site.fetches (half_by entry earlier)
+          sym (ap kind_leaves (deed_kind entry.site.kind entry.site.fetches entry.site.halves (half_by entry earlier)
           (slice_index entry.values earlier))) ∙ leaves in
           let at : mark_at marks entry earlier ≤ earlier =
           all.0 leaves_there earlier (omega (arith, before, below, fewer)) makes in
-          let low : slice_index marks.first (element % 8192) ≤ earlier =
-          subst (λ (e : ℕ). slice_index marks.first (e % 8192) ≤ earlier) same at in
+          let low : slice_index marks.first element ≤ earlier =
+          subst (λ (e : ℕ). slice_index marks.first e ≤ earlier) same at in
           let none : ⊥ = omega (arith, low, mark, before) in absurd none,
       left_alone element earlier lane before below mark rest all.1,
     )
 
     loads_spared : (words : List ℕ) (lane : ℕ) → lane < count → (rest : List Entry)
         → AllByRecursion (IsSpared marks count) rest
-        → AllByRecursion (λ entry. has_lane entry.mask lane ≡ true → deed_loads (effect_by entry lane).deed ≡ true
-        → slice_index (words_after_each_lane (effect_log_by entries) lane words) (effect_by entry lane).element
-        ≡ slice_index words (effect_by entry lane).element) rest
+        → AllByRecursion (λ entry. has_lane entry.mask lane ≡ true
+        → SameIfLoaded words (words_after_each_lane (effect_log_by entries) lane words) (effect_by entry lane)) rest
     loads_spared words lane below [] all = tt
     loads_spared words lane below (entry ∷ rest) all = (
       λ makes loads.
           let loads_there : site_loads entry.site ≡ true =
-          sym (deed_load entry.site.kind entry.site.fetches (half_by entry lane) (slice_index entry.values lane))
+          sym (deed_load entry.site.kind entry.site.fetches entry.site.halves (half_by entry lane)
+          (slice_index entry.values lane))
           ∙ loads in
           let element : ℕ = element_by entry.site.elements entry.elements lane in
-          before_lane (effect_log_by entries) words lane element (λ earlier before.
+          ap (part_of (deed_part (effect_by entry lane).deed))
+          (before_lane (effect_log_by entries) words lane element (λ earlier before.
           effects_all (LeavesAlone element) entries earlier
-          (left_alone element earlier lane before below (all.0 loads_there lane below makes) entries marked)),
+          (left_alone element earlier lane before below (all.0 loads_there lane below makes) entries marked))),
       loads_spared words lane below rest all.1,
     )
 
@@ -97,9 +100,8 @@ module _ (marks : Marks) (lanes count : ℕ) (fewer : count ≤ lanes) (entries 
         → LoadsSame words (words_after_each_lane (effect_log_by entries) lane words) (effects_by entries lane)
     load_same words lane below = record {
       count = length-before (effect_log_by entries) words lane;
-      loads = effects_all (λ effect. deed_loads effect.deed ≡ true
-          → slice_index (words_after_each_lane (effect_log_by entries) lane words) effect.element
-          ≡ slice_index words effect.element) entries lane (loads_spared words lane below entries spared);
+      loads = effects_all (SameIfLoaded words (words_after_each_lane (effect_log_by entries) lane words)) entries lane
+          (loads_spared words lane below entries spared);
     }
 
 -- and of the words that are left
@@ -111,6 +113,11 @@ lane_applied now new lane k entries other below is =
     ap (words_after_effects (effects_by (drop (k + 1) entries) lane)) is
     ∙ sym (words_with (effect_made_by (slice_index_or entries k other) lane) (effects_by (drop (k + 1) entries) lane) now)
     ∙ sym (ap (λ (es : List Effect). words_after_effects es now) (effects_more entries k other lane below))
+
+-- maps with words that are the same
+pub words_are : (old new : MapList) (words same : List ℕ) → new ≡ record { sizes = old.sizes; words = words }
+    → words ≡ same → new ≡ record { sizes = old.sizes; words = same }
+words_are old new words same is are = is ∙ ap (λ (ws : List ℕ). record { sizes = old.sizes; words = ws }) are
 
 -- what a lane does at an entry, by its kind
 pub write_left : (words : List ℕ) (entry : Entry) → entry.site.kind ≡ Writes → (lane : ℕ)
@@ -136,6 +143,69 @@ pub half_left : (words : List ℕ) (entry : Entry) → entry.site.kind ≡ Both 
 half_left words entry is plain lane =
     sym (ap (λ (effect : Effect). words_after_any_effect (if has_lane entry.mask lane then Some effect else None) words)
     (both_by_kind entry false is plain lane))
+
+-- an entry that leaves no word
+reads_of : (kind : Kind) → kind_leaves kind ≡ false → kind ≡ Reads
+reads_of Reads h = refl
+reads_of Writes h = absurd (cc)
+reads_of Both h = absurd (cc)
+reads_of (Reduces op) h = absurd (cc)
+
+keeps_words : (entry : Entry) → kind_leaves entry.site.kind ≡ false → (lane : ℕ) (words : List ℕ)
+    → words_after_any_effect (effect_made_by entry lane) words ≡ words
+keeps_words entry keeps lane words =
+    let reads : entry.site.kind ≡ Reads = reads_of entry.site.kind keeps in
+    ap (words_after_any_effect (effect_made_by entry lane)) (loads_are entry reads lane words)
+    ∙ sym (loads_are entry reads (suc lane) words)
+
+-- none before this one does
+abbrev pub NoneLeaves : List Entry → (first : ℕ) → Type 0
+NoneLeaves entries first = (k : ℕ) (other : Entry) → k < first
+    → kind_leaves (slice_index_or entries k other).site.kind ≡ false
+
+lane_from : (entries : List Entry) (first : ℕ) → NoneLeaves entries first → (lane : ℕ) (words : List ℕ)
+    → words_after_effects (effects_by (drop first entries) lane) words
+    ≡ words_after_effects (effects_by entries lane) words
+lane_from entries zero none lane words = refl
+lane_from [] (suc first) none lane words = refl
+lane_from (entry ∷ entries) (suc first) none lane words =
+    lane_from entries first (λ k other below. none (suc k) other (omega (arith, below))) lane words
+    ∙ sym (ap (words_after_effects (effects_by entries lane))
+    (keeps_words entry (none 0 entry (omega arith)) lane words))
+    ∙ sym (words_with (effect_made_by entry lane) (effects_by entries lane) words)
+
+-- so all lanes leave what they do at the entries from it on
+lanes_from : (entries : List Entry) (first : ℕ) → NoneLeaves entries first → (lanes : ℕ) (words : List ℕ)
+    → words_after_each_lane (effect_log_by (drop first entries)) lanes words
+    ≡ words_after_each_lane (effect_log_by entries) lanes words
+lanes_from entries first none zero words = refl
+lanes_from entries first none (suc lanes) words =
+    ap (words_after_effects (effects_by (drop first entries) lanes)) (lanes_from entries first none lanes words)
+    ∙ lane_from entries first none lanes (words_after_each_lane (effect_log_by entries) lanes words)
+
+pub rest_from : (entries : List Entry) (first : ℕ) → NoneLeaves entries first → (lanes : ℕ) (words : List ℕ)
+    → words_after_each_lane (effect_log_by (take (length entries - first) (drop first entries))) lanes words
+    ≡ words_after_each_lane (effect_log_by entries) lanes words
+rest_from entries first none lanes words =
+    ap (λ (es : List Entry). words_after_each_lane (effect_log_by es) lanes words)
+    (take_all (length entries - first) (drop first entries) (omega (arith, length-drop first entries)))
+    ∙ lanes_from entries first none lanes words
+
+-- at one entry lane by lane is all at once
+one_entry : (entry : Entry) (lanes : ℕ) (words : List ℕ) → words_after_lane_effects (effect_made_by entry) lanes words
+    ≡ words_after_each_lane (effect_log_by (entry ∷ [])) lanes words
+one_entry entry zero words = refl
+one_entry entry (suc lanes) words =
+    ap (words_after_any_effect (effect_made_by entry lanes)) (one_entry entry lanes words)
+    ∙ sym (words_with (effect_made_by entry lanes) []
+    (words_after_each_lane (effect_log_by (entry ∷ [])) lanes words))
+
+pub only_entry : (entries : List Entry) (other : Entry) → length entries ≡ 1 → (lanes : ℕ) (words : List ℕ)
+    → words_after_lane_effects (effect_made_by (slice_index_or entries 0 other)) lanes words
+    ≡ words_after_each_lane (effect_log_by entries) lanes words
+only_entry [] other one lanes words = absurd (cc)
+only_entry (entry ∷ []) other one lanes words = one_entry entry lanes words
+only_entry (entry ∷ next ∷ rest) other one lanes words = absurd (omega (arith, one))
 
 -- the first lanes of a batch are the loop in order
 module _ (law : LoopByEachLane) (program : Program) (call : LoopCall) (first lanes count : ℕ) (fewer : count ≤ lanes)

@@ -85,6 +85,19 @@ rest_watched_by run first same index next to stays old now new log noted last wa
     (λ start before. ran start
     (subst (λ (i : ℕ). GoesWatched run.program.now run.call.now i start now noted) stays (goes start before)))
 
+-- so does the rest of a watched loop
+pub ended_by : (run first : LoopRun) → run ≡ first → (from : ℕ) (start now new : MapList) (log last : UndoLog)
+    (ended : WatchedLoop)
+    → ((begun : MapList) → GoesWatched run.program.now run.call.now from begun now log
+    → WatchedToEnd run.program.now run.call.now begun new last ended)
+    → GoesWatched first.program.now first.call.now from start now log
+    → WatchedToEnd first.program.now first.call.now start new last ended
+ended_by run first same from start now new log last ended =
+    subst (λ (r : LoopRun). ((begun : MapList) → GoesWatched run.program.now run.call.now from begun now log
+    → WatchedToEnd run.program.now run.call.now begun new last ended)
+    → GoesWatched r.program.now r.call.now from start now log → WatchedToEnd r.program.now r.call.now start new last
+    ended) same (λ ends. ends start)
+
 -- and by the program and the call that are its own
 module _ (run : LoopRun) (program : Program) (call : LoopCall) (program_is : run.program.now ≡ program)
     (call_is : run.call.now ≡ call) where

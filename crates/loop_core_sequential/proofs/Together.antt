@@ -21,10 +21,11 @@ use Rattle.loop_core_batch.specs.Effects.{Effect, accesses_on, words_after_effec
 use Rattle.loop_core_batch.specs.Effects.{AllUnloaded}
 use Rattle.loop_core_batch.specs.LoopByBatch.{EndsInZero, LoopBySites}
 use Rattle.loop_core_batch.specs.LoopByEffects.{LoopByEffects}
-use Rattle.loop_core_batch.proofs.EffectLaws.{accesses_leave}
+use Rattle.loop_core_batch.proofs.Sparing.{accesses_leave}
 use Rattle.bpf_step_batch_planes.specs.Registers.{begun_with}
 use Rattle.bpf_step_batch.specs.declared.entry.Entry.{Entry}
 use Rattle.bpf_step_batch.specs.Logs.{site_of, log_by, accesses_by, effects_by, effect_log_by, made_on}
+use Rattle.bpf_step_batch.specs.Logs.{NoneAfterOwn}
 use Rattle.bpf_step_batch.specs.Steps.{machine}
 use Rattle.bpf_step_batch.specs.Batches.{ReturnsZero, AreLanes}
 use Rattle.bpf_step_batch.proofs.LogLaws.{log_of_sites, effects_of_sites}
@@ -98,11 +99,11 @@ are_iterations its ends counts program sound ops are call known bytes same words
     lanes_are =
     let long : length bytes ≡ 512 = frame_long program call bytes known same in
     record {
-      each = λ lane below.
+      each = λ own lane below.
           goes_on its program sound ops are call known bytes long same words fit
           (first + lane) (omega (arith, within, below)) (accesses_by words entries lane)
           (subst (λ (slot : ℕ). ReturnsZero ops slot (first + lane) bytes words (accesses_by words entries lane)) at
-          (lanes_are.returns lane below));
+          (lanes_are.returns own lane below));
       logged = lanes_are.logged;
       fit = fit.fit;
       anywhere = λ lane below now fits loads.
@@ -147,7 +148,8 @@ module _ (law : LoopByEffects) (program : Program) (call : LoopCall) (first lane
 -- so it does where no site's writes may be seen, after their accesses
 module _ (law : LoopBySites) (program : Program) (call : LoopCall) (first lanes : ℕ) (within : first + lanes ≤ call.n)
     (entries : List Entry) (old new : MapList) (are : LanesAreIterations program call first lanes old.words entries)
-    (unseen : AllUnseen lanes (map site_of entries)) (commute : AllCommute lanes (map site_of entries))
+    (own : NoneAfterOwn entries) (unseen : AllUnseen lanes (map site_of entries))
+    (commute : AllCommute lanes (map site_of entries))
     (applied : new ≡ record {
       sizes = old.sizes;
       words = words_after_sites (log_by old.words entries) lanes old.words;
@@ -155,7 +157,7 @@ module _ (law : LoopBySites) (program : Program) (call : LoopCall) (first lanes 
   sites_on : (left : ℕ) → loop_from program 4096 call (lanes + left) first old.words
       ≡ loop_from program 4096 call left (first + lanes) (words_after_sites (log_by old.words entries) lanes old.words)
   sites_on left = law program 4096 call first lanes left old.words (map site_of entries) (log_by old.words entries)
-      are.each (log_of_sites lanes old.words entries are.logged) unseen commute
+      (are.each own) (log_of_sites lanes old.words entries are.logged) unseen commute
 
   pub sites_went : RanOn program call first (first + lanes) old new
   sites_went = record {

@@ -14,7 +14,7 @@ use Rattle.loop_core_batch.specs.LoopByBatch.{LoopBySites}
 use Rattle.loop_core_batch.specs.Sites.{Log, of_lane, IsLogOf, AllUnseen, SitesTell}
 use Rattle.loop_core_batch.specs.BySite.{AllCommute, SitesApply, words_after_sites}
 use Rattle.bpf_step_batch.specs.declared.entry.Entry.{Entry}
-use Rattle.bpf_step_batch.specs.Logs.{site_of, log_by, IsLogged}
+use Rattle.bpf_step_batch.specs.Logs.{site_of, log_by, IsLogged, NoneAfterOwn}
 use Rattle.loop_core_batch.proofs.BatchLaws.{length-before}
 use Rattle.bpf_step_batch.proofs.LogLaws.{log_of_sites}
 use Rattle.loop_core_sequential.specs.Tries.{LanesAreIterations}
@@ -27,7 +27,8 @@ use Rattle.loop_core_sequential.proofs.WatchedEntries.{entries_unreduced, entrie
 -- a batch more, where its entries read nothing that is told written, and what they write is told written then
 pub batch_watched : LoopBySites → SitesTell → SitesApply → (program : Program) (call : LoopCall) (start now : MapList)
     (first lanes : ℕ) → first + lanes ≤ call.n → (entries : List Entry)
-    → LanesAreIterations program call first lanes now.words entries → AllUnseen lanes (map site_of entries)
+    → LanesAreIterations program call first lanes now.words entries → NoneAfterOwn entries
+    → AllUnseen lanes (map site_of entries)
     → AllCommute lanes (map site_of entries) → (written : ℕ → Bool) → WentWatched program call first start now written
     → AllByRecursion (IsUnread written lanes) entries → (new : MapList)
     → new ≡ record { sizes = now.sizes; words = words_after_sites (log_by now.words entries) lanes now.words }
@@ -35,18 +36,18 @@ pub batch_watched : LoopBySites → SitesTell → SitesApply → (program : Prog
     → AreNoted written' lanes entries
     → ((e : ℕ) → e < length start.words → written' e ≡ true → (written e ≡ true) ⊎ IsLeft lanes entries e)
     → WentWatched program call (first + lanes) start new written'
-batch_watched by_sites tell apply program call start now first lanes within entries are unseen commute written w unread
-    new applied written' grows noted only =
+batch_watched by_sites tell apply program call start now first lanes within entries are own unseen commute written w
+    unread new applied written' grows noted only =
     let log : Log = log_by now.words entries in
     let logged : IsLogOf lanes (map site_of entries) log = log_of_sites lanes now.words entries are.logged in
-    lanes_watched program call first start now written w lanes within (of_lane log) are.each
+    lanes_watched program call first start now written w lanes within (of_lane log) (are.each own)
     (tell lanes (map site_of entries) log logged unseen)
     (entries_unreduced written lanes entries unread now.words)
     (entries_unread written lanes entries unread now.words start)
     new
-    (sites_went by_sites program call first lanes within entries now new are unseen commute applied)
+    (sites_went by_sites program call first lanes within entries now new are own unseen commute applied)
     (ap (λ (maps : MapList). maps.words) applied
-    ∙ apply lanes (map site_of entries) log logged commute now.words)
+    ∙ apply lanes (map site_of entries) log logged unseen commute now.words)
     written' grows
     (entries_noted written' lanes entries noted now.words start)
     (λ e inside told. by_entry e (only e inside told))
@@ -58,7 +59,8 @@ batch_watched by_sites tell apply program call start now first lanes within entr
 
 -- what a batch leaves whose accesses were applied site by site
 module _ (apply : SitesApply) (lanes : ℕ) (entries : List Entry) (now new : MapList)
-    (logged : AllByRecursion (IsLogged lanes now.words) entries) (commute : AllCommute lanes (map site_of entries))
+    (logged : AllByRecursion (IsLogged lanes now.words) entries) (unseen : AllUnseen lanes (map site_of entries))
+    (commute : AllCommute lanes (map site_of entries))
     (applied : new ≡ record {
       sizes = now.sizes;
       words = words_after_sites (log_by now.words entries) lanes now.words;
@@ -67,7 +69,7 @@ module _ (apply : SitesApply) (lanes : ℕ) (entries : List Entry) (now new : Ma
   by_lanes =
       ap (λ (maps : MapList). maps.words) applied
       ∙ apply lanes (map site_of entries) (log_by now.words entries) (log_of_sites lanes now.words entries logged)
-      commute now.words
+      unseen commute now.words
 
   -- as many words
   pub batch_counts : length new.words ≡ length now.words

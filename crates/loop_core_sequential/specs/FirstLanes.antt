@@ -1,5 +1,5 @@
 -- Lanes that are applied one after another, up to the first that loads what an earlier one left.
-use Rattle.std.specs.Prelude.{◌≡◌, ℕ, ◌%◌, ◌<◌, ◌≤◌, true, List, slice_index}
+use Rattle.std.specs.Prelude.{◌≡◌, ℕ, ◌<◌, ◌≤◌, true, List, slice_index}
 use Rattle.array_maps.specs.MapList.{MapList}
 use Rattle.loop_core_batch.specs.Sites.{kind_leaves}
 use Rattle.loop_core_batch.specs.Effects.{site_loads, LoadsSame, words_after_each_lane}
@@ -13,8 +13,7 @@ IsWithin count lanes entry = (lane : ℕ) → lane < lanes → element_by entry.
 
 -- the mark of a lane's element at an entry: the first lane that is known to leave a word there
 abbrev pub mark_at : Marks → Entry → (lane : ℕ) → ℕ
-mark_at marks entry lane =
-    slice_index marks.first (element_by entry.site.elements entry.elements lane % 8192)
+mark_at marks entry lane = slice_index marks.first (element_by entry.site.elements entry.elements lane)
 
 -- each of the first lanes that leaves a word at an entry is marked there, or one before it is
 abbrev pub IsMarked : Marks → (lanes : ℕ) → Entry → Type 0

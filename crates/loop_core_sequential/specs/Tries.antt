@@ -7,22 +7,22 @@ use Rattle.array_maps.specs.MapList.{MapList, AreWords}
 use Rattle.bpf_insn_types.specs.Program.{Program}
 use Rattle.bpf_step_model.specs.State.{LoopCall}
 use Rattle.bpf_step_batch.specs.declared.entry.Entry.{Entry}
-use Rattle.array_maps.specs.Halves.{half_of, with_half}
+use Rattle.array_maps.specs.Halves.{half_of}
 use Rattle.bpf_step_batch.specs.Logs.{element_by, half_by, has_lane, accesses_by, effects_by, stored_by, reduced_by}
-use Rattle.bpf_step_batch.specs.Logs.{IsLogged}
-use Rattle.loop_core_batch.specs.Effects.{Change, Effect, LoadsSame}
+use Rattle.bpf_step_batch.specs.Logs.{IsLogged, NoneAfterOwn}
+use Rattle.loop_core_batch.specs.Effects.{Replace, Effect, LoadsSame}
 use Rattle.loop_core_batch.specs.LoopByBatch.{EndsInZero}
 use Rattle.loop_core_batch.specs.LoopByEffects.{GoesOn}
 use Rattle.loop_core_sequential.specs.declared.trying.Tried.{Tried}
-use Rattle.loop_core_sequential.specs.declared.trying.Tried.TheVariants.{Applied, Partly, Dependent, Diverged}
+use Rattle.loop_core_sequential.specs.declared.trying.Tried.TheVariants.{Applied, Partly, Unmarked, Dependent, Diverged}
 use Rattle.loop_core_sequential.specs.Rests.{RanOn}
 
 -- the lanes of a batch are the iterations from an index on, each on these words: each goes on, with the accesses that
--- the entries have of its lane, which are at their sites and of elements that are there; so it does on all words on
--- which it loads the same
+-- the entries have of its lane, which are at their sites and of elements that are there, unless one may have come to
+-- what it wrote itself; so it does on all words on which it loads the same
 pub record LanesAreIterations (program : Program) (call : LoopCall) (index lanes : ℕ) (words : List ℕ)
     (entries : List Entry) : Type 0 where
-  pub each : (lane : ℕ) → lane < lanes → EndsInZero program 4096 call (index + lane) words
+  pub each : NoneAfterOwn entries → (lane : ℕ) → lane < lanes → EndsInZero program 4096 call (index + lane) words
       (accesses_by words entries lane)
   pub logged : AllByRecursion (IsLogged lanes words) entries
   pub fit : AreWords words
@@ -34,6 +34,7 @@ pub record LanesAreIterations (program : Program) (call : LoopCall) (index lanes
 abbrev pub TriedIn : Program → LoopCall → (index lanes : ℕ) → (old new : MapList) → Tried → Type 0
 TriedIn program call index lanes old new Applied = RanOn program call index (index + lanes) old new
 TriedIn program call index lanes old new (Partly count) = RanOn program call index (index + count) old new
+TriedIn program call index lanes old new Unmarked = new ≡ old
 TriedIn program call index lanes old new Dependent = new ≡ old
 TriedIn program call index lanes old new Diverged = new ≡ old
 
@@ -41,6 +42,7 @@ TriedIn program call index lanes old new Diverged = new ≡ old
 abbrev pub index_after : Tried → (index lanes : ℕ) → ℕ
 index_after Applied index lanes = index + lanes
 index_after (Partly count) index lanes = index + count
+index_after Unmarked index lanes = index
 index_after Dependent index lanes = index
 index_after Diverged index lanes = index
 
@@ -60,8 +62,7 @@ reduced_if_made op entry lane = if has_lane entry.mask lane then Some (reduced_b
 abbrev pub replaced_by : Entry → (lane : ℕ) → Effect
 replaced_by entry lane = record {
   element = element_by entry.site.elements entry.elements lane;
-  deed = Change (λ word. with_half (half_by entry lane) word (half_of (half_by entry lane)
-      (slice_index entry.values lane)));
+  deed = Replace (half_by entry lane) (half_of (half_by entry lane) (slice_index entry.values lane));
 }
 
 abbrev pub replaced_if_made : Entry → (lane : ℕ) → Option Effect

@@ -82,6 +82,7 @@ fn sites_of<const N: usize>(entries: &[Entry]) -> [Site; N]
         kind: Access::Read,
         fetches: false,
         elements: Elements::One(0),
+        halves: None,
     };
     let mut sites = [none; N];
     for k in 0..entries.len() {
@@ -108,7 +109,8 @@ pub(crate) fn apply_effects(entries: &[Entry], lanes: u32, maps: &mut Maps)
 }
 
 /// The same of one site.
-fn apply_effect(entry: &Entry, lanes: u32, maps: &mut Maps)
+#[inline(always)]
+pub(crate) fn apply_effect(entry: &Entry, lanes: u32, maps: &mut Maps)
     requires some { 0 < lanes }
     requires room { lanes ≤ 128 }
     requires few { length maps.old.words ≤ 65536 }
@@ -481,7 +483,8 @@ pub(crate) fn element(elements: Elements, entry: &Entry, lane: u32) -> u32
     match elements {
         Elements::One(only) => only,
         Elements::Run(first) => first + lane,
-        Elements::Every { first: _, step: _ } => entry.elements[lane as usize],
-        Elements::Between { low: _, high: _ } => entry.elements[lane as usize],
+        Elements::Every { first: _, step: _ } | Elements::Between { low: _, high: _ } => {
+            entry.elements[lane as usize]
+        }
     }
 }

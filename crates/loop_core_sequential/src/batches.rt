@@ -3,7 +3,6 @@
 ghost use Rattle.std.specs.Prelude.{◌≡◌, ◌+◌, ◌<◌, ◌≤◌, true, false};
 ghost use Rattle.loop_core_sequential.specs.Tries.{index_after};
 
-use crate::first_lanes::Marks;
 use crate::trying::Tried;
 use bpf_step_batch::Batch;
 
@@ -21,13 +20,17 @@ const PATIENCE: u32 = 16;
 
 const MOST_PATIENCE: u32 = 65536;
 
+/// What a batch costs beside its lanes, in iterations that go alone.
+const COST: u32 = 20;
+
+/// How many of a batch's lanes cost as much as an iteration that goes alone.
+const LANES_A_COST: u32 = 4;
+
 /// The engine, and when it is tried: with fewer iterations after a batch that was given up, or did few of them, and with
 /// more again after many that went.
 #[derive(Drop)]
 pub(crate) struct Batches {
     pub(crate) batch: Batch,
-    /// Room for the marks of lanes that are applied one after another.
-    pub(crate) marks: Marks,
     /// How many iterations are tried together the next time.
     pub(crate) lanes: u32,
     /// After how many batches that go they are doubled. It doubles with each batch that is given up.
@@ -36,30 +39,38 @@ pub(crate) struct Batches {
     went: u32,
     /// How many batches of iterations go alone after the next one that is given up.
     pause: u32,
+    /// How many iterations went of the last batches that went in part or one after another: their mean, in quarters.
+    quarters: u32,
     /// Whether the last one wasn't worth its while: iterations go alone next.
     is_stalled: bool,
+    /// Whether the last one had no marks, and needed them.
+    pub(crate) lacks_marks: bool,
     ghost lanes_fit: { (0 < lanes) × (lanes ≤ 128) },
     ghost patience_fits: { patience ≤ 65536 },
     ghost went_fits: { went ≤ 65536 },
+    ghost quarters_fit: { quarters ≤ 512 },
     ghost pause_fits: { (0 < pause) × (pause ≤ 4096) },
 }
 
 impl Batches {
-    /// Nothing was tried yet.
+    /// Nothing was tried yet; the loop's first iteration went alone. So that the batches after the first begin at
+    /// multiples of their size from where the loop began, that one has room for one iteration less.
     pub(crate) fn new() -> Batches {
         Batches {
             batch: Batch::new(),
-            marks: Marks::new(),
-            lanes: MOST,
+            lanes: MOST - 1,
             patience: PATIENCE,
-            went: 0,
+            went: PATIENCE,
             pause: 1,
+            quarters: 0,
             is_stalled: false,
+            lacks_marks: false,
         }
     }
 
     /// The index after a batch of lanes that was tried from an index on: after those of them that went. Notes how many
     /// are tried the next time, and whether iterations go alone before.
+    #[inline(always)]
     pub(crate) fn paced(&mut self, tried: Tried, index: u32, lanes: u32) -> u32
         requires within { index + lanes ≤ 4294967295 }
         requires few { index_after tried index lanes ≤ index + lanes }
@@ -75,6 +86,10 @@ impl Batches {
                 self.follow(count, lanes);
                 index + count
             }
+            Tried::Unmarked => {
+                self.lacks_marks = true;
+                index
+            }
             Tried::Dependent | Tried::Diverged => {
                 self.narrow();
                 self.is_stalled = true;
@@ -83,16 +98,36 @@ impl Batches {
         }
     }
 
-    /// Only the first of a batch's iterations went, so many: where these are less than three of four, it took about as
-    /// long as they do one by one.
+    /// The first of a batch's iterations went, so many, one after another. Where batches take longer so than the
+    /// iterations do alone, it is given up.
     fn follow(&mut self, count: u32, lanes: u32) {
-        if count == lanes {
-            self.widen();
-        } else if 4 * u64::from(count) < 3 * u64::from(lanes) {
+        let quarters = self.quarters - self.quarters / 4 + count.min(MOST);
+        let cost = COST + lanes.min(MOST) / LANES_A_COST;
+        if count.max(quarters / 4) < cost {
+            self.quarters = 0;
             self.narrow();
             self.is_stalled = true;
+            return;
+        }
+        self.quarters = quarters.max(4 * cost).min(4 * MOST);
+        if count == lanes {
+            self.widen();
         } else {
             self.pause = (self.pause / 2).max(1);
+        }
+        self.fit();
+    }
+
+    /// Tries half as many iterations the next time, where fewer than half of them go as a rule, and twice as many, where
+    /// nearly all do.
+    fn fit(&mut self) {
+        let usual = self.quarters / 4;
+        if usual < self.lanes / 2 {
+            self.lanes = self.lanes.div_ceil(2).max(LEAST);
+            self.went = 0;
+        } else if 16 * usual > 15 * self.lanes {
+            self.lanes = (2 * self.lanes).min(MOST);
+            self.quarters = self.quarters.max(5 * self.lanes / 2);
         }
     }
 
@@ -109,7 +144,7 @@ impl Batches {
 
     /// A batch was given up.
     fn narrow(&mut self) {
-        self.lanes = (self.lanes / 2).max(LEAST);
+        self.lanes = self.lanes.div_ceil(2).max(LEAST);
         self.patience = (2 * self.patience).min(MOST_PATIENCE);
         self.went = 0;
     }

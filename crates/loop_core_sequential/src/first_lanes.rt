@@ -1,44 +1,38 @@
 //! Lanes that are applied one after another, up to the first that loads an element which one before it left.
 
-ghost use Rattle.std.specs.Prelude.{◌≡◌, ◌%◌, ◌<◌, ◌≤◌, true, false, length, slice_index, All};
+ghost use Rattle.std.specs.Prelude.{◌≡◌, ℕ, ◌<◌, ◌≤◌, true, false, length, slice_index, slice_index_or, All};
 ghost use Rattle.std.specs.List.{AllByRecursion};
+ghost use Rattle.loop_core_batch.specs.Sites.{kind_leaves};
 ghost use Rattle.loop_core_batch.specs.Effects.{words_after_any_effect, words_after_each_lane, words_after_effects};
 ghost use Rattle.loop_core_model.specs.declared.access.Access.TheVariants as access;
+ghost use Rattle.bpf_step_batch.specs.declared.entry.Entry.{Entry};
 ghost use Rattle.bpf_step_batch.specs.Logs.{IsLogged, effect_log_by, effect_made_by, effects_by, element_by, has_lane};
-ghost use Rattle.loop_core_sequential.specs.FirstLanes.{AreFirst, IsMarked, IsSpared, IsWithin, Lowers};
+ghost use Rattle.loop_core_sequential.specs.FirstLanes.{AreFirst, IsMarked, IsSpared, IsWithin, Lowers, mark_at};
 
-use crate::applying::{element, reduce_if_made, replace_if_made, store_if_made};
+use crate::applying::{apply_effect, element, reduce_if_made, replace_if_made, store_if_made};
 use array_maps::Maps;
 use bpf_step_batch::Entry;
-use loop_core_batch::leaves;
+use loop_core_batch::{Elements, leaves};
 use loop_core_model::Access;
 
-/// How many elements are told apart.
-const MARKS: usize = 8192;
+/// The most elements that maps have.
+const ELEMENTS: usize = 65_536;
 
 /// No lane.
 const NONE: u8 = 255;
 
-/// The first lane that leaves a word at an element, by the remainder of the element's number.
+/// At each element the first lane that leaves a word there.
 #[derive(Drop)]
 pub(crate) struct Marks {
-    pub(crate) first: [u8; MARKS],
+    pub(crate) first: [u8; ELEMENTS],
 }
 
 impl Marks {
     /// None.
     pub(crate) fn new() -> Marks {
         Marks {
-            first: [NONE; MARKS],
+            first: [NONE; ELEMENTS],
         }
-    }
-
-    /// The mark of an element.
-    #[inline(always)]
-    fn at(element: u32) -> usize
-        ensures { result ≡ element % 8192 }
-    {
-        element as usize % MARKS
     }
 
     /// Marks the elements at which the lanes leave words.
@@ -61,24 +55,45 @@ impl Marks {
         ensures marked { IsMarked self.new lanes entry.now }
         ensures lowers { Lowers self.old self.new }
     {
-        for lane in 0..lanes {
-            self.mark_if_made(entry, lane);
+        match entry.site.elements {
+            Elements::One(only) => self.mark_each(Elements::One(only), entry, lanes),
+            Elements::Run(first) => self.mark_each(Elements::Run(first), entry, lanes),
+            Elements::Every { first, step } => {
+                self.mark_each(Elements::Every { first, step }, entry, lanes);
+            }
+            Elements::Between { low, high } => {
+                self.mark_each(Elements::Between { low, high }, entry, lanes);
+            }
         }
     }
 
-    /// The same of one lane.
+    /// The same of elements whose form is known where it is called.
     #[inline(always)]
-    fn mark_if_made(&mut self, entry: &Entry, lane: u32)
-        requires lane { lane < 128 }
-        requires within { element_by entry.now.site.elements entry.now.elements lane < 65536 }
-        ensures marked { has_lane entry.now.mask lane ≡ true → slice_index self.new.first
-            (element_by entry.now.site.elements entry.now.elements lane % 8192) ≤ lane }
+    fn mark_each(&mut self, elements: Elements, entry: &Entry, lanes: u32)
+        requires elements { elements ≡ entry.now.site.elements }
+        requires room { lanes ≤ 128 }
+        requires within { IsWithin 65536 lanes entry.now }
+        ensures marked { IsMarked self.new lanes entry.now }
         ensures lowers { Lowers self.old self.new }
     {
-        if entry.mask.has(lane) {
-            let at = Marks::at(element(entry.site.elements, entry, lane));
-            self.first[at] = self.first[at].min(lane as u8);
+        let all = entry.mask.is_whole();
+        for lane in 0..lanes {
+            if all || entry.mask.has(lane) {
+                self.mark_at(element(elements, entry, lane), lane);
+            }
         }
+    }
+
+    /// The same of one element and lane.
+    #[inline(always)]
+    fn mark_at(&mut self, element: u32, lane: u32)
+        requires lane { lane < 128 }
+        requires within { element < 65536 }
+        ensures marked { slice_index self.new.first element ≤ lane }
+        ensures lowers { Lowers self.old self.new }
+    {
+        let at = element as usize;
+        self.first[at] = self.first[at].min(lane as u8);
     }
 
     /// Takes the marks away.
@@ -88,10 +103,37 @@ impl Marks {
     {
         for entry in entries {
             if leaves(entry.site.kind) {
-                for lane in 0..lanes {
-                    self.first[Marks::at(element(entry.site.elements, entry, lane))] = NONE;
-                }
+                self.clear_at(entry, lanes);
             }
+        }
+    }
+
+    /// The same of one entry.
+    fn clear_at(&mut self, entry: &Entry, lanes: u32)
+        requires room { lanes ≤ 128 }
+        requires within { IsWithin 65536 lanes entry.now }
+    {
+        match entry.site.elements {
+            Elements::One(only) => self.clear_each(Elements::One(only), entry, lanes),
+            Elements::Run(first) => self.clear_each(Elements::Run(first), entry, lanes),
+            Elements::Every { first, step } => {
+                self.clear_each(Elements::Every { first, step }, entry, lanes);
+            }
+            Elements::Between { low, high } => {
+                self.clear_each(Elements::Between { low, high }, entry, lanes);
+            }
+        }
+    }
+
+    /// The same of elements whose form is known where it is called.
+    #[inline(always)]
+    fn clear_each(&mut self, elements: Elements, entry: &Entry, lanes: u32)
+        requires elements { elements ≡ entry.now.site.elements }
+        requires room { lanes ≤ 128 }
+        requires within { IsWithin 65536 lanes entry.now }
+    {
+        for lane in 0..lanes {
+            self.first[element(elements, entry, lane) as usize] = NONE;
         }
     }
 
@@ -118,8 +160,29 @@ impl Marks {
         ensures few { result ≤ lanes }
         ensures spared { IsSpared self.now result entry.now }
     {
+        match entry.site.elements {
+            Elements::One(only) => self.first_of_each(Elements::One(only), entry, lanes),
+            Elements::Run(first) => self.first_of_each(Elements::Run(first), entry, lanes),
+            Elements::Every { first, step } => {
+                self.first_of_each(Elements::Every { first, step }, entry, lanes)
+            }
+            Elements::Between { low, high } => {
+                self.first_of_each(Elements::Between { low, high }, entry, lanes)
+            }
+        }
+    }
+
+    /// The same of elements whose form is known where it is called.
+    #[inline(always)]
+    fn first_of_each(&self, elements: Elements, entry: &Entry, lanes: u32) -> u32
+        requires elements { elements ≡ entry.now.site.elements }
+        requires room { lanes ≤ 128 }
+        requires within { IsWithin 65536 lanes entry.now }
+        ensures few { result ≤ lanes }
+        ensures spared { IsSpared self.now result entry.now }
+    {
         for lane in 0..lanes {
-            if self.is_left_before(entry, lane) {
+            if self.is_left_before(elements, entry, lane) {
                 return lane;
             }
         }
@@ -128,17 +191,14 @@ impl Marks {
 
     /// Whether a lane makes an access at an entry, of an element at which one before it leaves a word.
     #[inline(always)]
-    fn is_left_before(&self, entry: &Entry, lane: u32) -> bool
+    fn is_left_before(&self, elements: Elements, entry: &Entry, lane: u32) -> bool
+        requires elements { elements ≡ entry.now.site.elements }
         requires lane { lane < 128 }
         requires within { element_by entry.now.site.elements entry.now.elements lane < 65536 }
-        ensures { result ≡ false → has_lane entry.now.mask lane ≡ true → lane ≤ slice_index self.now.first
-            (element_by entry.now.site.elements entry.now.elements lane % 8192) }
+        ensures { result ≡ false → has_lane entry.now.mask lane ≡ true → lane ≤ mark_at self.now entry.now lane }
     {
-        if !entry.mask.has(lane) {
-            return false;
-        }
-        let at = Marks::at(element(entry.site.elements, entry, lane));
-        u32::from(self.first[at]) < lane
+        let first = self.first[element(elements, entry, lane) as usize];
+        u32::from(first) < lane && entry.mask.has(lane)
     }
 }
 
@@ -155,8 +215,40 @@ pub(crate) fn apply_first(entries: &[Entry], lanes: u32, marks: &mut Marks, maps
     marks.mark_all(entries, lanes);
     let count = marks.first_loading(entries, lanes);
     marks.clear(entries, lanes);
-    apply_lanes(entries, count, maps);
+    apply_leaving(entries, count, maps);
     count
+}
+
+/// Applies what lanes did, one after another: at the entries from the first that leaves a word on. Where that is the
+/// last, at once.
+fn apply_leaving(entries: &[Entry], lanes: u32, maps: &mut Maps)
+    requires room { lanes ≤ 128 }
+    requires few { length maps.old.words ≤ 65536 }
+    requires within { All (IsWithin (length maps.old.words) lanes) entries.now }
+    ensures { maps.new ≡ record {
+      sizes = maps.old.sizes;
+      words = words_after_each_lane (effect_log_by entries.now) lanes maps.old.words;
+    } }
+{
+    let leaving = &entries[first_leaving(entries)..];
+    if leaving.len() == 1 && lanes > 0 {
+        apply_effect(&leaving[0], lanes, maps);
+    } else {
+        apply_lanes(leaving, lanes, maps);
+    }
+}
+
+/// The first of the entries that leaves a word; their number where none does.
+fn first_leaving(entries: &[Entry]) -> usize
+    ensures few { result ≤ length entries.now }
+    ensures before { (k : ℕ) (other : Entry) → k < result
+        → kind_leaves (slice_index_or entries.now k other).site.kind ≡ false }
+{
+    let mut first = 0;
+    while first < entries.len() && !leaves(entries[first].site.kind) {
+        first += 1;
+    }
+    first
 }
 
 /// Applies what lanes did, one after another.
@@ -175,6 +267,7 @@ fn apply_lanes(entries: &[Entry], lanes: u32, maps: &mut Maps)
 }
 
 /// Applies what a lane did.
+#[inline(always)]
 fn apply_lane(entries: &[Entry], lane: u32, maps: &mut Maps)
     requires lane { lane < 128 }
     requires few { length maps.old.words ≤ 65536 }
@@ -202,8 +295,8 @@ fn apply_if_made(entry: &Entry, lane: u32, maps: &mut Maps)
     } }
 {
     match entry.site.kind {
-        Access::Read => (),
         Access::Write => store_if_made(entry, lane, maps),
+        Access::Read => (),
         Access::Both => change_if_made(entry, lane, maps),
         Access::Reduce(op) => reduce_if_made(op, entry, lane, maps),
     }

@@ -8,7 +8,7 @@ ghost use Rattle.loop_core_sequential.specs.Tries.{LanesAreIterations, TriedIn, 
 
 use crate::applying::{apply_effects, are_unloaded};
 use crate::batches::Batches;
-use crate::first_lanes::apply_first;
+use crate::first_lanes::{Marks, apply_first};
 use crate::running::LoopRun;
 use crate::trying::Tried;
 use array_maps::Maps;
@@ -19,7 +19,14 @@ use loop_core_batch::law_of_batches;
 impl Batches {
     /// Does iterations from an index on together, no more than up to another, where they are the loop in order so.
     /// Gives the index after them.
-    pub(crate) fn go(&mut self, run: &LoopRun<'_>, index: u32, to: u32, maps: &mut Maps) -> u32
+    pub(crate) fn go(
+        &mut self,
+        run: &LoopRun<'_>,
+        index: u32,
+        to: u32,
+        marks: &mut [Marks],
+        maps: &mut Maps,
+    ) -> u32
         requires ready { IsLoopRun run.now }
         requires below { index < to }
         requires within { to ≤ run.now.call.now.n }
@@ -29,7 +36,7 @@ impl Batches {
         ensures went { RanOn run.now.program.now run.now.call.now index result maps.old maps.new }
     {
         let lanes = self.lanes.min(to - index);
-        let tried = self.tried(run, index, lanes, maps);
+        let tried = self.tried(run, index, lanes, marks, maps);
         self.paced(tried, index, lanes)
     }
 
@@ -63,8 +70,15 @@ impl Batches {
     }
 
     /// Does so many iterations from an index on together, where they are the loop in order so; else the first of them up
-    /// to one that would load what these left, or nothing.
-    fn tried(&mut self, run: &LoopRun<'_>, index: u32, lanes: u32, maps: &mut Maps) -> Tried
+    /// to one that would load what these left, where there are marks, or nothing.
+    fn tried(
+        &mut self,
+        run: &LoopRun<'_>,
+        index: u32,
+        lanes: u32,
+        marks: &mut [Marks],
+        maps: &mut Maps,
+    ) -> Tried
         requires ready { IsLoopRun run.now }
         requires some { 0 < lanes }
         requires room { lanes ≤ 128 }
@@ -79,7 +93,10 @@ impl Batches {
         }
         let entries = self.batch.entries();
         if !are_unloaded(entries, lanes) {
-            return Tried::Partly(apply_first(entries, lanes, &mut self.marks, maps));
+            if marks.is_empty() {
+                return Tried::Unmarked;
+            }
+            return Tried::Partly(apply_first(entries, lanes, &mut marks[0], maps));
         }
         apply_effects(entries, lanes, maps);
         Tried::Applied

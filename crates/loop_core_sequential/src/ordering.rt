@@ -7,6 +7,7 @@ ghost use Rattle.loop_core_sequential.specs.LoopRuns.{IsLoopRun};
 ghost use Rattle.loop_core_sequential.specs.Rests.{RanTo, answer_of};
 
 use crate::batches::Batches;
+use crate::first_lanes::Marks;
 use crate::one_by_one::alone;
 use crate::running::LoopRun;
 use array_maps::Maps;
@@ -48,7 +49,11 @@ pub fn range_in_order(
     if to - from < FEWEST {
         return alone(&mut run, from, to, maps);
     }
-    in_batches(&mut run, from, to, maps)
+    // A loop that breaks at its first iteration needs no room for batches, which takes longer to clear.
+    if let Some(answer) = alone(&mut run, from, from + 1, maps) {
+        return Some(answer);
+    }
+    in_batches(&mut run, from + 1, to, maps)
 }
 
 /// The loop's answer: that with which it broke off, or n.
@@ -69,21 +74,79 @@ fn in_batches(run: &mut LoopRun<'_>, from: u32, to: u32, maps: &mut Maps) -> Opt
     requires in_order { from ≤ to }
     requires within { to ≤ run.old.call.now.n }
     requires sizes { maps.old.sizes ≡ run.old.program.now.sizes }
-    ensures { RanTo run.old.program.now run.old.call.now from to maps.old maps.new result }
+    ensures same { run.new ≡ run.old }
+    ensures ran { RanTo run.old.program.now run.old.call.now from to maps.old maps.new result }
 {
     let mut batches = Batches::new();
+    let (index, broke_off) = go_on(run, &mut batches, &mut [], from, to, maps);
+    if let Some(answer) = broke_off {
+        return Some(answer);
+    }
+    if index == to {
+        return None;
+    }
+    in_marked_batches(run, &mut batches, index, to, maps)
+}
+
+/// The same by these batches, with marks.
+#[inline(never)]
+fn in_marked_batches(
+    run: &mut LoopRun<'_>,
+    batches: &mut Batches,
+    from: u32,
+    to: u32,
+    maps: &mut Maps,
+) -> Option<u32>
+    requires ready { IsLoopRun run.old }
+    requires in_order { from ≤ to }
+    requires within { to ≤ run.old.call.now.n }
+    requires sizes { maps.old.sizes ≡ run.old.program.now.sizes }
+    ensures same { run.new ≡ run.old }
+    ensures ran { RanTo run.old.program.now run.old.call.now from to maps.old maps.new result }
+{
+    let mut marks = [Marks::new()];
+    let (index, broke_off) = go_on(run, batches, &mut marks, from, to, maps);
+    if let Some(answer) = broke_off {
+        return Some(answer);
+    }
+    alone(run, index, to, maps)
+}
+
+/// The same with these marks. Where there are none, it ends before a batch that needs them. Gives the index up to which
+/// the iterations went, and the loop's answer where one returned 1.
+#[inline(never)]
+fn go_on(
+    run: &mut LoopRun<'_>,
+    batches: &mut Batches,
+    marks: &mut [Marks],
+    from: u32,
+    to: u32,
+    maps: &mut Maps,
+) -> (u32, Option<u32>)
+    requires ready { IsLoopRun run.old }
+    requires in_order { from ≤ to }
+    requires within { to ≤ run.old.call.now.n }
+    requires sizes { maps.old.sizes ≡ run.old.program.now.sizes }
+    ensures same { run.new ≡ run.old }
+    ensures within { result.0 ≤ to }
+    ensures ran { RanTo run.old.program.now run.old.call.now from result.0 maps.old maps.new result.1 }
+{
     let mut index = from;
     while index < to {
-        let next = batches.go(run, index, to, maps);
+        let next = batches.go(run, index, to, marks, maps);
+        if batches.lacks_marks {
+            batches.lacks_marks = false;
+            return (next, None);
+        }
         if batches.goes_on(index, next, to) {
             index = next;
             continue;
         }
         let resume = batches.resume(next, to);
         if let Some(answer) = alone(run, next, resume, maps) {
-            return Some(answer);
+            return (resume, Some(answer));
         }
         index = resume;
     }
-    None
+    (index, None)
 }

@@ -1,10 +1,12 @@
 //! A loop in order that is watched.
 
-ghost use Rattle.std.specs.Prelude.{◌≡◌, length};
+ghost use Rattle.std.specs.Prelude.{◌≡◌, ◌≤◌, length};
+ghost use Rattle.array_maps.specs.MapList.{MapList};
 ghost use Rattle.bpf_verify_sound.specs.Soundness.{OverApproximatesCall};
 ghost use Rattle.loop_core_undo.specs.Undo.{log_elements, IsEmpty};
 ghost use Rattle.loop_core_sequential.specs.LoopRuns.{IsLoopRun};
 ghost use Rattle.loop_core_sequential.specs.Dependences.{CameOut};
+ghost use Rattle.loop_core_sequential.specs.Noting.{GoesWatched};
 ghost use Rattle.loop_core_sequential.specs.WatchedRuns.{WatchedToEnd, loop_by};
 
 use crate::batches::Batches;
@@ -65,7 +67,13 @@ fn watch(program: &Verified, call: &LoopCall, log: &mut UndoLog, maps: &mut Maps
         let watch = alone_watched(&mut run, 0, n, log, maps);
         return ended(watch, n);
     }
-    watch_in_batches(&mut run, log, maps)
+    // A loop that ends at its first iteration needs no room for batches, which takes longer to clear.
+    match alone_watched(&mut run, 0, 1, log, maps) {
+        Watch::Completed => (),
+        Watch::Broke(answer) => return WatchedLoop::Passed(answer),
+        Watch::Dependent(progress) => return WatchedLoop::Dependent(progress),
+    }
+    watch_in_batches(&mut run, 1, log, maps)
 }
 
 /// How the loop came out, by how all of its n iterations did.
@@ -79,17 +87,24 @@ fn ended(watch: Watch, n: u32) -> WatchedLoop
     }
 }
 
-/// Runs the iterations, watched, in batches where they may go together, and else one by one.
+/// Runs the iterations from an index on, watched, in batches where they may go together, and else one by one.
 #[inline(never)]
-fn watch_in_batches(run: &mut LoopRun<'_>, log: &mut UndoLog, maps: &mut Maps) -> WatchedLoop
+fn watch_in_batches(
+    run: &mut LoopRun<'_>,
+    from: u32,
+    log: &mut UndoLog,
+    maps: &mut Maps,
+) -> WatchedLoop
     requires ready { IsLoopRun run.old }
+    requires within { from ≤ run.old.call.now.n }
     requires sizes { maps.old.sizes ≡ run.old.program.now.sizes }
-    requires empty { IsEmpty (length maps.old.words) log.old }
-    ensures { WatchedToEnd run.old.program.now run.old.call.now maps.old maps.new log.new result }
+    requires count { length maps.old.words ≡ log_elements log.old }
+    ensures { (start : MapList) → GoesWatched run.old.program.now run.old.call.now from start maps.old log.old
+        → WatchedToEnd run.old.program.now run.old.call.now start maps.new log.new result }
 {
-    let n = run.call.n();
     let mut batches = Batches::new();
-    let mut index = 0;
+    let n = run.call.n();
+    let mut index = from;
     while index < n {
         let next = batches.go_watched(run, index, n, log, maps);
         if index < next {

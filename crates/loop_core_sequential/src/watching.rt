@@ -86,6 +86,9 @@ impl Batches {
         if !self.ran_together(run, index, lanes, maps) {
             return Tried::Diverged;
         }
+        if !self.batch.none_follows_own() {
+            return Tried::Diverged;
+        }
         let tried = &*self;
         let entries = tried.batch.entries();
         if !are_in_order(entries, lanes) || !are_unread(entries, lanes, log) {

@@ -6,8 +6,9 @@ import random
 from collections.abc import Callable
 
 ITERATIONS = 4_096  # of a loop, at most
-DATA, OWN, COUNTS, HALVES = range(4)  # maps: what is loaded, an element for each iteration, and what is reduced
-SIZES = {DATA: 64, OWN: ITERATIONS, COUNTS: 64, HALVES: 64}  # the elements of each
+# Maps: what is loaded, an element and a half of one for each iteration, and what is reduced; and the elements of each.
+DATA, OWN, OWN_HALVES, COUNTS, HALVES = range(5)
+SIZES = {DATA: 64, OWN: ITERATIONS, OWN_HALVES: ITERATIONS // 2, COUNTS: 64, HALVES: 64}
 FRAME_WORDS = 4  # of 8 bytes, that a callback uses of its own frame, and of main's from byte 8 of ctx on
 INDEX, CTX, ADDRESS = 6, 7, 8  # the registers of these
 VALUES = 0, 1, 2, 3, 4, 5, 9  # the registers of numbers that change
@@ -34,7 +35,7 @@ class RandomCallback:
         self._random = rng
         self._labels = 0
         self._depth = 0
-        self._usual = {COUNTS: rng.choice(REDUCES), HALVES: rng.choice(REDUCES)}
+        self._usual = {number: rng.choice(REDUCES) for number in (OWN_HALVES, COUNTS, HALVES)}
         self._wild = rng.choice((0, 0, 0, 0.1, 0.4))  # how many accesses are of any kind, at any element
         self._maps = [COUNTS] if rng.random() < 0.15 else [*SIZES]
         self._turned = rng.choice((0, 0, 0, 1, 127, ITERATIONS - 1))  # how elements of their own are turned round
@@ -53,7 +54,7 @@ class RandomCallback:
         for _ in range(self._random.randint(1, 5)):
             self._piece()
         if OWN in self._maps:
-            self._own_element()
+            self._own_element(OWN, 8)
             self._add(f"stx64 [r{ADDRESS}+0], r{self._value()}")
         else:
             self._access()
@@ -179,34 +180,38 @@ class RandomCallback:
             self._any_access()
             return
         number = rng.choice(self._maps)
-        if number == OWN:
-            self._own_element()
-            self._own_accesses()
+        if number in (OWN, OWN_HALVES):
+            width = 64 if number == OWN else 32
+            self._own_element(number, width // 8)
+            self._own_accesses(width)
             return
         width = rng.choice(WIDTHS) if number == DATA else 32 if number == HALVES else 64
         offset = self._any_element(number, width)
         self._usual_access(number, width, offset)
 
-    def _own_element(self) -> None:
-        """The address of an element that no other iteration has; or where accesses are wild, that others have too."""
+    def _own_element(self, number: int, stride: int) -> None:
+        """The address of an element, or of a half, that no other iteration has; or where accesses are wild, others too."""
         rng, scratch = self._random, self._value()
         self._add(f"mov64 r{scratch}, r{INDEX}")
         if rng.random() < self._wild:
             self._add(f"add64 r{scratch}, {rng.choice((-1, 1)) * rng.choice(FAR)}")
         if self._turned:
             self._add(f"xor64 r{scratch}, {self._turned}")
-        self._address(OWN, scratch, ITERATIONS - 1, 8)
+        self._address(number, scratch, ITERATIONS - 1, stride)
 
-    def _own_accesses(self) -> None:
-        """What an iteration does at an element of its own: a load and then a store, or anything."""
+    def _own_accesses(self, width: int) -> None:
+        """What an iteration does at an element of its own, or a half: a load and then a store, or anything."""
         rng = self._random
         if rng.random() < 0.5:
-            self._load(64, f"[r{ADDRESS}+0]")
+            self._load(width, f"[r{ADDRESS}+0]")
             self._arithmetic()
-            self._add(f"stx64 [r{ADDRESS}+0], r{self._source()}")
+            self._add(f"stx{width} [r{ADDRESS}+0], r{self._source()}")
         else:
             for _ in range(rng.choice((1, 1, 2, 3))):
-                self._any_access()
+                if width == 32:
+                    self._access_at(width, f"[r{ADDRESS}+0]")
+                else:
+                    self._any_access()
 
     def _any_element(self, number: int, width: int) -> int:
         """The address of an element, by a number that is masked. Gives the offset of what is accessed there."""
@@ -243,9 +248,12 @@ class RandomCallback:
 
     def _any_access(self) -> None:
         """An access of any kind of the element at the address, or of a half of it."""
-        rng, width = self._random, self._random.choice((64, 64, 32))
-        address = f"[r{ADDRESS}+{rng.randrange(0, 8, width // 8)}]"
-        how = rng.random()
+        width = self._random.choice((64, 64, 32))
+        self._access_at(width, f"[r{ADDRESS}+{self._random.randrange(0, 8, width // 8)}]")
+
+    def _access_at(self, width: int, address: str) -> None:
+        """An access of any kind at an address."""
+        how = self._random.random()
         if how < 0.3:
             self._load(width, address)
         elif how < 0.5:
@@ -300,5 +308,5 @@ class RandomCallback:
         if number == OWN or rng.random() < self._wild:
             self._any_access()
         else:
-            self._usual_access(number, 32 if number == HALVES else 64, 0)
+            self._usual_access(number, 32 if number in (OWN_HALVES, HALVES) else 64, 0)
         self._add(f"{null}:", f"mov64 r0, {self._number()}")

@@ -1,4 +1,7 @@
-use Rattle.std.proofs.Common.{ℕ, List, ◌∙◌, ap, subst, arith}
+use Rattle.std.proofs.Common.{◌≡◌, ℕ, List, ◌∙◌, ap, subst, arith}
+use Rattle.std.specs.Prelude.{false}
+use Rattle.std.proofs.lemmas.List.Elements.{recursion_from_All}
+use Rattle.bpf_step_batch.specs.declared.entry.Entry.{Entry}
 use Rattle.std.specs.List.{sum, AllByRecursion}
 use Rattle.array_maps.specs.MapList.{AreWords}
 use Rattle.bpf_step.proofs.Limits.{few_slots}
@@ -23,9 +26,11 @@ returns-clause-iterations c = λ yes.
       fit = subst AreWords c.words.ensures.words c.words.ensures.fit;
     })
     c.callback.result c.args.first c.args.lanes c.callback.ensures c.requires.within c.words.result.now
-    c.words.ensures.words (entries_of c.run.new.self) (c.run.ensures yes)
+    c.words.ensures.words (entries_of c.run.new.self) (c.run.ensures c.if-not-run.false)
+    (recursion_from_All (λ (entry : Entry). entry.follows_own ≡ false) (entries_of c.run.new.self)
+    (c.none_follows_own.ensures yes))
 
 pub returns-clause-logged : goal.returns-clause-logged
 returns-clause-logged c = λ yes.
     subst (λ (words : List ℕ). AllByRecursion (IsLogged c.args.lanes words) (entries_of c.run.new.self))
-    c.words.ensures.words (c.run.ensures yes).logged
+    c.words.ensures.words (c.run.ensures c.if-not-run.false).logged

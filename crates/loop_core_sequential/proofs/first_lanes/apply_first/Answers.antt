@@ -11,5 +11,5 @@ returns-clause-first c = record {
       (recursion_from_All (IsSpared c.mark_all.new.self c.first_loading-count.result) c.args.entries.now
       c.first_loading-count.ensures.spared)
       c.args.maps.now.words;
-  applied = c.apply_lanes.ensures;
+  applied = c.apply_leaving.ensures;
 }

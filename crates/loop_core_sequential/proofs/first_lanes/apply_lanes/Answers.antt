@@ -2,7 +2,7 @@ use Rattle.std.proofs.Common.{ℕ, ◌<◌, ◌≤◌, length, slice_index_or, s
 use Rattle.array_maps.specs.MapList.{MapList}
 use Rattle.bpf_step_batch.specs.declared.entry.Entry.{Entry}
 use Rattle.bpf_step_batch.specs.Logs.{element_by, effect_log_by}
-use Rattle.loop_core_batch.proofs.EffectLaws.{length-before}
+use Rattle.loop_core_batch.proofs.Sparing.{length-before}
 use Rattle.loop_core_sequential.proofs.first_lanes.apply_lanes.Goals as goal
 
 pub apply_lane-requires-clause-few : goal.apply_lane-requires-clause-few

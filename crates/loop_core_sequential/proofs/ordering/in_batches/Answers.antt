@@ -1,59 +1,28 @@
-use Rattle.std.proofs.Common.{Some, None, refl, ◌∙◌, arith}
-use Rattle.loop_core_sequential.proofs.InOrder.{stayed, went_both, went_to, broke_before}
-use Rattle.loop_core_sequential.proofs.RunLaws.{went_by, rest_ran_by}
+use Rattle.std.proofs.Common.{Some, subst, ◌∙◌}
+use Rattle.loop_core_sequential.specs.Rests.{RanTo}
+use Rattle.loop_core_sequential.proofs.InOrder.{ran_both, went_to, broke_before}
+use Rattle.loop_core_sequential.proofs.RunLaws.{ran_by}
 use Rattle.loop_core_sequential.proofs.ordering.in_batches.Goals as goal
 
-pub loop-index-init : goal.loop-index-init
-loop-index-init c = record {
-  same = refl;
-  within = c.requires.in_order;
-  went = stayed c.args.run.now.program.now c.args.run.now.call.now c.args.from c.args.maps.now
-      (omega (arith, c.requires.in_order, c.requires.within));
-}
+pub returns-in-Some-clause-ran : goal.returns-in-Some-clause-ran
+returns-in-Some-clause-ran c =
+    broke_before c.args.run.now.program.now c.args.run.now.call.now c.args.from c.go_on-index.result.0 c.args.to
+    c.args.maps.now c.go_on-index.new.maps c.in-Some.answer c.go_on-index.ensures.within
+    (subst (RanTo c.args.run.now.program.now c.args.run.now.call.now c.args.from c.go_on-index.result.0
+    c.args.maps.now c.go_on-index.new.maps) c.in-Some.is c.go_on-index.ensures.ran)
 
-pub loop-index-preserved-then-goes_on : goal.loop-index-preserved-then-goes_on
-loop-index-preserved-then-goes_on c = record {
-  same = c.loop-index.invariant.same;
-  within = c.go-next.ensures.within;
-  went = went_both c.args.run.now.program.now c.args.run.now.call.now c.args.from c.loop-index.index c.go-next.result
-      c.args.maps.now c.loop-index.maps c.go-next.new.maps c.loop-index.invariant.went
-      (went_by c.loop-index.run c.args.run.now c.loop-index.invariant.same c.loop-index.index c.go-next.result
-      c.loop-index.maps c.go-next.new.maps c.go-next.ensures.went);
-}
+pub returns-then-index-to-clause-ran : goal.returns-then-index-to-clause-ran
+returns-then-index-to-clause-ran c =
+    went_to c.args.run.now.program.now c.args.run.now.call.now c.args.from c.go_on-index.result.0 c.args.to
+    c.args.maps.now c.go_on-index.new.maps c.if-index-to.true
+    (subst (RanTo c.args.run.now.program.now c.args.run.now.call.now c.args.from c.go_on-index.result.0
+    c.args.maps.now c.go_on-index.new.maps) c.in_default.is c.go_on-index.ensures.ran)
 
-pub returns-in-Some : goal.returns-in-Some
-returns-in-Some c =
-    broke_before c.args.run.now.program.now c.args.run.now.call.now c.args.from c.resume-resume.result c.args.to
-    c.args.maps.now c.alone.new.maps c.in-Some.answer c.resume-resume.ensures.within
-    (rest_ran_by c.loop-index.run c.args.run.now c.loop-index.invariant.same c.args.from c.loop-index.index
-    c.go-next.result c.resume-resume.result c.args.maps.now c.loop-index.maps c.go-next.new.maps c.alone.new.maps (Some c.in-Some.answer)
-    c.loop-index.invariant.went c.go-next.ensures.went c.in-Some.ensures.ran)
-
-pub loop-index-preserved : goal.loop-index-preserved
-loop-index-preserved c = record {
-  same = c.alone.ensures.same ∙ c.loop-index.invariant.same;
-  within = c.resume-resume.ensures.within;
-  went = rest_ran_by c.loop-index.run c.args.run.now c.loop-index.invariant.same c.args.from c.loop-index.index
-      c.go-next.result c.resume-resume.result c.args.maps.now c.loop-index.maps c.go-next.new.maps c.alone.new.maps None c.loop-index.invariant.went
-      c.go-next.ensures.went c.in_default.ensures.ran;
-}
-
-pub returns : goal.returns
-returns c =
-    let past = c.loop-index-test.false in
-    let within = c.loop-index.invariant.within in
-    went_to c.args.run.now.program.now c.args.run.now.call.now c.args.from c.loop-index.index c.args.to
-    c.args.maps.now c.loop-index.maps (omega (arith, past, within)) c.loop-index.invariant.went
-
-pub loop-index-smaller-then-goes_on : goal.loop-index-smaller-then-goes_on
-loop-index-smaller-then-goes_on c =
-    let within = c.go-next.ensures.within in
-    let up = c.goes_on.ensures.on c.if-goes_on.true in
-    omega (arith, within, up)
-
-pub loop-index-smaller : goal.loop-index-smaller
-loop-index-smaller c =
-    let up = c.resume-resume.ensures.on in
-    let on = c.go-next.ensures.on in
-    let within = c.resume-resume.ensures.within in
-    omega (arith, up, on, within)
+pub returns-clause-ran : goal.returns-clause-ran
+returns-clause-ran c =
+    ran_both c.args.run.now.program.now c.args.run.now.call.now c.args.from c.go_on-index.result.0 c.args.to
+    c.args.maps.now c.go_on-index.new.maps c.in_marked_batches.new.maps c.in_marked_batches.result
+    (subst (RanTo c.args.run.now.program.now c.args.run.now.call.now c.args.from c.go_on-index.result.0
+    c.args.maps.now c.go_on-index.new.maps) c.in_default.is c.go_on-index.ensures.ran)
+    (ran_by c.go_on-index.new.run c.args.run.now c.go_on-index.ensures.same c.go_on-index.result.0 c.args.to c.go_on-index.new.maps
+    c.in_marked_batches.new.maps c.in_marked_batches.result c.in_marked_batches.ensures.ran)

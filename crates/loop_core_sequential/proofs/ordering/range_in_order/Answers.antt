@@ -1,4 +1,6 @@
-use Rattle.loop_core_sequential.proofs.RunLaws.{ran_of}
+use Rattle.std.proofs.Common.{Some, ap, arith}
+use Rattle.loop_core_sequential.proofs.InOrder.{ran_both, broke_before}
+use Rattle.loop_core_sequential.proofs.RunLaws.{ran_by, ran_of}
 use Rattle.loop_core_sequential.proofs.ordering.range_in_order.Goals as goal
 
 pub returns-then-to-from-lt-FEWEST : goal.returns-then-to-from-lt-FEWEST
@@ -6,7 +8,19 @@ returns-then-to-from-lt-FEWEST c =
     ran_of c.new-run.result c.args.program.now c.args.call.now c.new-run.ensures.program c.new-run.ensures.call
     c.args.from c.args.to c.args.maps.now c.alone.new.maps c.alone.result c.alone.ensures.ran
 
+pub returns-in-Some : goal.returns-in-Some
+returns-in-Some c =
+    let many = c.if-to-from-lt-FEWEST.false in
+    ran_of c.new-run.result c.args.program.now c.args.call.now c.new-run.ensures.program c.new-run.ensures.call
+    c.args.from c.args.to c.args.maps.now c.alone-2.new.maps (Some c.in-Some.answer)
+    (broke_before c.new-run.result.program.now c.new-run.result.call.now c.args.from _ c.args.to c.args.maps.now
+    c.alone-2.new.maps c.in-Some.answer (omega (arith, many)) c.in-Some.ensures.ran)
+
 pub returns : goal.returns
 returns c =
     ran_of c.new-run.result c.args.program.now c.args.call.now c.new-run.ensures.program c.new-run.ensures.call
-    c.args.from c.args.to c.args.maps.now c.in_batches.new.maps c.in_batches.result c.in_batches.ensures
+    c.args.from c.args.to c.args.maps.now c.in_batches.new.maps c.in_batches.result
+    (ran_both c.new-run.result.program.now c.new-run.result.call.now c.args.from _ c.args.to c.args.maps.now
+    c.alone-2.new.maps c.in_batches.new.maps c.in_batches.result c.in_default.ensures.ran
+    (ran_by c.alone-2.new.run c.new-run.result c.alone-2.ensures.same _ c.args.to c.alone-2.new.maps
+    c.in_batches.new.maps c.in_batches.result c.in_batches.ensures.ran))

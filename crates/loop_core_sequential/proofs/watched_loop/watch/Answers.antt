@@ -1,7 +1,8 @@
 use Rattle.std.proofs.Common.{sym, ap, subst, ◌∙◌}
 use Rattle.bpf_step_model.specs.State.{LoopCall}
+use Rattle.loop_core_sequential.specs.declared.watched_loop.WatchedLoop.TheVariants.{Passed, Dependent}
 use Rattle.loop_core_sequential.specs.WatchedRuns.{WatchedToEnd, loop_by}
-use Rattle.loop_core_sequential.proofs.RunLaws.{ended_of}
+use Rattle.loop_core_sequential.proofs.RunLaws.{ended_by, ended_of}
 use Rattle.loop_core_sequential.proofs.WatchedEnds.{begins, to_end}
 use Rattle.loop_core_sequential.proofs.watched_loop.watch.Goals as goal
 
@@ -18,8 +19,26 @@ returns-then-n-lt-FEWEST c =
     (c.alone_watched-watch.ensures.ran c.args.maps.now
     (begins c.new-run.result.program.now c.new-run.result.call.now c.args.maps.now c.args.log.now c.requires.empty))))
 
+pub returns-in-Broke : goal.returns-in-Broke
+returns-in-Broke c =
+    ended_of c.new-run.result c.args.program.now c.args.call.now c.new-run.ensures.program c.new-run.ensures.call
+    c.args.maps.now c.alone_watched.new.maps c.alone_watched.new.log (Passed c.in-Broke.answer)
+    (c.in-Broke.ensures.ran c.args.maps.now
+    (begins c.new-run.result.program.now c.new-run.result.call.now c.args.maps.now c.args.log.now c.requires.empty))
+
+pub returns-in-Dependent : goal.returns-in-Dependent
+returns-in-Dependent c =
+    ended_of c.new-run.result c.args.program.now c.args.call.now c.new-run.ensures.program c.new-run.ensures.call
+    c.args.maps.now c.alone_watched.new.maps c.alone_watched.new.log (Dependent c.in-Dependent.progress)
+    (c.in-Dependent.ensures.ran c.args.maps.now
+    (begins c.new-run.result.program.now c.new-run.result.call.now c.args.maps.now c.args.log.now c.requires.empty))
+
 pub returns : goal.returns
 returns c =
     ended_of c.new-run.result c.args.program.now c.args.call.now c.new-run.ensures.program c.new-run.ensures.call
     c.args.maps.now c.watch_in_batches.new.maps c.watch_in_batches.new.log c.watch_in_batches.result
-    c.watch_in_batches.ensures
+    (ended_by c.alone_watched.new.run c.new-run.result c.alone_watched.ensures.same 1 c.args.maps.now
+    c.alone_watched.new.maps c.watch_in_batches.new.maps c.alone_watched.new.log c.watch_in_batches.new.log
+    c.watch_in_batches.result c.watch_in_batches.ensures
+    (c.in-Completed.ensures.ran c.args.maps.now
+    (begins c.new-run.result.program.now c.new-run.result.call.now c.args.maps.now c.args.log.now c.requires.empty)))

@@ -10,9 +10,9 @@ loop-index-preserved-then-index-next c = record {
   within = c.go_watched-next.ensures.within;
   sizes = c.go_watched-next.ensures.sizes ∙ c.loop-index.invariant.sizes;
   count = c.go_watched-next.ensures.count;
-  goes = goes_by c.loop-index.run c.args.run.now c.loop-index.invariant.same c.loop-index.index c.go_watched-next.result
+  goes = λ start before. goes_by c.loop-index.run c.args.run.now c.loop-index.invariant.same c.loop-index.index c.go_watched-next.result
       c.loop-index.maps c.go_watched-next.new.maps c.loop-index.log c.go_watched-next.new.log
-      c.go_watched-next.ensures.goes c.args.maps.now c.loop-index.invariant.goes;
+      c.go_watched-next.ensures.goes start (c.loop-index.invariant.goes start before);
 }
 
 pub loop-index-preserved : goal.loop-index-preserved
@@ -21,35 +21,36 @@ loop-index-preserved c = record {
   within = c.resume-resume.ensures.within;
   sizes = c.alone_watched.ensures.sizes ∙ c.go_watched-next.ensures.sizes ∙ c.loop-index.invariant.sizes;
   count = c.alone_watched.ensures.count;
-  goes = rest_watched_by c.loop-index.run c.args.run.now c.loop-index.invariant.same c.loop-index.index
+  goes = λ start before. rest_watched_by c.loop-index.run c.args.run.now c.loop-index.invariant.same c.loop-index.index
       c.go_watched-next.result c.resume-resume.result
       (omega (arith, c.if-index-next.false, c.go_watched-next.ensures.on))
       c.loop-index.maps c.go_watched-next.new.maps c.alone_watched.new.maps c.loop-index.log c.go_watched-next.new.log
-      c.alone_watched.new.log Completed c.go_watched-next.ensures.goes c.in-Completed.ensures.ran c.args.maps.now
-      c.loop-index.invariant.goes;
+      c.alone_watched.new.log Completed c.go_watched-next.ensures.goes c.in-Completed.ensures.ran start
+      (c.loop-index.invariant.goes start before);
 }
 
 pub returns-in-Broke : goal.returns-in-Broke
-returns-in-Broke c =
+returns-in-Broke c = λ start before.
     rest_watched_by c.loop-index.run c.args.run.now c.loop-index.invariant.same c.loop-index.index
     c.go_watched-next.result c.resume-resume.result
     (omega (arith, c.if-index-next.false, c.go_watched-next.ensures.on))
     c.loop-index.maps c.go_watched-next.new.maps c.alone_watched.new.maps c.loop-index.log c.go_watched-next.new.log
     c.alone_watched.new.log (Broke c.in-Broke.answer) c.go_watched-next.ensures.goes c.in-Broke.ensures.ran
-    c.args.maps.now c.loop-index.invariant.goes
+    start (c.loop-index.invariant.goes start before)
 
 pub returns-in-Dependent : goal.returns-in-Dependent
-returns-in-Dependent c =
+returns-in-Dependent c = λ start before.
     rest_watched_by c.loop-index.run c.args.run.now c.loop-index.invariant.same c.loop-index.index
     c.go_watched-next.result c.resume-resume.result
     (omega (arith, c.if-index-next.false, c.go_watched-next.ensures.on))
     c.loop-index.maps c.go_watched-next.new.maps c.alone_watched.new.maps c.loop-index.log c.go_watched-next.new.log
     c.alone_watched.new.log (Dependent c.in-Dependent.progress) c.go_watched-next.ensures.goes
-    c.in-Dependent.ensures.ran c.args.maps.now c.loop-index.invariant.goes
+    c.in-Dependent.ensures.ran start (c.loop-index.invariant.goes start before)
 
 pub returns : goal.returns
-returns c =
+returns c = λ start before.
     let past = c.loop-index-test.false in
     let within = c.loop-index.invariant.within in
-    went_all c.args.run.now.program.now c.args.run.now.call.now c.loop-index.index c.n-n.result c.args.maps.now
-    c.loop-index.maps c.loop-index.log (omega (arith, past, within)) c.n-n.ensures c.loop-index.invariant.goes
+    went_all c.args.run.now.program.now c.args.run.now.call.now c.loop-index.index c.n-n.result start
+    c.loop-index.maps c.loop-index.log (omega (arith, past, within)) c.n-n.ensures
+    (c.loop-index.invariant.goes start before)

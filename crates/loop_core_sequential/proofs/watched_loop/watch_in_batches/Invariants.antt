@@ -1,4 +1,5 @@
 use Rattle.std.proofs.Common.{◌≡◌, ◌-◌, ◌≤◌, length}
+use Rattle.array_maps.specs.MapList.{MapList}
 use Rattle.loop_core_undo.specs.Undo.{log_elements}
 use Rattle.loop_core_sequential.specs.Noting.{GoesWatched}
 use Rattle.loop_core_sequential.proofs.watched_loop.watch_in_batches.Given as goal
@@ -9,7 +10,8 @@ invariant-loop-index l = record {
   within : l.index ≤ l.n;
   sizes : l.maps.sizes ≡ l.fn.run.program.now.sizes;
   count : length l.maps.words ≡ log_elements l.log;
-  goes : GoesWatched l.fn.run.program.now l.fn.run.call.now l.index l.fn.maps l.maps l.log;
+  goes : (start : MapList) → GoesWatched l.fn.run.program.now l.fn.run.call.now l.from start l.fn.maps l.fn.log
+      → GoesWatched l.fn.run.program.now l.fn.run.call.now l.index start l.maps l.log;
 }
 
 abbrev pub decreases-loop-index : goal.decreases-loop-index

@@ -7,13 +7,14 @@ use Rattle.loop_core_batch.proofs.site.Site.commutes_behind.Goals as goal
 
 pub loop-site-preserved : goal.loop-site-preserved
 loop-site-preserved c =
-    All-more (λ (site : Site). Commute c.args.lanes site c.args.self) c.args.before.now c.loop-site.site-index _
+    All-more (λ (site : Site). Commute c.args.lanes site c.args.self.now) c.args.before.now c.loop-site.site-index _
     c.loop-site-test.true c.loop-site.invariant
     (c.commutes.ensures.0 c.if-not-commutes.false)
 
 pub returns : goal.returns
 returns c = (
-  λ always. all_taken (λ (site : Site). Commute c.args.lanes site c.args.self) c.args.before.now c.loop-site.site-index
+  λ always. all_taken (λ (site : Site). Commute c.args.lanes site c.args.self.now) c.args.before.now
+      c.loop-site.site-index
       c.loop-site-test.false c.loop-site.invariant,
   λ all. refl,
 )

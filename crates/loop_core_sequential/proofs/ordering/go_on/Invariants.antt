@@ -1,6 +1,6 @@
 use Rattle.std.proofs.Common.{◌≡◌, ◌-◌, ◌≤◌}
 use Rattle.loop_core_sequential.specs.Rests.{RanOn}
-use Rattle.loop_core_sequential.proofs.ordering.in_batches.Given as goal
+use Rattle.loop_core_sequential.proofs.ordering.go_on.Given as goal
 
 abbrev pub invariant-loop-index : goal.invariant-loop-index
 invariant-loop-index l = record {
