@@ -15,8 +15,9 @@ use Rattle.bpfspec_reasons.specs.declared.chain.Next.TheVariants.{Before}
 use Rattle.bpfspec_reasons.specs.declared.meeting.EdgeWidth.{EdgeWidth}
 use Rattle.bpfspec_reasons.specs.Mentions.{Mention, Follows}
 use Rattle.bpfspec_reasons.specs.Truth.{ExplanationOf, IsKnownBefore, Tells, with_mentions}
-use Rattle.bpfspec_reasons.specs.Chains.{AreLinks, HasLink, IsChain, IsEdge, IsLink, IsLinkBy, made_of, next_made}
+use Rattle.bpfspec_reasons.specs.Chains.{AreLinks, HasLink, IsChain, IsLink, IsLinkBy, made_of, next_made}
 use Rattle.bpfspec_reasons.specs.Chains.{told_made}
+use Rattle.bpfspec_reasons.specs.Sides.{IsEdge}
 use Rattle.bpfspec_reasons.proofs.OperandLaws.{none-some, some-same}
 use Rattle.bpfspec_reasons.proofs.TellLaws.{more-behind}
 

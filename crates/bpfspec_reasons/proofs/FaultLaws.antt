@@ -10,12 +10,14 @@ use Rattle.bpf_verify_model.specs.declared.state.State.{State}
 use Rattle.bpf_verify_model.specs.Accepted.{BrokenRule, first_fault}
 use Rattle.bpf_verify_origin.specs.declared.fault.Fault.{Fault}
 use Rattle.bpf_verify_origin.specs.Inspected.{broken_rule, IsStateBefore}
+use Rattle.bpf_verify_origin.specs.Sources.{source_before}
 use Rattle.bpfspec_reasons.specs.declared.operands.Wanted.TheVariants.{Unwritten}
 use Rattle.bpfspec_reasons.specs.Mentions.{Mention, Reads}
 use Rattle.bpfspec_reasons.specs.Truth.{ExplanationOf, IsKnownBefore, Tells, TellsMore, nothing_told, with_mentions}
-use Rattle.bpfspec_reasons.specs.Operands.{at_slot, is_wanted_of, registers_read}
-use Rattle.bpfspec_reasons.specs.Faults.{IsBlame, IsOriginUnless, TellsAddress, TellsAt, TellsBase}
-use Rattle.bpfspec_reasons.specs.Faults.{TellsIfReached, TellsOfRule, TellsRegisters}
+use Rattle.bpfspec_reasons.specs.Operands.{is_wanted_of}
+use Rattle.bpfspec_reasons.specs.Sides.{IsClash}
+use Rattle.bpfspec_reasons.specs.Faults.{IsBlame, IsOriginUnless, TellsAddress, TellsAt, TellsBase, TellsBlamed}
+use Rattle.bpfspec_reasons.specs.Faults.{TellsIfReached, TellsMet, TellsOfRule}
 use Rattle.bpfspec_reasons.specs.Told.{TellsFault}
 use Rattle.bpfspec_reasons.proofs.OperandLaws.{none-some, some-same}
 use Rattle.bpfspec_reasons.proofs.TellLaws.{more-behind, tells-as, tells-nothing}
@@ -51,20 +53,20 @@ no-base slot bases told none =
 
 -- ---- registers
 
-pub registers-told : (rule : Rule) (slot : ℕ) (insn : Insn) (state : State) (before mid after : ExplanationOf)
-    → mid ≡ with_mentions before (at_slot slot (registers_read insn))
+pub blamed-told : (first : List Mention) (rule : Rule) (slot : ℕ) (insn : Insn) (state : State)
+    (before mid after : ExplanationOf) → mid ≡ with_mentions before first
     → Tells (IsBlame mid.program rule slot insn state) mid after
-    → Tells (TellsRegisters before.program rule slot insn state) before after
-registers-told rule slot insn state before mid after first blame =
-    let same : mid.program ≡ before.program = by-program before mid (at_slot slot (registers_read insn)) first in
+    → Tells (TellsBlamed first before.program rule slot insn state) before after
+blamed-told first rule slot insn state before mid after is blame =
+    let same : mid.program ≡ before.program = by-program before mid first is in
     record {
-      more = at_slot slot (registers_read insn) ++ blame.more;
+      more = first ++ blame.more;
       holds = record {
         chain = blame.more;
         is = subst (λ (p : Program). IsBlame p rule slot insn state blame.more) same blame.holds;
         joined = refl;
       };
-      added = more-behind before mid after (at_slot slot (registers_read insn)) blame.more first blame.added;
+      added = more-behind before mid after first blame.more is blame.added;
     }
 
 -- ---- tests of registers
@@ -90,15 +92,14 @@ one-of-two dst src reg (inr same) = or-two (eqb dst reg) (eqb src reg) (eq-eqb s
 
 -- ---- by the rule
 
-pub unwritten-told : (rule : Rule) (slot reg : ℕ) (insn : Insn) (state : State)
-    (before after : ExplanationOf) → rule ≡ UnwrittenRegister → is_wanted_of Unwritten state insn reg ≡ true
-    → after ≡ with_mentions before (Reads slot reg ∷ [])
+pub clash-told : (rule : Rule) (slot reg at : ℕ) (insn : Insn) (state : State) (before after : ExplanationOf)
+    → rule ≡ UnwrittenRegister → is_wanted_of Unwritten state insn reg ≡ true
+    → IsClash before.program reg (source_before before.program slot reg) at
+    → Tells (TellsMet before.program slot at reg) before after
     → Tells (TellsOfRule before.program rule slot insn state) before after
-unwritten-told rule slot reg insn state before after broken read is = record {
-  more = Reads slot reg ∷ [];
-  holds = inr (record { reg = reg; broken = broken; read = read; is = refl });
-  added = is;
-}
+clash-told rule slot reg at insn state before after broken read clash tells =
+    tells-as before after
+    (λ more met. inr (record { reg = reg; broken = broken; read = read; at = at; clash = clash; told_of = met })) tells
 
 -- in the one state there
 pub reached-told : (rule : Rule) (slot : ℕ) (insn : Insn) (state : State) (before after : ExplanationOf)

@@ -3,6 +3,7 @@ pub mod TellLaws
 pub mod OperandLaws
 pub mod ChainLaws
 pub mod FaultLaws
+pub mod SideLaws
 pub mod MisfitLaws
 pub mod PageLaws
 pub mod PartLaws

@@ -1,8 +1,7 @@
--- The registers that an instruction reads, one more, and what is known of them.
-use Rattle.std.proofs.Common.{◌≡◌, ℕ, suc, ◌+◌, true, false, List, [], ◌∷◌, ◌++◌, append-nil, append_assoc}
+-- The registers that are told of, one more, and what is known of them.
+use Rattle.std.proofs.Common.{◌≡◌, ℕ, suc, ◌+◌, Bool, true, false, List, [], ◌∷◌, ◌++◌, append-nil, append_assoc}
 use Rattle.std.proofs.Common.{refl, sym, ap, ◌∙◌, subst, arith, Some, None, Option}
 use Rattle.std.specs.Prelude.{IfSome}
-use Rattle.bpf_insn_types.specs.declared.insn.Insn.{Insn}
 use Rattle.bpf_insn_types.specs.Program.{Program}
 use Rattle.bpf_verify_model.specs.declared.abstract_value.AbstractValue.{AbstractValue}
 use Rattle.bpf_verify_model.specs.declared.state.State.{State}
@@ -12,8 +11,8 @@ use Rattle.bpf_verify_model.specs.Values.{is_unwritten}
 use Rattle.bpf_verify_origin.specs.Inspected.{IsPassedTo, IsStateBefore}
 use Rattle.bpf_verify_origin.specs.Runs.{HoldsBefore}
 use Rattle.bpfspec_reasons.specs.Truth.{ExplanationOf, IsKnownBefore, IsUnreadable, IsValueBefore, with_mentions}
-use Rattle.bpfspec_reasons.specs.Mentions.{Mention, Reads}
-use Rattle.bpfspec_reasons.specs.Operands.{at_slot, if_read, reads_register, registers_below}
+use Rattle.bpfspec_reasons.specs.Mentions.{Mention}
+use Rattle.bpfspec_reasons.specs.Operands.{if_passes, registers_below, told_of}
 use Rattle.bpfspec_reasons.proofs.TruthLaws.{register-contained}
 
 abbrev or_default : {X : Type 0} → X → Option X → X
@@ -67,45 +66,46 @@ unreadable told now slot reg state known same unwritten = record {
   unwritten = unwritten;
 }
 
--- ---- registers that are read
+-- ---- registers that are told of
 
-at-more : (slot : ℕ) (regs more : List ℕ) → at_slot slot (regs ++ more) ≡ at_slot slot regs ++ at_slot slot more
-unfolding at_slot
-at-more slot [] more = refl
-at-more slot (reg ∷ regs) more = ap (λ (l : List Mention). Reads slot reg ∷ l) (at-more slot regs more)
+more-told : (tell : ℕ → Mention) (regs more : List ℕ)
+    → told_of tell (regs ++ more) ≡ told_of tell regs ++ told_of tell more
+unfolding told_of
+more-told tell [] more = refl
+more-told tell (reg ∷ regs) more = ap (λ (l : List Mention). tell reg ∷ l) (more-told tell regs more)
 
-pub with-none : (told : ExplanationOf) (slot : ℕ) (regs : List ℕ) → regs ≡ []
-    → told ≡ with_mentions told (at_slot slot regs)
-unfolding at_slot
-with-none told slot regs is = rw (is, append-nil told.mentions) refl
+pub with-none : (told : ExplanationOf) (tell : ℕ → Mention) (regs : List ℕ) → regs ≡ []
+    → told ≡ with_mentions told (told_of tell regs)
+unfolding told_of
+with-none told tell regs is = rw (is, append-nil told.mentions) refl
 
-pub operands-begun : (told : ExplanationOf) (slot : ℕ) (insn : Insn)
-    → told ≡ with_mentions told (at_slot slot (registers_below 0 insn))
+pub registers-begun : (told : ExplanationOf) (tell : ℕ → Mention) (test : ℕ → Bool)
+    → told ≡ with_mentions told (told_of tell (registers_below test 0))
 unfolding registers_below
-operands-begun told slot insn = with-none told slot [] refl
+registers-begun told tell test = with-none told tell [] refl
 
-pub read-one : (slot reg : ℕ) (insn : Insn) → reads_register insn reg ≡ true
-    → Reads slot reg ∷ [] ≡ at_slot slot (if_read reg insn)
-unfolding if_read at_slot
-read-one slot reg insn read = rw read refl
+pub passes-one : (tell : ℕ → Mention) (reg : ℕ) (test : ℕ → Bool) → test reg ≡ true
+    → tell reg ∷ [] ≡ told_of tell (if_passes test reg)
+unfolding if_passes told_of
+passes-one tell reg test passes = rw passes refl
 
-pub read-none : (reg : ℕ) (insn : Insn) → reads_register insn reg ≡ false → if_read reg insn ≡ []
-unfolding if_read
-read-none reg insn unread = rw unread refl
+pub passes-none : (reg : ℕ) (test : ℕ → Bool) → test reg ≡ false → if_passes test reg ≡ []
+unfolding if_passes
+passes-none reg test fails = rw fails refl
 
 -- one register more
-pub operands-next : (told now after : ExplanationOf) (slot reg number : ℕ) (insn : Insn)
-    → now ≡ with_mentions told (at_slot slot (registers_below number insn)) → reg ≡ number
-    → after ≡ with_mentions now (at_slot slot (if_read reg insn))
-    → after ≡ with_mentions told (at_slot slot (registers_below (number + 1) insn))
+pub registers-next : (told now after : ExplanationOf) (tell : ℕ → Mention) (reg number : ℕ) (test : ℕ → Bool)
+    → now ≡ with_mentions told (told_of tell (registers_below test number)) → reg ≡ number
+    → after ≡ with_mentions now (told_of tell (if_passes test reg))
+    → after ≡ with_mentions told (told_of tell (registers_below test (number + 1)))
 unfolding registers_below
-operands-next told now after slot reg number insn was same is =
+registers-next told now after tell reg number test was same is =
     let next : number + 1 ≡ suc number = omega arith in
-    is ∙ ap (λ (t : ExplanationOf). with_mentions t (at_slot slot (if_read reg insn))) was
+    is ∙ ap (λ (t : ExplanationOf). with_mentions t (told_of tell (if_passes test reg))) was
     ∙ ap (λ (l : List Mention). record { program = told.program; line = told.line; mentions = l })
-    (append_assoc told.mentions (at_slot slot (registers_below number insn)) (at_slot slot (if_read reg insn))
+    (append_assoc told.mentions (told_of tell (registers_below test number)) (told_of tell (if_passes test reg))
     ∙ ap (λ (l : List Mention). told.mentions ++ l)
-    (sym (rw (next, same) (at-more slot (registers_below number insn) (if_read number insn)))))
+    (sym (rw (next, same) (more-told tell (registers_below test number) (if_passes test number)))))
 
 pub known-still : (told now : ExplanationOf) (slot : ℕ) (state : State) → IsKnownBefore told.program slot state
     → now.program ≡ told.program → IsKnownBefore now.program slot state

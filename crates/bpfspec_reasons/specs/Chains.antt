@@ -1,5 +1,5 @@
 -- Where the value of a register comes from, link by link.
-use Rattle.std.specs.Prelude.{◌≡◌, ℕ, zero, suc, ◌-◌, ◌^◌, ◌<◌, nat_lt, if◌then◌else◌, List, [], ◌∷◌, ◌++◌, Some}
+use Rattle.std.specs.Prelude.{◌≡◌, ℕ, zero, suc, ◌-◌, ◌^◌, nat_lt, if◌then◌else◌, List, [], ◌∷◌, ◌++◌, Some}
 use Rattle.bpf_insn_types.specs.declared.insn.AluOp.{AluOp}
 use Rattle.bpf_insn_types.specs.declared.insn.AluOp.TheVariants.{Mov}
 use Rattle.bpf_insn_types.specs.declared.insn.Operand.{Operand}
@@ -13,13 +13,14 @@ use Rattle.bpf_verify_model.specs.declared.state.State.{State}
 use Rattle.bpf_verify_model.specs.States.{known_register}
 use Rattle.bpf_verify_origin.specs.declared.source.Source.{Source}
 use Rattle.bpf_verify_origin.specs.declared.source.Source.TheVariants as sources
-use Rattle.bpf_verify_origin.specs.Inspected.{IsStateBefore, IsStateBetween}
+use Rattle.bpf_verify_origin.specs.Inspected.{IsStateBefore}
 use Rattle.bpf_verify_origin.specs.Sources.{source_along, source_before}
 use Rattle.bpfspec_reasons.specs.declared.chain.Next.{Next}
 use Rattle.bpfspec_reasons.specs.declared.chain.Next.TheVariants.{End, Before, Along}
 use Rattle.bpfspec_reasons.specs.declared.link.Made.{Made}
 use Rattle.bpfspec_reasons.specs.declared.link.Made.TheVariants.{Copy, Of, Anew}
-use Rattle.bpfspec_reasons.specs.Mentions.{Mention, Reads, Follows, MadeAt, PathsMeet, MainStarts}
+use Rattle.bpfspec_reasons.specs.Mentions.{Mention, Reads, Follows, MadeAt, MainStarts}
+use Rattle.bpfspec_reasons.specs.Sides.{HasNoEdge, IsEdge, TellsMeeting}
 
 -- how far apart a value's least and greatest number are: nothing is known of one that isn't written
 abbrev pub width_of : AbstractValue → ℕ
@@ -60,14 +61,6 @@ next_made slot (Copy src) = Before slot src
 next_made slot (Of src) = Before slot src
 next_made slot Anew = End
 
--- an edge leads from one slot to another
-abbrev pub IsEdge : Program → (from to : ℕ) → Type 0
-IsEdge program from to = (state : State) × IsStateBetween program from to state
-
--- none does
-abbrev pub HasNoEdge : Program → (to : ℕ) → Type 0
-HasNoEdge program to = (from : ℕ) → from < to → IsEdge program from to → ⊥
-
 -- where paths meet the same register is followed along an edge into the slot, if there is one
 abbrev pub IsBackFrom : Program → (to reg : ℕ) → Next → Type 0
 IsBackFrom program to reg End = HasNoEdge program to
@@ -75,7 +68,7 @@ IsBackFrom program to reg (Before slot other) = ⊥
 IsBackFrom program to reg (Along from slot other) = IsEdge program from to × (slot ≡ to) × (other ≡ reg)
 
 -- what is told of a register's source, and what is followed then: main starts with it, a call enters a callback with it,
--- an instruction wrote it, or paths meet
+-- an instruction wrote it, or paths meet, and what it is on them
 abbrev pub IsLinkBy : Program → (reg : ℕ) → Source → Next → List Mention → Type 0
 IsLinkBy program reg sources.Start next told = (next ≡ End) × (told ≡ MainStarts reg ∷ [])
 IsLinkBy program reg (sources.Entered slot) next told = (insn : Insn) → insn_at program.insns slot ≡ Some insn
@@ -83,7 +76,7 @@ IsLinkBy program reg (sources.Entered slot) next told = (insn : Insn) → insn_a
 IsLinkBy program reg (sources.Written slot) next told = (insn : Insn) (state : State)
     → insn_at program.insns slot ≡ Some insn → IsStateBefore program slot state
     → (next ≡ next_made slot (made_of state insn)) × (told ≡ told_made slot (made_of state insn))
-IsLinkBy program reg (sources.Meeting slot) next told = IsBackFrom program slot reg next × (told ≡ PathsMeet slot ∷ [])
+IsLinkBy program reg (sources.Meeting slot) next told = IsBackFrom program slot reg next × TellsMeeting program slot reg told
 
 -- a link tells the source of what is followed; nothing is told past the end
 abbrev pub IsLink : Program → Next → Next → List Mention → Type 0

@@ -7,12 +7,14 @@ use Rattle.bpf_verify_model.specs.declared.rule.Rule.{Rule}
 use Rattle.bpf_verify_model.specs.declared.rule.Rule.TheVariants as rules
 use Rattle.bpf_verify_model.specs.declared.state.State.{State}
 use Rattle.bpf_verify_origin.specs.Inspected.{IsStateBefore}
+use Rattle.bpf_verify_origin.specs.Sources.{source_before}
 use Rattle.bpfspec_reasons.specs.declared.concern.Concern.{Concern}
 use Rattle.bpfspec_reasons.specs.declared.concern.Concern.TheVariants.{Address, Registers, Arguments, Instruction}
 use Rattle.bpfspec_reasons.specs.declared.operands.Wanted.TheVariants.{Unwritten, NoNumber}
 use Rattle.bpfspec_reasons.specs.Mentions.{Mention, Reads}
-use Rattle.bpfspec_reasons.specs.Operands.{access_base, at_slot, is_operand, is_wanted_of, reads_register}
-use Rattle.bpfspec_reasons.specs.Operands.{registers_read}
+use Rattle.bpfspec_reasons.specs.Operands.{access_base, at_slot, is_operand, is_wanted_of, registers_read}
+use Rattle.bpfspec_reasons.specs.Arguments.{arguments_told, helper_in, is_wrong_argument_of}
+use Rattle.bpfspec_reasons.specs.Sides.{IsClash, TellsMeeting}
 use Rattle.bpfspec_reasons.specs.Chains.{IsChain}
 
 -- of what a rule speaks: the address of an access, the registers that an instruction reads, the arguments of a helper,
@@ -48,12 +50,13 @@ stores (Atomic width op dst src offset) reg = (src == reg) || (reg == 0)
 stores _ reg = false
 
 -- whether a register may be blamed for a rule: it is read and not written, computed with, compared and no number,
--- stored, or the result
+-- stored, an argument that isn't taken, or the result
 unfoldable pub is_blamable : Rule → State → Insn → (reg : ℕ) → Bool
 is_blamable rules.UnwrittenRegister state insn reg = is_wanted_of Unwritten state insn reg
 is_blamable rules.ArithmeticOperand state insn reg = computes_with insn reg
 is_blamable rules.ComparisonOperand state insn reg = is_wanted_of NoNumber state insn reg
 is_blamable rules.StoredOperand state insn reg = stores insn reg
+is_blamable rules.HelperArgument state insn reg = is_wrong_argument_of (helper_in insn) state reg
 is_blamable rules.CallbackResult state insn reg = reg == 0
 is_blamable rules.MainResult state insn reg = reg == 0
 is_blamable _ state insn reg = false
@@ -84,44 +87,50 @@ abbrev pub TellsAddress : Program → ℕ → (bases : List ℕ) → List Mentio
 TellsAddress program slot [] told = told ≡ []
 TellsAddress program slot (base ∷ bases) told = TellsBase program slot base told
 
--- what is told of the registers that an instruction reads: what each is, and where the value comes from that is to blame
-pub record TellsRegisters (program : Program) (rule : Rule) (slot : ℕ) (insn : Insn) (state : State)
+-- what is told first, and behind it where the value comes from that is to blame
+pub record TellsBlamed (first : List Mention) (program : Program) (rule : Rule) (slot : ℕ) (insn : Insn) (state : State)
     (told : List Mention) : Type 0 where
   pub chain : List Mention
   pub is : IsBlame program rule slot insn state chain
-  pub joined : told ≡ at_slot slot (registers_read insn) ++ chain
+  pub joined : told ≡ first ++ chain
 
--- what is told of the arguments of a helper: where one of them comes from, if that is to blame
-pub data TellsArguments (program : Program) (slot : ℕ) (insn : Insn) (told : List Mention) : Type 0 where
-  OfArgument : (reg : ℕ) → reads_register insn reg ≡ true → IsChain program slot reg told
-      → TellsArguments program slot insn told
-  OfNone : told ≡ [] → TellsArguments program slot insn told
-
--- what is told by that of which the rule speaks
+-- what is told by that of which the rule speaks: of the address; what each register is that is read; or what each
+-- argument has to be that isn't taken
 abbrev pub TellsBy : Concern → Program → Rule → ℕ → Insn → State → List Mention → Type 0
 TellsBy Address program rule slot insn state told = TellsAddress program slot (access_base insn) told
-TellsBy Registers program rule slot insn state told = TellsRegisters program rule slot insn state told
-TellsBy Arguments program rule slot insn state told = TellsArguments program slot insn told
+TellsBy Registers program rule slot insn state told =
+    TellsBlamed (at_slot slot (registers_read insn)) program rule slot insn state told
+TellsBy Arguments program rule slot insn state told =
+    TellsBlamed (arguments_told slot (helper_in insn) state) program rule slot insn state told
 TellsBy Instruction program rule slot insn state told = told ≡ []
 
+-- what is told of a register that can't be read at a slot, since paths meet at another: what it is on them
+pub record TellsMet (program : Program) (slot at reg : ℕ) (told : List Mention) : Type 0 where
+  pub met : List Mention
+  pub are : TellsMeeting program at reg met
+  pub joined : told ≡ Reads slot reg ∷ met
+
 -- where a register that is read is unwritten since paths meet that left different things in it, it alone is told of
-pub record TellsUnwritten (rule : Rule) (slot : ℕ) (insn : Insn) (state : State) (told : List Mention) : Type 0 where
+pub record TellsClash (program : Program) (rule : Rule) (slot : ℕ) (insn : Insn) (state : State)
+    (told : List Mention) : Type 0 where
   pub reg : ℕ
   pub broken : rule ≡ rules.UnwrittenRegister
   pub read : is_wanted_of Unwritten state insn reg ≡ true
-  pub is : told ≡ Reads slot reg ∷ []
+  pub at : ℕ
+  pub clash : IsClash program reg (source_before program slot reg) at
+  pub told_of : TellsMet program slot at reg told
 
 -- what is told of registers where an instruction breaks a rule at a slot, by the abstract state there
 abbrev pub TellsOfRule : Program → Rule → ℕ → Insn → State → List Mention → Type 0
 TellsOfRule program rule slot insn state told =
-    TellsBy (concern_of rule) program rule slot insn state told ⊎ TellsUnwritten rule slot insn state told
+    TellsBy (concern_of rule) program rule slot insn state told ⊎ TellsClash program rule slot insn state told
 
--- the same by that state, if paths lead there
+-- what is told of registers where an instruction breaks a rule at a slot, if paths lead there
 abbrev pub TellsIfReached : Program → Rule → ℕ → Insn → List Mention → Type 0
 TellsIfReached program rule slot insn told = (state : State) → IsStateBefore program slot state
     → TellsOfRule program rule slot insn state told
 
--- and by the instruction, if one starts there
+-- what is told of registers where a rule is broken at a slot, if an instruction starts there and paths lead there
 abbrev pub TellsAt : Program → Rule → ℕ → List Mention → Type 0
 TellsAt program rule slot told = (insn : Insn) → insn_at program.insns slot ≡ Some insn
     → TellsIfReached program rule slot insn told

@@ -1,6 +1,8 @@
 pub mod Mentions
 pub mod Truth
+pub mod Sides
 pub mod Operands
+pub mod Arguments
 pub mod Chains
 pub mod Faults
 pub mod Misfits

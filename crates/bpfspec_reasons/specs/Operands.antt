@@ -21,7 +21,7 @@ use Rattle.bpfspec_reasons.specs.declared.operands.Wanted.{Wanted}
 use Rattle.bpfspec_reasons.specs.declared.operands.Wanted.TheVariants as wanted
 use Rattle.bpfspec_reasons.specs.Mentions.{Mention, Reads}
 
--- whether an operand is this register
+-- whether an operand is a register of this number
 abbrev pub is_operand : Operand → (reg : ℕ) → Bool
 is_operand (Imm imm) reg = false
 is_operand (Reg src) reg = src == reg
@@ -58,18 +58,18 @@ reads_register (Store size dst src offset) reg = (dst == reg) || (src == reg)
 reads_register (Atomic width op dst src offset) reg = atomic_reads op dst src reg
 reads_register _ reg = false
 
--- a register, if an instruction reads it
-unfoldable pub if_read : ℕ → Insn → List ℕ
-if_read reg insn = if reads_register insn reg then reg ∷ [] else []
+-- a register, if it passes a test
+unfoldable pub if_passes : (ℕ → Bool) → ℕ → List ℕ
+if_passes test reg = if test reg then reg ∷ [] else []
 
--- of the registers below a number those that an instruction reads, R0 first
-unfoldable pub registers_below : ℕ → Insn → List ℕ
-registers_below zero insn = []
-registers_below (suc reg) insn = registers_below reg insn ++ if_read reg insn
+-- of the registers below a number those that pass, R0 first
+unfoldable pub registers_below : (ℕ → Bool) → ℕ → List ℕ
+registers_below test zero = []
+registers_below test (suc reg) = registers_below test reg ++ if_passes test reg
 
--- all registers that it reads
+-- all registers that an instruction reads
 abbrev pub registers_read : Insn → List ℕ
-registers_read insn = registers_below 11 insn
+registers_read insn = registers_below (reads_register insn) 11
 
 -- the base of the key that a lookup reads
 abbrev pub key_base : Option Helper → List ℕ
@@ -86,9 +86,13 @@ access_base (Atomic width op dst src offset) = dst ∷ []
 access_base (Call callee imm) = key_base (helper_called callee imm)
 access_base _ = []
 
--- that each of these registers is told of as one that the instruction at a slot reads
-unfoldable pub at_slot : ℕ → List ℕ → List Mention
-at_slot slot regs = map (Reads slot) regs
+-- what is told of registers, of each by itself
+unfoldable pub told_of : (ℕ → Mention) → List ℕ → List Mention
+told_of tell regs = map tell regs
+
+-- that each of them is read by the instruction at a slot
+abbrev pub at_slot : ℕ → List ℕ → List Mention
+at_slot slot regs = told_of (Reads slot) regs
 
 -- whether a value is one that is looked for
 abbrev pub is_wanted : Wanted → AbstractValue → Bool

@@ -14,6 +14,8 @@ use Rattle.bpf_text_lex.specs.Lines.{lines_of, contents_of}
 use Rattle.bpf_text_lines.specs.Comments.{text_line, comment_of}
 use Rattle.bpf_text_lines.specs.SlotLines.{lines_by_slot}
 use Rattle.bpf_text_mnemonics.specs.PrintedLines.{distance_spelling, insn_spelling}
+use Rattle.bpfspec_reasons.specs.declared.arguments.Parameter.{Parameter}
+use Rattle.bpfspec_reasons.specs.declared.arguments.Parameter.TheVariants as parameters
 use Rattle.bpfspec_reasons.specs.declared.piece.Piece.{Piece}
 use Rattle.bpfspec_reasons.specs.declared.piece.Piece.TheVariants as pieces
 
@@ -118,6 +120,26 @@ register_text reg = codes "r" ++ decimal reg
 abbrev pub known_text : ℕ → AbstractValue → List ℕ
 known_text reg value = register_text reg ++ codes " is " ++ value_text value
 
+-- that a register isn't the same on all paths
+abbrev pub differing_text : ℕ → List ℕ
+differing_text reg = register_text reg ++ codes " is different things on different paths"
+
+-- what an argument of a helper has to be
+abbrev pub parameter_text : Parameter → List ℕ
+parameter_text parameters.Map = codes "a map (ldmap)"
+parameter_text parameters.Key = codes "the address of a key of 4 bytes in a frame, at a multiple of 4"
+parameter_text parameters.Iterations = codes "a number, the number of iterations"
+parameter_text parameters.Callback = codes "a callback (ldcode)"
+parameter_text parameters.Ctx = codes "an address in main's frame, or 0"
+parameter_text parameters.Flags = codes "a number, the flags"
+
+abbrev pub wanted_text : Parameter → List ℕ
+wanted_text parameter = codes "; it has to be " ++ parameter_text parameter
+
+-- what one is, and what it has to be
+abbrev pub argument_text : ℕ → AbstractValue → Parameter → List ℕ
+argument_text reg value parameter = known_text reg value ++ wanted_text parameter
+
 -- what main starts with in a register
 abbrev pub start_text : ℕ → List ℕ
 start_text reg =
@@ -177,9 +199,12 @@ piece_text page (pieces.Line slot insn) = line_text page slot insn (slice_get pa
 piece_text page (pieces.Step slot insn) = step_text slot insn
 piece_text page (pieces.Before slot reg value) = known_text reg value
 piece_text page (pieces.Operand slot reg value) = known_text reg value
-piece_text page (pieces.Differing slot reg) = register_text reg ++ codes " is different things on different paths"
+piece_text page (pieces.Differing slot reg) = differing_text reg
 piece_text page (pieces.Unreadable slot reg) = register_text reg
 piece_text page (pieces.Between from to reg value) = known_text reg value
+piece_text page (pieces.Side from to reg value) = known_text reg value
+piece_text page (pieces.DifferingSide from to reg) = differing_text reg
+piece_text page (pieces.Argument slot reg value parameter) = argument_text reg value parameter
 piece_text page (pieces.Unwritten slot position) = missing_text (codes "r10") position
 piece_text page (pieces.UnwrittenOfMain slot position) = missing_text (codes "main's r10") position
 piece_text page (pieces.Chain slot reg) = register_text reg

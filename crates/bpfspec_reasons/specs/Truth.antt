@@ -12,7 +12,7 @@ use Rattle.bpf_verify_model.specs.Accepted.{BrokenRule}
 use Rattle.bpf_step_model.specs.State.{Machine, register}
 use Rattle.bpf_verify_sound.specs.Containment.{ContainsValue}
 use Rattle.bpf_verify_origin.specs.Inspected.{IsStateBefore, IsStateBetween}
-use Rattle.bpf_verify_origin.specs.Runs.{ComesTo, HoldsBefore}
+use Rattle.bpf_verify_origin.specs.Runs.{ComesTo, HoldsBefore, HoldsBetween}
 use Rattle.bpfspec_reasons.specs.declared.piece.Piece.{Piece}
 use Rattle.bpfspec_reasons.specs.declared.piece.Piece.TheVariants as pieces
 use Rattle.bpfspec_reasons.specs.Mentions.{Mention}
@@ -62,10 +62,21 @@ pub record IsUnreadable (program : Program) (slot reg : ℕ) : Type 0 where
   pub before : IsValueBefore program slot reg value
   pub unwritten : is_unwritten value ≡ true
 
+-- it can't on the edges from one slot to another
+pub record IsUnreadableAlong (program : Program) (from to reg : ℕ) : Type 0 where
+  pub value : AbstractValue
+  pub between : IsValueBetween program from to reg value
+  pub unwritten : is_unwritten value ≡ true
+
 -- the abstract state before a slot, which contains the machine on each run that comes there
 pub record IsKnownBefore (program : Program) (slot : ℕ) (state : State) : Type 0 where
   pub before : IsStateBefore program slot state
   pub holds : HoldsBefore program slot (Some state)
+
+-- the abstract state on the edges from one slot to another, which contains the machine on each run that comes by them
+pub record IsKnownBetween (program : Program) (from to : ℕ) (state : State) : Type 0 where
+  pub between : IsStateBetween program from to state
+  pub holds : HoldsBetween program from to (Some state)
 
 -- what a piece says of a program is true; words and numbers alone say nothing of it
 abbrev pub IsTrue : Program → Piece → Type 0
@@ -76,6 +87,9 @@ IsTrue program (pieces.Operand slot reg value) = IsValueBefore program slot reg 
 IsTrue program (pieces.Differing slot reg) = IsUnreadable program slot reg
 IsTrue program (pieces.Unreadable slot reg) = IsUnreadable program slot reg
 IsTrue program (pieces.Between from to reg value) = IsValueBetween program from to reg value
+IsTrue program (pieces.Side from to reg value) = IsValueBetween program from to reg value
+IsTrue program (pieces.DifferingSide from to reg) = IsUnreadableAlong program from to reg
+IsTrue program (pieces.Argument slot reg value parameter) = IsValueBefore program slot reg value
 IsTrue program (pieces.Unwritten slot position) = IsUnwritten program slot position
 IsTrue program (pieces.UnwrittenOfMain slot position) = IsUnwrittenOfMain program slot position
 IsTrue program (pieces.Origin slot insn) = insn_at program.insns slot ≡ Some insn

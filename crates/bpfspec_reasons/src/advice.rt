@@ -1,10 +1,10 @@
 //! What usually mends a program, by the case in which its instruction breaks a rule.
 
 use crate::accessing::access_of;
+use crate::arguments::wrong_argument;
 use crate::explanation::Explanation;
 use crate::helpers::mend_of_helper;
 use crate::mending::mend;
-use crate::operands::argument;
 use crate::sums::{WrongSum, sum_of};
 use bpf_insn_types::{Insn, Operand, Reg};
 use bpf_verify_model::{AbstractValue, Rule, State};
@@ -132,7 +132,7 @@ fn of_loop(found: Reg, value: &AbstractValue) -> &'static str {
 
 /// What mends a wrong argument of a helper.
 fn of_argument(state: &State, insn: &Insn) -> &'static str {
-    let Some(found) = argument(state, insn) else {
+    let Some(found) = wrong_argument(state, insn) else {
         return mend(Rule::HelperArgument);
     };
     let value = state.register(found);

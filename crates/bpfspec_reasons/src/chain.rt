@@ -4,14 +4,16 @@ ghost use Rattle.std.specs.Prelude.{◌≡◌, [], ◌∷◌, IfOk, OnOk, Some};
 ghost use Rattle.bpf_insn_types.specs.Program.{insn_at};
 ghost use Rattle.bpf_verify_origin.specs.declared.source.Source.TheVariants.{Entered, Meeting, Written};
 ghost use Rattle.bpfspec_reasons.specs.declared.chain.Next.TheVariants.{Along, Before, End};
-ghost use Rattle.bpfspec_reasons.specs.Mentions.{MadeAt, MainStarts, PathsMeet, Reads};
+ghost use Rattle.bpfspec_reasons.specs.Mentions.{MadeAt, MainStarts, Reads};
 ghost use Rattle.bpfspec_reasons.specs.Truth.{IsKnownBefore, Tells, with_mentions};
+ghost use Rattle.bpfspec_reasons.specs.Sides.{TellsMeeting};
 ghost use Rattle.bpfspec_reasons.specs.Chains.{AreLinks, IsBackFrom, IsChain, IsLink, IsLinkBy, made_of};
 ghost use Rattle.bpfspec_reasons.specs.Chains.{next_made, told_made};
 
 use crate::explanation::Explanation;
 use crate::link::{Made, made_anew, made_of};
-use crate::meeting::{add_edges, edge_back};
+use crate::meeting::edge_back;
+use crate::sides::{Layout, add_sides};
 use crate::trail::Trail;
 use crate::way::{add_copy, add_way, add_way_along, is_in_place};
 use bpf_insn_types::{AluOp, Insn, Reg};
@@ -232,16 +234,16 @@ fn add_entered(out: &mut Explanation<'_>, slot: u32, entered: Reg) -> Result<Nex
     }
 }
 
-/// Adds the edges that meet at a slot.
+/// Adds what a register is on the edges that meet at a slot.
 fn add_meeting_edges(out: &mut Explanation<'_>, slot: u32, followed: Reg) -> Result<(), AllocError>
-    ensures { OnOk result (out.new ≡ with_mentions out.old (PathsMeet slot ∷ [])) }
+    ensures { OnOk result (Tells (TellsMeeting out.old.program slot followed) out.old out.new) }
 {
     out.words("    ")?;
     out.before(slot, followed)?;
     out.words(" at slot ")?;
     out.meeting(slot)?;
     out.words(", where paths meet:\n")?;
-    add_edges(out, slot, followed)
+    add_sides(out, Layout::Link, slot, followed)
 }
 
 /// How a chain goes on where paths meet: along the edges that say the most of the register.
@@ -254,7 +256,7 @@ fn next_along(out: &Explanation<'_>, slot: u32, followed: Reg) -> Next
     }
 }
 
-/// Adds the edges that meet at a slot, and says how the chain goes on.
+/// The same, and says how the chain goes on.
 fn add_meeting(out: &mut Explanation<'_>, slot: u32, followed: Reg) -> Result<Next, AllocError>
     ensures { IfOk result (λ next. Tells (IsLinkBy out.old.program followed (Meeting slot) next) out.old out.new) }
 {

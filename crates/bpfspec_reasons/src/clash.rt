@@ -1,67 +1,15 @@
 //! Paths that meet, and left different things in a register, so that it can't be read from there on.
 
-ghost use Rattle.std.specs.Prelude.{◌≡◌, [], ◌∷◌, OnOk};
-ghost use Rattle.bpfspec_reasons.specs.Truth.{IsUnreadable, with_mentions};
-ghost use Rattle.bpfspec_reasons.specs.Mentions.{Reads};
+ghost use Rattle.std.specs.Prelude.{OnOk};
+ghost use Rattle.bpfspec_reasons.specs.Truth.{IsUnreadable, Tells};
+ghost use Rattle.bpfspec_reasons.specs.Faults.{TellsMet};
 
 use crate::differing::value_between;
 use crate::explanation::Explanation;
-use crate::meeting::MOST_EDGES;
+use crate::sides::{Layout, add_sides};
 use bpf_insn_types::Reg;
 use bpf_verify_model::AbstractValue;
-use bpf_verify_origin::Source;
 use std::alloc::AllocError;
-
-/// Adds the instruction that wrote what a register is on the edges from one slot to another, unless it is the one at
-/// the former slot.
-fn add_writer(
-    out: &mut Explanation<'_>,
-    from: u32,
-    to: u32,
-    followed: Reg,
-) -> Result<(), AllocError>
-    ensures { out.new ≡ out.old }
-{
-    match out.inspection().source_along(from, to, followed) {
-        Source::Written(slot) => {
-            if slot == from {
-                return Ok(());
-            }
-            out.words("      by ")?;
-            out.step(slot)?;
-            out.words("which wrote it\n")
-        }
-        _ => Ok(()),
-    }
-}
-
-/// Adds what a register is on the edges from one slot to another, and what wrote that.
-fn add_side(out: &mut Explanation<'_>, from: u32, to: u32, followed: Reg) -> Result<(), AllocError>
-    ensures { out.new ≡ out.old }
-{
-    out.words("    from ")?;
-    out.step(from)?;
-    out.between(from, to, followed)?;
-    out.words("\n")?;
-    add_writer(out, from, to, followed)
-}
-
-/// Adds what a register is on each of the edges into a slot, on six of them at most, and what wrote that.
-fn add_sides(out: &mut Explanation<'_>, to: u32, followed: Reg) -> Result<(), AllocError>
-    ensures { out.new ≡ out.old }
-{
-    let mut shown: u32 = 0;
-    for from in 0..to {
-        if value_between(out, from, to, followed).is_some() {
-            if shown >= MOST_EDGES {
-                return out.words("    ..\n");
-            }
-            add_side(out, from, to, followed)?;
-            shown += 1;
-        }
-    }
-    Ok(())
-}
 
 /// Adds that paths meet at a slot which left different things in a register that the instruction at another reads:
 /// what, and where each was written.
@@ -72,14 +20,14 @@ pub(crate) fn add_clash(
     followed: Reg,
 ) -> Result<(), AllocError>
     requires { IsUnreadable out.old.program slot followed }
-    ensures { OnOk result (out.new ≡ with_mentions out.old (Reads slot followed ∷ [])) }
+    ensures { OnOk result (Tells (TellsMet out.old.program slot at followed) out.old out.new) }
 {
     out.words("  ")?;
     out.unreadable(slot, followed)?;
     out.words(" is written on each path to here, but at slot ")?;
-    out.number(i64::from(at))?;
+    out.meeting(at)?;
     out.words(" paths meet that left different things in it:\n")?;
-    add_sides(out, at, followed)?;
+    add_sides(out, Layout::Clash, at, followed)?;
     out.words(
         "  where paths meet, numbers may differ, and places in one map's values; anything else has to be the same, or \
         can't be read from there on\n",

@@ -1,9 +1,11 @@
 //! Registers that can't be read: since some path doesn't write them, or since each does and left something else.
 
-ghost use Rattle.std.specs.Prelude.{◌≡◌, [], ◌∷◌, true, IfSome, OnOk};
-ghost use Rattle.bpfspec_reasons.specs.Truth.{IsValueBefore, with_mentions};
-ghost use Rattle.bpfspec_reasons.specs.Mentions.{Reads};
-ghost use Rattle.bpfspec_reasons.specs.Chains.{IsEdge};
+ghost use Rattle.std.specs.Prelude.{◌≡◌, ◌⊎◌, ℕ, [], ◌∷◌, true, false, None, Some, IfSome, OnOk};
+ghost use Rattle.bpf_verify_origin.specs.Sources.{source_before};
+ghost use Rattle.bpf_verify_origin.specs.declared.source.Source.{Source};
+ghost use Rattle.bpfspec_reasons.specs.Truth.{IsUnreadableAlong, IsValueBefore, IsValueBetween, with_mentions};
+ghost use Rattle.bpfspec_reasons.specs.Mentions.{Brings, Reads};
+ghost use Rattle.bpfspec_reasons.specs.Sides.{AreBehind, IsBehind, IsClash, IsEdge, is_waiting};
 
 use crate::explanation::Explanation;
 use bpf_insn_types::{MAX_SLOTS, Reg};
@@ -17,18 +19,21 @@ const SLOTS: usize = MAX_SLOTS as usize;
 
 /// Slots where paths meet that are gone back over, each once.
 #[derive(Drop)]
-struct Meetings {
+pub struct Meetings {
     /// Those that are still to be gone back over.
-    waiting: [bool; SLOTS],
+    pub waiting: [bool; SLOTS],
     /// Those that are, or were.
-    noted: [bool; SLOTS],
+    pub noted: [bool; SLOTS],
     /// The last of those that were where each path left something in the register.
-    clash: Option<u32>,
+    pub clash: Option<u32>,
 }
 
 impl Meetings {
     /// None yet.
-    fn none() -> Meetings {
+    fn none() -> Meetings
+        ensures waiting { (at : ℕ) → is_waiting result at ≡ false }
+        ensures clash { result.clash ≡ None }
+    {
         Meetings {
             waiting: [false; SLOTS],
             noted: [false; SLOTS],
@@ -37,7 +42,10 @@ impl Meetings {
     }
 
     /// A slot is to be gone back over, unless it was.
-    fn note(&mut self, slot: u32) {
+    fn note(&mut self, slot: u32)
+        ensures waiting { (at : ℕ) → is_waiting self.new at ≡ true → (is_waiting self.old at ≡ true) ⊎ (at ≡ slot) }
+        ensures clash { self.new.clash ≡ self.old.clash }
+    {
         let at = slot as usize;
         if at < SLOTS && !self.noted[at] {
             self.noted[at] = true;
@@ -46,7 +54,11 @@ impl Meetings {
     }
 
     /// Whether a slot is still to be gone back over, which it now is.
-    fn take(&mut self, slot: u32) -> bool {
+    fn take(&mut self, slot: u32) -> bool
+        ensures taken { result ≡ true → is_waiting self.old slot ≡ true }
+        ensures waiting { (at : ℕ) → is_waiting self.new at ≡ true → is_waiting self.old at ≡ true }
+        ensures clash { self.new.clash ≡ self.old.clash }
+    {
         let at = slot as usize;
         if at >= SLOTS || !self.waiting[at] {
             return false;
@@ -56,7 +68,10 @@ impl Meetings {
     }
 
     /// At a slot that was gone back over each path left something in the register.
-    fn note_clash(&mut self, slot: u32) {
+    fn note_clash(&mut self, slot: u32)
+        ensures waiting { self.new.waiting ≡ self.old.waiting }
+        ensures clash { IfSome self.new.clash (λ at. (self.old.clash ≡ Some at) ⊎ (at ≡ slot)) }
+    {
         if self.clash.is_none() {
             self.clash = Some(slot);
         }
@@ -70,7 +85,8 @@ pub(crate) fn value_between(
     to: u32,
     followed: Reg,
 ) -> Option<AbstractValue>
-    ensures { IfSome result (λ value. IsEdge out.now.program from to) }
+    ensures there { IfSome result (IsValueBetween out.now.program from to followed) }
+    ensures none { result ≡ None → IsEdge out.now.program from to → ⊥ }
 {
     match out.edge(from, to) {
         None => None,
@@ -80,7 +96,8 @@ pub(crate) fn value_between(
 
 /// Whether edges lead from one slot to another on which a register isn't written.
 fn is_unwritten_between(out: &Explanation<'_>, from: u32, to: u32, followed: Reg) -> bool
-    ensures { result ≡ true → IsEdge out.now.program from to }
+    ensures yes { result ≡ true → IsUnreadableAlong out.now.program from to followed }
+    ensures no { result ≡ false → IsUnreadableAlong out.now.program from to followed → ⊥ }
 {
     match value_between(out, from, to, followed) {
         None => false,
@@ -88,16 +105,42 @@ fn is_unwritten_between(out: &Explanation<'_>, from: u32, to: u32, followed: Reg
     }
 }
 
+/// Of the edges from one slot to another on which a register isn't written: notes where paths meet from which they have
+/// it, or says that they have it from elsewhere.
+fn is_missing_along(
+    out: &Explanation<'_>,
+    meetings: &mut Meetings,
+    from: u32,
+    to: u32,
+    followed: Reg,
+) -> bool
+    requires { IsUnreadableAlong out.now.program from to followed }
+    ensures { (source : Source) → IsBehind out.now.program followed source to
+        → AreBehind out.now.program followed source meetings.old
+        → AreBehind out.now.program followed source meetings.new }
+{
+    match out.inspection().source_along(from, to, followed) {
+        Source::Meeting(at) => {
+            meetings.note(at);
+            false
+        }
+        _ => true,
+    }
+}
+
 /// Of the edges into a slot on which a register isn't written: notes where paths meet from which they have it, and says
 /// whether one has it from elsewhere, so that a path doesn't write it. If there are none it notes a clash.
-fn is_missing_into(out: &Explanation<'_>, meetings: &mut Meetings, to: u32, followed: Reg) -> bool {
+fn is_missing_into(out: &Explanation<'_>, meetings: &mut Meetings, to: u32, followed: Reg) -> bool
+    ensures { (source : Source) → IsBehind out.now.program followed source to
+        → AreBehind out.now.program followed source meetings.old
+        → AreBehind out.now.program followed source meetings.new }
+{
     let mut is_clash = true;
     for from in 0..to {
         if is_unwritten_between(out, from, to, followed) {
             is_clash = false;
-            match out.inspection().source_along(from, to, followed) {
-                Source::Meeting(at) => meetings.note(at),
-                _ => return true,
+            if is_missing_along(out, meetings, from, to, followed) {
+                return true;
             }
         }
     }
@@ -109,12 +152,10 @@ fn is_missing_into(out: &Explanation<'_>, meetings: &mut Meetings, to: u32, foll
 
 /// Whether some path doesn't write a register that isn't written where its value comes from. Slots that were gone back
 /// over aren't again.
-fn is_missing(
-    out: &Explanation<'_>,
-    meetings: &mut Meetings,
-    source: Source,
-    followed: Reg,
-) -> bool {
+fn is_missing(out: &Explanation<'_>, meetings: &mut Meetings, source: Source, followed: Reg) -> bool
+    ensures { AreBehind out.now.program followed source meetings.old
+        → AreBehind out.now.program followed source meetings.new }
+{
     let Source::Meeting(last) = source else {
         return true;
     };
@@ -145,7 +186,9 @@ pub(crate) fn missing_edge(out: &Explanation<'_>, to: u32, followed: Reg) -> Opt
 
 /// The last slot where paths meet that left different things in a register, if each path to where its value comes from
 /// writes it, and it isn't written there.
-fn clash_behind(out: &Explanation<'_>, source: Source, followed: Reg) -> Option<u32> {
+fn clash_behind(out: &Explanation<'_>, source: Source, followed: Reg) -> Option<u32>
+    ensures { IfSome result (λ at. IsClash out.now.program followed source at) }
+{
     let mut meetings = Meetings::none();
     if is_missing(out, &mut meetings, source, followed) {
         return None;
@@ -155,7 +198,9 @@ fn clash_behind(out: &Explanation<'_>, source: Source, followed: Reg) -> Option<
 
 /// The last slot where paths meet that left different things in a register, if that is why it isn't written before
 /// another slot, and each path there writes it.
-pub(crate) fn clash_of(out: &Explanation<'_>, slot: u32, followed: Reg) -> Option<u32> {
+pub(crate) fn clash_of(out: &Explanation<'_>, slot: u32, followed: Reg) -> Option<u32>
+    ensures { IfSome result (λ at. IsClash out.now.program followed (source_before out.now.program slot followed) at) }
+{
     if !is_unwritten(out.value_before(slot, followed)) {
         return None;
     }
@@ -174,14 +219,6 @@ fn clash_along(out: &Explanation<'_>, from: u32, to: u32, followed: Reg) -> Opti
     )
 }
 
-/// Adds that a register isn't the same on all paths.
-fn add_differing(out: &mut Explanation<'_>, known: Reg) -> Result<(), AllocError>
-    ensures { out.new ≡ out.old }
-{
-    out.register(known)?;
-    out.words(" is different things on different paths")
-}
-
 /// Adds what a register is before a slot, at which the instruction reads it.
 pub(crate) fn add_value(
     out: &mut Explanation<'_>,
@@ -198,17 +235,19 @@ pub(crate) fn add_value(
     out.operand(slot, known, value)
 }
 
-/// Adds what a register is on the edges from one slot to another.
+/// Adds what a register is on the edges from one slot to another, of those that meet there.
 pub(crate) fn add_value_between(
     out: &mut Explanation<'_>,
     from: u32,
     to: u32,
     known: Reg,
+    value: &AbstractValue,
 ) -> Result<(), AllocError>
-    ensures { out.new ≡ out.old }
+    requires { IsValueBetween out.old.program from to known value.now }
+    ensures { OnOk result (out.new ≡ with_mentions out.old (Brings from to known ∷ [])) }
 {
-    if clash_along(out, from, to, known).is_some() {
-        return add_differing(out, known);
+    if is_unwritten(*value) && clash_along(out, from, to, known).is_some() {
+        return out.differing_side(from, to, known);
     }
-    out.between(from, to, known)
+    out.side(from, to, known, value)
 }

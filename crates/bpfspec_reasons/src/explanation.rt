@@ -5,12 +5,15 @@ ghost use Rattle.std.specs.String.{string_bytes};
 ghost use Rattle.bpf_insn_types.specs.Program.{insn_at};
 ghost use Rattle.bpf_verify_model.specs.declared.state.State.{State};
 ghost use Rattle.bpf_verify_origin.specs.Inspected.{IsStateBefore};
-ghost use Rattle.bpfspec_reasons.specs.Truth.{AreTrue, IsKnownBefore, IsUnreadable, IsValueBefore, first_line};
+ghost use Rattle.bpfspec_reasons.specs.Truth.{AreTrue, IsKnownBefore, IsKnownBetween, IsUnreadable};
+ghost use Rattle.bpfspec_reasons.specs.Truth.{IsUnreadableAlong, IsValueBefore, IsValueBetween, first_line};
 ghost use Rattle.bpfspec_reasons.specs.Truth.{nothing_told, slot_or, slot_told, with_mentions};
-ghost use Rattle.bpfspec_reasons.specs.Mentions.{Follows, MadeAt, MainStarts, PathsMeet, Reads, mentions_in};
-ghost use Rattle.bpfspec_reasons.specs.Chains.{IsEdge};
+ghost use Rattle.bpfspec_reasons.specs.Mentions.{Brings, Follows, HasToBe, MadeAt, MainStarts, PathsMeet, Reads};
+ghost use Rattle.bpfspec_reasons.specs.Mentions.{mentions_in};
+ghost use Rattle.bpfspec_reasons.specs.Sides.{IsEdge};
 ghost use Rattle.bpfspec_reasons.specs.Told.{Adds};
 
+use crate::arguments::Parameter;
 use crate::page::Page;
 use crate::piece::Piece;
 use crate::words::write_pieces;
@@ -203,6 +206,26 @@ impl<'a> Explanation<'a> {
         self.tell(&[Piece::Operand { slot, reg, value }])
     }
 
+    /// Adds what an argument of a helper is at a slot, and what it has to be.
+    pub(crate) fn argument(
+        &mut self,
+        slot: u32,
+        reg: Reg,
+        value: &AbstractValue,
+        parameter: Parameter,
+    ) -> Result<(), AllocError>
+        requires { IsValueBefore self.old.program slot reg value.now }
+        ensures { OnOk result (self.new ≡ with_mentions self.old (HasToBe slot reg parameter ∷ [])) }
+    {
+        let value = *value;
+        self.tell(&[Piece::Argument {
+            slot,
+            reg,
+            value,
+            parameter,
+        }])
+    }
+
     /// Adds that a register which the instruction at a slot reads is different things on different paths.
     pub(crate) fn differing(&mut self, slot: u32, reg: Reg) -> Result<(), AllocError>
         requires { IsUnreadable self.old.program slot reg }
@@ -229,6 +252,7 @@ impl<'a> Explanation<'a> {
 
     /// The abstract state on the edges from one slot to another, if one leads there.
     pub(crate) fn edge(&self, from: u32, to: u32) -> Option<State>
+        ensures known { IfSome result (IsKnownBetween self.now.program from to) }
         ensures there { IfSome result (λ state. IsEdge self.now.program from to) }
         ensures none { result ≡ None → IsEdge self.now.program from to → ⊥ }
     {
@@ -251,6 +275,35 @@ impl<'a> Explanation<'a> {
                 }])
             }
         }
+    }
+
+    /// Adds the abstract value of a register on the edges from one slot to another, of those that meet there.
+    pub(crate) fn side(
+        &mut self,
+        from: u32,
+        to: u32,
+        reg: Reg,
+        value: &AbstractValue,
+    ) -> Result<(), AllocError>
+        requires { IsValueBetween self.old.program from to reg value.now }
+        ensures { OnOk result (self.new ≡ with_mentions self.old (Brings from to reg ∷ [])) }
+    {
+        let value = *value;
+        self.tell(&[Piece::Side {
+            from,
+            to,
+            reg,
+            value,
+        }])
+    }
+
+    /// Adds that a register is different things on different paths, on the edges from one slot to another, of those that
+    /// meet there.
+    pub(crate) fn differing_side(&mut self, from: u32, to: u32, reg: Reg) -> Result<(), AllocError>
+        requires { IsUnreadableAlong self.old.program from to reg }
+        ensures { OnOk result (self.new ≡ with_mentions self.old (Brings from to reg ∷ [])) }
+    {
+        self.tell(&[Piece::DifferingSide { from, to, reg }])
     }
 
     /// Adds a byte of the own frame, unless it is written on every path to a slot, and says whether it did.

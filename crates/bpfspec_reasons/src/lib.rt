@@ -13,6 +13,7 @@
 mod access_rules;
 mod accessing;
 mod advice;
+mod arguments;
 mod chain;
 mod clash;
 mod concern;
@@ -38,6 +39,7 @@ mod reading;
 mod reasons;
 mod schedule;
 mod shown;
+mod sides;
 mod slips;
 mod state_rules;
 mod states;
@@ -49,6 +51,7 @@ mod values;
 mod way;
 mod words;
 
+pub use arguments::Parameter;
 pub use explanation::Explanation;
 pub use misfit::{Misfit, first_misfit};
 pub use page::Page;

@@ -1,16 +1,12 @@
 //! What a register is where paths meet.
 
 ghost use Rattle.std.specs.Prelude.{◌≡◌, ◌⊎◌, None, Some, IfSome};
-ghost use Rattle.bpfspec_reasons.specs.Chains.{HasNoEdge, IsEdge};
+ghost use Rattle.bpfspec_reasons.specs.Sides.{HasNoEdge, IsEdge};
 
-use crate::differing::{add_value_between, missing_edge};
+use crate::differing::missing_edge;
 use crate::explanation::Explanation;
 use crate::values::width_of;
 use bpf_insn_types::Reg;
-use std::alloc::AllocError;
-
-/// The most edges into a slot that are shown.
-pub(crate) const MOST_EDGES: u32 = 6;
 
 /// How far apart the least and the greatest number are that a register has on the edges from one slot to another, if
 /// one leads there.
@@ -39,33 +35,6 @@ pub(crate) fn one_before(out: &Explanation<'_>, to: u32) -> Option<u32> {
         }
     }
     found
-}
-
-/// Adds what a register is on the edges from one slot to another.
-fn add_edge(out: &mut Explanation<'_>, from: u32, to: u32, followed: Reg) -> Result<(), AllocError>
-    ensures { out.new ≡ out.old }
-{
-    out.words("      from ")?;
-    out.step(from)?;
-    add_value_between(out, from, to, followed)?;
-    out.words("\n")
-}
-
-/// Adds what a register is on the edges into a slot, on six of them at most.
-pub(crate) fn add_edges(out: &mut Explanation<'_>, to: u32, followed: Reg) -> Result<(), AllocError>
-    ensures { out.new ≡ out.old }
-{
-    let mut shown: u32 = 0;
-    for from in 0..to {
-        if width_between(out, from, to, followed).is_some() {
-            if shown >= MOST_EDGES {
-                return out.words("      ..\n");
-            }
-            add_edge(out, from, to, followed)?;
-            shown += 1;
-        }
-    }
-    Ok(())
 }
 
 /// An edge into a slot, and how far apart the least and the greatest number are that a register has on it.

@@ -1,19 +1,20 @@
 //! The registers that an instruction reads.
 
-ghost use Rattle.std.specs.Prelude.{◌≡◌, ◌<◌, ◌≤◌, ◌==◌, ◌||◌, ◌⊎◌, ℕ, [], ◌∷◌, true, false, None, IfSome, OnOk};
+ghost use Rattle.std.specs.Prelude.{◌≡◌, ◌<◌, ◌==◌, ◌||◌, ◌⊎◌, ℕ, [], ◌∷◌, true, false, None, IfSome, OnOk};
 ghost use Rattle.bpfspec_reasons.specs.Truth.{IsKnownBefore, with_mentions};
 ghost use Rattle.bpfspec_reasons.specs.Mentions.{Reads};
-ghost use Rattle.bpfspec_reasons.specs.Operands.{at_slot, if_read, is_operand, is_wanted, is_wanted_of};
+ghost use Rattle.bpfspec_reasons.specs.Operands.{at_slot, if_passes, is_operand, is_wanted, is_wanted_of};
 ghost use Rattle.bpfspec_reasons.specs.Operands.{reads_register, registers_read};
 ghost use Rattle.bpfspec_reasons.specs.Faults.{IsBlameless, computes_with, is_blamable, stores};
 
+use crate::arguments::wrong_argument;
 use crate::differing::add_value;
 use crate::explanation::Explanation;
 use crate::reading::reads;
 use crate::values::width_of;
 use bpf_insn_types::{AluOp, Insn, MAX_OFFSET, Operand, Reg, Width};
-use bpf_verify_model::{AbstractValue, Helper, Rule, State, reg};
-use bpf_verify_values::{helper_of, is_number, is_unwritten};
+use bpf_verify_model::{AbstractValue, Rule, State, reg};
+use bpf_verify_values::{is_number, is_unwritten};
 use std::alloc::AllocError;
 
 /// Whether an instruction reads no register.
@@ -53,7 +54,7 @@ fn add_if_read(
     begun: bool,
 ) -> Result<bool, AllocError>
     requires { IsKnownBefore out.old.program slot state.now }
-    ensures { OnOk result (out.new ≡ with_mentions out.old (at_slot slot (if_read read insn.now))) }
+    ensures { OnOk result (out.new ≡ with_mentions out.old (at_slot slot (if_passes (reads_register insn.now) read))) }
 {
     if reads(insn, read) {
         add_read(out, slot, state, read, begun)
@@ -216,73 +217,6 @@ fn stored(state: &State, insn: &Insn) -> Option<Reg>
     }
 }
 
-/// Whether an argument of `bpf_loop` can be of this kind. The third is an address in main's frame, or 0.
-pub(crate) fn is_loop_argument(number: u8, value: &AbstractValue) -> bool {
-    match *value {
-        AbstractValue::Number(range) => number == 1
-            || number == 4
-            || range.hi() == 0 && number == 3,
-        AbstractValue::Code(_) => number == 2,
-        AbstractValue::Frame(_) => number == 3,
-        _ => false,
-    }
-}
-
-/// The first argument of `bpf_loop` that can't be one.
-fn loop_argument(state: &State) -> Option<Reg>
-    ensures { IfSome result (λ reg. (1 ≤ reg) × (reg ≤ 4)) }
-{
-    for number in 1..5u8 {
-        let value = state.register(reg(number));
-        if !is_loop_argument(number, &value) {
-            return Some(reg(number));
-        }
-    }
-    None
-}
-
-/// Whether a value can be the key of a lookup: an address in a frame, at a multiple of 4.
-fn is_key(value: &AbstractValue) -> bool {
-    match *value {
-        AbstractValue::Frame(position) | AbstractValue::Ctx(position) => {
-            position % 4 == 0 && position <= 508
-        }
-        _ => false,
-    }
-}
-
-/// Whether an argument of `bpf_map_lookup_elem` can be of this kind.
-pub(crate) fn is_lookup_argument(number: u8, value: &AbstractValue) -> bool {
-    match *value {
-        AbstractValue::Map(_) => number == 1,
-        _ => number == 2 && is_key(value),
-    }
-}
-
-/// The argument of `bpf_map_lookup_elem` that isn't taken.
-fn lookup_argument(state: &State) -> Reg
-    ensures { (1 ≤ result) × (result ≤ 2) }
-{
-    match state.register(reg(1)) {
-        AbstractValue::Map(_) => reg(2),
-        _ => reg(1),
-    }
-}
-
-/// The argument that a helper doesn't take.
-pub(crate) fn argument(state: &State, insn: &Insn) -> Option<Reg>
-    ensures { IfSome result (λ reg. reads_register insn.now reg ≡ true) }
-{
-    match *insn {
-        Insn::Call { callee, imm } => match helper_of(callee, imm) {
-            Some(Helper::Lookup) => Some(lookup_argument(state)),
-            Some(Helper::Loop) => loop_argument(state),
-            None => None,
-        },
-        _ => None,
-    }
-}
-
 /// The register whose value breaks a rule that speaks of the registers which an instruction reads.
 #[tactic(auto, unfolding(crate::specs::Faults::is_blamable))]
 pub(crate) fn blamed(rule: Rule, state: &State, insn: &Insn) -> Option<Reg>
@@ -294,6 +228,7 @@ pub(crate) fn blamed(rule: Rule, state: &State, insn: &Insn) -> Option<Reg>
         Rule::ArithmeticOperand => computed_with(state, insn),
         Rule::ComparisonOperand => first_that(state, insn, Wanted::NoNumber),
         Rule::StoredOperand => stored(state, insn),
+        Rule::HelperArgument => wrong_argument(state, insn),
         Rule::CallbackResult | Rule::MainResult => Some(reg(0)),
         _ => None,
     }

@@ -1,5 +1,6 @@
 //! The pieces of an explanation.
 
+use crate::arguments::Parameter;
 use bpf_insn_types::{Insn, Reg};
 use bpf_verify_model::AbstractValue;
 
@@ -36,6 +37,13 @@ pub enum Piece {
         reg: Reg,
         value: AbstractValue,
     },
+    /// The abstract value of a register before a slot where it is an argument of a helper, and what it has to be.
+    Argument {
+        slot: u32,
+        reg: Reg,
+        value: AbstractValue,
+        parameter: Parameter,
+    },
     /// A register that the instruction at a slot reads, as one that is different things on different paths, and can't
     /// be read.
     Differing {
@@ -71,6 +79,20 @@ pub enum Piece {
         to: u32,
         reg: Reg,
         value: AbstractValue,
+    },
+    /// The abstract value of a register on the edges from one slot to another, of those that meet there.
+    Side {
+        from: u32,
+        to: u32,
+        reg: Reg,
+        value: AbstractValue,
+    },
+    /// A register, as one that is different things on different paths, and can't be read, on the edges from one slot to
+    /// another, of those that meet there.
+    DifferingSide {
+        from: u32,
+        to: u32,
+        reg: Reg,
     },
     /// A byte of the own frame that isn't written on every path to a slot, by its position from the frame's lowest.
     Unwritten {

@@ -4,11 +4,14 @@ ghost use Rattle.std.specs.Prelude.{◌≡◌, ◌==◌, ◌++◌, true, IfOk, I
 ghost use Rattle.bpf_insn_types.specs.Program.{insn_at};
 ghost use Rattle.bpf_verify_model.specs.declared.rule.Rule.TheVariants.{UnwrittenRegister};
 ghost use Rattle.bpf_verify_model.specs.Accepted.{first_fault};
+ghost use Rattle.bpf_verify_origin.specs.Sources.{source_before};
 ghost use Rattle.bpfspec_reasons.specs.declared.operands.Wanted.TheVariants.{Unwritten};
 ghost use Rattle.bpfspec_reasons.specs.Truth.{IsKnownBefore, Tells, TellsMore, slot_or, slot_told, with_mentions};
 ghost use Rattle.bpfspec_reasons.specs.Operands.{access_base, at_slot, is_wanted_of, registers_read};
-ghost use Rattle.bpfspec_reasons.specs.Faults.{IsBlame, IsOriginUnless, TellsAddress, TellsArguments, TellsAt};
-ghost use Rattle.bpfspec_reasons.specs.Faults.{TellsBy, TellsIfReached, TellsOfRule, TellsRegisters, concern_of};
+ghost use Rattle.bpfspec_reasons.specs.Arguments.{arguments_told, helper_in};
+ghost use Rattle.bpfspec_reasons.specs.Sides.{IsClash};
+ghost use Rattle.bpfspec_reasons.specs.Faults.{IsBlame, IsOriginUnless, TellsAddress, TellsAt};
+ghost use Rattle.bpfspec_reasons.specs.Faults.{TellsBy, TellsIfReached, TellsOfRule, TellsBlamed, concern_of};
 ghost use Rattle.bpfspec_reasons.specs.Told.{Explains};
 
 use crate::access_rules::add_access_rule;
@@ -21,7 +24,7 @@ use crate::differing::clash_of;
 use crate::explanation::Explanation;
 use crate::insn_rules::add_insn_rule;
 use crate::mending::mend;
-use crate::operands::{Wanted, add_operands, argument, blamed, first_that};
+use crate::operands::{Wanted, add_operands, blamed, first_that};
 use crate::state_rules::{add_arguments, add_state_rule};
 use bpf_insn_types::{Insn, Reg};
 use bpf_verify_model::{Rule, State};
@@ -101,6 +104,8 @@ pub struct Clash {
 fn clash_at(out: &Explanation<'_>, fault: &Fault, insn: &Insn, state: &State) -> Option<Clash>
     ensures broken { IfSome result (λ clash. fault.now.rule ≡ UnwrittenRegister) }
     ensures read { IfSome result (λ clash. is_wanted_of Unwritten state.now insn.now clash.reg ≡ true) }
+    ensures met { IfSome result (λ clash.
+        IsClash out.now.program clash.reg (source_before out.now.program fault.now.slot clash.reg) clash.at) }
 {
     match fault.rule {
         Rule::UnwrittenRegister => {
@@ -136,41 +141,28 @@ fn add_register_reasons(
     state: &State,
 ) -> Result<bool, AllocError>
     requires { IsKnownBefore out.old.program fault.now.slot state.now }
-    ensures { OnOk result (Tells
-        (TellsRegisters out.old.program fault.now.rule fault.now.slot insn.now state.now) out.old out.new) }
+    ensures { OnOk result (Tells (TellsBlamed (at_slot fault.now.slot (registers_read insn.now)) out.old.program
+        fault.now.rule fault.now.slot insn.now state.now) out.old out.new) }
 {
     add_operand_line(out, fault.slot, insn, state)?;
     add_state_rule(out, fault.rule, fault.slot, insn)?;
     add_blamed_chain(out, fault, insn, state)
 }
 
-/// Adds where the argument comes from that a helper doesn't take, and says whether that is from a signed number.
-fn add_argument_chain(
-    out: &mut Explanation<'_>,
-    slot: u32,
-    insn: &Insn,
-    state: &State,
-) -> Result<bool, AllocError>
-    ensures { OnOk result (Tells (TellsArguments out.old.program slot insn.now) out.old out.new) }
-{
-    match argument(state, insn) {
-        None => Ok(false),
-        Some(found) => add_chain(out, slot, found),
-    }
-}
-
 /// Adds which arguments of a helper aren't what they have to be, and where the first of them comes from; and says
 /// whether that is from a signed number.
 fn add_argument_reasons(
     out: &mut Explanation<'_>,
-    slot: u32,
+    fault: &Fault,
     insn: &Insn,
     state: &State,
 ) -> Result<bool, AllocError>
-    ensures { OnOk result (Tells (TellsArguments out.old.program slot insn.now) out.old out.new) }
+    requires { IsKnownBefore out.old.program fault.now.slot state.now }
+    ensures { OnOk result (Tells (TellsBlamed (arguments_told fault.now.slot (helper_in insn.now) state.now)
+        out.old.program fault.now.rule fault.now.slot insn.now state.now) out.old out.new) }
 {
-    add_arguments(out, slot, insn)?;
-    add_argument_chain(out, slot, insn, state)
+    add_arguments(out, fault.slot, insn, state)?;
+    add_blamed_chain(out, fault, insn, state)
 }
 
 /// Adds why an instruction breaks a rule that speaks of it alone. No signed number does.
@@ -199,7 +191,7 @@ fn add_rule_reasons(
     match concern_of(fault.rule) {
         Concern::Address => add_access_reasons(out, fault, insn, state),
         Concern::Registers => add_register_reasons(out, fault, insn, state),
-        Concern::Arguments => add_argument_reasons(out, fault.slot, insn, state),
+        Concern::Arguments => add_argument_reasons(out, fault, insn, state),
         Concern::Instruction => add_insn_reasons(out, fault, insn),
     }
 }

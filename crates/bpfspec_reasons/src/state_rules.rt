@@ -1,12 +1,16 @@
 //! What breaks the rules that speak of registers.
 
-ghost use Rattle.std.specs.Prelude.{◌≡◌, ◌≤◌};
+ghost use Rattle.std.specs.Prelude.{◌≡◌, [], ◌∷◌, Some, OnOk};
+ghost use Rattle.bpfspec_reasons.specs.Truth.{IsKnownBefore, with_mentions};
+ghost use Rattle.bpfspec_reasons.specs.Mentions.{HasToBe};
+ghost use Rattle.bpfspec_reasons.specs.Operands.{if_passes, told_of};
+ghost use Rattle.bpfspec_reasons.specs.Arguments.{arguments_told, helper_in, is_wrong_argument, parameter_of};
 
+use crate::arguments::{helper_in, is_wrong_argument, parameter_of};
 use crate::explanation::Explanation;
-use crate::operands::{is_lookup_argument, is_loop_argument};
 use crate::sums::sum_of;
-use bpf_insn_types::Insn;
-use bpf_verify_model::{Rule, reg};
+use bpf_insn_types::{Insn, Reg};
+use bpf_verify_model::{Helper, Rule, State, reg};
 use std::alloc::AllocError;
 
 /// Adds which operands arithmetic takes, of which this is one that it doesn't.
@@ -21,85 +25,104 @@ fn add_arithmetic(out: &mut Explanation<'_>, slot: u32, insn: &Insn) -> Result<(
     out.words("\n")
 }
 
+/// Which arguments a helper has.
+fn signature(helper: Helper) -> &'static str {
+    match helper {
+        Helper::Lookup => {
+            "  this is bpf_map_lookup_elem(map, key), with the map in r1 and the address of the key in r2\n"
+        }
+        Helper::Loop => {
+            "  this is bpf_loop(nr_loops, callback_fn, callback_ctx, flags), with these in r1 to r4\n"
+        }
+    }
+}
+
 /// Adds what an argument of a helper is, and what it has to be.
 fn add_argument(
     out: &mut Explanation<'_>,
     slot: u32,
-    number: u8,
-    wanted: &'static str,
+    helper: Helper,
+    state: &State,
+    argument: Reg,
 ) -> Result<(), AllocError>
-    requires { number ≤ 10 }
-    ensures { out.new ≡ out.old }
+    requires { IsKnownBefore out.old.program slot state.now }
+    ensures { OnOk result
+        (out.new ≡ with_mentions out.old (HasToBe slot argument (parameter_of helper argument) ∷ [])) }
 {
+    let value = state.register(argument);
     out.words("  ")?;
-    out.before(slot, reg(number))?;
-    out.words("; it has to be ")?;
-    out.words(wanted)?;
+    out.argument(
+        slot,
+        argument,
+        &value,
+        parameter_of(helper, argument.number()),
+    )?;
     out.words("\n")
 }
 
-/// What an argument of `bpf_map_lookup_elem` has to be.
-fn lookup_wanted(number: u8) -> &'static str {
-    if number == 1 {
-        "a map (ldmap)"
+/// The same, unless it is taken.
+fn add_if_wrong(
+    out: &mut Explanation<'_>,
+    slot: u32,
+    helper: Helper,
+    state: &State,
+    argument: Reg,
+) -> Result<(), AllocError>
+    requires { IsKnownBefore out.old.program slot state.now }
+    ensures { OnOk result (out.new ≡ with_mentions out.old
+        (told_of (λ reg. HasToBe slot reg (parameter_of helper reg))
+        (if_passes (is_wrong_argument helper state.now) argument))) }
+{
+    if is_wrong_argument(helper, state, argument) {
+        add_argument(out, slot, helper, state, argument)
     } else {
-        "the address of a key of 4 bytes in a frame, at a multiple of 4"
+        Ok(())
     }
 }
 
-/// What an argument of `bpf_loop` has to be.
-fn loop_wanted(number: u8) -> &'static str {
-    match number {
-        1 => "a number, the number of iterations",
-        2 => "a callback (ldcode)",
-        3 => "an address in main's frame, or 0",
-        _ => "a number, the flags",
-    }
-}
-
-/// Adds those arguments of a lookup that aren't what they have to be.
-fn add_lookup_arguments(out: &mut Explanation<'_>, slot: u32) -> Result<(), AllocError>
-    ensures { out.new ≡ out.old }
+/// Adds what those arguments of a helper are that aren't taken, and what they have to be.
+fn add_wrong_arguments(
+    out: &mut Explanation<'_>,
+    slot: u32,
+    helper: Helper,
+    state: &State,
+) -> Result<(), AllocError>
+    requires { IsKnownBefore out.old.program slot state.now }
+    ensures { OnOk result (out.new ≡ with_mentions out.old (arguments_told slot (Some helper) state.now)) }
 {
-    out.words(
-        "  this is bpf_map_lookup_elem(map, key), with the map in r1 and the address of the key in r2\n",
-    )?;
-    for number in 1..3u8 {
-        let value = out.value_before(slot, reg(number));
-        if !is_lookup_argument(number, &value) {
-            add_argument(out, slot, number, lookup_wanted(number))?;
-        }
+    for number in 0..11u8 {
+        add_if_wrong(out, slot, helper, state, reg(number))?;
     }
     Ok(())
 }
 
-/// Adds those arguments of a loop call that aren't what they have to be.
-fn add_loop_arguments(out: &mut Explanation<'_>, slot: u32) -> Result<(), AllocError>
-    ensures { out.new ≡ out.old }
+/// Adds which arguments a helper has, and what those are that aren't taken.
+fn add_helper(
+    out: &mut Explanation<'_>,
+    slot: u32,
+    helper: Helper,
+    state: &State,
+) -> Result<(), AllocError>
+    requires { IsKnownBefore out.old.program slot state.now }
+    ensures { OnOk result (out.new ≡ with_mentions out.old (arguments_told slot (Some helper) state.now)) }
 {
-    out.words(
-        "  this is bpf_loop(nr_loops, callback_fn, callback_ctx, flags), with these in r1 to r4\n",
-    )?;
-    for number in 1..5u8 {
-        let value = out.value_before(slot, reg(number));
-        if !is_loop_argument(number, &value) {
-            add_argument(out, slot, number, loop_wanted(number))?;
-        }
-    }
-    Ok(())
+    out.words(signature(helper))?;
+    add_wrong_arguments(out, slot, helper, state)
 }
 
-/// Adds those arguments of a helper that aren't what they have to be.
+/// The same of the helper that an instruction calls, if it calls one.
 pub(crate) fn add_arguments(
     out: &mut Explanation<'_>,
     slot: u32,
     insn: &Insn,
+    state: &State,
 ) -> Result<(), AllocError>
-    ensures { out.new ≡ out.old }
+    requires { IsKnownBefore out.old.program slot state.now }
+    ensures { OnOk result (out.new ≡ with_mentions out.old (arguments_told slot (helper_in insn.now) state.now)) }
 {
-    match *insn {
-        Insn::Call { imm: 1, .. } => add_lookup_arguments(out, slot),
-        _ => add_loop_arguments(out, slot),
+    match helper_in(insn) {
+        None => Ok(()),
+        Some(helper) => add_helper(out, slot, helper, state),
     }
 }
 

@@ -2,11 +2,13 @@
 
 ghost use Rattle.std.specs.Prelude.{◌≡◌, ◌-◌, ◌++◌, codes, OnOk};
 ghost use Rattle.std.specs.String.{string_bytes};
-ghost use Rattle.bpfspec_reasons.specs.Printed.{any_text, area_text, elements_text, known_text, missing_text};
-ghost use Rattle.bpfspec_reasons.specs.Printed.{number_text, numbers_text, position_text, range_text, register_text};
-ghost use Rattle.bpfspec_reasons.specs.Printed.{start_text, step_of, steps_text, value_text};
+ghost use Rattle.bpfspec_reasons.specs.Printed.{any_text, area_text, argument_text, differing_text, elements_text};
+ghost use Rattle.bpfspec_reasons.specs.Printed.{known_text, missing_text, number_text, numbers_text, parameter_text};
+ghost use Rattle.bpfspec_reasons.specs.Printed.{position_text, range_text, register_text, start_text, step_of};
+ghost use Rattle.bpfspec_reasons.specs.Printed.{steps_text, value_text, wanted_text};
 ghost use Rattle.bpfspec_reasons.specs.Chains.{width_of};
 
+use crate::arguments::Parameter;
 use bpf_insn_types::Reg;
 use bpf_verify_model::AbstractValue;
 use std::alloc::AllocError;
@@ -177,10 +179,46 @@ pub(crate) fn write_known(
     write_value(out, value)
 }
 
+/// Adds what an argument of a helper has to be.
+fn write_parameter(out: &mut String, parameter: Parameter) -> Result<(), AllocError>
+    ensures { OnOk result (string_bytes out.new ≡ string_bytes out.old ++ parameter_text parameter) }
+{
+    match parameter {
+        Parameter::Map => out.push_str("a map (ldmap)"),
+        Parameter::Key => out.push_str(
+            "the address of a key of 4 bytes in a frame, at a multiple of 4",
+        ),
+        Parameter::Iterations => out.push_str("a number, the number of iterations"),
+        Parameter::Callback => out.push_str("a callback (ldcode)"),
+        Parameter::Ctx => out.push_str("an address in main's frame, or 0"),
+        Parameter::Flags => out.push_str("a number, the flags"),
+    }
+}
+
+/// Adds that this is what an argument has to be.
+fn write_wanted(out: &mut String, parameter: Parameter) -> Result<(), AllocError>
+    ensures { OnOk result (string_bytes out.new ≡ string_bytes out.old ++ wanted_text parameter) }
+{
+    out.push_str("; it has to be ")?;
+    write_parameter(out, parameter)
+}
+
+/// Adds what an argument of a helper is, and what it has to be.
+pub(crate) fn write_argument(
+    out: &mut String,
+    reg: Reg,
+    value: &AbstractValue,
+    parameter: Parameter,
+) -> Result<(), AllocError>
+    ensures { OnOk result (string_bytes out.new ≡ string_bytes out.old ++ argument_text reg value.now parameter) }
+{
+    write_known(out, reg, value)?;
+    write_wanted(out, parameter)
+}
+
 /// Adds that a register is different things on different paths.
 pub(crate) fn write_differing(out: &mut String, reg: Reg) -> Result<(), AllocError>
-    ensures { OnOk result (string_bytes out.new ≡ string_bytes out.old
-        ++ (register_text reg ++ codes " is different things on different paths")) }
+    ensures { OnOk result (string_bytes out.new ≡ string_bytes out.old ++ differing_text reg) }
 {
     write_reg(out, reg)?;
     out.push_str(" is different things on different paths")

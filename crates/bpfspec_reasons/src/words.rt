@@ -9,8 +9,8 @@ use crate::page::Page;
 use crate::piece::Piece;
 use crate::placing::{write_line, write_step};
 use crate::values::{
-    write_differing, write_elements, write_known, write_reg, write_start, write_unwritten,
-    write_unwritten_of_main,
+    write_argument, write_differing, write_elements, write_known, write_reg, write_start,
+    write_unwritten, write_unwritten_of_main,
 };
 use std::alloc::{AllocError, Global};
 
@@ -42,8 +42,17 @@ pub(crate) fn write_piece(
         }
         Piece::Before { reg, value, .. }
         | Piece::Between { reg, value, .. }
-        | Piece::Operand { reg, value, .. } => write_known(out, reg, &value),
-        Piece::Differing { reg, .. } => write_differing(out, reg),
+        | Piece::Operand { reg, value, .. }
+        | Piece::Side { reg, value, .. } => write_known(out, reg, &value),
+        Piece::Argument {
+            reg,
+            value,
+            parameter,
+            ..
+        } => write_argument(out, reg, &value, parameter),
+        Piece::Differing { reg, .. } | Piece::DifferingSide { reg, .. } => {
+            write_differing(out, reg)
+        }
         Piece::Unreadable { reg, .. } | Piece::Chain { reg, .. } => write_reg(out, reg),
         Piece::Meeting { slot } => write!(out, "{slot}"),
         Piece::Start { reg } => write_start(out, reg),

@@ -1,7 +1,7 @@
 use Rattle.std.proofs.Common.{ℕ, arith, subst}
 use Rattle.std.specs.Prelude.{IfSome, Option}
 use Rattle.bpfspec_reasons.specs.declared.meeting.EdgeWidth.{EdgeWidth}
-use Rattle.bpfspec_reasons.specs.Chains.{IsEdge}
+use Rattle.bpfspec_reasons.specs.Sides.{IsEdge}
 use Rattle.bpfspec_reasons.proofs.ChainLaws.{below-next}
 use Rattle.bpfspec_reasons.proofs.meeting.widest_edge.Goals as goal
 

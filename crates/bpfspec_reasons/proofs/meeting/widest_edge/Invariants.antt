@@ -1,6 +1,6 @@
 use Rattle.std.proofs.Common.{◌≡◌, ℕ, ◌<◌, None}
 use Rattle.std.specs.Prelude.{IfSome}
-use Rattle.bpfspec_reasons.specs.Chains.{IsEdge}
+use Rattle.bpfspec_reasons.specs.Sides.{IsEdge}
 use Rattle.bpfspec_reasons.proofs.meeting.widest_edge.Given as goal
 
 abbrev pub invariant-loop-from : goal.invariant-loop-from

@@ -1,7 +1,7 @@
 use Rattle.std.proofs.Common.{refl, inl}
 use Rattle.bpfspec_reasons.proofs.TellLaws.{on-ok, tells-as}
 use Rattle.bpfspec_reasons.proofs.OperandLaws.{unreadable}
-use Rattle.bpfspec_reasons.proofs.FaultLaws.{and-two, unwritten-told}
+use Rattle.bpfspec_reasons.proofs.FaultLaws.{and-two, clash-told}
 use Rattle.bpfspec_reasons.proofs.reasons.add_cause.Goals as goal
 
 pub returns-in-None : goal.returns-in-None
@@ -17,5 +17,6 @@ add_clash-requires c =
 
 pub returns-in_ok-add_clash-in-Some : goal.returns-in_ok-add_clash-in-Some
 returns-in_ok-add_clash-in-Some c =
-    unwritten-told c.args.fault.now.rule c.args.fault.now.slot c.in-Some.clash.reg c.args.insn.now c.args.state.now
-    c.args.out.now c.add_clash.new.out c.in-Some.ensures.broken c.in-Some.ensures.read c.in_ok-add_clash-in-Some.ensures
+    clash-told c.args.fault.now.rule c.args.fault.now.slot c.in-Some.clash.reg c.in-Some.clash.at c.args.insn.now
+    c.args.state.now c.args.out.now c.add_clash.new.out c.in-Some.ensures.broken c.in-Some.ensures.read
+    c.in-Some.ensures.met c.in_ok-add_clash-in-Some.ensures
