@@ -7,4 +7,7 @@ pub mod VariableOf
 pub mod NamesText
 pub mod LoopText
 pub mod Starting
+pub mod Drawn
 pub mod Told
+pub mod ReplayText
+pub mod Replayed

@@ -1,5 +1,5 @@
 //! Which way loops go and why they conflict, in words: what comes after the answer on an accepted program; and as a
-//! picture of the first loop that does, or of the events of a replay.
+//! picture of the first loop that does, or of the events of a replay; and why a replay is refused.
 //!
 //! ```text
 //! loop 0 at 5: answer 1000, conflict 32 least 1
@@ -14,6 +14,7 @@
 //! it.
 #![tactic(auto)]
 
+mod bounds;
 mod cuts;
 mod deeds;
 mod drawing;
@@ -24,10 +25,13 @@ mod mending;
 mod names;
 mod places;
 mod reading;
+mod refused_replay;
+mod replaying;
 mod start;
 mod variable;
 mod wish;
 
 pub use drawing::{picture_of_events, picture_of_hex, picture_of_text};
 pub use inputs::{causes_of_hex, causes_of_text};
+pub use replaying::{replay_reasons_of_hex, replay_reasons_of_text};
 pub use wish::Wish;

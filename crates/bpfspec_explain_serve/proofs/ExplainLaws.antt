@@ -1,5 +1,5 @@
 -- How an input is explained, of its parts.
-use Rattle.std.proofs.Common.{◌≡◌, ℕ, suc, ◌+◌, ◌≤◌, List, [], ◌∷◌, ◌++◌, length, take, Option, None, Some, IfSome}
+use Rattle.std.proofs.Common.{◌≡◌, ℕ, Bool, true, false, suc, ◌+◌, ◌≤◌, List, [], ◌∷◌, ◌++◌, length, take, Option, None, Some, IfSome}
 use Rattle.std.proofs.Common.{Result, Ok, Err, refl, ap, sym, subst, ◌∙◌, append-nil, length-append, arith}
 use Rattle.std.proofs.KnownBytes.{Appends-trans}
 use Rattle.std.specs.Prelude.{IfOk, MatchResult}
@@ -19,6 +19,7 @@ use Rattle.bpfspec_streams.specs.Streams.{AppendsBeginning, ReadsToEnd}
 use Rattle.bpfspec_explain_serve.specs.declared.ask.Ask.{Ask}
 use Rattle.bpfspec_explain_serve.specs.Explained.{Drawn, Explains, ExplainsReader, In_words, ShowsReasons, Verifies}
 use Rattle.bpfspec_explain_serve.specs.Explained.{Without_reasons}
+use Rattle.bpfspec_explain_serve.specs.Pictured.{Draws, DrawsIf, DrawsText, wants_picture}
 use Rattle.bpfspec_explain_serve.specs.Reasons.{Tells, text_of}
 use Rattle.bpfspec_explain_serve.proofs.ReasonLaws.{text_cut}
 
@@ -53,32 +54,32 @@ both_written first second wanted result old mid new before middle after whole we
 -- an answer that was written whole, and then the reasons, if there is memory for them
 pub told_in_words : (ask : Ask) (input text given : List ℕ) (wanted result : Served) (old mid new : ℕ)
     (before middle after : Option (List ℕ)) (reasons : Result (Vec ℕ Global) AllocError)
-    → Verifies ask.form input (record { served = wanted; text = text }) → given ≡ text → Appends before middle given
-    → mid ≡ old → IfOk reasons (λ words. ShowsReasons ask wanted input words.items)
+    → Verifies ask.form input (record { served = wanted; text = text }) → Draws ask wanted input None → given ≡ text
+    → Appends before middle given → mid ≡ old → IfOk reasons (λ words. ShowsReasons ask wanted input words.items)
     → MatchResult reasons (λ words. HowWritten words.items wanted result (λ n. new ≡ mid + n) middle after)
     (λ _. HowWritten [] wanted result (λ n. new ≡ mid + n) middle after)
     → HowServed (Explains ask input) result (λ n. n ≡ 0) (λ n. new ≡ old + n) before after
-told_in_words ask input text given wanted result old mid new before middle after (Ok words) verifies same whole well
-    shows more =
+told_in_words ask input text given wanted result old mid new before middle after (Ok words) verifies undrawn same whole
+    well shows more =
     let answer : Answer = record { served = wanted; text = text } in
     Answered (record { served = wanted; text = text ++ words.items })
-    (In_words answer words.items verifies shows refl) refl
+    (In_words answer words.items verifies undrawn shows refl) refl
     (both_written text words.items wanted result old mid new before middle after
     (subst (Appends before middle) same whole) well more)
-told_in_words ask input text given wanted result old mid new before middle after (Err error) verifies same whole well
-    shows more =
-    Answered (record { served = wanted; text = text }) (Without_reasons verifies) refl
+told_in_words ask input text given wanted result old mid new before middle after (Err error) verifies undrawn same whole
+    well shows more =
+    Answered (record { served = wanted; text = text }) (Without_reasons verifies undrawn) refl
     (written_as (text ++ []) text (append-nil text) (both_written text [] wanted result old mid new before middle after
     (subst (Appends before middle) same whole) well more))
 
 -- a write of the answer that failed
 pub broken_off : (ask : Ask) (input text given : List ℕ) (wanted : Served) (old new : ℕ)
     (before after : Option (List ℕ))
-    → Verifies ask.form input (record { served = wanted; text = text }) → given ≡ text → new ≡ old + 1
-    → AppendsBeginning before after given
+    → Verifies ask.form input (record { served = wanted; text = text }) → Draws ask wanted input None → given ≡ text
+    → new ≡ old + 1 → AppendsBeginning before after given
     → HowServed (Explains ask input) Device (λ n. n ≡ 0) (λ n. new ≡ old + n) before after
-broken_off ask input text given wanted old new before after verifies same one begins =
-    Answered (record { served = wanted; text = text }) (Without_reasons verifies) refl
+broken_off ask input text given wanted old new before after verifies undrawn same one begins =
+    Answered (record { served = wanted; text = text }) (Without_reasons verifies undrawn) refl
     (Broke_off refl one (subst (AppendsBeginning before after) same begins))
 
 -- ---- the bytes that were read, and all that the reader had left
@@ -103,16 +104,27 @@ shows_all ask verified bytes read printed same shows = record {
   showable = shows.showable;
 }
 
+-- the same is drawn of both
+drawn_all : (ask : Ask) (wanted : Bool) (bytes read : List ℕ) (picture : Option (List ℕ))
+    → read ≡ take 3145729 bytes → DrawsIf wanted ask read picture → DrawsIf wanted ask bytes picture
+drawn_all ask false bytes read picture same draws = draws
+drawn_all ask true bytes read picture same draws =
+    subst (λ (text : Result (List ℕ) (List ℕ)). DrawsText ask text picture)
+    (ap text_of same ∙ text_cut 3145729 bytes (omega arith)) draws
+
 explains_all : (ask : Ask) (bytes read : List ℕ) (new : Option (List ℕ)) (printed : Answer)
     → read ≡ take 3145729 bytes → ReadsToEnd (Some bytes) new 3145729 read → Explains ask read printed
     → Explains ask bytes printed
-explains_all ask bytes read new printed same to_end (In_words answer reasons verifies shows is) =
+explains_all ask bytes read new printed same to_end (In_words answer reasons verifies undrawn shows is) =
     In_words answer reasons (verifies_all ask.form bytes read new answer same to_end verifies)
+    (drawn_all ask (wants_picture answer.served ask.picture) bytes read None same undrawn)
     (shows_all ask answer.served bytes read reasons same shows) is
-explains_all ask bytes read new printed same to_end (Without_reasons verifies) =
+explains_all ask bytes read new printed same to_end (Without_reasons verifies undrawn) =
     Without_reasons (verifies_all ask.form bytes read new printed same to_end verifies)
-explains_all ask bytes read new printed same to_end (Drawn asked answer verifies accepted done) =
-    Drawn asked answer (verifies_all ask.form bytes read new answer same to_end verifies) accepted done
+    (drawn_all ask (wants_picture printed.served ask.picture) bytes read None same undrawn)
+explains_all ask bytes read new printed same to_end (Drawn answer picture verifies draws is) =
+    Drawn answer picture (verifies_all ask.form bytes read new answer same to_end verifies)
+    (drawn_all ask (wants_picture answer.served ask.picture) bytes read (Some picture) same draws) is
 
 -- so what is printed of the bytes that were read is printed of all
 pub explains_reader : (ask : Ask) (old new : Option (List ℕ)) (read : List ℕ) (printed : Answer)
@@ -132,7 +144,3 @@ explains_reader ask (Some bytes) new read printed same to_end explains = record 
   read = read;
   to_end = to_end;
 }
-
--- what is known where something is there
-pub of_some : {A P : Type 0} (o : Option A) (x : A) → o ≡ Some x → IfSome o (λ _. P) → P
-of_some {A} {P} o x is known = subst (λ (p : Option A). IfSome p (λ _. P)) is known

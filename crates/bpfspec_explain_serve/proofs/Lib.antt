@@ -1,3 +1,4 @@
 pub mod ExplainLaws
+pub mod PicturedLaws
 pub mod ReasonLaws
 pub mod ShowingLaws

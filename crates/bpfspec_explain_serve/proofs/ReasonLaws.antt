@@ -1,7 +1,7 @@
 -- What is told of an input: by what it is, of one that is cut off behind the limit, and as it is shown.
 use Rattle.std.proofs.Common.{◌≡◌, ℕ, ◌≤◌, ◌<◌, ◌||◌, Bool, true, false, if◌then◌else◌, List, [], ◌∷◌, length}
-use Rattle.std.proofs.Common.{take, Result, Ok, Err, refl, sym, ap, subst, ◌∙◌, nat_eq, arith}
-use Rattle.std.specs.Prelude.{nat_lt, nat_le}
+use Rattle.std.proofs.Common.{take, Option, Some, None, Result, Ok, Err, refl, sym, ap, subst, ◌∙◌, nat_eq, arith}
+use Rattle.std.specs.Prelude.{nat_lt, nat_le, option_map, IfOk}
 use Rattle.std.specs.Cmp.Lexicographic.{pointwise}
 use Rattle.std.specs.List.{starts_with}
 use Rattle.std.specs.Str.{IsUtf8, is_utf8}
@@ -12,7 +12,7 @@ use Rattle.bpfspec_serve.specs.declared.serving.Served.{Served}
 use Rattle.bpfspec_serve.proofs.OutputLaws.{not_utf8}
 use Rattle.bpfspec_explain_serve.specs.declared.ask.Ask.{Ask}
 use Rattle.bpfspec_explain_serve.specs.Explained.{ShowsReasons}
-use Rattle.bpfspec_explain_serve.specs.Reasons.{AreReasons, TellsOfMore}
+use Rattle.bpfspec_explain_serve.specs.Reasons.{AreReasons, TellsOfMore, TellsOfReplay, ThatOrWords}
 use Rattle.bpfspec_explain_serve.specs.Reasons.{bytes_words, has_mark, is_object, length_words, mark_words}
 use Rattle.bpfspec_explain_serve.specs.Reasons.{object_words, text_of}
 use Rattle.bpfspec_explain_serve.specs.Showing.{IsShowable, shown}
@@ -90,9 +90,34 @@ text_cut n input behind = cut n input behind (nat_le (length input) n) refl
 -- ---- what is told
 
 -- where nothing is beside a unit, nothing is told of it
-pub nothing_more : (more : Bool) (told : List ℕ) → more ≡ false → told ≡ [] → TellsOfMore more told
-nothing_more false told none is = is
-nothing_more true told none is = tt
+pub nothing_more : (more : Bool) (ask : Ask) (unit maps events told : List ℕ) → more ≡ false → told ≡ []
+    → TellsOfMore more ask unit maps events told
+nothing_more false ask unit maps events told none is = is
+nothing_more true ask unit maps events told none is = absurd cc
+
+-- else what is told of the replay is
+pub more_of_replay : {A : Type 0} (bytes : A → List ℕ) (more : Bool) (ask : Ask) (unit maps events told : List ℕ)
+    (replay : Option A) → more ≡ true → TellsOfReplay ask.form ask unit maps events (option_map bytes replay)
+    → ThatOrWords (option_map bytes replay) told → TellsOfMore more ask unit maps events told
+more_of_replay bytes false ask unit maps events told replay some of_replay whole = absurd cc
+more_of_replay bytes true ask unit maps events told replay some of_replay whole = record {
+  replay = option_map bytes replay;
+  of_replay = of_replay;
+  whole = whole;
+}
+
+pub that : {A : Type 0} (bytes : A → List ℕ) (replay : Option A) (told : A) → replay ≡ Some told
+    → ThatOrWords (option_map bytes replay) (bytes told)
+that bytes replay told is = rw is refl
+
+pub words : {A : Type 0} (bytes : A → List ℕ) (replay : Option A) (told : List ℕ) → replay ≡ None
+    → ThatOrWords (option_map bytes replay) told
+words bytes replay told is = rw is tt
+
+-- what holds of each value
+pub of_each : {T E : Type 0} (result : Result T E) (P : T → Type 0) → ((value : T) → P value) → IfOk result P
+of_each (Ok value) P each = each value
+of_each (Err error) P each = tt
 
 -- reasons that are shown
 pub shows : (ask : Ask) (verified : Served) (input told given text : List ℕ) → AreReasons ask verified input told

@@ -1,5 +1,5 @@
 -- How an input was explained.
-use Rattle.std.specs.Prelude.{◌≡◌, ℕ, true, List, ◌++◌, Option, IfSome}
+use Rattle.std.specs.Prelude.{◌≡◌, ℕ, List, ◌++◌, Option, Some, None, IfSome}
 use Rattle.bpfspec_command_line.specs.Faults.{AsksForHelp}
 use Rattle.bpfspec_command_line.specs.declared.job.Job.TheVariants.{Serve}
 use Rattle.bpfspec_command_line.specs.declared.job.Mode.TheVariants.{Verify}
@@ -14,6 +14,7 @@ use Rattle.bpfspec_serve.specs.Output.{Answer, Answers}
 use Rattle.bpfspec_streams.specs.Streams.{ReadsToEnd}
 use Rattle.bpfspec_explain_serve.specs.declared.ask.Ask.{Ask}
 use Rattle.bpfspec_explain_serve.specs.Asked.{Asks, explain_app}
+use Rattle.bpfspec_explain_serve.specs.Pictured.{Draws}
 use Rattle.bpfspec_explain_serve.specs.Reasons.{AreReasons}
 use Rattle.bpfspec_explain_serve.specs.Showing.{IsShowable, shown}
 
@@ -28,15 +29,16 @@ pub record ShowsReasons (ask : Ask) (verified : Served) (input text : List ℕ) 
   pub same : text ≡ shown told
   pub showable : IsShowable text
 
--- what `explain` prints of an input: what `verify` answers, and then the reasons; the answer alone, where memory ran
--- out for them; or where a picture is asked for and the program is accepted, one in place of both
+-- what `explain` prints of an input: where there is no picture of it, or none is wanted, what `verify` answers, and then
+-- the reasons; or the answer alone, where memory ran out for them; and else the picture in place of both
 pub data Explains (ask : Ask) (input : List ℕ) (printed : Answer) : Type 0 where
   In_words : (answer : Answer) (reasons : List ℕ) → Verifies ask.form input answer
-      → ShowsReasons ask answer.served input reasons
+      → Draws ask answer.served input None → ShowsReasons ask answer.served input reasons
       → printed ≡ record { served = answer.served; text = answer.text ++ reasons } → Explains ask input printed
-  Without_reasons : Verifies ask.form input printed → Explains ask input printed
-  Drawn : ask.picture ≡ true → (answer : Answer) → Verifies ask.form input answer → answer.served ≡ served.Done
-      → printed.served ≡ served.Done → Explains ask input printed
+  Without_reasons : Verifies ask.form input printed → Draws ask printed.served input None → Explains ask input printed
+  Drawn : (answer : Answer) (picture : List ℕ) → Verifies ask.form input answer
+      → Draws ask answer.served input (Some picture) → printed ≡ record { served = served.Done; text = picture }
+      → Explains ask input printed
 
 -- what it prints of what a reader had left, where that is known, and else of some input; of which no more than one byte
 -- past the limit is read

@@ -1,4 +1,5 @@
 pub mod Asked
 pub mod Showing
 pub mod Reasons
+pub mod Pictured
 pub mod Explained

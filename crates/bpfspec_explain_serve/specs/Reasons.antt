@@ -1,11 +1,12 @@
 -- What is told of an input after the answer of `verify`: its reasons, before they are shown.
 use Rattle.std.specs.Prelude.{◌≡◌, ℕ, nat_eq, nat_lt, ◌==◌, ◌&&◌, ◌||◌, not, Bool, true, false, if◌then◌else◌}
-use Rattle.std.specs.Prelude.{List, [], ◌∷◌, ◌++◌, codes, length, Result, Ok, Err}
+use Rattle.std.specs.Prelude.{List, [], ◌∷◌, ◌++◌, codes, length, Option, Some, None, Result, Ok, Err}
 use Rattle.std.specs.List.{starts_with}
 use Rattle.std.specs.Str.{is_utf8}
 use Rattle.bpf_text_asm.specs.AssemblerText.{assembler_text}
 use Rattle.bpf_text_hex.specs.HexText.{hex_text}
 use Rattle.bpfspec_causes.specs.declared.wish.Wish.{Wish}
+use Rattle.bpfspec_causes.specs.Replayed.{TellsReplayOfHex, TellsReplayOfText}
 use Rattle.bpfspec_causes.specs.Told.{TellsOfHex, TellsOfText}
 use Rattle.bpfspec_command_line.specs.declared.job.UnitForm.{UnitForm}
 use Rattle.bpfspec_command_line.specs.declared.job.UnitForm.TheVariants.{Assembler, Hex}
@@ -67,10 +68,25 @@ abbrev pub has_more : Served → (maps events : List ℕ) → Bool
 has_more Done maps events = not ((length maps == 0) && (length events == 0))
 has_more _ maps events = false
 
--- what is told of values and events: where there are some, words that aren't said here; else nothing
-abbrev pub TellsOfMore : Bool → (told : List ℕ) → Type 0
-TellsOfMore true told = Unit {0}
-TellsOfMore false told = told ≡ []
+-- what is told of the replay of an accepted unit with the values and events of its sections
+abbrev pub TellsOfReplay : UnitForm → Ask → (unit maps events : List ℕ) → (told : Option (List ℕ)) → Type 0
+TellsOfReplay Assembler ask unit maps events told = TellsReplayOfText ask.test ask.argument unit maps events told
+TellsOfReplay Hex ask unit maps events told = TellsReplayOfHex ask.test ask.argument unit maps events told
+
+-- that is all; or where values or events are refused by themselves, words that aren't said here
+abbrev pub ThatOrWords : Option (List ℕ) → (told : List ℕ) → Type 0
+ThatOrWords (Some replay) told = told ≡ replay
+ThatOrWords None told = Unit {0}
+
+pub record TellsOfSections (ask : Ask) (unit maps events told : List ℕ) : Type 0 where
+  pub replay : Option (List ℕ)
+  pub of_replay : TellsOfReplay ask.form ask unit maps events replay
+  pub whole : ThatOrWords replay told
+
+-- what is told of values and events, where there are some of an accepted unit; else nothing
+abbrev pub TellsOfMore : Bool → Ask → (unit maps events told : List ℕ) → Type 0
+TellsOfMore true ask unit maps events told = TellsOfSections ask unit maps events told
+TellsOfMore false ask unit maps events told = told ≡ []
 
 -- what is told of a text: of its unit, of its loops, and of its values and events
 pub record TellsText (ask : Ask) (verified : Served) (text told : List ℕ) : Type 0 where
@@ -79,7 +95,8 @@ pub record TellsText (ask : Ask) (verified : Served) (text told : List ℕ) : Ty
   pub more : List ℕ
   pub of_unit : TellsOfUnit ask.form ask.extent (unit_section text) unit
   pub of_loops : TellsOfLoops ask.form (wish_of ask) (unit_section text) (maps_section text) loops
-  pub of_more : TellsOfMore (has_more verified (maps_section text) (events_section text)) more
+  pub of_more : TellsOfMore (has_more verified (maps_section text) (events_section text)) ask (unit_section text)
+      (maps_section text) (events_section text) more
   pub whole : told ≡ unit ++ (loops ++ more)
 
 -- what is told of an input that is a text or is none

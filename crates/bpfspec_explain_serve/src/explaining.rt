@@ -1,14 +1,15 @@
 //! The reasons that follow the answer of `verify`.
 
-ghost use Rattle.std.specs.Prelude.{◌≡◌, IfOk, MatchResult, Ok, Err};
+ghost use Rattle.std.specs.Prelude.{◌≡◌, IfOk, MatchResult, Ok, Err, option_map};
 ghost use Rattle.std.specs.String.{string_bytes};
-ghost use Rattle.bpfspec_explain_serve.specs.Reasons.{AreReasons, TellsOfLoops, TellsOfMore, TellsOfUnit, TellsText};
-ghost use Rattle.bpfspec_explain_serve.specs.Reasons.{has_more, text_of, wish_of};
+ghost use Rattle.bpfspec_explain_serve.specs.Reasons.{AreReasons, TellsOfLoops, TellsOfMore, TellsOfReplay, TellsOfUnit};
+ghost use Rattle.bpfspec_explain_serve.specs.Reasons.{TellsText, has_more, text_of, wish_of};
 
 use crate::ask::Ask;
-use crate::replaying::replay_reasons;
 use crate::sections::{Sections, sections_of};
-use bpfspec_causes::{Wish, causes_of_hex, causes_of_text};
+use bpfspec_causes::{
+    Wish, causes_of_hex, causes_of_text, replay_reasons_of_hex, replay_reasons_of_text,
+};
 use bpfspec_command_line::UnitForm;
 use bpfspec_reasons::{
     Extent, Given, given_reasons_of_hex, given_reasons_of_text, reasons_of_hex, reasons_of_text,
@@ -18,7 +19,7 @@ use std::alloc::{AllocError, Global};
 use std::str;
 
 /// An input as a text, or what is told of one that is none.
-fn text_of(input: &[u8]) -> Result<&str, &'static str>
+pub(crate) fn text_of(input: &[u8]) -> Result<&str, &'static str>
     ensures { MatchResult result (λ text. text_of input.now ≡ Ok text.now)
         (λ words. text_of input.now ≡ Err words.now) }
 {
@@ -91,7 +92,27 @@ fn has_more(verified: Served, sections: &Sections<'_>) -> bool
     }
 }
 
-/// Why the values or the events of an accepted unit aren't taken by themselves.
+/// Why a replay of a unit with its sections is refused; `None` where one of the sections is refused by itself.
+fn replay_reasons(
+    alloc: Global,
+    form: UnitForm,
+    ask: &Ask,
+    unit: &str,
+    maps: &str,
+    events: &str,
+) -> Result<Option<String>, AllocError>
+    ensures { IfOk result (λ told. TellsOfReplay form ask.now unit.now maps.now events.now
+        (option_map string_bytes told)) }
+{
+    match form {
+        UnitForm::Assembler => {
+            replay_reasons_of_text(alloc, ask.argument, ask.test, unit, maps, events)
+        }
+        UnitForm::Hex => replay_reasons_of_hex(alloc, ask.argument, ask.test, unit, maps, events),
+    }
+}
+
+/// Why the values or the events of a unit aren't taken by themselves.
 fn given_reasons(
     alloc: Global,
     form: UnitForm,
@@ -112,20 +133,26 @@ fn more_reasons(
     alloc: Global,
     ask: &Ask,
     verified: Served,
-    input: &[u8],
     sections: &Sections<'_>,
 ) -> Result<String, AllocError>
     ensures { IfOk result (λ told. TellsOfMore (has_more verified sections.now.maps.now sections.now.events.now)
-        (string_bytes told)) }
+        ask.now sections.now.unit.now sections.now.maps.now sections.now.events.now (string_bytes told)) }
 {
     if !has_more(verified, sections) {
         return Ok(String::new(alloc));
     }
-    let mut out = given_reasons(alloc, ask.form, sections)?;
-    if !sections.events.is_empty() {
-        out.push_str(&replay_reasons(alloc, ask, input, sections.events)?)?;
+    let replay = replay_reasons(
+        alloc,
+        ask.form,
+        ask,
+        sections.unit,
+        sections.maps,
+        sections.events,
+    )?;
+    match replay {
+        Some(told) => Ok(told),
+        None => given_reasons(alloc, ask.form, sections),
     }
-    Ok(out)
 }
 
 /// What is told of an input that is this text.
@@ -133,7 +160,6 @@ fn text_reasons(
     alloc: Global,
     ask: &Ask,
     verified: Served,
-    input: &[u8],
     text: &str,
 ) -> Result<String, AllocError>
     ensures { IfOk result (λ told. TellsText ask.now verified text.now (string_bytes told)) }
@@ -143,7 +169,7 @@ fn text_reasons(
     let mut out = unit_reasons(alloc, ask.form, ask.extent, sections.unit)?;
     let loops = loop_reasons(alloc, ask.form, &wish, sections.unit, sections.maps)?;
     out.push_str(&loops)?;
-    let more = more_reasons(alloc, ask, verified, input, &sections)?;
+    let more = more_reasons(alloc, ask, verified, &sections)?;
     out.push_str(&more)?;
     Ok(out)
 }
@@ -158,7 +184,7 @@ pub(crate) fn reasons(
     ensures { IfOk result (λ told. AreReasons ask.now verified input.now (string_bytes told)) }
 {
     match text_of(input) {
-        Ok(text) => text_reasons(alloc, ask, verified, input, text),
+        Ok(text) => text_reasons(alloc, ask, verified, text),
         Err(words) => String::from_str(alloc, words),
     }
 }

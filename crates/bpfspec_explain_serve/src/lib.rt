@@ -23,7 +23,6 @@ mod drawing;
 mod explaining;
 mod faults;
 mod program;
-mod replaying;
 mod sections;
 mod serving;
 mod showing;

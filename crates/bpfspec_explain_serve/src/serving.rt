@@ -1,8 +1,9 @@
 //! An input is answered as `verify` answers it, and the reasons are written; or a picture is in their place.
 
-ghost use Rattle.std.specs.Prelude.{◌≡◌, ◌+◌, ◌-◌, ◌^◌, ◌<◌, [], IfOk, MatchResult};
+ghost use Rattle.std.specs.Prelude.{◌≡◌, ◌+◌, ◌-◌, ◌^◌, ◌<◌, [], IfOk, MatchResult, None};
 ghost use Rattle.std.specs.String.{string_bytes};
 ghost use Rattle.bpfspec_explain_serve.specs.Explained.{Explains, ExplainsReader, ShowsReasons, Verifies};
+ghost use Rattle.bpfspec_explain_serve.specs.Pictured.{Draws};
 ghost use Rattle.bpfspec_serve.specs.HowServed.{HowServed, HowWritten};
 
 use crate::ask::Ask;
@@ -48,7 +49,8 @@ fn write_reasons<W: Sink>(
     }
 }
 
-/// Writes what `verify` answers to an input, and then the reasons, if there is memory for them.
+/// Writes what `verify` answers to an input of which no picture is drawn, and then the reasons, if there is memory for
+/// them.
 fn explain_in_words<W: Sink>(
     alloc: Global,
     ask: &Ask,
@@ -61,6 +63,7 @@ fn explain_in_words<W: Sink>(
       served = verified.now.served;
       text = string_bytes verified.now.text;
     }) }
+    requires undrawn { Draws ask.now verified.now.served input.now None }
     ensures { HowServed (Explains ask.now input.now) result (λ n. n ≡ 0)
         (λ n. W.failed sink.new ≡ W.failed sink.old + n) (W.taken sink.old) (W.taken sink.new) }
 {
