@@ -137,6 +137,7 @@ class LoopReport:
     verdict: str
     conflicts: int = 0
     shown: list[ConflictReport] = field(default_factory=list)
+    refused: str = ""  # why it is, where that is known
 
 
 @dataclass(frozen=True)

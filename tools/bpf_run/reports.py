@@ -19,6 +19,7 @@ REFUSAL = re.compile(r"refused (\S+)(?: at (?:slot|unit line) (\d+))?")
 ELEMENT = re.compile(r"  element (\d+) \(map \d+ at \d+\)(?:: .*)?")
 ITERATION = re.compile(r"( +)iteration +(\d+) (\w[\w, ]*?) +line (\d+): (.*)")
 ACCESS_INDENT = "    "  # of an iteration that accesses an element, where one that breaks the loop has less
+REFUSED_CALL = re.compile(r"  (it asks for \d+ iterations|its flags are \d+) \(r[14]\), (and .*)")
 STATE_LINE = re.compile(r"  line (\d+): (.*)")
 STATE = re.compile(r"    slot (\d+): (.*)")
 
@@ -80,11 +81,12 @@ class Conflict:
 
 @dataclass
 class Explanation:
-    """What is explained: the loops' conflicts, by the loops' numbers, and all lines as they were printed."""
+    """What is explained: by the loops' numbers, their conflicts and why they are refused; and all lines as printed."""
 
     lines: list[str]
     loops: list[Loop] = field(default_factory=list)
     conflicts: dict[int, list[Conflict]] = field(default_factory=dict)
+    refused: dict[int, str] = field(default_factory=dict)
     states: dict[int, str] = field(default_factory=dict)  # by slots
 
 
@@ -133,6 +135,8 @@ def read_explanation(output: str) -> Explanation:
             conflicts.append(Conflict(int(match[1]), []))
         elif (match := ITERATION.fullmatch(line)) and conflicts and match[1] == ACCESS_INDENT:
             conflicts[-1].accesses.append(Access(int(match[2]), match[3].removesuffix(" it"), int(match[4])))
+        elif (match := REFUSED_CALL.fullmatch(line)) and explanation.loops:
+            explanation.refused[explanation.loops[-1].number] = f"{match[1]}, {match[2]}"
         elif match := STATE.fullmatch(line):
             explanation.states[int(match[1])] = match[2]
     return explanation

@@ -173,12 +173,12 @@ class Session:
 
     def _loops(self, loops: list[Loop], argument: int, values: str) -> Iterator[LoopReport]:
         explained = Explanation([])
-        if any(loop.conflicts for loop in loops):
+        if any(loop.conflicts or loop.answer < 0 for loop in loops):
             words = (*self._programs.explain, *self.options.explain_words(argument))
             answer = programs.run(words, values, self._clock, EXPLAIN_SECONDS)
             explained = read_explanation(answer.output if answer else "")
             if answer is None:
-                told = f"bpfrun: a conflict takes more than {EXPLAIN_SECONDS:.0f} s to explain: see bpfrun explain"
+                told = f"bpfrun: a loop takes more than {EXPLAIN_SECONDS:.0f} s to explain: see bpfrun explain"
                 print(told, file=sys.stderr)
         for loop in loops:
             yield self._loop(loop, explained)
@@ -188,7 +188,8 @@ class Session:
         if loop.least is not None and not shown:
             shown = [ConflictReport(self.program.name_of(loop.least), loop.least, [])]
         place = self.program.place_at(loop.slot)
-        return LoopReport(place, loop.slot, loop.answer, loop.verdict, loop.conflicts, shown)
+        refused = explained.refused.get(loop.number, "")
+        return LoopReport(place, loop.slot, loop.answer, loop.verdict, loop.conflicts, shown, refused)
 
     def _conflict(self, conflict: Conflict) -> ConflictReport:
         slots = self.program.unit.slot_of_line

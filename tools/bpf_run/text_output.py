@@ -7,7 +7,7 @@ from collections.abc import Iterator
 
 from .c_values import lines_of
 from .report import ConflictReport, LoopReport, Program, Report, RunReport, place
-from .reports import ELEMENT, ITERATION, LOOP, STATE, STATE_LINE
+from .reports import ELEMENT, ITERATION, LOOP, REFUSED_CALL, STATE, STATE_LINE
 
 REFUSED_LOOPS = {-22: "its flags aren't 0", -7: "it asks for more than 8388608 iterations"}
 CHAIN = re.compile(r"    slot +(\d+)  (.*)")
@@ -29,7 +29,8 @@ def run_lines(program: Program, run: RunReport, is_one: bool) -> Iterator[str]:
 def loop_line(loop: LoopReport) -> str:
     """A loop call in a line."""
     if loop.answer < 0:
-        return f"loop at {loop.place}: refused, since {REFUSED_LOOPS.get(loop.answer, f'the answer is {loop.answer}')}"
+        reason = loop.refused or REFUSED_LOOPS.get(loop.answer, f"the answer is {loop.answer}")
+        return f"loop at {loop.place}: refused, since {reason}"
     iterations = "1 iteration" if loop.answer == 1 else f"{loop.answer} iterations"
     verdict = loop.verdict
     if loop.conflicts:
@@ -119,6 +120,8 @@ def explained_lines(report: Report, lines: list[str]) -> Iterator[str]:
             yield f"  {program.place_at(slots.get(int(match[1]), 0))}  {match[2].partition(';')[0].rstrip()}"
         elif match := ELEMENT.fullmatch(line):
             yield f"  {program.name_of(int(match[1]))}"
+        elif REFUSED_CALL.fullmatch(line):
+            continue  # the loop's line tells it
         else:
             yield loop_line(next(loops)) if LOOP.fullmatch(line) else line
 

@@ -33,12 +33,14 @@ SOURCES = TOP / "tools" / "tests" / "bpfrun"
 LIMIT = 300  # seconds of a command
 CACHE = tempfile.TemporaryDirectory(prefix="bpfrun-tests-")  # of the tools' modules, which are read again and again
 ENVIRONMENT = {**os.environ, "PYTHONDONTWRITEBYTECODE": "", "PYTHONPYCACHEPREFIX": CACHE.name}
-SHAPES, OUTSIDE, TWO, LONG = (f"{CACHE.name}/{name}.o" for name in ("shapes", "outside", "two", "long"))
+SHAPES, OUTSIDE, TWO, LONG, REFUSED = (
+    f"{CACHE.name}/{name}.o" for name in ("shapes", "outside", "two", "long", "refused")
+)
 
 
 def setUpModule() -> None:
     """Compiles the sources once, so that not each test does."""
-    for target in SHAPES, OUTSIDE, TWO, LONG:
+    for target in SHAPES, OUTSIDE, TWO, LONG, REFUSED:
         source = SOURCES / Path(target).with_suffix(".c").name
         Path(target).write_bytes(compiler.compiled(str(source), Clock()).data)
 
@@ -103,6 +105,16 @@ class Run(unittest.TestCase):
             done.stdout.splitlines(),
             ["return 996", f"loop at token_buckets.c:31: 1000 iterations, {conflict}", "dropped = 4", "passed = 996"],
         )
+
+    def test_refused_loops(self) -> None:
+        run, explain = (bpfrun(word, "--arg", 8388609, REFUSED).stdout.splitlines() for word in ("run", "explain"))
+        # One iteration more than the most; and flags of 8388609 - 8388604. Neither loop runs.
+        loops = [
+            "loop at refused.c:12: refused, since it asks for 8388609 iterations, and 8388608 are the most",
+            "loop at refused.c:13: refused, since its flags are 5, and have to be 0",
+        ]
+        self.assertEqual(run, ["return -22", *loops, "calls = 0"])
+        self.assertEqual(explain[-2:], loops)
 
     def test_types(self) -> None:
         lines = bpfrun("run", "--arg", 3, SHAPES).stdout.splitlines()
