@@ -66,24 +66,27 @@ impl Site {
             && halves_may_meet(self.halves, later.halves, lanes)
     }
 
-    /// Whether no lane may load here what an earlier one may write at `writer`.
+    /// Whether no lane may load at `reader` what an earlier one may write here.
     #[inline(always)]
-    fn is_unwritten(&self, writer: &Site, lanes: u32) -> bool
-        ensures { IsTrue result ↔ Unloaded lanes self.now writer.now }
+    fn is_unloaded(&self, reader: &Site, lanes: u32) -> bool
+        ensures { IsTrue result ↔ Unloaded lanes reader.now self.now }
     {
-        if leaves(writer.kind) && self.loads() {
-            return !writer.may_meet(self, lanes);
+        if leaves(self.kind) && reader.loads() {
+            return !self.may_meet(reader, lanes);
         }
         true
     }
 
-    /// Whether no lane may load here what an earlier one may write at one of the writers.
+    /// Whether no lane may load at one of the readers what an earlier one may write here.
     #[inline(always)]
-    fn is_unwritten_by(&self, writers: &[Site], lanes: u32) -> bool
-        ensures { IsTrue result ↔ All (λ writer. Unloaded lanes self.now writer) writers.now }
+    fn is_unloaded_by(&self, readers: &[Site], lanes: u32) -> bool
+        ensures { IsTrue result ↔ All (λ reader. Unloaded lanes reader self.now) readers.now }
     {
-        for writer in writers {
-            if !self.is_unwritten(writer, lanes) {
+        if !leaves(self.kind) {
+            return true;
+        }
+        for reader in readers {
+            if !self.is_unloaded(reader, lanes) {
                 return false;
             }
         }
@@ -104,6 +107,9 @@ impl Site {
     fn commutes_behind(&self, before: &[Site], lanes: u32) -> bool
         ensures { IsTrue result ↔ All (λ site. Commute lanes site self.now) before.now }
     {
+        if !leaves(self.kind) {
+            return true;
+        }
         for site in before {
             if !site.commutes(self, lanes) {
                 return false;
@@ -142,8 +148,8 @@ pub fn none_sees(sites: &[Site], lanes: u32) -> bool
 pub fn none_loads(sites: &[Site], lanes: u32) -> bool
     ensures { IsTrue result ↔ AllUnloaded lanes sites.now }
 {
-    for reader in sites {
-        if !reader.is_unwritten_by(sites, lanes) {
+    for writer in sites {
+        if !writer.is_unloaded_by(sites, lanes) {
             return false;
         }
     }

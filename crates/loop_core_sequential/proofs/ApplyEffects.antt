@@ -13,9 +13,11 @@ use Rattle.loop_core_batch.specs.BySite.{words_after_any, words_after_some}
 use Rattle.loop_core_batch.specs.Effects.{Effect, words_after_effect, words_after_any_effect, words_after_lane_effects}
 use Rattle.loop_core_batch.specs.Effects.{words_after_site_effects}
 use Rattle.bpf_step_batch.specs.declared.entry.Entry.{Entry}
+use Rattle.bpf_step_batch.specs.declared.mask.Mask.{Mask}
+use Rattle.bpf_step_batch.specs.declared.mask.Mask.TheVariants.{All}
 use Rattle.bpf_step_batch.specs.Logs.{element_by, has_lane, access_by, made_by, half_by, deed_by, effect_by}
 use Rattle.bpf_step_batch.specs.Logs.{effect_made_by, effect_log_by}
-use Rattle.loop_core_sequential.specs.Tries.{replaced_if_made}
+use Rattle.loop_core_sequential.specs.Tries.{replaced_by, replaced_if_made}
 use Rattle.loop_core_sequential.proofs.ApplyLaws.{by_kind}
 
 -- an entry's effect by its kind
@@ -168,6 +170,16 @@ if_not_made makes told effect first is off =
       sizes = first.sizes;
       words = words_after_any_effect (if b then Some effect else None) first.words;
     }) (sym off ∙ is)
+
+-- each of all lanes replaces its half
+pub all_replaced : (entry : Entry) (lane : ℕ) (first new : MapList) → entry.mask ≡ All
+    → new ≡ record { sizes = first.sizes; words = words_after_effect (replaced_by entry lane) first.words }
+    → new ≡ record { sizes = first.sizes; words = words_after_any_effect (replaced_if_made entry lane) first.words }
+all_replaced entry lane first new whole done =
+    done ∙ ap (λ (mask : Mask). record {
+      sizes = first.sizes;
+      words = words_after_any_effect (if has_lane mask lane then Some (replaced_by entry lane) else None) first.words;
+    }) (sym whole)
 
 -- one entry more
 pub effect_applied : (now new : List ℕ) (lanes index : ℕ) (entries : List Entry) (other : Entry)

@@ -1,95 +1,21 @@
 //! What a batch did, applied to the maps.
 
-ghost use Rattle.std.specs.Prelude.{◌≡◌, ℕ, ◌+◌, ◌-◌, ◌<◌, ◌≤◌, true, List, length, map, take, slice_index};
+ghost use Rattle.std.specs.Prelude.{◌≡◌, ℕ, ◌+◌, ◌-◌, ◌<◌, ◌≤◌, List, length, slice_index};
 ghost use Rattle.std.specs.List.{AllByRecursion};
-ghost use Rattle.loop_core_batch.specs.Sites.{AllUnseen};
-ghost use Rattle.loop_core_batch.specs.Effects.{AllUnloaded, words_after_any_effect, words_after_lane_effects};
-ghost use Rattle.loop_core_batch.specs.Effects.{words_after_site_effects};
-ghost use Rattle.loop_core_batch.specs.BySite.{AllCommute, combined_to, words_after_any, words_after_site};
+ghost use Rattle.loop_core_batch.specs.Effects.{words_after_lane_effects, words_after_site_effects};
+ghost use Rattle.loop_core_batch.specs.BySite.{combined_to, words_after_any, words_after_site};
 ghost use Rattle.loop_core_batch.specs.BySite.{words_after_some, words_after_sites};
 ghost use Rattle.loop_core_batch.specs.declared.elements.Elements.TheVariants as elements;
 ghost use Rattle.loop_core_model.specs.declared.access.Access.TheVariants as access;
-ghost use Rattle.bpf_step_batch.specs.declared.mask.Mask.TheVariants as mask;
 ghost use Rattle.bpf_step_batch.specs.Logs.{IsLogged, access_by, element_by, log_by, made_by};
-ghost use Rattle.bpf_step_batch.specs.Logs.{effect_log_by, effect_made_by, reduced_by, site_of, stored_by};
-ghost use Rattle.loop_core_sequential.specs.Tries.{AreWithin, reduced_if_made, replaced_if_made, stored_if_made};
+ghost use Rattle.bpf_step_batch.specs.Logs.{effect_log_by, effect_made_by, reduced_by, stored_by};
+ghost use Rattle.loop_core_sequential.specs.Tries.{AreWithin, reduced_if_made, stored_if_made};
 
-use array_maps::{Maps, Op, Store, combine, half_of};
-use bpf_step_batch::{Entry, MOST_ENTRIES, Mask};
-use loop_core_batch::{Elements, Site, all_commute, law_of_sums, none_loads, none_sees};
+use crate::replacing::replace_some;
+use array_maps::{Maps, Op, Store, combine};
+use bpf_step_batch::{Entry, Mask};
+use loop_core_batch::{Elements, law_of_sums};
 use loop_core_model::Access;
-
-/// How many accesses a lane of most batches makes, at most: to clear room for more of their sites takes longer than to
-/// look at them.
-const FEW: usize = 4;
-
-/// Tells whether iterations that ran on the words from before them all are the loop in order, by what
-/// they accessed, and their accesses may be applied site by site.
-pub(crate) fn are_in_order(entries: &[Entry], lanes: u32) -> bool
-    requires { length entries.now ≤ MOST_ENTRIES }
-    ensures { result ≡ true → AllUnseen lanes (map site_of entries.now) × AllCommute lanes (map site_of entries.now) }
-{
-    if entries.len() <= FEW {
-        are_in_order_among::<FEW>(entries, lanes)
-    } else {
-        are_in_order_among::<MOST_ENTRIES>(entries, lanes)
-    }
-}
-
-/// The same of at most N accesses of a lane.
-fn are_in_order_among<const N: usize>(entries: &[Entry], lanes: u32) -> bool
-    requires entries { length entries.now ≤ N }
-    requires few { N ≤ MOST_ENTRIES }
-    ensures { result ≡ true → AllUnseen lanes (map site_of entries.now) × AllCommute lanes (map site_of entries.now) }
-{
-    let sites = sites_of::<N>(entries);
-    let sites = &sites[..entries.len()];
-    none_sees(sites, lanes) && all_commute(sites, lanes)
-}
-
-/// The same of iterations of which a change needn't see the word that it replaces a half of: where each is applied to
-/// the word that it finds.
-pub(crate) fn are_unloaded(entries: &[Entry], lanes: u32) -> bool
-    requires { length entries.now ≤ MOST_ENTRIES }
-    ensures { result ≡ true → AllUnloaded lanes (map site_of entries.now) × AllCommute lanes (map site_of entries.now) }
-{
-    if entries.len() <= FEW {
-        are_unloaded_among::<FEW>(entries, lanes)
-    } else {
-        are_unloaded_among::<MOST_ENTRIES>(entries, lanes)
-    }
-}
-
-/// The same of at most N accesses of a lane.
-fn are_unloaded_among<const N: usize>(entries: &[Entry], lanes: u32) -> bool
-    requires entries { length entries.now ≤ N }
-    requires few { N ≤ MOST_ENTRIES }
-    ensures { result ≡ true → AllUnloaded lanes (map site_of entries.now) × AllCommute lanes (map site_of entries.now) }
-{
-    let sites = sites_of::<N>(entries);
-    let sites = &sites[..entries.len()];
-    none_loads(sites, lanes) && all_commute(sites, lanes)
-}
-
-/// The sites of at most N entries, and others behind them.
-fn sites_of<const N: usize>(entries: &[Entry]) -> [Site; N]
-    requires entries { length entries.now ≤ N }
-    requires few { N ≤ MOST_ENTRIES }
-    ensures sites { take (length entries.now) result ≡ map site_of entries.now }
-    ensures room { length result ≡ N }
-{
-    let none = Site {
-        kind: Access::Read,
-        fetches: false,
-        elements: Elements::One(0),
-        halves: None,
-    };
-    let mut sites = [none; N];
-    for k in 0..entries.len() {
-        sites[k] = entries[k].site;
-    }
-    sites
-}
 
 /// Applies what all lanes did to the maps, site by site: where they replace halves, to the words that they find.
 pub(crate) fn apply_effects(entries: &[Entry], lanes: u32, maps: &mut Maps)
@@ -144,43 +70,6 @@ fn apply_change(entry: &Entry, lanes: u32, maps: &mut Maps)
         apply_entry(entry, lanes, maps);
     } else {
         replace_some(entry, lanes, maps);
-    }
-}
-
-/// Replaces the halves of those lanes that made the access.
-fn replace_some(entry: &Entry, lanes: u32, maps: &mut Maps)
-    requires room { lanes ≤ 128 }
-    requires few { length maps.old.words ≤ 65536 }
-    requires within { AreWithin lanes entry.now maps.old.words }
-    ensures { maps.new ≡ record {
-      sizes = maps.old.sizes;
-      words = words_after_lane_effects (replaced_if_made entry.now) lanes maps.old.words;
-    } }
-{
-    for lane in 0..lanes {
-        replace_if_made(entry, lane, maps);
-    }
-}
-
-/// Replaces a lane's half, if it made the access.
-#[inline(always)]
-pub(crate) fn replace_if_made(entry: &Entry, lane: u32, maps: &mut Maps)
-    requires lane { lane < 128 }
-    requires few { length maps.old.words ≤ 65536 }
-    requires within { element_by entry.now.site.elements entry.now.elements lane < length maps.old.words }
-    ensures { maps.new ≡ record {
-      sizes = maps.old.sizes;
-      words = words_after_any_effect (replaced_if_made entry.now lane) maps.old.words;
-    } }
-{
-    if entry.mask.has(lane) {
-        let half = entry.halves[lane as usize];
-        let number = half_of(half, entry.values[lane as usize]);
-        maps.store_half(
-            element(entry.site.elements, entry, lane),
-            half,
-            number as u32,
-        );
     }
 }
 

@@ -9,7 +9,8 @@ ghost use Rattle.bpf_step_batch.specs.declared.entry.Entry.{Entry};
 ghost use Rattle.bpf_step_batch.specs.Logs.{IsLogged, effect_log_by, effect_made_by, effects_by, element_by, has_lane};
 ghost use Rattle.loop_core_sequential.specs.FirstLanes.{AreFirst, IsMarked, IsSpared, IsWithin, Lowers, mark_at};
 
-use crate::applying::{apply_effect, element, reduce_if_made, replace_if_made, store_if_made};
+use crate::applying::{apply_effect, element, reduce_if_made, store_if_made};
+use crate::replacing::replace_if_made;
 use array_maps::Maps;
 use bpf_step_batch::Entry;
 use loop_core_batch::{Elements, leaves};

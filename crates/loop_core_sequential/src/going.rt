@@ -6,8 +6,9 @@ ghost use Rattle.loop_core_sequential.specs.LoopRuns.{IsLoopRun};
 ghost use Rattle.loop_core_sequential.specs.Rests.{RanOn};
 ghost use Rattle.loop_core_sequential.specs.Tries.{LanesAreIterations, TriedIn, index_after};
 
-use crate::applying::{apply_effects, are_unloaded};
+use crate::applying::apply_effects;
 use crate::batches::Batches;
+use crate::deciding::are_unloaded;
 use crate::first_lanes::{Marks, apply_first};
 use crate::running::LoopRun;
 use crate::trying::Tried;

@@ -5,12 +5,14 @@
 
 mod applying;
 mod batches;
+mod deciding;
 mod first_lanes;
 mod going;
 mod noting;
 mod one_by_one;
 mod ordering;
 mod progress;
+mod replacing;
 mod running;
 mod trying;
 mod watched_loop;

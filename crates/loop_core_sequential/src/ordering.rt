@@ -134,13 +134,13 @@ fn go_on(
     let mut index = from;
     while index < to {
         let next = batches.go(run, index, to, marks, maps);
-        if batches.lacks_marks {
-            batches.lacks_marks = false;
-            return (next, None);
-        }
         if batches.goes_on(index, next, to) {
             index = next;
             continue;
+        }
+        if batches.lacks_marks {
+            batches.lacks_marks = false;
+            return (next, None);
         }
         let resume = batches.resume(next, to);
         if let Some(answer) = alone(run, next, resume, maps) {

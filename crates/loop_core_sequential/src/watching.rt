@@ -8,8 +8,9 @@ ghost use Rattle.loop_core_sequential.specs.Tries.{index_after};
 ghost use Rattle.loop_core_sequential.specs.Noting.{GoesWatched};
 ghost use Rattle.loop_core_sequential.specs.WatchedRuns.{WatchedTo};
 
-use crate::applying::{apply, are_in_order};
+use crate::applying::apply;
 use crate::batches::Batches;
+use crate::deciding::are_in_order;
 use crate::noting::{are_unread, note_writes};
 use crate::progress::Progress;
 use crate::running::LoopRun;

@@ -1,4 +1,4 @@
-use Rattle.std.proofs.Common.{Some, subst, ◌∙◌}
+use Rattle.std.proofs.Common.{subst}
 use Rattle.loop_core_sequential.specs.Rests.{RanTo}
 use Rattle.loop_core_sequential.proofs.InOrder.{ran_both, broke_before}
 use Rattle.loop_core_sequential.proofs.RunLaws.{ran_by}

@@ -1,4 +1,4 @@
-use Rattle.std.proofs.Common.{Some, ap, arith}
+use Rattle.std.proofs.Common.{Some, arith}
 use Rattle.loop_core_sequential.proofs.InOrder.{ran_both, broke_before}
 use Rattle.loop_core_sequential.proofs.RunLaws.{ran_by, ran_of}
 use Rattle.loop_core_sequential.proofs.ordering.range_in_order.Goals as goal

@@ -1,7 +1,7 @@
 use Rattle.std.proofs.Common.{refl, ◌∙◌, arith}
 use Rattle.std.proofs.lemmas.List.{length-replicate, length-set}
 use Rattle.loop_core_sequential.proofs.ApplyLaws.{site_taken, sites_taken}
-use Rattle.loop_core_sequential.proofs.applying.sites_of.Goals as goal
+use Rattle.loop_core_sequential.proofs.deciding.sites_of.Goals as goal
 
 pub loop-k-init : goal.loop-k-init
 loop-k-init g c = record { room = length-replicate _ _; taken = refl }

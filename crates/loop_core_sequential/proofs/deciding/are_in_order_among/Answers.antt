@@ -1,7 +1,7 @@
 use Rattle.std.proofs.Common.{subst}
 use Rattle.loop_core_batch.specs.Sites.{AllUnseen}
 use Rattle.loop_core_batch.specs.BySite.{AllCommute}
-use Rattle.loop_core_sequential.proofs.applying.are_in_order_among.Goals as goal
+use Rattle.loop_core_sequential.proofs.deciding.are_in_order_among.Goals as goal
 
 pub returns-then-none_sees : goal.returns-then-none_sees
 returns-then-none_sees g c = λ yes. (

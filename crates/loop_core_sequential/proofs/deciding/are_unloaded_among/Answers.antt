@@ -1,7 +1,7 @@
 use Rattle.std.proofs.Common.{subst}
 use Rattle.loop_core_batch.specs.Effects.{AllUnloaded}
 use Rattle.loop_core_batch.specs.BySite.{AllCommute}
-use Rattle.loop_core_sequential.proofs.applying.are_unloaded_among.Goals as goal
+use Rattle.loop_core_sequential.proofs.deciding.are_unloaded_among.Goals as goal
 
 pub returns-then-none_loads : goal.returns-then-none_loads
 returns-then-none_loads g c = λ yes. (
