@@ -1,6 +1,7 @@
 -- What is told of the registers of a fault.
-use Rattle.std.proofs.Common.{◌≡◌, ℕ, Bool, true, false, ◌&&◌, ◌||◌, eqb, List, [], ◌∷◌, ◌++◌, Option, Some, None}
+use Rattle.std.proofs.Common.{◌≡◌, ℕ, ◌+◌, Bool, true, false, ◌&&◌, ◌||◌, eqb, List, [], ◌∷◌, ◌++◌, Option, Some, None}
 use Rattle.std.proofs.Common.{refl, sym, ap, ◌∙◌, subst, inl, inr, ◌⊎◌, eq-eqb, append-nil}
+use Rattle.std.specs.Prelude.{IfSome}
 use Rattle.std.specs.Option.{option_map}
 use Rattle.bpf_insn_types.specs.declared.insn.Insn.{Insn}
 use Rattle.bpf_insn_types.specs.Program.{Program, insn_at}
@@ -13,13 +14,14 @@ use Rattle.bpf_verify_origin.specs.Inspected.{broken_rule, IsStateBefore}
 use Rattle.bpf_verify_origin.specs.Sources.{source_before}
 use Rattle.bpfspec_reasons.specs.declared.operands.Wanted.TheVariants.{Unwritten}
 use Rattle.bpfspec_reasons.specs.Mentions.{Mention, Reads}
-use Rattle.bpfspec_reasons.specs.Truth.{ExplanationOf, IsKnownBefore, Tells, TellsMore, nothing_told, with_mentions}
 use Rattle.bpfspec_reasons.specs.Operands.{is_wanted_of}
 use Rattle.bpfspec_reasons.specs.Sides.{IsClash}
-use Rattle.bpfspec_reasons.specs.Faults.{IsBlame, IsOriginUnless, TellsAddress, TellsAt, TellsBase, TellsBlamed}
-use Rattle.bpfspec_reasons.specs.Faults.{TellsIfReached, TellsMet, TellsOfRule}
+use Rattle.bpfspec_reasons.specs.Truth.{ExplanationOf, IsKnownBefore, Tells, TellsMore, nothing_told, with_mentions}
+use Rattle.bpfspec_reasons.specs.Faults.{IsBlame, IsClashRead, IsOriginUnless, ReadsNoClash, TellsAddress, TellsAt}
+use Rattle.bpfspec_reasons.specs.Faults.{TellsBase, TellsBlamed, TellsIfReached, TellsMet, TellsOfRule}
 use Rattle.bpfspec_reasons.specs.Told.{TellsFault}
 use Rattle.bpfspec_reasons.proofs.OperandLaws.{none-some, some-same}
+use Rattle.bpfspec_reasons.proofs.ChainLaws.{below-next}
 use Rattle.bpfspec_reasons.proofs.TellLaws.{more-behind, tells-as, tells-nothing}
 
 -- what holds by a program holds by one that is the same
@@ -93,13 +95,28 @@ one-of-two dst src reg (inr same) = or-two (eqb dst reg) (eqb src reg) (eq-eqb s
 -- ---- by the rule
 
 pub clash-told : (rule : Rule) (slot reg at : ℕ) (insn : Insn) (state : State) (before after : ExplanationOf)
-    → rule ≡ UnwrittenRegister → is_wanted_of Unwritten state insn reg ≡ true
-    → IsClash before.program reg (source_before before.program slot reg) at
+    → IsClashRead before.program rule slot insn state reg at → ReadsNoClash reg before.program rule slot insn state
     → Tells (TellsMet before.program slot at reg) before after
     → Tells (TellsOfRule before.program rule slot insn state) before after
-clash-told rule slot reg at insn state before after broken read clash tells =
-    tells-as before after
-    (λ more met. inr (record { reg = reg; broken = broken; read = read; at = at; clash = clash; told_of = met })) tells
+clash-told rule slot reg at insn state before after is first tells =
+    tells-as before after (λ more met. inr (record { reg = reg; at = at; is = is; first = first; told_of = met })) tells
+
+-- where paths meet that left different things in a register that is read
+pub clash-read : (program : Program) (slot : ℕ) (insn : Insn) (state : State) (reg : ℕ) (found : Option ℕ)
+    → is_wanted_of Unwritten state insn reg ≡ true
+    → IfSome found (λ at. IsClash program reg (source_before program slot reg) at)
+    → IfSome found (IsClashRead program UnwrittenRegister slot insn state reg)
+clash-read program slot insn state reg None read is = tt
+clash-read program slot insn state reg (Some at) read is = record { broken = refl; read = read; clash = is }
+
+-- one register more is none that is read since paths meet
+pub no-clash_next : (number : ℕ) (program : Program) (rule : Rule) (slot : ℕ) (insn : Insn) (state : State)
+    → ReadsNoClash number program rule slot insn state
+    → ((at : ℕ) → IsClashRead program rule slot insn state number at → ⊥)
+    → ReadsNoClash (number + 1) program rule slot insn state
+no-clash_next number program rule slot insn state none here = λ reg at under is.
+    below-next (λ (r : ℕ). (at : ℕ) → IsClashRead program rule slot insn state r at → ⊥) number
+    (λ r below other. none r other below) here reg under at is
 
 -- in the one state there
 pub reached-told : (rule : Rule) (slot : ℕ) (insn : Insn) (state : State) (before after : ExplanationOf)

@@ -4,6 +4,8 @@ pub mod OperandLaws
 pub mod ChainLaws
 pub mod FaultLaws
 pub mod SideLaws
+pub mod SourceLaws
+pub mod SearchLaws
 pub mod MisfitLaws
 pub mod PageLaws
 pub mod PartLaws

@@ -1,24 +1,19 @@
--- What is told of the edges that meet, of one more, and where they left different things.
-use Rattle.std.proofs.Common.{◌≡◌, ℕ, suc, ◌+◌, ◌≤◌, true, false, Bool, List, [], ◌∷◌, ◌++◌, ltb}
-use Rattle.std.proofs.Common.{Option, Some, None, refl, sym, ap, ◌∙◌, subst, arith, inl, inr, ◌⊎◌}
-use Rattle.std.proofs.Math.ListN.{replicate}
-use Rattle.std.proofs.lemmas.Bool.{ltb-true, ltb-false}
-use Rattle.std.proofs.lemmas.List.{get_or-replicate, get_or_past, length-replicate}
-use Rattle.std.specs.Prelude.{IfSome, slice_index_or}
+-- What is told of the edges that meet, and of one more.
+use Rattle.std.proofs.Common.{◌≡◌, ℕ, suc, ◌+◌, ◌≤◌, true, false, [], ◌∷◌, ◌++◌}
+use Rattle.std.proofs.Common.{Option, Some, None, refl, sym, ap, ◌∙◌, subst, arith, List}
+use Rattle.std.specs.Prelude.{IfSome}
 use Rattle.bpf_insn_types.specs.Program.{Program}
 use Rattle.bpf_verify_model.specs.declared.abstract_value.AbstractValue.{AbstractValue}
 use Rattle.bpf_verify_model.specs.declared.state.State.{State}
 use Rattle.bpf_verify_model.specs.States.{known_register}
 use Rattle.bpf_verify_model.specs.Values.{is_unwritten}
-use Rattle.bpf_verify_origin.specs.declared.source.Source.{Source}
 use Rattle.bpf_verify_origin.specs.Inspected.{IsPassedTo, IsStateBetween}
 use Rattle.bpf_verify_origin.specs.Runs.{HoldsBetween}
-use Rattle.bpfspec_reasons.specs.declared.differing.Meetings.{Meetings}
 use Rattle.bpfspec_reasons.specs.Mentions.{Mention, PathsMeet, Reads}
 use Rattle.bpfspec_reasons.specs.Truth.{ExplanationOf, IsKnownBetween, IsUnreadableAlong, IsValueBetween, Tells}
 use Rattle.bpfspec_reasons.specs.Truth.{with_mentions}
-use Rattle.bpfspec_reasons.specs.Sides.{AreBehind, AreSides, HasSide, IsBehind, IsClash, IsEdge, IsSide}
-use Rattle.bpfspec_reasons.specs.Sides.{LeftOut, NoEdge, TellsMeeting, TellsSides, Told, is_waiting}
+use Rattle.bpfspec_reasons.specs.Sides.{AreSides, HasSide, IsEdge, IsSide, LeftOut, NoEdge, TellsMeeting}
+use Rattle.bpfspec_reasons.specs.Sides.{TellsSides, Told}
 use Rattle.bpfspec_reasons.specs.Faults.{TellsMet}
 use Rattle.bpfspec_reasons.proofs.TruthLaws.{register-contained}
 use Rattle.bpfspec_reasons.proofs.OperandLaws.{some-same}
@@ -139,69 +134,3 @@ met-told slot at reg before named after first meeting =
       };
       added = more-behind before named after (Reads slot reg ∷ []) meeting.more first meeting.added;
     }
-
--- ---- where they left different things
-
--- of slots none of which is waiting none is
-pub none-waiting : (count at : ℕ) → slice_index_or (replicate count false) at false ≡ false
-none-waiting count at = by_test (ltb at count) refl
-  where
-    by_test : (within : Bool) → ltb at count ≡ within → slice_index_or (replicate count false) at false ≡ false
-    by_test true e = get_or-replicate count at false false (ltb-true at count e)
-    by_test false e =
-        let size = length-replicate count false in
-        let past = ltb-false at count e in
-        get_or_past (replicate count false) at false (omega (arith, size, past))
-
--- nothing is to be gone back over yet
-pub behind-none : (program : Program) (reg : ℕ) (source : Source) (meetings : Meetings)
-    → ((at : ℕ) → is_waiting meetings at ≡ false) → meetings.clash ≡ None → AreBehind program reg source meetings
-behind-none program reg source meetings none unfound = record {
-  waiting = λ at waits. absurd (false-true (sym (none at) ∙ waits));
-  clash = subst (λ (found : Option ℕ). IfSome found (λ at. IsClash program reg source at)) (sym unfound) tt;
-}
-  where
-    false-true : false ≡ true → ⊥
-    false-true same = absurd cc
-
--- a slot more is
-pub behind-noted : (program : Program) (reg : ℕ) (source : Source) (before after : Meetings) (slot : ℕ)
-    → ((at : ℕ) → is_waiting after at ≡ true → (is_waiting before at ≡ true) ⊎ (at ≡ slot))
-    → after.clash ≡ before.clash → IsBehind program reg source slot → AreBehind program reg source before
-    → AreBehind program reg source after
-behind-noted program reg source before after slot noted same is are = record {
-  waiting = λ at waits. one at (noted at waits);
-  clash = subst (λ (found : Option ℕ). IfSome found (λ at. IsClash program reg source at)) (sym same) are.clash;
-}
-  where
-    one : (at : ℕ) → (is_waiting before at ≡ true) ⊎ (at ≡ slot) → IsBehind program reg source at
-    one at (inl was) = are.waiting at was
-    one at (inr new) = subst (IsBehind program reg source) (sym new) is
-
--- one is found where paths left different things
-pub behind-found : (program : Program) (reg : ℕ) (source : Source) (before after : Meetings) (slot : ℕ)
-    → after.waiting ≡ before.waiting → IfSome after.clash (λ at. (before.clash ≡ Some at) ⊎ (at ≡ slot))
-    → IsClash program reg source slot
-    → AreBehind program reg source before → AreBehind program reg source after
-behind-found program reg source before after slot same found is are = record {
-  waiting = λ at waits. are.waiting at (subst (λ (w : List Bool). slice_index_or w at false ≡ true) same waits);
-  clash = of_found after.clash found;
-}
-  where
-    one : (at : ℕ) → (before.clash ≡ Some at) ⊎ (at ≡ slot) → IsClash program reg source at
-    one at (inl was) = subst (λ (f : Option ℕ). IfSome f (λ at. IsClash program reg source at)) was are.clash
-    one at (inr new) = subst (IsClash program reg source) (sym new) is
-
-    of_found : (f : Option ℕ) → IfSome f (λ at. (before.clash ≡ Some at) ⊎ (at ≡ slot))
-        → IfSome f (λ at. IsClash program reg source at)
-    of_found None none = tt
-    of_found (Some at) one_of = one at one_of
-
--- fewer are still to be gone back over
-pub behind-taken : (program : Program) (reg : ℕ) (source : Source) (before after : Meetings)
-    → ((at : ℕ) → is_waiting after at ≡ true → is_waiting before at ≡ true) → after.clash ≡ before.clash
-    → AreBehind program reg source before → AreBehind program reg source after
-behind-taken program reg source before after waits same are = record {
-  waiting = λ at waiting. are.waiting at (waits at waiting);
-  clash = subst (λ (found : Option ℕ). IfSome found (λ at. IsClash program reg source at)) (sym same) are.clash;
-}

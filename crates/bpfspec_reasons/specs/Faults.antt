@@ -110,20 +110,34 @@ pub record TellsMet (program : Program) (slot at reg : ℕ) (told : List Mention
   pub are : TellsMeeting program at reg met
   pub joined : told ≡ Reads slot reg ∷ met
 
--- where a register that is read is unwritten since paths meet that left different things in it, it alone is told of
+-- an instruction breaks a rule since it reads a register that is unwritten, as paths meet at a slot that left different
+-- things in it
+pub record IsClashRead (program : Program) (rule : Rule) (slot : ℕ) (insn : Insn) (state : State) (reg at : ℕ) : Type 0
+  where
+    pub broken : rule ≡ rules.UnwrittenRegister
+    pub read : is_wanted_of Unwritten state insn reg ≡ true
+    pub clash : IsClash program reg (source_before program slot reg) at
+
+-- it reads no such register below a number
+abbrev pub ReadsNoClash : (below : ℕ) → Program → Rule → ℕ → Insn → State → Type 0
+ReadsNoClash below program rule slot insn state =
+    (reg at : ℕ) → reg < below → IsClashRead program rule slot insn state reg at → ⊥
+
+-- where it reads such a register, the first of them alone is told of
 pub record TellsClash (program : Program) (rule : Rule) (slot : ℕ) (insn : Insn) (state : State)
     (told : List Mention) : Type 0 where
   pub reg : ℕ
-  pub broken : rule ≡ rules.UnwrittenRegister
-  pub read : is_wanted_of Unwritten state insn reg ≡ true
   pub at : ℕ
-  pub clash : IsClash program reg (source_before program slot reg) at
+  pub is : IsClashRead program rule slot insn state reg at
+  pub first : ReadsNoClash reg program rule slot insn state
   pub told_of : TellsMet program slot at reg told
 
--- what is told of registers where an instruction breaks a rule at a slot, by the abstract state there
+-- what is told of registers where an instruction breaks a rule at a slot, by the abstract state there: by that of which
+-- the rule speaks, but where it reads a register that is unwritten since paths meet
 abbrev pub TellsOfRule : Program → Rule → ℕ → Insn → State → List Mention → Type 0
 TellsOfRule program rule slot insn state told =
-    TellsBy (concern_of rule) program rule slot insn state told ⊎ TellsClash program rule slot insn state told
+    (ReadsNoClash 11 program rule slot insn state × TellsBy (concern_of rule) program rule slot insn state told)
+    ⊎ TellsClash program rule slot insn state told
 
 -- what is told of registers where an instruction breaks a rule at a slot, if paths lead there
 abbrev pub TellsIfReached : Program → Rule → ℕ → Insn → List Mention → Type 0

@@ -102,7 +102,7 @@ impl Wanted {
 }
 
 /// Whether an instruction reads a register whose value is one that is looked for.
-fn is_wanted_of(state: &State, insn: &Insn, wanted: Wanted, read: Reg) -> bool
+pub(crate) fn is_wanted_of(state: &State, insn: &Insn, wanted: Wanted, read: Reg) -> bool
     ensures { result ≡ is_wanted_of wanted state.now insn.now read }
 {
     let value = state.register(read);
@@ -110,7 +110,7 @@ fn is_wanted_of(state: &State, insn: &Insn, wanted: Wanted, read: Reg) -> bool
 }
 
 /// The first register that an instruction reads whose value is one that is looked for.
-pub(crate) fn first_that(state: &State, insn: &Insn, wanted: Wanted) -> Option<Reg>
+fn first_that(state: &State, insn: &Insn, wanted: Wanted) -> Option<Reg>
     ensures there { IfSome result (λ reg. is_wanted_of wanted state.now insn.now reg ≡ true) }
     ensures none { result ≡ None → (reg : ℕ) → reg < 11 → is_wanted_of wanted state.now insn.now reg ≡ false }
 {

@@ -1,17 +1,14 @@
 //! Why a program is refused.
 
-ghost use Rattle.std.specs.Prelude.{◌≡◌, ◌==◌, ◌++◌, true, IfOk, IfSome, OnOk, Some};
+ghost use Rattle.std.specs.Prelude.{◌≡◌, ◌==◌, ◌++◌, ℕ, IfOk, IfSome, OnOk, None, Some};
 ghost use Rattle.bpf_insn_types.specs.Program.{insn_at};
 ghost use Rattle.bpf_verify_model.specs.declared.rule.Rule.TheVariants.{UnwrittenRegister};
 ghost use Rattle.bpf_verify_model.specs.Accepted.{first_fault};
-ghost use Rattle.bpf_verify_origin.specs.Sources.{source_before};
-ghost use Rattle.bpfspec_reasons.specs.declared.operands.Wanted.TheVariants.{Unwritten};
 ghost use Rattle.bpfspec_reasons.specs.Truth.{IsKnownBefore, Tells, TellsMore, slot_or, slot_told, with_mentions};
-ghost use Rattle.bpfspec_reasons.specs.Operands.{access_base, at_slot, is_wanted_of, registers_read};
+ghost use Rattle.bpfspec_reasons.specs.Operands.{access_base, at_slot, registers_read};
 ghost use Rattle.bpfspec_reasons.specs.Arguments.{arguments_told, helper_in};
-ghost use Rattle.bpfspec_reasons.specs.Sides.{IsClash};
-ghost use Rattle.bpfspec_reasons.specs.Faults.{IsBlame, IsOriginUnless, TellsAddress, TellsAt};
-ghost use Rattle.bpfspec_reasons.specs.Faults.{TellsBy, TellsIfReached, TellsOfRule, TellsBlamed, concern_of};
+ghost use Rattle.bpfspec_reasons.specs.Faults.{IsBlame, IsClashRead, IsOriginUnless, ReadsNoClash, TellsAddress};
+ghost use Rattle.bpfspec_reasons.specs.Faults.{TellsAt, TellsBlamed, TellsBy, TellsIfReached, TellsOfRule, concern_of};
 ghost use Rattle.bpfspec_reasons.specs.Told.{Explains};
 
 use crate::access_rules::add_access_rule;
@@ -24,10 +21,10 @@ use crate::differing::clash_of;
 use crate::explanation::Explanation;
 use crate::insn_rules::add_insn_rule;
 use crate::mending::mend;
-use crate::operands::{Wanted, add_operands, blamed, first_that};
+use crate::operands::{Wanted, add_operands, blamed, is_wanted_of};
 use crate::state_rules::{add_arguments, add_state_rule};
 use bpf_insn_types::{Insn, Reg};
-use bpf_verify_model::{Rule, State};
+use bpf_verify_model::{Rule, State, reg};
 use bpf_verify_origin::{Fault, Inspection};
 use std::alloc::{AllocError, Global};
 
@@ -99,20 +96,57 @@ pub struct Clash {
     pub reg: Reg,
 }
 
-/// The paths that left different things in the register which an instruction reads and isn't written, if they are why
-/// it isn't.
+/// The slot where paths meet that left different things in a register, if the instruction at another reads it and it
+/// isn't written since they meet.
+fn clash_read(
+    out: &Explanation<'_>,
+    slot: u32,
+    insn: &Insn,
+    state: &State,
+    read: Reg,
+) -> Option<u32>
+    requires { IsKnownBefore out.now.program slot state.now }
+    ensures there { IfSome result (IsClashRead out.now.program UnwrittenRegister slot insn.now state.now read) }
+    ensures none { result ≡ None → (at : ℕ)
+        → IsClashRead out.now.program UnwrittenRegister slot insn.now state.now read at → ⊥ }
+{
+    if is_wanted_of(state, insn, Wanted::Unwritten, read) {
+        clash_of(out, slot, read)
+    } else {
+        None
+    }
+}
+
+/// The first register of which it is so, and where its paths meet.
+fn first_clash(out: &Explanation<'_>, slot: u32, insn: &Insn, state: &State) -> Option<Clash>
+    requires { IsKnownBefore out.now.program slot state.now }
+    ensures there { IfSome result (λ clash.
+        IsClashRead out.now.program UnwrittenRegister slot insn.now state.now clash.reg clash.at) }
+    ensures first { IfSome result (λ clash.
+        ReadsNoClash clash.reg out.now.program UnwrittenRegister slot insn.now state.now) }
+    ensures none { result ≡ None → ReadsNoClash 11 out.now.program UnwrittenRegister slot insn.now state.now }
+{
+    for number in 0..11u8 {
+        let read = reg(number);
+        if let Some(at) = clash_read(out, slot, insn, state, read) {
+            return Some(Clash { at, reg: read });
+        }
+    }
+    None
+}
+
+/// The same, where that is the rule that an instruction breaks.
 fn clash_at(out: &Explanation<'_>, fault: &Fault, insn: &Insn, state: &State) -> Option<Clash>
-    ensures broken { IfSome result (λ clash. fault.now.rule ≡ UnwrittenRegister) }
-    ensures read { IfSome result (λ clash. is_wanted_of Unwritten state.now insn.now clash.reg ≡ true) }
-    ensures met { IfSome result (λ clash.
-        IsClash out.now.program clash.reg (source_before out.now.program fault.now.slot clash.reg) clash.at) }
+    requires { IsKnownBefore out.now.program fault.now.slot state.now }
+    ensures there { IfSome result (λ clash. IsClashRead out.now.program fault.now.rule fault.now.slot insn.now
+        state.now clash.reg clash.at) }
+    ensures first { IfSome result (λ clash. ReadsNoClash clash.reg out.now.program fault.now.rule fault.now.slot
+        insn.now state.now) }
+    ensures none { result ≡ None
+        → ReadsNoClash 11 out.now.program fault.now.rule fault.now.slot insn.now state.now }
 {
     match fault.rule {
-        Rule::UnwrittenRegister => {
-            let reg = first_that(state, insn, Wanted::Unwritten)?;
-            let at = clash_of(out, fault.slot, reg)?;
-            Some(Clash { at, reg })
-        }
+        Rule::UnwrittenRegister => first_clash(out, fault.slot, insn, state),
         _ => None,
     }
 }

@@ -1,0 +1,12 @@
+use Rattle.std.proofs.Common.{ap, subst, sym, ◌∙◌}
+use Rattle.bpf_insn_types.specs.Program.{Program}
+use Rattle.bpf_verify_origin.specs.Sources.{source_before}
+use Rattle.bpfspec_reasons.specs.Sides.{IsBelow}
+use Rattle.bpfspec_reasons.proofs.SourceLaws.{source-below}
+use Rattle.bpfspec_reasons.proofs.differing.clash_of.Goals as goal
+
+pub clash_behind-requires : goal.clash_behind-requires
+clash_behind-requires c =
+    subst (IsBelow 4096)
+    (sym (c.source.ensures.is ∙ ap (λ (p : Program). source_before p c.args.slot c.args.followed) c.inspection.ensures))
+    (source-below c.args.out.now.program c.args.slot c.args.followed c.requires)
