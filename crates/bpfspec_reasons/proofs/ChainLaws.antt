@@ -1,11 +1,12 @@
 -- Links of chains, one more.
-use Rattle.std.proofs.Common.{◌≡◌, ℕ, suc, ◌+◌, ◌<◌, Bool, true, false, eqb, List, [], ◌∷◌, ◌++◌, Option, Some, None}
-use Rattle.std.proofs.Common.{refl, sym, ap, ◌∙◌, subst, arith, inl, inr, ◌⊎◌}
-use Rattle.std.proofs.lemmas.Bool.{eqb-true, eqb-false}
-use Rattle.std.specs.Prelude.{IfSome}
+use Rattle.std.proofs.Common.{◌≡◌, ℕ, suc, ◌+◌, ◌<◌, ◌≤◌, Bool, true, false, eqb, List, [], ◌∷◌, ◌++◌}
+use Rattle.std.proofs.Common.{Option, Some, None, refl, sym, ap, ◌∙◌, subst, arith}
+use Rattle.std.proofs.lemmas.Bool.{eqb-true, eqb-false, ltb-true, ltb-false}
+use Rattle.std.specs.Prelude.{IfSome, nat_lt, if◌then◌else◌}
 use Rattle.bpf_insn_types.specs.declared.insn.Insn.{Insn}
 use Rattle.bpf_insn_types.specs.Program.{Program, insn_at}
 use Rattle.bpf_verify_model.specs.declared.state.State.{State}
+use Rattle.bpf_verify_model.specs.States.{known_register}
 use Rattle.bpf_verify_origin.specs.declared.source.Source.{Source}
 use Rattle.bpf_verify_origin.specs.declared.source.Source.TheVariants as sources
 use Rattle.bpf_verify_origin.specs.Edges.{state_between}
@@ -15,8 +16,8 @@ use Rattle.bpfspec_reasons.specs.declared.chain.Next.TheVariants.{Before}
 use Rattle.bpfspec_reasons.specs.declared.meeting.EdgeWidth.{EdgeWidth}
 use Rattle.bpfspec_reasons.specs.Mentions.{Mention, Follows}
 use Rattle.bpfspec_reasons.specs.Truth.{ExplanationOf, IsKnownBefore, Tells, with_mentions}
-use Rattle.bpfspec_reasons.specs.Chains.{AreLinks, HasLink, IsChain, IsLink, IsLinkBy, made_of, next_made}
-use Rattle.bpfspec_reasons.specs.Chains.{told_made}
+use Rattle.bpfspec_reasons.specs.Chains.{AreLinks, HasLink, IsChain, IsFoundWidest, IsLink, IsLinkBy, IsWidest}
+use Rattle.bpfspec_reasons.specs.Chains.{IsWidth, made_of, next_made, told_made, wider_edge, width_of}
 use Rattle.bpfspec_reasons.specs.Sides.{IsEdge}
 use Rattle.bpfspec_reasons.proofs.OperandLaws.{none-some, some-same}
 use Rattle.bpfspec_reasons.proofs.TellLaws.{more-behind}
@@ -37,15 +38,6 @@ edge-none program told from to found same whole missing edge =
     let here : IsEdge program from to = subst (λ (p : Program). IsEdge p from to) (sym same) edge in
     none-some here.0 (sym missing ∙ whole here.1.passed ∙ here.1.is)
 
--- the wider of two edges is one
-pub wider-edge : (program : Program) (to : ℕ) (found : Option EdgeWidth) (other result : EdgeWidth)
-    → IfSome found (λ width. IsEdge program width.from to) → IsEdge program other.from to
-    → (result ≡ other) ⊎ (found ≡ Some result) → IsEdge program result.from to
-wider-edge program to found other result there edge (inl same) =
-    subst (λ (width : EdgeWidth). IsEdge program width.from to) (sym same) edge
-wider-edge program to found other result there edge (inr is) =
-    subst (λ (f : Option EdgeWidth). IfSome f (λ width. IsEdge program width.from to)) is there
-
 -- what holds below a number and of it holds below the next
 pub below-next : (P : ℕ → Type 0) (n : ℕ) → ((k : ℕ) → k < n → P k) → P n → (k : ℕ) → k < n + 1 → P k
 below-next P n below at k under = by_test (eqb k n) refl
@@ -53,6 +45,86 @@ below-next P n below at k under = by_test (eqb k n) refl
     by_test : (same : Bool) → eqb k n ≡ same → P k
     by_test true e = subst P (sym (eqb-true k n e)) at
     by_test false e = let other = eqb-false k n e in below k (omega (arith, other))
+
+-- ---- of the edges into a slot those on which a register has the most values
+
+-- a register has one width on edges
+width-one : (program : Program) (from to reg a b : ℕ) → IsWidth program from to reg a → IsWidth program from to reg b
+    → a ≡ b
+width-one program from to reg a b one other =
+    one.is
+    ∙ ap (λ (s : State). width_of (known_register s reg))
+    (some-same one.state other.state (sym one.between.is ∙ other.between.is)) ∙ sym other.is
+
+-- no edges from one slot more
+pub widest-none : (program : Program) (from to reg : ℕ) (found : Option EdgeWidth)
+    → IsFoundWidest from program to reg found → (IsEdge program from to → ⊥)
+    → IsFoundWidest (from + 1) program to reg found
+widest-none program from to reg None is never = below-next (λ (k : ℕ). IsEdge program k to → ⊥) from is never
+widest-none program from to reg (Some edge) is never = record {
+  early = omega (arith, is.early);
+  width = is.width;
+  most = below-next (λ (k : ℕ). (width : ℕ) → IsWidth program k to reg width → width ≤ edge.numbers) from is.most
+      (λ width there. absurd (never (there.state, there.between)));
+  first = is.first;
+}
+
+-- such edges
+pub widest-some : (program : Program) (from to reg : ℕ) (found : Option EdgeWidth) (numbers : ℕ)
+    → IsFoundWidest from program to reg found → IsWidth program from to reg numbers
+    → IsFoundWidest (from + 1) program to reg (Some (wider_edge found (record { from = from; numbers = numbers })))
+widest-some program from to reg None numbers is here = record {
+  early = omega arith;
+  width = here;
+  most = λ k under width there. by_place k width there (eqb k from) refl under;
+  first = λ k under width there. absurd (is k under (there.state, there.between));
+}
+  where
+    by_place : (k width : ℕ) → IsWidth program k to reg width → (equal : Bool) → eqb k from ≡ equal → k < from + 1
+        → width ≤ numbers
+    by_place k width there true e under =
+        let same : width ≡ numbers =
+        width-one program from to reg width numbers
+        (subst (λ (n : ℕ). IsWidth program n to reg width) (eqb-true k from e) there) here in
+        omega (arith, same)
+    by_place k width there false e under =
+        let other = eqb-false k from e in
+        absurd (is k (omega (arith, other, under)) (there.state, there.between))
+widest-some program from to reg (Some edge) numbers is here = by_test (nat_lt edge.numbers numbers) refl
+  where
+    same_here : (k width : ℕ) → IsWidth program k to reg width → k ≡ from → width ≡ numbers
+    same_here k width there same =
+        width-one program from to reg width numbers
+        (subst (λ (n : ℕ). IsWidth program n to reg width) same there) here
+
+    by_place : (least : ℕ) → edge.numbers ≤ least → numbers ≤ least → (k width : ℕ) → (equal : Bool)
+        → eqb k from ≡ equal → k < from + 1 → IsWidth program k to reg width → width ≤ least
+    by_place least one other k width true e under there =
+        let same = same_here k width there (eqb-true k from e) in
+        omega (arith, same, other)
+    by_place least one other k width false e under there =
+        let elsewhere = eqb-false k from e in
+        let most = is.most k (omega (arith, elsewhere, under)) width there in
+        omega (arith, most, one)
+
+    by_test : (test : Bool) → nat_lt edge.numbers numbers ≡ test
+        → IsWidest (from + 1) program to reg (if test then record { from = from; numbers = numbers } else edge)
+    by_test true e =
+        let under : edge.numbers < numbers = ltb-true edge.numbers numbers e in record {
+          early = omega arith;
+          width = here;
+          most = λ k below width there.
+              by_place numbers (omega (arith, under)) (omega arith) k width (eqb k from) refl below there;
+          first = λ k below width there. let most = is.most k below width there in omega (arith, most, under);
+        }
+    by_test false e =
+        let over : numbers ≤ edge.numbers = ltb-false edge.numbers numbers e in record {
+          early = omega (arith, is.early);
+          width = is.width;
+          most = λ k below width there.
+              by_place edge.numbers (omega arith) over k width (eqb k from) refl below there;
+          first = is.first;
+        }
 
 -- ---- links
 

@@ -1,6 +1,6 @@
 -- What is told of the registers of a fault.
-use Rattle.std.proofs.Common.{◌≡◌, ℕ, ◌+◌, Bool, true, false, ◌&&◌, ◌||◌, eqb, List, [], ◌∷◌, ◌++◌, Option, Some, None}
-use Rattle.std.proofs.Common.{refl, sym, ap, ◌∙◌, subst, inl, inr, ◌⊎◌, eq-eqb, append-nil}
+use Rattle.std.proofs.Common.{◌≡◌, ℕ, ◌+◌, Bool, true, false, ◌&&◌, eqb, List, [], ◌∷◌, ◌++◌, Option, Some, None}
+use Rattle.std.proofs.Common.{refl, sym, ap, ◌∙◌, subst, inr, append-nil}
 use Rattle.std.specs.Prelude.{IfSome}
 use Rattle.std.specs.Option.{option_map}
 use Rattle.bpf_insn_types.specs.declared.insn.Insn.{Insn}
@@ -73,13 +73,6 @@ blamed-told first rule slot insn state before mid after is blame =
 
 -- ---- tests of registers
 
-pub or-one : (a b : Bool) → a ≡ true → (a || b) ≡ true
-or-one a b is = rw is refl
-
-pub or-two : (a b : Bool) → b ≡ true → (a || b) ≡ true
-or-two true b is = refl
-or-two false b is = is
-
 pub and-one : (a b : Bool) → (a && b) ≡ true → a ≡ true
 and-one true b is = refl
 and-one false b is = absurd cc
@@ -87,10 +80,6 @@ and-one false b is = absurd cc
 pub and-two : (a b : Bool) → (a && b) ≡ true → b ≡ true
 and-two true b is = is
 and-two false b is = absurd cc
-
-pub one-of-two : (dst src reg : ℕ) → (reg ≡ dst) ⊎ (reg ≡ src) → (eqb dst reg || eqb src reg) ≡ true
-one-of-two dst src reg (inl same) = or-one (eqb dst reg) (eqb src reg) (eq-eqb dst reg (sym same))
-one-of-two dst src reg (inr same) = or-two (eqb dst reg) (eqb src reg) (eq-eqb src reg (sym same))
 
 -- ---- by the rule
 

@@ -1,5 +1,6 @@
 -- Where the value of a register comes from, link by link.
-use Rattle.std.specs.Prelude.{◌≡◌, ℕ, zero, suc, ◌-◌, ◌^◌, nat_lt, if◌then◌else◌, List, [], ◌∷◌, ◌++◌, Some}
+use Rattle.std.specs.Prelude.{◌≡◌, ℕ, zero, suc, ◌-◌, ◌^◌, ◌<◌, ◌≤◌, nat_lt, if◌then◌else◌}
+use Rattle.std.specs.Prelude.{List, [], ◌∷◌, ◌++◌, Option, Some, None}
 use Rattle.bpf_insn_types.specs.declared.insn.AluOp.{AluOp}
 use Rattle.bpf_insn_types.specs.declared.insn.AluOp.TheVariants.{Mov}
 use Rattle.bpf_insn_types.specs.declared.insn.Operand.{Operand}
@@ -13,14 +14,15 @@ use Rattle.bpf_verify_model.specs.declared.state.State.{State}
 use Rattle.bpf_verify_model.specs.States.{known_register}
 use Rattle.bpf_verify_origin.specs.declared.source.Source.{Source}
 use Rattle.bpf_verify_origin.specs.declared.source.Source.TheVariants as sources
-use Rattle.bpf_verify_origin.specs.Inspected.{IsStateBefore}
+use Rattle.bpf_verify_origin.specs.Inspected.{IsStateBefore, IsStateBetween}
 use Rattle.bpf_verify_origin.specs.Sources.{source_along, source_before}
 use Rattle.bpfspec_reasons.specs.declared.chain.Next.{Next}
 use Rattle.bpfspec_reasons.specs.declared.chain.Next.TheVariants.{End, Before, Along}
 use Rattle.bpfspec_reasons.specs.declared.link.Made.{Made}
 use Rattle.bpfspec_reasons.specs.declared.link.Made.TheVariants.{Copy, Of, Anew}
+use Rattle.bpfspec_reasons.specs.declared.meeting.EdgeWidth.{EdgeWidth}
 use Rattle.bpfspec_reasons.specs.Mentions.{Mention, Reads, Follows, MadeAt, MainStarts}
-use Rattle.bpfspec_reasons.specs.Sides.{HasNoEdge, IsEdge, TellsMeeting}
+use Rattle.bpfspec_reasons.specs.Sides.{HasNoEdge, IsEdge, IsMissedAlong, TellsMeeting}
 
 -- how far apart a value's least and greatest number are: nothing is known of one that isn't written
 abbrev pub width_of : AbstractValue → ℕ
@@ -61,11 +63,32 @@ next_made slot (Copy src) = Before slot src
 next_made slot (Of src) = Before slot src
 next_made slot Anew = End
 
--- where paths meet the same register is followed along an edge into the slot, if there is one
+-- how far apart a register's least and greatest number are on the edges from one slot to another
+pub record IsWidth (program : Program) (from to reg width : ℕ) : Type 0 where
+  pub state : State
+  pub between : IsStateBetween program from to state
+  pub is : width ≡ width_of (known_register state reg)
+
+-- of the edges into a slot from those below a number these are the first on which it has the most values
+pub record IsWidest (below : ℕ) (program : Program) (to reg : ℕ) (edge : EdgeWidth) : Type 0 where
+  pub early : edge.from < below
+  pub width : IsWidth program edge.from to reg edge.numbers
+  pub most : (from : ℕ) → from < below → (width : ℕ) → IsWidth program from to reg width → width ≤ edge.numbers
+  pub first : (from : ℕ) → from < edge.from → (width : ℕ) → IsWidth program from to reg width → width < edge.numbers
+
+-- where paths meet a register is followed along the first edges on which it can't be read since a path doesn't write
+-- it; where there are none such, along those on which it has the most values
+pub data IsFollowed (program : Program) (to reg from : ℕ) : Type 0 where
+  Missed : IsMissedAlong program from to reg → ((other : ℕ) → other < from → IsMissedAlong program other to reg → ⊥)
+      → IsFollowed program to reg from
+  Widest : ((other : ℕ) → IsMissedAlong program other to reg → ⊥) → (numbers : ℕ)
+      → IsWidest to program to reg (record { from = from; numbers = numbers }) → IsFollowed program to reg from
+
+-- it is, if there are edges into the slot
 abbrev pub IsBackFrom : Program → (to reg : ℕ) → Next → Type 0
 IsBackFrom program to reg End = HasNoEdge program to
 IsBackFrom program to reg (Before slot other) = ⊥
-IsBackFrom program to reg (Along from slot other) = IsEdge program from to × (slot ≡ to) × (other ≡ reg)
+IsBackFrom program to reg (Along from slot other) = IsFollowed program to reg from × (slot ≡ to) × (other ≡ reg)
 
 -- what is told of a register's source, and what is followed then: main starts with it, a call enters a callback with it,
 -- an instruction wrote it, or paths meet, and what it is on them
@@ -105,3 +128,16 @@ pub record IsChain (program : Program) (slot reg : ℕ) (told : List Mention) : 
   pub links : List Mention
   pub are : AreLinks 24 program (Before slot reg) next links
   pub joined : told ≡ Follows slot reg ∷ links
+
+-- ---- the search for the edges on which a register has the most values
+
+-- of the edges into a slot from those below a number those were found on which a register has the most values, if there
+-- are such
+abbrev pub IsFoundWidest : (below : ℕ) → Program → (to reg : ℕ) → Option EdgeWidth → Type 0
+IsFoundWidest below program to reg None = (from : ℕ) → from < below → IsEdge program from to → ⊥
+IsFoundWidest below program to reg (Some edge) = IsWidest below program to reg edge
+
+-- of two edges the one on which a register has more values, the first if neither has
+abbrev pub wider_edge : Option EdgeWidth → EdgeWidth → EdgeWidth
+wider_edge None other = other
+wider_edge (Some edge) other = if nat_lt edge.numbers other.numbers then other else edge

@@ -94,7 +94,8 @@ pub record IsParting (program : Program) (reg : ℕ) (source : Source) (at : ℕ
   pub behind : IsBehind program reg source at
   pub written : IsWrittenInto program reg at
 
--- there they do, and each path writes the register, so that this is why it can't be read
+-- that is why a register can't be read: paths meet at a slot behind its source that left different things in it, and
+-- each path to the source writes it
 pub record IsClash (program : Program) (reg : ℕ) (source : Source) (at : ℕ) : Type 0 where
   pub each : IsMissed program reg source → ⊥
   pub parting : IsParting program reg source at

@@ -131,11 +131,14 @@ pub(crate) fn is_wrong_argument(helper: Helper, state: &State, argument: Reg) ->
 /// The first argument of a helper that isn't taken.
 fn first_wrong(helper: Helper, state: &State) -> Option<Reg>
     ensures there { IfSome result (λ reg. is_wrong_argument helper state.now reg ≡ true) }
+    ensures first { IfSome result (λ reg. (other : ℕ) → other < reg
+        → is_wrong_argument helper state.now other ≡ false) }
     ensures none { result ≡ None → (reg : ℕ) → reg < 11 → is_wrong_argument helper state.now reg ≡ false }
 {
     for number in 0..11u8 {
-        if is_wrong_argument(helper, state, reg(number)) {
-            return Some(reg(number));
+        let argument = reg(number);
+        if is_wrong_argument(helper, state, argument) {
+            return Some(argument);
         }
     }
     None
@@ -144,6 +147,8 @@ fn first_wrong(helper: Helper, state: &State) -> Option<Reg>
 /// The same of the helper that an instruction calls, if it calls one.
 pub(crate) fn wrong_argument(state: &State, insn: &Insn) -> Option<Reg>
     ensures there { IfSome result (λ reg. is_wrong_argument_of (helper_in insn.now) state.now reg ≡ true) }
+    ensures first { IfSome result (λ reg. (other : ℕ) → other < reg
+        → is_wrong_argument_of (helper_in insn.now) state.now other ≡ false) }
     ensures none { result ≡ None → (reg : ℕ) → reg < 11
         → is_wrong_argument_of (helper_in insn.now) state.now reg ≡ false }
 {

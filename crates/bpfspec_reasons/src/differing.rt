@@ -254,7 +254,8 @@ fn is_missed_between(
 /// The first slot from which edges lead to another on which a register isn't written since a path doesn't write it.
 pub(crate) fn missing_edge(out: &Explanation<'_>, to: u32, followed: Reg) -> Option<u32>
     ensures there { IfSome result (λ from. IsMissedAlong out.now.program from to followed) }
-    ensures edge { IfSome result (λ from. IsEdge out.now.program from to) }
+    ensures first { IfSome result (λ from. (other : ℕ) → other < from
+        → IsMissedAlong out.now.program other to followed → ⊥) }
     ensures none { result ≡ None → (from : ℕ) → IsMissedAlong out.now.program from to followed → ⊥ }
 {
     let mut meetings = Meetings::none();

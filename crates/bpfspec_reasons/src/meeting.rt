@@ -1,7 +1,8 @@
 //! What a register is where paths meet.
 
-ghost use Rattle.std.specs.Prelude.{◌≡◌, ◌⊎◌, None, Some, IfSome};
+ghost use Rattle.std.specs.Prelude.{◌≡◌, ◌+◌, None, IfSome};
 ghost use Rattle.bpfspec_reasons.specs.Sides.{HasNoEdge, IsEdge};
+ghost use Rattle.bpfspec_reasons.specs.Chains.{IsFollowed, IsFoundWidest, IsWidth, wider_edge};
 
 use crate::differing::missing_edge;
 use crate::explanation::Explanation;
@@ -11,7 +12,7 @@ use bpf_insn_types::Reg;
 /// How far apart the least and the greatest number are that a register has on the edges from one slot to another, if
 /// one leads there.
 pub(crate) fn width_between(out: &Explanation<'_>, from: u32, to: u32, followed: Reg) -> Option<u64>
-    ensures there { IfSome result (λ width. IsEdge out.now.program from to) }
+    ensures there { IfSome result (IsWidth out.now.program from to followed) }
     ensures none { result ≡ None → IsEdge out.now.program from to → ⊥ }
 {
     match out.edge(from, to) {
@@ -48,7 +49,7 @@ pub struct EdgeWidth {
 
 /// Of two edges the one on which a register has more values.
 fn wider(found: Option<EdgeWidth>, other: EdgeWidth) -> EdgeWidth
-    ensures { (result ≡ other) ⊎ (found ≡ Some result) }
+    ensures { result ≡ wider_edge found other }
 {
     match found {
         None => other,
@@ -70,9 +71,8 @@ fn wider_from(
     to: u32,
     followed: Reg,
 ) -> Option<EdgeWidth>
-    requires { IfSome found (λ width. IsEdge out.now.program width.from to) }
-    ensures there { IfSome result (λ width. IsEdge out.now.program width.from to) }
-    ensures none { result ≡ None → (found ≡ None) × (IsEdge out.now.program from to → ⊥) }
+    requires { IsFoundWidest from out.now.program to followed found }
+    ensures { IsFoundWidest (from + 1) out.now.program to followed result }
 {
     match width_between(out, from, to, followed) {
         None => found,
@@ -80,29 +80,25 @@ fn wider_from(
     }
 }
 
-/// The slot from which the edges lead to another on which a register has the most values.
-fn widest_edge(out: &Explanation<'_>, to: u32, followed: Reg) -> Option<u32>
-    ensures there { IfSome result (λ from. IsEdge out.now.program from to) }
-    ensures none { result ≡ None → HasNoEdge out.now.program to }
+/// The edges into a slot on which a register has the most values.
+fn widest_edge(out: &Explanation<'_>, to: u32, followed: Reg) -> Option<EdgeWidth>
+    ensures { IsFoundWidest to out.now.program to followed result }
 {
     let mut widest: Option<EdgeWidth> = None;
     for from in 0..to {
         widest = wider_from(out, widest, from, to, followed);
     }
-    match widest {
-        None => None,
-        Some(width) => Some(width.from),
-    }
+    widest
 }
 
 /// The slot from which the edges lead to another that say the most of a register: that it isn't written, since a path
 /// doesn't write it, or else that it has the most values.
 pub(crate) fn edge_back(out: &Explanation<'_>, to: u32, followed: Reg) -> Option<u32>
-    ensures there { IfSome result (λ from. IsEdge out.now.program from to) }
+    ensures there { IfSome result (IsFollowed out.now.program to followed) }
     ensures none { result ≡ None → HasNoEdge out.now.program to }
 {
     match missing_edge(out, to, followed) {
         Some(from) => Some(from),
-        None => widest_edge(out, to, followed),
+        None => Some(widest_edge(out, to, followed)?.from),
     }
 }

@@ -1,11 +1,14 @@
 //! The registers that an instruction reads.
 
-ghost use Rattle.std.specs.Prelude.{◌≡◌, ◌<◌, ◌==◌, ◌||◌, ◌⊎◌, ℕ, [], ◌∷◌, true, false, None, IfSome, OnOk};
+ghost use Rattle.std.specs.Prelude.{◌≡◌, ◌<◌, ℕ, [], ◌∷◌, true, false, if◌then◌else◌, None, IfSome, OnOk};
+ghost use Rattle.bpf_verify_model.specs.States.{known_register};
+ghost use Rattle.bpf_verify_model.specs.Values.{is_number_value};
 ghost use Rattle.bpfspec_reasons.specs.Truth.{IsKnownBefore, with_mentions};
 ghost use Rattle.bpfspec_reasons.specs.Mentions.{Reads};
-ghost use Rattle.bpfspec_reasons.specs.Operands.{at_slot, if_passes, is_operand, is_wanted, is_wanted_of};
-ghost use Rattle.bpfspec_reasons.specs.Operands.{reads_register, registers_read};
-ghost use Rattle.bpfspec_reasons.specs.Faults.{IsBlameless, computes_with, is_blamable, stores};
+ghost use Rattle.bpfspec_reasons.specs.Operands.{at_slot, if_passes, is_wanted, is_wanted_of, reads_register};
+ghost use Rattle.bpfspec_reasons.specs.Operands.{registers_read};
+ghost use Rattle.bpfspec_reasons.specs.Faults.{AreBlameless, blamed_of_moved, blamed_of_operands};
+ghost use Rattle.bpfspec_reasons.specs.Faults.{blamed_of_taken_away, blamed_of_two, computes_with, is_blamable, stores};
 
 use crate::arguments::wrong_argument;
 use crate::differing::add_value;
@@ -112,11 +115,14 @@ pub(crate) fn is_wanted_of(state: &State, insn: &Insn, wanted: Wanted, read: Reg
 /// The first register that an instruction reads whose value is one that is looked for.
 fn first_that(state: &State, insn: &Insn, wanted: Wanted) -> Option<Reg>
     ensures there { IfSome result (λ reg. is_wanted_of wanted state.now insn.now reg ≡ true) }
+    ensures first { IfSome result (λ reg. (other : ℕ) → other < reg
+        → is_wanted_of wanted state.now insn.now other ≡ false) }
     ensures none { result ≡ None → (reg : ℕ) → reg < 11 → is_wanted_of wanted state.now insn.now reg ≡ false }
 {
     for number in 0..11u8 {
-        if is_wanted_of(state, insn, wanted, reg(number)) {
-            return Some(reg(number));
+        let read = reg(number);
+        if is_wanted_of(state, insn, wanted, read) {
+            return Some(read);
         }
     }
     None
@@ -125,7 +131,7 @@ fn first_that(state: &State, insn: &Insn, wanted: Wanted) -> Option<Reg>
 /// Of an address and the number that it is to be moved by, the one that is in the way: the number where no address can
 /// be moved so far, or where it says less than the address.
 fn moved_by(address: &AbstractValue, number: &AbstractValue, dst: Reg, src: Reg) -> Reg
-    ensures { (result ≡ dst) ⊎ (result ≡ src) }
+    ensures { result ≡ blamed_of_moved address.now number.now dst src }
 {
     match (*address, *number) {
         (AbstractValue::Frame(_) | AbstractValue::Ctx(_), AbstractValue::Number(_)) => {
@@ -144,7 +150,7 @@ fn moved_by(address: &AbstractValue, number: &AbstractValue, dst: Reg, src: Reg)
 
 /// The same of a number that is to be taken away: from an address of a map's values none can be.
 fn taken_away(address: &AbstractValue, number: &AbstractValue, dst: Reg, src: Reg) -> Reg
-    ensures { (result ≡ dst) ⊎ (result ≡ src) }
+    ensures { result ≡ blamed_of_taken_away address.now number.now dst src }
 {
     match *address {
         AbstractValue::Area(_, _) => dst,
@@ -154,7 +160,7 @@ fn taken_away(address: &AbstractValue, number: &AbstractValue, dst: Reg, src: Re
 
 /// Of two registers the one that arithmetic doesn't take.
 fn of_two(state: &State, width: Width, op: AluOp, dst: Reg, src: Reg) -> Reg
-    ensures { (result ≡ dst) ⊎ (result ≡ src) }
+    ensures { result ≡ blamed_of_two state.now width op dst src }
 {
     let first = state.register(dst);
     let second = state.register(src);
@@ -170,7 +176,7 @@ fn of_two(state: &State, width: Width, op: AluOp, dst: Reg, src: Reg) -> Reg
 
 /// Of a register and an operand the register that arithmetic doesn't take.
 fn of_operands(state: &State, width: Width, op: AluOp, dst: Reg, operand: Operand) -> Reg
-    ensures { ((dst == result) || is_operand operand result) ≡ true }
+    ensures { result ≡ blamed_of_operands state.now width op dst operand }
 {
     match operand {
         Operand::Imm(_) => dst,
@@ -180,8 +186,9 @@ fn of_operands(state: &State, width: Width, op: AluOp, dst: Reg, operand: Operan
 
 /// The operand that arithmetic doesn't take.
 fn computed_with(state: &State, insn: &Insn) -> Option<Reg>
-    ensures there { IfSome result (λ reg. computes_with insn.now reg ≡ true) }
-    ensures none { result ≡ None → (reg : ℕ) → computes_with insn.now reg ≡ false }
+    ensures there { IfSome result (λ reg. computes_with state.now insn.now reg ≡ true) }
+    ensures first { IfSome result (λ reg. (other : ℕ) → other < reg → computes_with state.now insn.now other ≡ false) }
+    ensures none { result ≡ None → (reg : ℕ) → computes_with state.now insn.now reg ≡ false }
 {
     match *insn {
         Insn::Alu {
@@ -199,7 +206,7 @@ fn computed_with(state: &State, insn: &Insn) -> Option<Reg>
 
 /// Of an atomic operation's operand and R0, to which it may compare, the first that has no number.
 fn compared_with(state: &State, src: Reg) -> Reg
-    ensures { (result ≡ src) ⊎ (result ≡ 0) }
+    ensures { result ≡ (if is_number_value (known_register state.now src) then 0 else src) }
 {
     let value = state.register(src);
     if is_number(value) { reg(0) } else { src }
@@ -207,8 +214,9 @@ fn compared_with(state: &State, src: Reg) -> Reg
 
 /// The register that is stored, or is an operand of an atomic operation, and has no number.
 fn stored(state: &State, insn: &Insn) -> Option<Reg>
-    ensures there { IfSome result (λ reg. stores insn.now reg ≡ true) }
-    ensures none { result ≡ None → (reg : ℕ) → stores insn.now reg ≡ false }
+    ensures there { IfSome result (λ reg. stores state.now insn.now reg ≡ true) }
+    ensures first { IfSome result (λ reg. (other : ℕ) → other < reg → stores state.now insn.now other ≡ false) }
+    ensures none { result ≡ None → (reg : ℕ) → stores state.now insn.now reg ≡ false }
 {
     match *insn {
         Insn::Store { src, .. } => Some(src),
@@ -221,7 +229,8 @@ fn stored(state: &State, insn: &Insn) -> Option<Reg>
 #[tactic(auto, unfolding(crate::specs::Faults::is_blamable))]
 pub(crate) fn blamed(rule: Rule, state: &State, insn: &Insn) -> Option<Reg>
     ensures there { IfSome result (λ reg. is_blamable rule state.now insn.now reg ≡ true) }
-    ensures none { result ≡ None → IsBlameless rule state.now insn.now }
+    ensures first { IfSome result (λ reg. AreBlameless reg rule state.now insn.now) }
+    ensures none { result ≡ None → AreBlameless 11 rule state.now insn.now }
 {
     match rule {
         Rule::UnwrittenRegister => first_that(state, insn, Wanted::Unwritten),

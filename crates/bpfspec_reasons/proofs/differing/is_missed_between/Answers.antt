@@ -27,7 +27,8 @@ returns-clause-no c = λ no are missed.
     let same =
     sym (c.source_along-source.ensures.is
     ∙ ap (λ (p : Program). source_along p c.args.from c.args.to c.args.followed) c.inspection.ensures) in
-    let all : HasFoundAll c.args.out.now.program c.args.followed c.source_along-source.result c.is_missing.new.meetings =
+    let all : HasFoundAll c.args.out.now.program c.args.followed c.source_along-source.result
+    c.is_missing.new.meetings =
     c.is_missing.ensures.no no are
     (subst (IsBelow 4096) same
     (source-below_along c.args.out.now.program c.args.from c.args.to c.args.followed

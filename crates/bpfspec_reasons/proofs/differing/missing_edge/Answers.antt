@@ -2,7 +2,6 @@ use Rattle.std.proofs.Common.{ℕ, arith}
 use Rattle.bpfspec_reasons.specs.Sides.{IsMissedAlong}
 use Rattle.bpfspec_reasons.proofs.ChainLaws.{below-next}
 use Rattle.bpfspec_reasons.proofs.SearchLaws.{below-none, gone-none}
-use Rattle.bpfspec_reasons.proofs.SideLaws.{edge-of}
 use Rattle.bpfspec_reasons.proofs.differing.missing_edge.Goals as goal
 
 pub loop-from-init : goal.loop-from-init
@@ -25,11 +24,8 @@ pub returns-then-is_missed_between-clause-there : goal.returns-then-is_missed_be
 returns-then-is_missed_between-clause-there c =
     c.is_missed_between.ensures.yes c.if-is_missed_between.true c.loop-from.invariant.idle
 
-pub returns-then-is_missed_between-clause-edge : goal.returns-then-is_missed_between-clause-edge
-returns-then-is_missed_between-clause-edge c =
-    let missed : IsMissedAlong c.args.out.now.program c.loop-from.from c.args.to c.args.followed =
-    c.is_missed_between.ensures.yes c.if-is_missed_between.true c.loop-from.invariant.idle in
-    edge-of c.args.out.now.program c.loop-from.from c.args.to c.args.followed missed.unreadable
+pub returns-then-is_missed_between-clause-first : goal.returns-then-is_missed_between-clause-first
+returns-then-is_missed_between-clause-first c = c.loop-from.invariant.none
 
 pub returns-clause-none : goal.returns-clause-none
 returns-clause-none c = λ none from missed.

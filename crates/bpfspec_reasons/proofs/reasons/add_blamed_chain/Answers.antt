@@ -11,5 +11,6 @@ pub returns-in-Some : goal.returns-in-Some
 returns-in-Some c =
     on-ok c.add_chain.result
     (λ tells.
-    tells-as c.args.out.now c.add_chain.new.out (λ more chain. Blamed c.in-Some.found c.in-Some.ensures.there chain) tells)
+    tells-as c.args.out.now c.add_chain.new.out
+    (λ more chain. Blamed c.in-Some.found c.in-Some.ensures.there c.in-Some.ensures.first chain) tells)
     c.add_chain.ensures
