@@ -1,9 +1,9 @@
 -- The search for slots where paths meet that left different things in a register, and that it misses none.
-use Rattle.std.proofs.Common.{◌≡◌, ℕ, ◌+◌, ◌<◌, Bool, true, false, List, set, length, eqb, ltb}
+use Rattle.std.proofs.Common.{◌≡◌, ℕ, ◌+◌, ◌<◌, Bool, true, false, List, eqb, ltb}
 use Rattle.std.proofs.Common.{Option, Some, None, refl, sym, ◌∙◌, subst, arith, inl, inr, ◌⊎◌}
 use Rattle.std.proofs.Math.ListN.{replicate}
 use Rattle.std.proofs.lemmas.Bool.{eqb-true, eqb-false, ltb-true, ltb-false}
-use Rattle.std.proofs.lemmas.List.{get_or-replicate, get_or_past, get_or-set_other, get_or-set_same, length-replicate}
+use Rattle.std.proofs.lemmas.List.{get_or-replicate, get_or_past, length-replicate}
 use Rattle.std.specs.Prelude.{IfSome, slice_index_or}
 use Rattle.bpf_insn_types.specs.Program.{Program}
 use Rattle.bpf_verify_origin.specs.declared.source.Source.{Source}
@@ -16,7 +16,7 @@ use Rattle.bpfspec_reasons.specs.Sides.{Itself, NotesBelow, is_meeting, is_noted
 
 -- ---- flags
 
--- of slots none of which is waiting none is
+-- where none is set none is
 pub none-set : (count at : ℕ) → slice_index_or (replicate count false) at false ≡ false
 none-set count at = by_test (ltb at count) refl
   where
@@ -26,50 +26,6 @@ none-set count at = by_test (ltb at count) refl
         let size = length-replicate count false in
         let past = ltb-false at count e in
         get_or_past (replicate count false) at false (omega (arith, size, past))
-
--- one that is set stays so, where one more is
-pub set-kept : (flags : List Bool) (slot at : ℕ) → slot < length flags → slice_index_or flags at false ≡ true
-    → slice_index_or (set flags slot true) at false ≡ true
-set-kept flags slot at inside was = by_test (eqb at slot) refl
-  where
-    by_test : (equal : Bool) → eqb at slot ≡ equal → slice_index_or (set flags slot true) at false ≡ true
-    by_test true e =
-        subst (λ (n : ℕ). slice_index_or (set flags slot true) n false ≡ true) (sym (eqb-true at slot e))
-        (get_or-set_same flags slot true false inside)
-    by_test false e = get_or-set_other flags slot at true false (eqb-false at slot e) ∙ was
-
--- and no other is
-pub set-one : (flags : List Bool) (slot at : ℕ) (flag : Bool) → slice_index_or (set flags slot flag) at false ≡ true
-    → (slice_index_or flags at false ≡ true) ⊎ (at ≡ slot)
-set-one flags slot at flag is = by_test (eqb at slot) refl
-  where
-    by_test : (equal : Bool) → eqb at slot ≡ equal → (slice_index_or flags at false ≡ true) ⊎ (at ≡ slot)
-    by_test true e = inr (eqb-true at slot e)
-    by_test false e = inl (sym (get_or-set_other flags slot at flag false (eqb-false at slot e)) ∙ is)
-
--- one that is set is the one that is cleared, or stays so
-pub cleared-one : (flags : List Bool) (slot at : ℕ) → slice_index_or flags at false ≡ true
-    → (slice_index_or (set flags slot false) at false ≡ true) ⊎ (at ≡ slot)
-cleared-one flags slot at was = by_test (eqb at slot) refl
-  where
-    by_test : (equal : Bool) → eqb at slot ≡ equal
-        → (slice_index_or (set flags slot false) at false ≡ true) ⊎ (at ≡ slot)
-    by_test true e = inr (eqb-true at slot e)
-    by_test false e = inl (get_or-set_other flags slot at false false (eqb-false at slot e) ∙ was)
-
--- and no other is set then
-pub cleared-kept : (flags : List Bool) (slot at : ℕ) → slot < length flags
-    → slice_index_or (set flags slot false) at false ≡ true → slice_index_or flags at false ≡ true
-cleared-kept flags slot at inside is = by_test (eqb at slot) refl
-  where
-    by_test : (equal : Bool) → eqb at slot ≡ equal → slice_index_or flags at false ≡ true
-    by_test true e =
-        let here : slice_index_or (set flags slot false) at false ≡ false =
-        subst (λ (n : ℕ). slice_index_or (set flags slot false) n false ≡ false) (sym (eqb-true at slot e))
-        (get_or-set_same flags slot false false inside) in
-        let both : false ≡ true = sym here ∙ is in
-        absurd cc
-    by_test false e = sym (get_or-set_other flags slot at false false (eqb-false at slot e)) ∙ is
 
 -- ---- what is found is behind the source
 
@@ -187,40 +143,6 @@ notes-both below before mid after first next = record {
         → (is_noted before at ≡ true) ⊎ ((at < below) × (is_waiting after at ≡ true))
     by_next at (inl was) = by_first at (first.more at was)
     by_next at (inr new) = inr new
-
--- a slot more is noted
-pub notes-one : (slot later : ℕ) (before after : Meetings) → slot < length before.noted
-    → slot < length before.waiting → slot < later
-    → after.noted ≡ set before.noted slot true → after.waiting ≡ set before.waiting slot true
-    → after.clash ≡ before.clash → NotesBelow later before after
-notes-one slot later before after inside within early noted waiting same = record {
-  kept = λ at is.
-      subst (λ (l : List Bool). slice_index_or l at false ≡ true) (sym noted) (set-kept before.noted slot at inside is);
-  waits = λ at is.
-      subst (λ (l : List Bool). slice_index_or l at false ≡ true) (sym waiting)
-      (set-kept before.waiting slot at within is);
-  fewer = λ at is.
-      next at (set-one before.waiting slot at true
-      (subst (λ (l : List Bool). slice_index_or l at false ≡ true) waiting is));
-  more = λ at is.
-      new at (set-one before.noted slot at true (subst (λ (l : List Bool). slice_index_or l at false ≡ true) noted is));
-  found = λ none. sym same ∙ none;
-}
-  where
-    there : is_waiting after slot ≡ true
-    there =
-        subst (λ (l : List Bool). slice_index_or l slot false ≡ true) (sym waiting)
-        (get_or-set_same before.waiting slot true false within)
-
-    next : (at : ℕ) → (is_waiting before at ≡ true) ⊎ (at ≡ slot) → (is_waiting before at ≡ true) ⊎ (at < later)
-    next at (inl was) = inl was
-    next at (inr is) = inr (omega (arith, is, early))
-
-    new : (at : ℕ) → (is_noted before at ≡ true) ⊎ (at ≡ slot)
-        → (is_noted before at ≡ true) ⊎ ((at < later) × (is_waiting after at ≡ true))
-    new at (inl was) = inl was
-    new at (inr is) =
-        inr (omega (arith, is, early), subst (λ (n : ℕ). is_waiting after n ≡ true) (sym is) there)
 
 -- one is found
 pub notes-found : (below : ℕ) (before after : Meetings) → after.waiting ≡ before.waiting → after.noted ≡ before.noted
