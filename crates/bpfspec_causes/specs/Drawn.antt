@@ -11,7 +11,8 @@ use Rattle.loop_core_event.specs.declared.event.Event.{Event}
 use Rattle.loop_core_model.specs.declared.loop_test.Test.{Test}
 use Rattle.bpfspec_causes.specs.declared.start.Start.{Start}
 use Rattle.bpfspec_causes.specs.declared.start.Start.TheVariants.{From, Refused}
-use Rattle.bpfspec_causes.specs.Starting.{accepted, start_on, unit_in_hex, unit_read}
+use Rattle.bpfspec_causes.specs.Starting.{start_on}
+use Rattle.bpfspec_reasons.specs.Given.{accepted, unit_in_hex, unit_read}
 
 -- a program runs in order from its argument and these maps: the picture is that of the first of its loop calls that
 -- conflicts by a test; there is none where none does

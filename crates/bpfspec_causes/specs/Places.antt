@@ -5,8 +5,9 @@ use Rattle.std.specs.Fmt.{decimal}
 use Rattle.bpf_insn_types.specs.declared.insn.Insn.{Insn}
 use Rattle.bpf_insn_types.specs.Program.{insn_at}
 use Rattle.bpf_text_mnemonics.specs.PrintedLines.{insn_line}
-use Rattle.bpfspec_reasons.specs.Printed.{PageText, page_of, shown_part, instruction_part, comment_part, comment_text}
+use Rattle.bpfspec_reasons.specs.Printed.{PageText, page_of, instruction_part, comment_part, comment_text}
 use Rattle.bpfspec_reasons.specs.Printed.{left_aligned, right_aligned}
+use Rattle.bpfspec_text_reasons.specs.Parts.{shown_part}
 use Rattle.loop_core_witness.specs.declared.place.Place.{Place}
 use Rattle.bpfspec_causes.specs.declared.deeds.Deed.{Deed}
 use Rattle.bpfspec_causes.specs.DeedWords.{deed_in, deed_words}

@@ -13,7 +13,8 @@ use Rattle.spec_run_replay.specs.declared.replaying.ReplayRefusal.{ReplayRefusal
 use Rattle.bpfspec_causes.specs.declared.start.Start.{Start}
 use Rattle.bpfspec_causes.specs.declared.start.Start.TheVariants.{From, Refused}
 use Rattle.bpfspec_causes.specs.ReplayText.{refused_replay}
-use Rattle.bpfspec_causes.specs.Starting.{accepted, start_on, unit_in_hex, unit_read}
+use Rattle.bpfspec_causes.specs.Starting.{start_on}
+use Rattle.bpfspec_reasons.specs.Given.{accepted, unit_in_hex, unit_read}
 
 -- what is told of what a replay with these bounds and events came to: nothing, unless it is refused
 abbrev pub outcome_words : (bounds : List ℕ) → List Event → Result LoopReplay ReplayRefusal → List ℕ

@@ -13,7 +13,8 @@ use Rattle.bpfspec_causes.specs.declared.start.Start.TheVariants.{From, Refused}
 use Rattle.bpfspec_causes.specs.declared.wish.Wish.{Wish}
 use Rattle.bpfspec_causes.specs.ListingOf.{ListingOf}
 use Rattle.bpfspec_causes.specs.LoopText.{loops_text}
-use Rattle.bpfspec_causes.specs.Starting.{accepted, start_on, unit_in_hex, unit_read}
+use Rattle.bpfspec_causes.specs.Starting.{start_on}
+use Rattle.bpfspec_reasons.specs.Given.{accepted, unit_in_hex, unit_read}
 
 -- the line that tells that a program isn't run, since its maps are refused
 abbrev pub refused_maps : Refusal → List ℕ

@@ -4,8 +4,8 @@ ghost use Rattle.std.specs.Prelude.{◌≡◌, ◌++◌, OnOk, codes};
 ghost use Rattle.std.specs.Fmt.{decimal};
 ghost use Rattle.std.specs.String.{string_bytes};
 ghost use Rattle.bpf_insn_types.specs.Program.{insn_at};
-ghost use Rattle.bpfspec_reasons.specs.Parts.{part_of};
-ghost use Rattle.bpfspec_reasons.specs.Printed.{comment_text, shown_part};
+ghost use Rattle.bpfspec_reasons.specs.Printed.{comment_text};
+ghost use Rattle.bpfspec_text_reasons.specs.Parts.{part_of, shown_part};
 ghost use Rattle.bpfspec_causes.specs.Places.{access_line, deed_at, map_of, missing_or_line, numbered_line};
 ghost use Rattle.bpfspec_causes.specs.Places.{place_line, slot_line};
 
@@ -13,7 +13,8 @@ use crate::deeds::{Deed, deed_in, words_of};
 use crate::listing::Listing;
 use bpf_insn_types::{Insn, slots};
 use bpf_text_mnemonics::print_insn;
-use bpfspec_reasons::{Page, Shown};
+use bpfspec_reasons::Page;
+use bpfspec_text_reasons::Shown;
 use loop_core_witness::Place;
 use std::alloc::AllocError;
 

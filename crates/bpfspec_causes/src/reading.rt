@@ -4,7 +4,8 @@ ghost use Rattle.std.specs.Prelude.{◌≡◌, IfOk, Some};
 ghost use Rattle.array_maps.specs.MapList.{lists, zero_maps};
 ghost use Rattle.bpf_text_asm.specs.AssemblerText.{assembler_text};
 ghost use Rattle.bpf_text_hex.specs.HexText.{hex_text};
-ghost use Rattle.bpfspec_causes.specs.Starting.{HasSizes, accepted, fitting, start_on, unit_in_hex, unit_read};
+ghost use Rattle.bpfspec_causes.specs.Starting.{HasSizes, fitting, start_on};
+ghost use Rattle.bpfspec_reasons.specs.Given.{accepted, unit_in_hex, unit_read};
 
 use crate::start::Start;
 use array_maps::{Maps, MapsError};

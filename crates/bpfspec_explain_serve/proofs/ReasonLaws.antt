@@ -1,18 +1,19 @@
 -- What is told of an input: by what it is, of one that is cut off behind the limit, and as it is shown.
 use Rattle.std.proofs.Common.{◌≡◌, ℕ, ◌≤◌, ◌<◌, ◌||◌, Bool, true, false, if◌then◌else◌, List, [], ◌∷◌, length}
 use Rattle.std.proofs.Common.{take, Option, Some, None, Result, Ok, Err, refl, sym, ap, subst, ◌∙◌, nat_eq, arith}
-use Rattle.std.specs.Prelude.{nat_lt, nat_le, option_map, IfOk}
+use Rattle.std.specs.Prelude.{nat_lt, nat_le, option_map}
 use Rattle.std.specs.Cmp.Lexicographic.{pointwise}
 use Rattle.std.specs.List.{starts_with}
 use Rattle.std.specs.Str.{IsUtf8, is_utf8}
 use Rattle.std.proofs.lemmas.Bool.Decides.{nat_tests}
 use Rattle.std.proofs.lemmas.List.{take_all, take-take, length-take}
 use Rattle.std.proofs.lemmas.Str.{is_utf8-from_IsUtf8}
+use Rattle.bpfspec_command_line.specs.declared.job.UnitForm.{UnitForm}
 use Rattle.bpfspec_serve.specs.declared.serving.Served.{Served}
 use Rattle.bpfspec_serve.proofs.OutputLaws.{not_utf8}
 use Rattle.bpfspec_explain_serve.specs.declared.ask.Ask.{Ask}
 use Rattle.bpfspec_explain_serve.specs.Explained.{ShowsReasons}
-use Rattle.bpfspec_explain_serve.specs.Reasons.{AreReasons, TellsOfMore, TellsOfReplay, ThatOrWords}
+use Rattle.bpfspec_explain_serve.specs.Reasons.{AreReasons, TellsAfterReplay, TellsOfGiven, TellsOfMore, TellsOfReplay}
 use Rattle.bpfspec_explain_serve.specs.Reasons.{bytes_words, has_mark, is_object, length_words, mark_words}
 use Rattle.bpfspec_explain_serve.specs.Reasons.{object_words, text_of}
 use Rattle.bpfspec_explain_serve.specs.Showing.{IsShowable, shown}
@@ -98,7 +99,8 @@ nothing_more true ask unit maps events told none is = absurd cc
 -- else what is told of the replay is
 pub more_of_replay : {A : Type 0} (bytes : A → List ℕ) (more : Bool) (ask : Ask) (unit maps events told : List ℕ)
     (replay : Option A) → more ≡ true → TellsOfReplay ask.form ask unit maps events (option_map bytes replay)
-    → ThatOrWords (option_map bytes replay) told → TellsOfMore more ask unit maps events told
+    → TellsAfterReplay (option_map bytes replay) ask.form unit maps events told
+    → TellsOfMore more ask unit maps events told
 more_of_replay bytes false ask unit maps events told replay some of_replay whole = absurd cc
 more_of_replay bytes true ask unit maps events told replay some of_replay whole = record {
   replay = option_map bytes replay;
@@ -106,18 +108,14 @@ more_of_replay bytes true ask unit maps events told replay some of_replay whole 
   whole = whole;
 }
 
-pub that : {A : Type 0} (bytes : A → List ℕ) (replay : Option A) (told : A) → replay ≡ Some told
-    → ThatOrWords (option_map bytes replay) (bytes told)
-that bytes replay told is = rw is refl
+pub that : {A : Type 0} (bytes : A → List ℕ) (replay : Option A) (form : UnitForm) (unit maps events : List ℕ)
+    (told : A) → replay ≡ Some told → TellsAfterReplay (option_map bytes replay) form unit maps events (bytes told)
+that bytes replay form unit maps events told is = rw is refl
 
-pub words : {A : Type 0} (bytes : A → List ℕ) (replay : Option A) (told : List ℕ) → replay ≡ None
-    → ThatOrWords (option_map bytes replay) told
-words bytes replay told is = rw is tt
-
--- what holds of each value
-pub of_each : {T E : Type 0} (result : Result T E) (P : T → Type 0) → ((value : T) → P value) → IfOk result P
-of_each (Ok value) P each = each value
-of_each (Err error) P each = tt
+pub instead : {A : Type 0} (bytes : A → List ℕ) (replay : Option A) (form : UnitForm) (unit maps events told : List ℕ)
+    → replay ≡ None → TellsOfGiven form unit maps events told
+    → TellsAfterReplay (option_map bytes replay) form unit maps events told
+instead bytes replay form unit maps events told is tells = rw is tells
 
 -- reasons that are shown
 pub shows : (ask : Ask) (verified : Served) (input told given text : List ℕ) → AreReasons ask verified input told

@@ -3,16 +3,14 @@ use Rattle.std.specs.Prelude.{◌≡◌, ℕ, nat_eq, nat_lt, ◌==◌, ◌&&◌
 use Rattle.std.specs.Prelude.{List, [], ◌∷◌, ◌++◌, codes, length, Option, Some, None, Result, Ok, Err}
 use Rattle.std.specs.List.{starts_with}
 use Rattle.std.specs.Str.{is_utf8}
-use Rattle.bpf_text_asm.specs.AssemblerText.{assembler_text}
-use Rattle.bpf_text_hex.specs.HexText.{hex_text}
 use Rattle.bpfspec_causes.specs.declared.wish.Wish.{Wish}
 use Rattle.bpfspec_causes.specs.Replayed.{TellsReplayOfHex, TellsReplayOfText}
 use Rattle.bpfspec_causes.specs.Told.{TellsOfHex, TellsOfText}
 use Rattle.bpfspec_command_line.specs.declared.job.UnitForm.{UnitForm}
 use Rattle.bpfspec_command_line.specs.declared.job.UnitForm.TheVariants.{Assembler, Hex}
 use Rattle.bpfspec_reasons.specs.declared.units.Extent.{Extent}
-use Rattle.bpfspec_reasons.specs.Printed.{no_page, page_of}
-use Rattle.bpfspec_reasons.specs.Told.{TellsUnit, program_decoded, program_read}
+use Rattle.bpfspec_reasons.specs.Given.{TellsGivenOfHex, TellsGivenOfText}
+use Rattle.bpfspec_reasons.specs.Told.{TellsUnitOfHex, TellsUnitOfText}
 use Rattle.bpfspec_serve.specs.declared.serving.Served.{Served}
 use Rattle.bpfspec_serve.specs.declared.serving.Served.TheVariants.{Done}
 use Rattle.bpfspec_serve.specs.Sections.{unit_section, maps_section, events_section}
@@ -51,8 +49,8 @@ text_of input =
 
 -- what is told of a unit: why it is refused, and its states, if they are asked for
 abbrev pub TellsOfUnit : UnitForm → Extent → (unit told : List ℕ) → Type 0
-TellsOfUnit Assembler extent unit told = TellsUnit extent (page_of unit) (program_read (assembler_text unit)) [] told
-TellsOfUnit Hex extent unit told = TellsUnit extent no_page (program_decoded (hex_text unit)) [] told
+TellsOfUnit Assembler extent unit told = TellsUnitOfText extent unit told
+TellsOfUnit Hex extent unit told = TellsUnitOfHex extent unit told
 
 -- what is wanted of loops: of each the elements that conflict, up to 64 of them with --all, else the least
 abbrev pub wish_of : Ask → Wish
@@ -73,15 +71,20 @@ abbrev pub TellsOfReplay : UnitForm → Ask → (unit maps events : List ℕ) �
 TellsOfReplay Assembler ask unit maps events told = TellsReplayOfText ask.test ask.argument unit maps events told
 TellsOfReplay Hex ask unit maps events told = TellsReplayOfHex ask.test ask.argument unit maps events told
 
--- that is all; or where values or events are refused by themselves, words that aren't said here
-abbrev pub ThatOrWords : Option (List ℕ) → (told : List ℕ) → Type 0
-ThatOrWords (Some replay) told = told ≡ replay
-ThatOrWords None told = Unit {0}
+-- what is told of the values and events of an accepted unit by themselves
+abbrev pub TellsOfGiven : UnitForm → (unit maps events told : List ℕ) → Type 0
+TellsOfGiven Assembler unit maps events told = TellsGivenOfText unit maps events told
+TellsOfGiven Hex unit maps events told = TellsGivenOfHex unit maps events told
+
+-- where there is no replay, since values or events are refused by themselves, that is told
+abbrev pub TellsAfterReplay : Option (List ℕ) → UnitForm → (unit maps events told : List ℕ) → Type 0
+TellsAfterReplay (Some replay) form unit maps events told = told ≡ replay
+TellsAfterReplay None form unit maps events told = TellsOfGiven form unit maps events told
 
 pub record TellsOfSections (ask : Ask) (unit maps events told : List ℕ) : Type 0 where
   pub replay : Option (List ℕ)
   pub of_replay : TellsOfReplay ask.form ask unit maps events replay
-  pub whole : ThatOrWords replay told
+  pub whole : TellsAfterReplay replay ask.form unit maps events told
 
 -- what is told of values and events, where there are some of an accepted unit; else nothing
 abbrev pub TellsOfMore : Bool → Ask → (unit maps events told : List ℕ) → Type 0

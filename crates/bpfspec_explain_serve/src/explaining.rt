@@ -2,8 +2,9 @@
 
 ghost use Rattle.std.specs.Prelude.{◌≡◌, IfOk, MatchResult, Ok, Err, option_map};
 ghost use Rattle.std.specs.String.{string_bytes};
-ghost use Rattle.bpfspec_explain_serve.specs.Reasons.{AreReasons, TellsOfLoops, TellsOfMore, TellsOfReplay, TellsOfUnit};
-ghost use Rattle.bpfspec_explain_serve.specs.Reasons.{TellsText, has_more, text_of, wish_of};
+ghost use Rattle.bpfspec_explain_serve.specs.Reasons.{AreReasons, TellsOfGiven, TellsOfLoops, TellsOfMore};
+ghost use Rattle.bpfspec_explain_serve.specs.Reasons.{TellsOfReplay, TellsOfUnit, TellsText, has_more, text_of};
+ghost use Rattle.bpfspec_explain_serve.specs.Reasons.{wish_of};
 
 use crate::ask::Ask;
 use crate::sections::{Sections, sections_of};
@@ -117,7 +118,10 @@ fn given_reasons(
     alloc: Global,
     form: UnitForm,
     sections: &Sections<'_>,
-) -> Result<String, AllocError> {
+) -> Result<String, AllocError>
+    ensures { IfOk result (λ told. TellsOfGiven form sections.now.unit.now sections.now.maps.now
+        sections.now.events.now (string_bytes told)) }
+{
     let given = Given {
         values: sections.maps,
         events: sections.events,

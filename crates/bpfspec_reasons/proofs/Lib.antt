@@ -6,7 +6,6 @@ pub mod FaultLaws
 pub mod SideLaws
 pub mod SourceLaws
 pub mod SearchLaws
-pub mod MisfitLaws
 pub mod PageLaws
-pub mod PartLaws
 pub mod ValueLaws
+pub mod GivenLaws

@@ -5,7 +5,6 @@ pub mod Operands
 pub mod Arguments
 pub mod Chains
 pub mod Faults
-pub mod Misfits
-pub mod Parts
 pub mod Printed
 pub mod Told
+pub mod Given

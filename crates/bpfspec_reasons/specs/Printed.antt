@@ -1,8 +1,7 @@
 -- The text of an explanation's pieces.
-use Rattle.std.specs.Prelude.{ℕ, ◌-◌, ◌*◌, ◌^◌, ◌==◌, ◌&&◌, nat_eq, nat_lt, nat_le, false, if◌then◌else◌}
-use Rattle.std.specs.Prelude.{List, [], ◌∷◌, ◌++◌, length, take, codes, slice_get, Option, Some, None}
+use Rattle.std.specs.Prelude.{ℕ, ◌-◌, ◌*◌, ◌^◌, ◌==◌, ◌&&◌, nat_eq, nat_lt, false, if◌then◌else◌}
+use Rattle.std.specs.Prelude.{List, [], ◌∷◌, ◌++◌, length, codes, slice_get, Option, Some, None}
 use Rattle.std.specs.Fmt.{decimal, signed_decimal, format_spec, padded, padded_integral}
-use Rattle.std.specs.Fmt.Cut.{floor_char_boundary}
 use Rattle.std.specs.Int.{w64, cast_signed}
 use Rattle.std.specs.List.{flat_map, before_first, starts_with}
 use Rattle.std.specs.Str.{trim}
@@ -18,6 +17,7 @@ use Rattle.bpfspec_reasons.specs.declared.arguments.Parameter.{Parameter}
 use Rattle.bpfspec_reasons.specs.declared.arguments.Parameter.TheVariants as parameters
 use Rattle.bpfspec_reasons.specs.declared.piece.Piece.{Piece}
 use Rattle.bpfspec_reasons.specs.declared.piece.Piece.TheVariants as pieces
+use Rattle.bpfspec_text_reasons.specs.Parts.{shown_part}
 
 -- ---- pages
 
@@ -35,11 +35,6 @@ abbrev pub page_of : List ℕ → PageText
 page_of text =
     if nat_lt 1048576 (length text) then no_page
     else record { lines = lines_of text; numbers = lines_by_slot (contents_of text) }
-
--- a part of a text: of more than 200 bytes the characters within the first 200, and three dots
-abbrev pub shown_part : List ℕ → List ℕ
-shown_part text =
-    if nat_le (length text) 200 then text else take (floor_char_boundary text 200) text ++ codes "..."
 
 -- the instruction of a line as it is written, without its comment, which begins after the first semicolon, 59
 abbrev pub instruction_part : PageText → ℕ → List ℕ

@@ -1,14 +1,13 @@
 //! The lines of a unit's text, and the line of each of its slots.
 
 ghost use Rattle.std.specs.Prelude.{◌≡◌, slice_get, IfOk};
-ghost use Rattle.bpfspec_reasons.specs.Parts.{part_of};
 ghost use Rattle.bpfspec_reasons.specs.Printed.{after_comma, comment_part, instruction_part, no_page, page_of};
 ghost use Rattle.bpfspec_reasons.specs.Printed.{without_slot};
+ghost use Rattle.bpfspec_text_reasons.specs.Parts.{part_of};
 
-use crate::files::before_comment;
-use crate::shown::Shown;
 use bpf_text_lex::MAX_TEXT;
 use bpf_text_lines::{Listing, line_numbers};
+use bpfspec_text_reasons::{Shown, before_comment};
 use std::alloc::{AllocError, Global};
 use std::marker::Model;
 

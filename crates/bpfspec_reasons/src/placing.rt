@@ -3,13 +3,13 @@
 ghost use Rattle.std.specs.Prelude.{◌≡◌, ◌++◌, slice_get, OnOk, IfOk};
 ghost use Rattle.std.specs.String.{string_bytes};
 ghost use Rattle.bpf_text_mnemonics.specs.PrintedLines.{insn_spelling};
-ghost use Rattle.bpfspec_reasons.specs.Parts.{part_of};
 ghost use Rattle.bpfspec_reasons.specs.Printed.{comment_text, line_text, step_text};
+ghost use Rattle.bpfspec_text_reasons.specs.Parts.{part_of};
 
 use crate::page::Page;
-use crate::shown::Shown;
 use bpf_insn_types::Insn;
 use bpf_text_mnemonics::print_insn;
+use bpfspec_text_reasons::Shown;
 use std::alloc::{AllocError, Global};
 
 /// An instruction as text.

@@ -1,26 +1,19 @@
 //! Why a unit in one of its two forms is refused.
 
-ghost use Rattle.std.specs.Prelude.{[], OnOk, IfOk};
+ghost use Rattle.std.specs.Prelude.{OnOk, IfOk};
 ghost use Rattle.std.specs.String.{string_bytes};
 ghost use Rattle.bpf_insn.specs.Reading.{reading};
-ghost use Rattle.bpf_text_asm.specs.AssemblerText.{assembler_text};
-ghost use Rattle.bpf_text_hex.specs.HexText.{hex_text};
 ghost use Rattle.bpf_verify_model.specs.Accepted.{first_fault};
-ghost use Rattle.bpfspec_reasons.specs.Printed.{no_page, page_of};
-ghost use Rattle.bpfspec_reasons.specs.Told.{AddsRefusal, AddsStates, TellsProgram, TellsUnit, program_decoded};
-ghost use Rattle.bpfspec_reasons.specs.Told.{program_read, with_insns};
+ghost use Rattle.bpfspec_reasons.specs.Told.{AddsRefusal, AddsStates, TellsUnitOfHex, TellsInsns, TellsProgram, TellsUnitOfText};
 
-use crate::given::write_given_reasons;
-use crate::hexes::write_byte_reasons;
 use crate::page::Page;
 use crate::reasons::explain_refusal;
-use crate::schedule::write_schedule_reasons;
 use crate::states::explain_states;
-use crate::texts::{write_hex_reasons, write_text_reasons};
 use bpf_insn::{CodecError, decode};
 use bpf_insn_types::Unit;
 use bpf_text::{HexUnit, TextError, parse_unit, read_hex};
 use bpf_verify_origin::{Inspection, inspect};
+use bpfspec_text_reasons::{write_byte_reasons, write_hex_reasons, write_text_reasons};
 use std::alloc::{AllocError, Global};
 
 /// How much of a program is explained.
@@ -85,21 +78,21 @@ fn write_unit_reasons(
 /// Why a unit in assembler text is refused. It is empty of an accepted unit where its refusal alone is wanted. Memory
 /// may run out.
 pub fn reasons_of_text(alloc: Global, extent: Extent, text: &str) -> Result<String, AllocError>
-    ensures { IfOk result (λ reasons. TellsUnit extent (page_of text.now) (program_read (assembler_text text.now)) []
-        (string_bytes reasons)) }
+    ensures { IfOk result (λ reasons. TellsUnitOfText extent text.now (string_bytes reasons)) }
 {
     let mut out = String::new(alloc);
     match parse_unit(alloc, text) {
         Ok(unit) => {
             let page = Page::of(alloc, text)?;
             write_unit_reasons(&mut out, alloc, extent, &page, unit)?;
+            Ok(out)
         }
         Err(TextError::Refused { fault, line }) => {
             write_text_reasons(&mut out, alloc, text, fault, line)?;
+            Ok(out)
         }
-        Err(TextError::Memory) => return Err(AllocError),
+        Err(TextError::Memory) => Err(AllocError),
     }
-    Ok(out)
 }
 
 /// Adds why a unit in hex form is refused whose text is of that form.
@@ -109,8 +102,8 @@ fn write_parts_reasons(
     extent: Extent,
     parts: HexUnit,
 ) -> Result<(), AllocError>
-    ensures { OnOk result (TellsUnit extent no_page (with_insns parts.sizes (reading parts.bytes))
-        (string_bytes out.old) (string_bytes out.new)) }
+    ensures { OnOk result (TellsInsns extent parts.sizes parts.bytes (reading parts.bytes) (string_bytes out.old)
+        (string_bytes out.new)) }
 {
     match decode(alloc, &parts.bytes) {
         Ok(insns) => {
@@ -128,82 +121,18 @@ fn write_parts_reasons(
 /// Why a unit in hex form is refused. It is empty of an accepted unit where its refusal alone is wanted. Memory may run
 /// out.
 pub fn reasons_of_hex(alloc: Global, extent: Extent, text: &str) -> Result<String, AllocError>
-    ensures { IfOk result (λ reasons. TellsUnit extent no_page (program_decoded (hex_text text.now)) []
-        (string_bytes reasons)) }
+    ensures { IfOk result (λ reasons. TellsUnitOfHex extent text.now (string_bytes reasons)) }
 {
     let mut out = String::new(alloc);
     match read_hex(alloc, text) {
-        Ok(parts) => write_parts_reasons(&mut out, alloc, extent, parts)?,
+        Ok(parts) => {
+            write_parts_reasons(&mut out, alloc, extent, parts)?;
+            Ok(out)
+        }
         Err(TextError::Refused { fault, line }) => {
             write_hex_reasons(&mut out, text, fault, line)?;
+            Ok(out)
         }
-        Err(TextError::Memory) => return Err(AllocError),
+        Err(TextError::Memory) => Err(AllocError),
     }
-    Ok(out)
-}
-
-/// What is given beside a unit, as sections of an input.
-#[derive(Clone, Copy)]
-pub struct Given<'a> {
-    /// The values of its maps.
-    pub values: &'a str,
-    /// The bounds and events of a replay.
-    pub events: &'a str,
-}
-
-/// Adds why what is given beside a unit isn't taken, if the unit is accepted: the values, or else the events.
-fn write_beside(
-    out: &mut String,
-    alloc: Global,
-    unit: Unit,
-    given: Given<'_>,
-) -> Result<(), AllocError> {
-    let inspection = inspect(alloc, unit)?;
-    if inspection.fault().is_some() {
-        return Ok(());
-    }
-    write_given_reasons(out, alloc, inspection.sizes(), given.values)?;
-    if !out.is_empty() {
-        return Ok(());
-    }
-    write_schedule_reasons(out, alloc, given.events)
-}
-
-/// Why the values of the maps of a unit in assembler text, or the events of a replay of it, aren't taken. It is empty
-/// where they are, and where the unit isn't accepted. Memory may run out.
-pub fn given_reasons_of_text(
-    alloc: Global,
-    text: &str,
-    given: Given<'_>,
-) -> Result<String, AllocError> {
-    let mut out = String::new(alloc);
-    match parse_unit(alloc, text) {
-        Ok(unit) => write_beside(&mut out, alloc, unit, given)?,
-        Err(TextError::Refused { .. }) => {}
-        Err(TextError::Memory) => return Err(AllocError),
-    }
-    Ok(out)
-}
-
-/// The same of a unit in hex form.
-pub fn given_reasons_of_hex(
-    alloc: Global,
-    text: &str,
-    given: Given<'_>,
-) -> Result<String, AllocError> {
-    let mut out = String::new(alloc);
-    let parts = match read_hex(alloc, text) {
-        Ok(parts) => parts,
-        Err(TextError::Refused { .. }) => return Ok(out),
-        Err(TextError::Memory) => return Err(AllocError),
-    };
-    match decode(alloc, &parts.bytes) {
-        Ok(insns) => {
-            let sizes = parts.sizes;
-            write_beside(&mut out, alloc, Unit { sizes, insns }, given)?;
-        }
-        Err(CodecError::Refused { .. }) => {}
-        Err(CodecError::Memory) => return Err(AllocError),
-    }
-    Ok(out)
 }

@@ -1,0 +1,13 @@
+use Rattle.std.proofs.Common.{◌≡◌, length}
+use denote.Text.{Utf8}
+use denote.Shadow.{shadow}
+use Rattle.bpf_text_lex.specs.Lines.{lines_of}
+use Rattle.bpfspec_text_reasons.specs.FaultLines.{is_first}
+use Rattle.bpfspec_text_reasons.proofs.fault_line.is_first.Given as goal
+
+abbrev pub invariant-loop-rest : goal.invariant-loop-rest
+invariant-loop-rest l =
+    (is_first l.left (lines_of l.rest) ≡ is_first l.number (lines_of l.text)) × shadow (Utf8 l.rest)
+
+abbrev pub decreases-loop-rest : goal.decreases-loop-rest
+decreases-loop-rest l = length l.rest

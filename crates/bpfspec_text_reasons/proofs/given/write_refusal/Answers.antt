@@ -1,0 +1,12 @@
+use Rattle.std.proofs.lemmas.Result.{on_ok_weaker}
+use Rattle.std.specs.String.{string_bytes}
+use Rattle.bpfspec_text_reasons.proofs.OrLaws.{values-told}
+use Rattle.bpfspec_text_reasons.proofs.given.write_refusal.Goals as goal
+
+pub returns : goal.returns
+returns c =
+    on_ok_weaker c.write_more.result
+    (values-told c.args.text.now c.args.fault c.args.line (string_bytes c.args.out.now)
+    (string_bytes c.write_whole_line.new.out) (string_bytes c.write_expected.new.out)
+    (string_bytes c.write_more.new.out)
+    c.in_ok-write_whole_line.ensures c.in_ok-write_expected.ensures) c.write_more.ensures
