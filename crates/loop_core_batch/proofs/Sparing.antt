@@ -37,7 +37,7 @@ kind_keeps : (deed : Deed) (word : ℕ) → kind_leaves (kind_of_deed deed) ≡ 
 kind_keeps (Load part) word h = refl
 kind_keeps (Store left) word h = absurd (cc)
 kind_keeps (Fetch left) word h = absurd (cc)
-kind_keeps (Replace half number) word h = absurd (cc)
+kind_keeps (Replace half number fetches) word h = absurd (cc)
 kind_keeps (Apply op operand) word h = absurd (cc)
 
 pub keeps : (a : Effect) → kind_leaves (kind_of_deed a.deed) ≡ false → (words : List ℕ)
@@ -135,11 +135,11 @@ deed_spares (Load part) half other differ is leaves word below = absurd (cc)
 deed_spares (Store left) half other differ is leaves word below = absurd (cc)
 deed_spares (Fetch left) half other differ is leaves word below = absurd (cc)
 deed_spares (Apply op operand) half other differ is leaves word below = absurd (cc)
-deed_spares (Replace Low number) half Low differ is leaves word below =
+deed_spares (Replace Low number fetches) half Low differ is leaves word below =
     let same : half ≡ Low = cc in absurd (differ same)
-deed_spares (Replace Low number) half High differ is leaves word below = low_replaced word number below
-deed_spares (Replace High number) half Low differ is leaves word below = high_replaced word number
-deed_spares (Replace High number) half High differ is leaves word below =
+deed_spares (Replace Low number fetches) half High differ is leaves word below = low_replaced word number below
+deed_spares (Replace High number fetches) half Low differ is leaves word below = high_replaced word number
+deed_spares (Replace High number fetches) half High differ is leaves word below =
     let same : half ≡ High = cc in absurd (differ same)
 
 -- what is so of a word and of what it becomes is so where it stands in a list
@@ -207,17 +207,17 @@ deeds_exchange (Load part) b half other differ is other_is leaves other_leaves w
 deeds_exchange (Store left) b half other differ is other_is leaves other_leaves word = absurd (cc)
 deeds_exchange (Fetch left) b half other differ is other_is leaves other_leaves word = absurd (cc)
 deeds_exchange (Apply op operand) b half other differ is other_is leaves other_leaves word = absurd (cc)
-deeds_exchange (Replace h n) (Load part) half other differ is other_is leaves other_leaves word = absurd (cc)
-deeds_exchange (Replace h n) (Store left) half other differ is other_is leaves other_leaves word = absurd (cc)
-deeds_exchange (Replace h n) (Fetch left) half other differ is other_is leaves other_leaves word = absurd (cc)
-deeds_exchange (Replace h n) (Apply op operand) half other differ is other_is leaves other_leaves word = absurd (cc)
-deeds_exchange (Replace Low n) (Replace Low m) half other differ is other_is leaves other_leaves word =
+deeds_exchange (Replace h n f) (Load part) half other differ is other_is leaves other_leaves word = absurd (cc)
+deeds_exchange (Replace h n f) (Store left) half other differ is other_is leaves other_leaves word = absurd (cc)
+deeds_exchange (Replace h n f) (Fetch left) half other differ is other_is leaves other_leaves word = absurd (cc)
+deeds_exchange (Replace h n f) (Apply op operand) half other differ is other_is leaves other_leaves word = absurd (cc)
+deeds_exchange (Replace Low n f) (Replace Low m g) half other differ is other_is leaves other_leaves word =
     let same : half ≡ other = cc in absurd (differ same)
-deeds_exchange (Replace Low n) (Replace High m) half other differ is other_is leaves other_leaves word =
+deeds_exchange (Replace Low n f) (Replace High m g) half other differ is other_is leaves other_leaves word =
     both_replaced word n m
-deeds_exchange (Replace High n) (Replace Low m) half other differ is other_is leaves other_leaves word =
+deeds_exchange (Replace High n f) (Replace Low m g) half other differ is other_is leaves other_leaves word =
     sym (both_replaced word m n)
-deeds_exchange (Replace High n) (Replace High m) half other differ is other_is leaves other_leaves word =
+deeds_exchange (Replace High n f) (Replace High m g) half other differ is other_is leaves other_leaves word =
     let same : half ≡ other = cc in absurd (differ same)
 
 -- effects of one element, at sites of which the earlier lane's and the later one's may not meet, are of two halves

@@ -17,12 +17,12 @@ use Rattle.loop_core_batch.specs.declared.elements.Elements.{Elements}
 use Rattle.loop_core_batch.specs.Sites.{MayAccess, SitesMeet, kind_leaves}
 
 -- the word of an element is loaded, or a half of it; another is stored; it is loaded and another stored, as by a fetch;
--- a half of it is replaced; or an operator is applied to it
+-- a half of it is replaced, which a fetch loads; or an operator is applied to it
 pub data Deed : Type 0 where
   Load : (part : Part) → Deed
   Store : (left : ℕ) → Deed
   Fetch : (left : ℕ) → Deed
-  Replace : (half : Half) (number : ℕ) → Deed
+  Replace : (half : Half) (number : ℕ) (fetches : Bool) → Deed
   Apply : (op : Op) (operand : ℕ) → Deed
 
 -- the action that it is, where a word stands
@@ -30,7 +30,7 @@ abbrev pub action_on : Deed → (word : ℕ) → Action
 action_on (Load part) word = Read word
 action_on (Store left) word = Write left
 action_on (Fetch left) word = ReadWrite word left
-action_on (Replace half number) word = ReadWrite word (with_half half word number)
+action_on (Replace half number fetches) word = ReadWrite word (with_half half word number)
 action_on (Apply op operand) word = Reduces op operand
 
 -- its kind
@@ -38,7 +38,7 @@ abbrev pub kind_of_deed : Deed → Kind
 kind_of_deed (Load part) = Reads
 kind_of_deed (Store left) = Writes
 kind_of_deed (Fetch left) = Both
-kind_of_deed (Replace half number) = Both
+kind_of_deed (Replace half number fetches) = Both
 kind_of_deed (Apply op operand) = Reduce op
 
 -- a deed at an element
@@ -101,7 +101,7 @@ abbrev pub deed_loads : Deed → Bool
 deed_loads (Load part) = true
 deed_loads (Store left) = false
 deed_loads (Fetch left) = true
-deed_loads (Replace half number) = false
+deed_loads (Replace half number fetches) = fetches
 deed_loads (Apply op operand) = false
 
 -- the part of the word that it is of
@@ -109,7 +109,7 @@ abbrev pub deed_part : Deed → Part
 deed_part (Load part) = part
 deed_part (Store left) = Whole
 deed_part (Fetch left) = Whole
-deed_part (Replace half number) = Of half
+deed_part (Replace half number fetches) = Of half
 deed_part (Apply op operand) = Whole
 
 -- the words after the effects of n lanes, one lane after another
@@ -128,6 +128,11 @@ kind_loads (Reduce op) fetches = false
 -- those at a site do
 abbrev pub site_loads : Site → Bool
 site_loads site = kind_loads site.kind site.fetches
+
+-- where those at a site read and write the word, they leave another in its place: they fetch the word, and not a half
+abbrev pub leaves_another : Option Elements → (fetches : Bool) → Bool
+leaves_another None fetches = fetches
+leaves_another (Some halves) fetches = false
 
 -- on other words the same is loaded: where it loads a half of a word, that half alone has to be the same
 abbrev pub SameIfLoaded : (words now : List ℕ) → Effect → Type 0

@@ -2,7 +2,7 @@
 
 ghost use Rattle.std.specs.Prelude.{◌≡◌, ◌↔◌, IsTrue, All};
 ghost use Rattle.loop_core_batch.specs.BySite.{Commute, AllCommute, by_one_operator};
-ghost use Rattle.loop_core_batch.specs.Effects.{Unloaded, AllUnloaded, site_loads};
+ghost use Rattle.loop_core_batch.specs.Effects.{Unloaded, AllUnloaded, leaves_another, site_loads};
 ghost use Rattle.loop_core_batch.specs.Sites.{HalvesMeet, SitesMeet, Unseen, AllUnseen, kind_sees, kind_leaves};
 
 use crate::elements::Elements;
@@ -13,8 +13,8 @@ use loop_core_model::Access;
 pub struct Site {
     /// The kind of all these accesses.
     pub kind: Access,
-    /// Whether the lanes go on with the word that they find, where they read and write it: they fetch it, and don't
-    /// replace a half.
+    /// Whether the lanes go on with the word that they find, or with a half of it, where they read and write it: they
+    /// fetch it.
     pub fetches: bool,
     /// The elements that they are of.
     pub elements: Elements,
@@ -33,6 +33,18 @@ impl Site {
             Access::Read => true,
             Access::Both => self.fetches,
             Access::Write | Access::Reduce(_) => false,
+        }
+    }
+
+    /// Whether the lanes, where they read and write a word here, leave another in its place: they fetch it, and not a
+    /// half of it.
+    #[inline(always)]
+    pub fn leaves_another(&self) -> bool
+        ensures { result ≡ leaves_another self.now.halves self.now.fetches }
+    {
+        match self.halves {
+            Some(_) => false,
+            None => self.fetches,
         }
     }
 
@@ -91,6 +103,14 @@ impl Site {
             }
         }
         true
+    }
+
+    /// Tells whether no lane may load here what an earlier one may write here.
+    #[inline(always)]
+    pub fn spares_itself(&self, lanes: u32) -> bool
+        ensures { IsTrue result ↔ Unloaded lanes self.now self.now }
+    {
+        self.is_unloaded(self, lanes)
     }
 
     /// Whether this site may be applied for all lanes before another, which lies after it, is for any.

@@ -1,6 +1,6 @@
 -- What the effects of a batch leave in the maps.
 use Rattle.std.proofs.Common.{◌≡◌, ℕ, zero, suc, ◌+◌, ◌<◌, List, length, drop, slice_index, slice_index_or}
-use Rattle.std.proofs.Common.{refl, sym, ap, ◌∙◌, arith}
+use Rattle.std.proofs.Common.{slice_set, refl, sym, ap, ◌∙◌, arith}
 use Rattle.std.specs.Prelude.{Bool, true, false, Option, Some, None, if◌then◌else◌}
 use Rattle.std.proofs.lemmas.List.{set-get_or, length-set, drop_more}
 use Rattle.array_maps.specs.declared.access.Op.{Op}
@@ -11,12 +11,13 @@ use Rattle.loop_core_model.specs.declared.access.Access.TheVariants.{Read as Rea
 use Rattle.loop_core_model.specs.declared.access.Access.TheVariants.{Both, Reduce as Reduces}
 use Rattle.loop_core_batch.specs.BySite.{words_after_any, words_after_some}
 use Rattle.loop_core_batch.specs.Effects.{Effect, words_after_effect, words_after_any_effect, words_after_lane_effects}
-use Rattle.loop_core_batch.specs.Effects.{words_after_site_effects}
+use Rattle.loop_core_batch.specs.Effects.{leaves_another, words_after_site_effects}
 use Rattle.bpf_step_batch.specs.declared.entry.Entry.{Entry}
 use Rattle.bpf_step_batch.specs.declared.mask.Mask.{Mask}
 use Rattle.bpf_step_batch.specs.declared.mask.Mask.TheVariants.{All}
 use Rattle.bpf_step_batch.specs.Logs.{element_by, has_lane, access_by, made_by, half_by, deed_by, effect_by}
-use Rattle.bpf_step_batch.specs.Logs.{effect_made_by, effect_log_by}
+use Rattle.bpf_step_batch.specs.Logs.{stored_by, effect_made_by, effect_log_by}
+use Rattle.bpf_step_batch.proofs.AccessSteps.{word_changed, half_changed}
 use Rattle.loop_core_sequential.specs.Tries.{replaced_by, replaced_if_made}
 use Rattle.loop_core_sequential.proofs.ApplyLaws.{by_kind}
 
@@ -77,35 +78,47 @@ loads_are entry is (suc lanes) now =
     ∙ sym (ap (λ (e : Effect). words_after_effect e ws) (effect_by_kind entry Reads is lanes)))
     (has_lane entry.mask lanes) (words_after_lane_effects (effect_made_by entry) lanes now)
 
--- so where it is known whether it fetches
-pub both_by_kind : (entry : Entry) (fetches : Bool) → entry.site.kind ≡ Both → entry.site.fetches ≡ fetches → (lane : ℕ)
-    → effect_by entry lane ≡ record {
-      element = element_by entry.site.elements entry.elements lane;
-      deed = deed_by Both fetches entry.site.halves (half_by entry lane) (slice_index entry.values lane);
-    }
-both_by_kind entry fetches is does lane =
-    effect_by_kind entry Both is lane
-    ∙ ap (λ (b : Bool). record {
-      element = element_by entry.site.elements entry.elements lane;
-      deed = deed_by Both b entry.site.halves (half_by entry lane) (slice_index entry.values lane);
-    }) does
+-- what is read and written becomes another word, or a half of it does
+pub word_left : (entry : Entry) → entry.site.kind ≡ Both
+    → leaves_another entry.site.halves entry.site.fetches ≡ true → (lane : ℕ) (words : List ℕ)
+    → words_after (stored_by entry lane) words ≡ words_after_effect (effect_by entry lane) words
+word_left entry is another lane words =
+    let e : ℕ = element_by entry.site.elements entry.elements lane in
+    ap (slice_set words e) (sym (word_changed entry.site.fetches entry.site.halves (half_by entry lane)
+    (slice_index entry.values lane) (slice_index words e) another))
+    ∙ sym (ap (λ (effect : Effect). words_after_effect effect words) (effect_by_kind entry Both is lane))
 
-pub fetches_are : (words : List ℕ) (entry : Entry) → entry.site.kind ≡ Both → entry.site.fetches ≡ true → (lanes : ℕ)
-    (now : List ℕ)
+pub half_left : (entry : Entry) → entry.site.kind ≡ Both
+    → leaves_another entry.site.halves entry.site.fetches ≡ false → (lane : ℕ) (words : List ℕ)
+    → words_after_effect (replaced_by entry lane) words ≡ words_after_effect (effect_by entry lane) words
+half_left entry is half lane words =
+    let e : ℕ = element_by entry.site.elements entry.elements lane in
+    ap (slice_set words e) (sym (half_changed entry.site.fetches entry.site.halves (half_by entry lane)
+    (slice_index entry.values lane) (slice_index words e) half))
+    ∙ sym (ap (λ (effect : Effect). words_after_effect effect words) (effect_by_kind entry Both is lane))
+
+pub fetches_are : (words : List ℕ) (entry : Entry) → entry.site.kind ≡ Both
+    → leaves_another entry.site.halves entry.site.fetches ≡ true → (lanes : ℕ) (now : List ℕ)
     → words_after_some (made_by words entry) lanes now ≡ words_after_lane_effects (effect_made_by entry) lanes now
-fetches_are words entry is does = some_leave words entry (λ lane now.
-    ap (λ (a : Access). words_after a now) (by_kind words entry Both is lane)
-    ∙ sym (ap (λ (e : Effect). words_after_effect e now) (both_by_kind entry true is does lane)))
+fetches_are words entry is another = some_leave words entry (λ lane now.
+    ap (λ (a : Access). words_after a now) (by_kind words entry Both is lane) ∙ word_left entry is another lane now)
 
 -- halves are replaced
-pub replaces_are : (entry : Entry) → entry.site.kind ≡ Both → entry.site.fetches ≡ false → (lanes : ℕ) (now : List ℕ)
+pub any_half : (entry : Entry) → entry.site.kind ≡ Both
+    → leaves_another entry.site.halves entry.site.fetches ≡ false → (lane : ℕ) (makes : Bool) (words : List ℕ)
+    → words_after_any_effect (if makes then Some (replaced_by entry lane) else None) words
+    ≡ words_after_any_effect (if makes then Some (effect_by entry lane) else None) words
+any_half entry is half lane false words = refl
+any_half entry is half lane true words = half_left entry is half lane words
+
+pub replaces_are : (entry : Entry) → entry.site.kind ≡ Both
+    → leaves_another entry.site.halves entry.site.fetches ≡ false → (lanes : ℕ) (now : List ℕ)
     → words_after_lane_effects (replaced_if_made entry) lanes now
     ≡ words_after_lane_effects (effect_made_by entry) lanes now
-replaces_are entry is plain zero now = refl
-replaces_are entry is plain (suc lanes) now =
-    ap (words_after_any_effect (replaced_if_made entry lanes)) (replaces_are entry is plain lanes now)
-    ∙ sym (ap (λ (effect : Effect). words_after_any_effect (if has_lane entry.mask lanes then Some effect else None)
-    (words_after_lane_effects (effect_made_by entry) lanes now)) (both_by_kind entry false is plain lanes))
+replaces_are entry is half zero now = refl
+replaces_are entry is half (suc lanes) now =
+    ap (words_after_any_effect (replaced_if_made entry lanes)) (replaces_are entry is half lanes now)
+    ∙ any_half entry is half lanes (has_lane entry.mask lanes) (words_after_lane_effects (effect_made_by entry) lanes now)
 
 -- the words stay as many
 length-after_any : (made : Option Effect) (words : List ℕ) → length (words_after_any_effect made words) ≡ length words

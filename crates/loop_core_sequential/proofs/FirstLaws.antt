@@ -15,7 +15,8 @@ use Rattle.loop_core_model.specs.declared.access.Access.TheVariants.{Read as Rea
 use Rattle.loop_core_model.specs.declared.access.Access.TheVariants.{Both, Reduce as Reduces}
 use Rattle.loop_core_batch.specs.BySite.{words_after_any}
 use Rattle.loop_core_batch.specs.Sites.{kind_leaves}
-use Rattle.loop_core_batch.specs.Effects.{Effect, deed_part, site_loads, with_effect, SameIfLoaded, LoadsSame}
+use Rattle.loop_core_batch.specs.Effects.{Effect, deed_part, leaves_another, site_loads, with_effect, SameIfLoaded}
+use Rattle.loop_core_batch.specs.Effects.{LoadsSame}
 use Rattle.loop_core_batch.specs.Effects.{words_after_effect, words_after_effects, words_after_any_effect}
 use Rattle.loop_core_batch.specs.Effects.{words_after_each_lane, words_after_lane_effects}
 use Rattle.loop_core_batch.specs.LoopByEffects.{LoopByEachLane}
@@ -28,7 +29,7 @@ use Rattle.loop_core_sequential.specs.declared.first_lanes.Marks.{Marks}
 use Rattle.loop_core_sequential.specs.FirstLanes.{mark_at, IsMarked, IsSpared, AreFirst}
 use Rattle.loop_core_sequential.specs.Rests.{rest_to, RanOn}
 use Rattle.loop_core_sequential.specs.Tries.{LanesAreIterations, stored_if_made, reduced_if_made, replaced_if_made}
-use Rattle.loop_core_sequential.proofs.ApplyEffects.{any_leaves, effect_by_kind, both_by_kind, loads_are}
+use Rattle.loop_core_sequential.proofs.ApplyEffects.{any_leaves, any_half, effect_by_kind, loads_are, word_left}
 
 -- one entry more
 pub effects_more : (entries : List Entry) (k : ℕ) (other : Entry) (lane : ℕ) → k < length entries
@@ -126,11 +127,11 @@ write_left words entry is lane = any_leaves (stored_by entry lane) (effect_by en
     (λ ws. sym (ap (λ (e : Effect). words_after_effect e ws) (effect_by_kind entry Writes is lane)))
     (has_lane entry.mask lane) words
 
-pub fetch_left : (words : List ℕ) (entry : Entry) → entry.site.kind ≡ Both → entry.site.fetches ≡ true → (lane : ℕ)
+pub fetch_left : (words : List ℕ) (entry : Entry) → entry.site.kind ≡ Both
+    → leaves_another entry.site.halves entry.site.fetches ≡ true → (lane : ℕ)
     → words_after_any (stored_if_made entry lane) words ≡ words_after_any_effect (effect_made_by entry lane) words
-fetch_left words entry is does lane = any_leaves (stored_by entry lane) (effect_by entry lane)
-    (λ ws. sym (ap (λ (e : Effect). words_after_effect e ws) (both_by_kind entry true is does lane)))
-    (has_lane entry.mask lane) words
+fetch_left words entry is another lane = any_leaves (stored_by entry lane) (effect_by entry lane)
+    (word_left entry is another lane) (has_lane entry.mask lane) words
 
 pub reduce_left : (words : List ℕ) (entry : Entry) (op : Op) → entry.site.kind ≡ Reduces op → (lane : ℕ)
     → words_after_any (reduced_if_made op entry lane) words ≡ words_after_any_effect (effect_made_by entry lane) words
@@ -138,11 +139,10 @@ reduce_left words entry op is lane = any_leaves (reduced_by op entry lane) (effe
     (λ ws. sym (ap (λ (e : Effect). words_after_effect e ws) (effect_by_kind entry (Reduces op) is lane)))
     (has_lane entry.mask lane) words
 
-pub half_left : (words : List ℕ) (entry : Entry) → entry.site.kind ≡ Both → entry.site.fetches ≡ false → (lane : ℕ)
+pub replaced_left : (words : List ℕ) (entry : Entry) → entry.site.kind ≡ Both
+    → leaves_another entry.site.halves entry.site.fetches ≡ false → (lane : ℕ)
     → words_after_any_effect (replaced_if_made entry lane) words ≡ words_after_any_effect (effect_made_by entry lane) words
-half_left words entry is plain lane =
-    sym (ap (λ (effect : Effect). words_after_any_effect (if has_lane entry.mask lane then Some effect else None) words)
-    (both_by_kind entry false is plain lane))
+replaced_left words entry is half lane = any_half entry is half lane (has_lane entry.mask lane) words
 
 -- an entry that leaves no word
 reads_of : (kind : Kind) → kind_leaves kind ≡ false → kind ≡ Reads

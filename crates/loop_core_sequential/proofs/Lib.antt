@@ -5,6 +5,7 @@ pub mod SameLoops
 pub mod SameReplays
 pub mod SameOutcomes
 pub mod Together
+pub mod DecidingLaws
 pub mod ApplyLaws
 pub mod ApplyEffects
 pub mod FirstLaws

@@ -1,5 +1,5 @@
 -- Batches of iterations that are tried.
-use Rattle.std.specs.Prelude.{◌≡◌, ℕ, ◌+◌, ◌<◌, List, length, slice_index, Option, Some, None, if◌then◌else◌}
+use Rattle.std.specs.Prelude.{◌≡◌, ℕ, ◌+◌, ◌<◌, false, List, length, slice_index, Option, Some, None, if◌then◌else◌}
 use Rattle.std.specs.List.{AllByRecursion}
 use Rattle.array_maps.specs.Accesses.{Access}
 use Rattle.array_maps.specs.declared.access.Op.{Op}
@@ -62,7 +62,7 @@ reduced_if_made op entry lane = if has_lane entry.mask lane then Some (reduced_b
 abbrev pub replaced_by : Entry → (lane : ℕ) → Effect
 replaced_by entry lane = record {
   element = element_by entry.site.elements entry.elements lane;
-  deed = Replace (half_by entry lane) (half_of (half_by entry lane) (slice_index entry.values lane));
+  deed = Replace (half_by entry lane) (half_of (half_by entry lane) (slice_index entry.values lane)) false;
 }
 
 abbrev pub replaced_if_made : Entry → (lane : ℕ) → Option Effect

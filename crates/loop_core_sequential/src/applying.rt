@@ -54,7 +54,7 @@ pub(crate) fn apply_effect(entry: &Entry, lanes: u32, maps: &mut Maps)
     }
 }
 
-/// The same of fetches, which leave whole words, or of halves that are replaced.
+/// The same of fetches of words, which leave others, or of halves that are fetched or replaced.
 fn apply_change(entry: &Entry, lanes: u32, maps: &mut Maps)
     requires kind { entry.now.site.kind ≡ access.Both }
     requires some { 0 < lanes }
@@ -66,7 +66,7 @@ fn apply_change(entry: &Entry, lanes: u32, maps: &mut Maps)
       words = words_after_lane_effects (effect_made_by entry.now) lanes maps.old.words;
     } }
 {
-    if entry.site.fetches {
+    if entry.site.leaves_another() {
         apply_entry(entry, lanes, maps);
     } else {
         replace_some(entry, lanes, maps);

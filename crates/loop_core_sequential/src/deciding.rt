@@ -44,7 +44,9 @@ pub(crate) fn are_unloaded(entries: &[Entry], lanes: u32) -> bool
     requires { length entries.now ≤ MOST_ENTRIES }
     ensures { result ≡ true → AllUnloaded lanes (map site_of entries.now) × AllCommute lanes (map site_of entries.now) }
 {
-    if entries.len() <= FEW {
+    if entries.len() == 1 {
+        entries[0].site.spares_itself(lanes)
+    } else if entries.len() <= FEW {
         are_unloaded_among::<FEW>(entries, lanes)
     } else {
         are_unloaded_among::<MOST_ENTRIES>(entries, lanes)

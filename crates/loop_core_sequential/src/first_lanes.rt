@@ -303,7 +303,7 @@ fn apply_if_made(entry: &Entry, lane: u32, maps: &mut Maps)
     }
 }
 
-/// The same of a fetch, or of a half that is replaced.
+/// The same of a fetch of a word, or of a half that is fetched or replaced.
 #[inline(always)]
 fn change_if_made(entry: &Entry, lane: u32, maps: &mut Maps)
     requires kind { entry.now.site.kind ≡ access.Both }
@@ -315,7 +315,7 @@ fn change_if_made(entry: &Entry, lane: u32, maps: &mut Maps)
       words = words_after_any_effect (effect_made_by entry.now lane) maps.old.words;
     } }
 {
-    if entry.site.fetches {
+    if entry.site.leaves_another() {
         store_if_made(entry, lane, maps);
     } else {
         replace_if_made(entry, lane, maps);
