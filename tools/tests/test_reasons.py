@@ -121,6 +121,16 @@ class Meetings(Reasons):
             HELPS + "load or store on each path, before they meet..",
         )
 
+    def test_the_second_register_that_is_read(self) -> None:
+        head = ["maps 1 1", "ldmapval r3, 0, 0", "jeq64 r1, 0, meet", "ldmapval r3, 1, 0", "meet:"]
+        self.has(
+            [*head, "add64 r2, r3", "exit"],
+            "refused V12 at slot 5",
+            "  r3 is written on each path to here, but at slot 5 paths meet",
+            "    from slot   2  jeq64 r1, 0, +2           r3 is in map 0, at byte 0",
+            "    from slot   3  ldmapval r3, 1, 0         r3 is in map 1, at byte 0",
+        )
+
     def test_states(self) -> None:
         head = ["maps 1 1", "ldmapval r2, 0, 0", "jeq64 r1, 0, meet", "ldmapval r2, 1, 0", "meet:"]
         told = explained(*head, "ldx64 r0, [r2+0]", "exit", options=("--states",))
