@@ -5,7 +5,7 @@ use Rattle.std.specs.Fmt.{decimal}
 use Rattle.bpfspec_picture.specs.declared.layout.Layout.{Layout}
 use Rattle.bpfspec_picture.specs.declared.picture.TheConstants.{STYLE}
 use Rattle.bpfspec_picture.specs.Pieces.{text_of}
-use Rattle.bpfspec_picture.specs.Layouts.{capped, half, left, top, right, lower, column_middle, row_middle}
+use Rattle.bpfspec_picture.specs.Layouts.{capped, half, left, top, right, bottom, column_middle, row_middle}
 use Rattle.bpfspec_picture.specs.Layouts.{width, height}
 
 -- a letter as it stands between tags: &, <, > and " are escaped
@@ -57,7 +57,7 @@ title_text title columns rows = heading_text title ++ columns_text columns ++ ro
 -- a line under a column
 unfoldable pub column_line_text : Layout → (column : ℕ) → List ℕ
 column_line_text layout column = text_of (codes "<path class=\"g\" d=\"M" ∷ decimal (column_middle layout column)
-    ∷ codes " " ∷ decimal top ∷ codes "V" ∷ decimal (lower layout) ∷ codes "\"/>\n" ∷ [])
+    ∷ codes " " ∷ decimal top ∷ codes "V" ∷ decimal (bottom layout) ∷ codes "\"/>\n" ∷ [])
 
 -- the number of a column, upright
 unfoldable pub column_number_text : Layout → (column number : ℕ) → List ℕ

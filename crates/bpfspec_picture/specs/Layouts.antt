@@ -37,8 +37,8 @@ top = 88
 abbrev pub right : Layout → ℕ
 right layout = capped (left + capped (layout.columns * layout.cell))
 
-abbrev pub lower : Layout → ℕ
-lower layout = capped (top + capped (layout.rows * layout.cell))
+abbrev pub bottom : Layout → ℕ
+bottom layout = capped (top + capped (layout.rows * layout.cell))
 
 -- the middle of a column, and that of a row
 abbrev pub column_middle : Layout → (column : ℕ) → ℕ
@@ -52,4 +52,4 @@ abbrev pub width : Layout → ℕ
 width layout = max (capped (right layout + 48)) 560
 
 abbrev pub height : Layout → ℕ
-height layout = capped (lower layout + 44)
+height layout = capped (bottom layout + 44)

@@ -69,8 +69,8 @@ fn write_column_line(out: &mut String, layout: &Layout, column: usize) -> Result
 {
     let x = layout.x(column);
     let top = layout.top();
-    let lower = layout.lower();
-    writeln!(out, "<path class=\"g\" d=\"M{x} {top}V{lower}\"/>")
+    let bottom = layout.bottom();
+    writeln!(out, "<path class=\"g\" d=\"M{x} {top}V{bottom}\"/>")
 }
 
 /// Writes the number of a column, upright.

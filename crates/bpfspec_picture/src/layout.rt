@@ -1,7 +1,7 @@
 //! Where things are in a picture, in pixels from its upper left corner.
 
 ghost use Rattle.std.specs.Prelude.{◌≡◌};
-ghost use Rattle.bpfspec_picture.specs.Layouts.{layout_of, half, reach, left, top, right, lower};
+ghost use Rattle.bpfspec_picture.specs.Layouts.{layout_of, half, reach, left, top, right, bottom};
 ghost use Rattle.bpfspec_picture.specs.Layouts.{column_middle, row_middle, width, height};
 
 /// The width of the numbers of rows.
@@ -11,7 +11,7 @@ const LEFT: u32 = 70;
 const TOP: u32 = 88;
 
 /// The height of the legend.
-const BOTTOM: u32 = 44;
+const LEGEND_HEIGHT: u32 = 44;
 
 /// The least width, that of the legend.
 const LEAST_WIDTH: u32 = 560;
@@ -79,8 +79,8 @@ impl Layout {
     }
 
     /// The lower edge of the cells.
-    pub(crate) fn lower(&self) -> u32
-        ensures { result ≡ lower self.now }
+    pub(crate) fn bottom(&self) -> u32
+        ensures { result ≡ bottom self.now }
     {
         TOP.saturating_add(self.rows.saturating_mul(self.cell))
     }
@@ -114,6 +114,6 @@ impl Layout {
     pub(crate) fn height(&self) -> u32
         ensures { result ≡ height self.now }
     {
-        self.lower().saturating_add(BOTTOM)
+        self.bottom().saturating_add(LEGEND_HEIGHT)
     }
 }

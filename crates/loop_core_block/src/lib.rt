@@ -5,17 +5,17 @@
 
 mod batching;
 mod block;
+mod block_run;
 mod folding;
 mod placing;
 mod repeating;
 mod runner;
-mod running;
 mod site_folds;
 mod speculative_loop;
 mod workspace;
 
 pub use block::Block;
+pub use block_run::run_block;
 pub use runner::most_instructions;
-pub use running::run_block;
 pub use speculative_loop::SpeculativeLoop;
 pub use workspace::BlockWorkspace;

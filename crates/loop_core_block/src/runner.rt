@@ -131,13 +131,13 @@ impl<'c, 'a> Runner<'c, 'a> {
         while index < past {
             let to = index + MOST.min(past - index);
             take_turns(gate, index, to);
-            if self.together(of, &mut batch, index, to)? {
+            if self.run_as_batch(of, &mut batch, index, to)? {
                 pause = MOST;
                 index = to;
                 continue;
             }
             let next = to.saturating_add(pause).min(past);
-            if let Some(broke) = self.alone(of.alloc, index, to, next, gate)? {
+            if let Some(broke) = self.run_without_batch(of.alloc, index, to, next, gate)? {
                 return Ok(Some(broke));
             }
             pause = pause.saturating_mul(4).min(LONGEST_PAUSE);
@@ -147,7 +147,7 @@ impl<'c, 'a> Runner<'c, 'a> {
     }
 
     /// Runs the iterations from an index up to another together, where they can be; else it does nothing.
-    fn together(
+    fn run_as_batch(
         &mut self,
         of: &SpeculativeLoop<'c, 'a>,
         batch: &mut Batch,
@@ -229,7 +229,7 @@ impl<'c, 'a> Runner<'c, 'a> {
 
     /// Runs one by one the iterations from an index up to another, for which the gate was called, and on from
     /// there up to a third.
-    fn alone<G: Gate>(
+    fn run_without_batch<G: Gate>(
         &mut self,
         alloc: Global,
         index: u32,

@@ -13,7 +13,7 @@ ghost use Rattle.loop_core_block.specs.Batches.{HasElement, IsRow};
 ghost use Rattle.loop_core_block.specs.Folding.{lead_of, EndsSite, PlanesFold, CopyFolds};
 ghost use Rattle.loop_core_block.specs.Placing.{HasPlace};
 
-use crate::folding::lead;
+use crate::folding::flags_if_first;
 use bpf_step_batch::Entry;
 use loop_core_batch::Elements;
 use loop_core_model::Access;
@@ -123,7 +123,7 @@ fn end_site(
     ensures { EndsSite (lead_of (map site_of before.now) entry.now.site (map site_of behind.now)) planes.old planes.new
         (element_by entry.now.site.elements entry.now.elements) lanes index }
 {
-    let Some(flags) = lead(before, entry, behind) else {
+    let Some(flags) = flags_if_first(before, entry, behind) else {
         return;
     };
     match entry.site.elements {

@@ -19,8 +19,8 @@ mod adding;
 mod function_end;
 mod identity;
 mod partial_sum;
+mod range_sums;
 mod round;
-mod running;
 mod sum_loop;
 
 pub use partial_sum::PartialSum;

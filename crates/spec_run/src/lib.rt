@@ -15,16 +15,16 @@ mod by_plan;
 mod freed_memory;
 mod in_order;
 mod observing;
+mod program_in_order;
 mod report;
-mod running;
 mod speculating;
 mod stats;
 
 pub use loop_core_model::{LoopReport, Test, Verdict};
 pub use loop_core_split::{Gate, NoGate};
 pub use observing::{Observer, Unobserved};
+pub use program_in_order::run_in_order;
 pub use report::Report;
-pub use running::run_in_order;
 pub use spec_run_loop::{
     BlocksReason, Course, LoopAnswer, LoopOutcome, LoopRun, RunError, SpeculativeLoop, run_loop,
     work,

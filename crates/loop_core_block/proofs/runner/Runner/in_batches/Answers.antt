@@ -12,8 +12,8 @@ loop-index-init g c = record {
   ran = ran_none c.args.self.now c.args.first;
 }
 
-pub together-requires-clause-so_far : goal.together-requires-clause-so_far
-together-requires-clause-so_far g c = so_far c.args.first c.loop-index.index c.args.self.now c.loop-index.self
+pub run_as_batch-requires-clause-so_far : goal.run_as_batch-requires-clause-so_far
+run_as_batch-requires-clause-so_far g c = so_far c.args.first c.loop-index.index c.args.self.now c.loop-index.self
     c.loop-index.invariant.ran c.requires.so_far
 
 pub loop-index-preserved-then-branch : goal.loop-index-preserved-then-branch
@@ -23,49 +23,52 @@ loop-index-preserved-then-branch g c =
       from = omega (arith, from);
       within = omega (arith, c.min.ensures);
       ran = ran_both c.args.first c.loop-index.index (c.loop-index.index + c.min.result) c.args.self.now
-          c.loop-index.self c.together.new.self None from (omega arith) c.loop-index.invariant.ran
+          c.loop-index.self c.run_as_batch.new.self None from (omega arith) c.loop-index.invariant.ran
           (subst (λ (went : Bool). RanTogether c.loop-index.index (c.loop-index.index + c.min.result) c.loop-index.self
-          c.together.new.self went) c.if-branch.true c.in_ok-together.ensures.ran);
+          c.run_as_batch.new.self went) c.if-branch.true c.in_ok-run_as_batch.ensures.ran);
     }
 
-pub alone-requires-clause-so_far : goal.alone-requires-clause-so_far
-alone-requires-clause-so_far g c κs within =
-    let same : c.together.new.self ≡ c.loop-index.self =
+pub run_without_batch-requires-clause-so_far : goal.run_without_batch-requires-clause-so_far
+run_without_batch-requires-clause-so_far g c κs within =
+    let same : c.run_as_batch.new.self ≡ c.loop-index.self =
     subst (λ (went : Bool). RanTogether c.loop-index.index (c.loop-index.index + c.min.result) c.loop-index.self
-    c.together.new.self went) c.if-branch.false c.in_ok-together.ensures.ran in
+    c.run_as_batch.new.self went) c.if-branch.false c.in_ok-run_as_batch.ensures.ran in
     subst (λ (r : Runner). (first : ℕ) × (ran : List Iterated) × RunnerHasRun first c.loop-index.index ran r) (sym same)
     (so_far c.args.first c.loop-index.index c.args.self.now c.loop-index.self c.loop-index.invariant.ran
     c.requires.so_far)
 
 pub returns-in-Some : goal.returns-in-Some
 returns-in-Some g c =
-    let same : c.together.new.self ≡ c.loop-index.self =
+    let same : c.run_as_batch.new.self ≡ c.loop-index.self =
     subst (λ (went : Bool). RanTogether c.loop-index.index (c.loop-index.index + c.min.result) c.loop-index.self
-    c.together.new.self went) c.if-branch.false c.in_ok-together.ensures.ran in
+    c.run_as_batch.new.self went) c.if-branch.false c.in_ok-run_as_batch.ensures.ran in
     let from = c.loop-index.invariant.from in
     let up : c.loop-index.index ≤ c.min-next.result = omega (arith, c.min-next.ensures, c.saturating_add.ensures) in
     let on : c.min-next.result ≤ c.args.past = omega (arith, c.min-next.ensures) in
     record {
-      ran = ran_to_break c.args.first c.min-next.result c.args.past c.in-Some.broke c.args.self.now c.alone.new.self
+      ran = ran_to_break c.args.first c.min-next.result c.args.past c.in-Some.broke c.args.self.now
+          c.run_without_batch.new.self
           (omega (arith, from, up)) on
           (ran_on c.args.first c.loop-index.index c.min-next.result c.args.self.now c.loop-index.self
-          c.together.new.self c.alone.new.self _ from up c.loop-index.invariant.ran same
-          (subst (λ (o : Option ℕ). RanMore c.loop-index.index c.min-next.result c.together.new.self c.alone.new.self o)
+          c.run_as_batch.new.self c.run_without_batch.new.self _ from up c.loop-index.invariant.ran same
+          (subst (λ (o : Option ℕ). RanMore c.loop-index.index c.min-next.result c.run_as_batch.new.self
+          c.run_without_batch.new.self o)
           c.in-Some.is c.in_ok-broke.ensures.ran));
     }
 
 pub loop-index-preserved : goal.loop-index-preserved
 loop-index-preserved g c =
-    let same : c.together.new.self ≡ c.loop-index.self =
+    let same : c.run_as_batch.new.self ≡ c.loop-index.self =
     subst (λ (went : Bool). RanTogether c.loop-index.index (c.loop-index.index + c.min.result) c.loop-index.self
-    c.together.new.self went) c.if-branch.false c.in_ok-together.ensures.ran in
+    c.run_as_batch.new.self went) c.if-branch.false c.in_ok-run_as_batch.ensures.ran in
     let from = c.loop-index.invariant.from in
     let up : c.loop-index.index ≤ c.min-next.result = omega (arith, c.min-next.ensures, c.saturating_add.ensures) in
     record {
       from = omega (arith, from, up);
       within = omega (arith, c.min-next.ensures);
       ran = ran_on c.args.first c.loop-index.index c.min-next.result c.args.self.now c.loop-index.self
-          c.together.new.self c.alone.new.self None from up c.loop-index.invariant.ran same
-          (subst (λ (o : Option ℕ). RanMore c.loop-index.index c.min-next.result c.together.new.self c.alone.new.self o)
+          c.run_as_batch.new.self c.run_without_batch.new.self None from up c.loop-index.invariant.ran same
+          (subst (λ (o : Option ℕ). RanMore c.loop-index.index c.min-next.result c.run_as_batch.new.self
+          c.run_without_batch.new.self o)
           c.in_default.is c.in_ok-broke.ensures.ran);
     }

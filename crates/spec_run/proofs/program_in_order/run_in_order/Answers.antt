@@ -1,7 +1,7 @@
 use Rattle.std.proofs.Common.{rules}
 use Rattle.loop_core_model.specs.Report.{loop_report_in_order}
 use Rattle.spec_run.proofs.Reported.{report_of}
-use Rattle.spec_run.proofs.running.run_in_order.Goals as goal
+use Rattle.spec_run.proofs.program_in_order.run_in_order.Goals as goal
 
 pub returns-clause-ran : goal.returns-clause-ran
 returns-clause-ran c = report_of loop_report_in_order (record {

@@ -2,7 +2,7 @@ use Rattle.std.proofs.Common.{◌≡◌, ◌+◌, ◌-◌, ℕ, None, subst, ari
 use Rattle.bpf_step_batch.specs.Logs.{entries_of}
 use Rattle.loop_core_block.specs.Runs.{RanMore}
 use Rattle.loop_core_block.proofs.RunLaws.{lanes_of, logged_of}
-use Rattle.loop_core_block.proofs.runner.Runner.together.Goals as goal
+use Rattle.loop_core_block.proofs.runner.Runner.run_as_batch.Goals as goal
 
 pub fold-requires-clause-are : goal.fold-requires-clause-are
 fold-requires-clause-are c = lanes_of c.args.of.now _ c.args.self.now (entries_of c.run_together.new.batch)

@@ -2,7 +2,7 @@ use Rattle.std.proofs.Common.{ℕ, Option, subst}
 use Rattle.std.proofs.lemmas.Result.{IfOk-weaker}
 use Rattle.loop_core_block.specs.Runs.{RanMore}
 use Rattle.loop_core_block.proofs.RunLaws.{ran_both, ran_to_break, so_far}
-use Rattle.loop_core_block.proofs.runner.Runner.alone.Goals as goal
+use Rattle.loop_core_block.proofs.runner.Runner.run_without_batch.Goals as goal
 
 pub returns-in-Some : goal.returns-in-Some
 returns-in-Some g c = record {
