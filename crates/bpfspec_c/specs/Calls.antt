@@ -1,5 +1,5 @@
--- What the calls of the library give. Each has the handle's machine before and after it, its status, and what stood
--- where it writes before and after it.
+-- What the calls of the library give. Each has the handle's machine before and after it, its status, and the
+-- contents of what it writes to, before and after it.
 use Rattle.std.specs.Prelude.{◌≡◌, ℕ, ℤ, Bool, true, false, if◌then◌else◌, ◌==◌, List, length, slice_get}
 use Rattle.std.specs.Prelude.{Option, Some, None, Result, Ok, Err, Box}
 use Rattle.std.specs.declared.alloc.Global.{Global}
@@ -14,7 +14,8 @@ use Rattle.bpfspec_c.specs.declared.loop_line.LoopLine.{LoopLine}
 use Rattle.bpfspec_c.specs.Refusals.{error_status, told_after}
 use Rattle.bpfspec_c.specs.Statuses as status
 
--- what came of an empty handle that a machine was made for, or not: it holds the machine; or it is empty, and why is told
+-- what came of an empty handle that a machine was made for, or not: it holds the machine; or it is empty, and the
+-- reason is reported
 abbrev pub Holds : Result (Box MachineState Global) LoadError → (new : Option MachineState) → (result : ℤ)
     → (before after : Refusal) → Type 0
 Holds (Ok machine) new result before after =

@@ -1,5 +1,5 @@
--- What the calls that print give. Each has its status, and what stood in the buffer and where the size is written, before
--- and after it.
+-- What the calls that print give. Each has its status, and the contents of the buffer and of the size that is written,
+-- before and after it.
 use Rattle.std.specs.Prelude.{◌≡◌, ℕ, ℤ, Bool, true, false, nat_le, List, ◌++◌, length, drop}
 use Rattle.std.specs.Prelude.{Option, Some, None, IfSome, Result, Ok, Err}
 use Rattle.bpfspec_serve.specs.declared.serving.Served.{Served}
@@ -9,7 +9,7 @@ use Rattle.bpfspec_answers.specs.declared.printed.Printed.{Printed}
 use Rattle.bpfspec_answers.specs.Printing.{answer_of}
 use Rattle.bpfspec_c.specs.Statuses as status
 
--- the status of an answer, as the program's exit status tells it: accepted, refused, or no text of its form
+-- the status of an answer, which says what the program's exit status does: accepted, refused, or no text of its form
 abbrev pub answer_status : Served → ℤ
 answer_status served.Done = status.done
 answer_status served.Refused = status.refused

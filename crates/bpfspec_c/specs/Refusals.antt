@@ -15,7 +15,7 @@ error_status (Codec fault slot) = status.malformed
 error_status (Rule rule slot) = status.refused
 error_status Memory = status.memory
 
--- the letter, the number and the line or slot of an error: A, I or V; where memory ran out, what was told before
+-- the letter, the number and the line or slot of an error: A, I or V; where memory ran out, what was reported before
 abbrev pub told_after : LoadError → (before : Refusal) → Refusal
 told_after (Text fault line) before = record { kind = 65; number = text_fault_number fault; place = line }
 told_after (Codec fault slot) before = record { kind = 73; number = codec_fault_number fault; place = slot }

@@ -20,7 +20,7 @@ pub extern "C" fn bpfspec_version() -> u32
     1
 }
 
-/// Puts a machine into an empty handle, or tells why there is none.
+/// Puts a machine into an empty handle, or reports why there is none.
 fn hold(machine: &mut Loaded, loaded: Result<Box<Machine>, LoadError>, refusal: &mut Refusal) -> i32
     requires { machine.old.held.machine ≡ None }
     ensures { Holds loaded machine.new.held.machine result refusal.old refusal.new }

@@ -17,9 +17,9 @@ pub struct Options {
     pub lrpd: bool,
     /// Whether each instruction is shown with the registers that it reads.
     pub states: bool,
-    /// Whether up to 64 elements that conflict are told of each loop, and not the least alone.
+    /// Whether up to 64 elements that conflict are explained of each loop, and not the least alone.
     pub all: bool,
-    /// Whether a picture is drawn in place of what is told, if a loop conflicts.
+    /// Whether a picture is drawn in place of the explanation, if a loop conflicts.
     pub picture: bool,
 }
 

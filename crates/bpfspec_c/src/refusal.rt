@@ -29,7 +29,7 @@ pub(crate) fn error_status(error: &LoadError) -> i32
     }
 }
 
-/// The refusal of an error; where there was no memory, what was told before.
+/// The refusal of an error; where there was no memory, what was reported before.
 pub(crate) fn told_after(error: &LoadError, before: Refusal) -> Refusal
     ensures { result ≡ told_after error.now before }
 {

@@ -20,7 +20,7 @@ width_of W = W32
 width_of H = W32
 width_of B = W32
 
--- what an atomic operation does: it reduces, unless it tells what was there
+-- what an atomic operation does: it reduces, unless it returns what was there
 abbrev pub atomic_deed : Width → AtomicOp → Deed
 atomic_deed width (Simple op) = Reduces width op
 atomic_deed width (Fetch op) = Fetches op
@@ -53,7 +53,7 @@ abbrev pub object : Width → List ℕ
 object W64 = codes "it"
 object W32 = codes "half of it"
 
--- what is done, so that it can stand after "iteration 7"
+-- what is done, in words that can follow "iteration 7"
 abbrev pub deed_words : Deed → List ℕ
 deed_words (Reads W64) = codes "reads it"
 deed_words (Reads W32) = codes "reads half of it"

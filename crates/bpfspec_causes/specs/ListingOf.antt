@@ -1,4 +1,4 @@
--- A program as it is told.
+-- A program as it is listed.
 use Rattle.std.specs.Prelude.{ℕ, List}
 use Rattle.bpf_insn_types.specs.Program.{Program}
 

@@ -1,4 +1,4 @@
--- What is told of loop calls.
+-- The explanation of loop calls, in words.
 use Rattle.std.specs.Prelude.{ℕ, ◌-◌, ◌==◌, nat_lt, if◌then◌else◌, ℤ, negsuc, List, [], ◌++◌, length, codes}
 use Rattle.std.specs.Prelude.{Option, Some, None, slice_get}
 use Rattle.std.specs.Fmt.{decimal}
@@ -86,7 +86,7 @@ more_text count =
     else if count == 1 then codes "  and 1 element more\n"
     else codes "  and " ++ decimal count ++ codes " elements more\n"
 
--- how many conflict that aren't told, where so many are
+-- how many conflict beside the `told` ones that are explained
 abbrev pub rest_text : Verdict → ℕ → List ℕ
 rest_text (Conflict count least) told = more_text (count - told)
 rest_text Parallel told = []
@@ -110,7 +110,7 @@ below_line listing told arguments Parallel = made_text listing told
 below_line listing told arguments (Conflict count least) = made_text listing told
 below_line listing told arguments InOrder = made_text listing told
 
--- what is told at a place, if there is one
+-- the arguments at a place, if there is one and they are reported
 abbrev pub told_there : Option (Option LoopArguments) → Option LoopArguments
 told_there None = None
 told_there (Some told) = told

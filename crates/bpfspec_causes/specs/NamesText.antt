@@ -44,7 +44,7 @@ byte_of_parts (Some parts) = place_numbers parts.0 parts.1
 abbrev pub byte_of_element : List ℕ → Option (ℕ × ℕ)
 byte_of_element rest = byte_of_parts (cut_at (codes " of element ") rest)
 
--- either of them, where "byte " stands before the second
+-- either of them, where "byte " comes before the second
 abbrev pub place_after_byte : List ℕ → Option (List ℕ) → Option (ℕ × ℕ)
 place_after_byte place None = whole_element place
 place_after_byte place (Some rest) = byte_of_element rest
@@ -116,15 +116,15 @@ last_begun at earlier number [] = earlier
 last_begun at earlier number (variable ∷ variables) =
     last_begun at (if has_begun at variable then Some number else earlier) (number + 1) variables
 
--- its name, if it does, after what parts it from what stands before
+-- its name, if it does, after a separator
 abbrev pub name_inside : (at : ℕ) → (parted : List ℕ) → VariableOf → List ℕ
 name_inside at parted variable = if begins_inside at variable then parted ++ shown_name variable.name else []
 
--- what parts the next name from what stands before
+-- the separator before the next name
 abbrev pub parted_after : (at : ℕ) → (parted : List ℕ) → VariableOf → List ℕ
 parted_after at parted variable = if begins_inside at variable then codes " and " else parted
 
--- the names of the variables that begin inside an element, after what parts the first from what stands before
+-- the names of the variables that begin inside an element, the first after this separator
 abbrev pub inside_text : (at : ℕ) → (parted : List ℕ) → List VariableOf → List ℕ
 inside_text at parted [] = []
 inside_text at parted (variable ∷ variables) =

@@ -1,4 +1,4 @@
--- What is told of a replay that is refused, in words.
+-- Why a replay is refused, in words.
 use Rattle.std.specs.Prelude.{ℕ, ◌+◌, ◌==◌, ◌&&◌, nat_lt, Bool, true, false, if◌then◌else◌, List, [], ◌∷◌, ◌++◌, length}
 use Rattle.std.specs.Prelude.{codes, slice_get, slice_index, Option, Some, None}
 use Rattle.std.specs.Fmt.{decimal}
@@ -114,7 +114,7 @@ unended all [] = None
 unended all (event ∷ events) =
     if list_any (stops event.worker) all then unended all events else Some event.worker
 
--- which worker hasn't stopped by the end of so many events (E3)
+-- which worker hasn't stopped by the end of this many events (E3)
 unfoldable pub no_event : List ℕ
 no_event = codes "  there is no event: at least one worker claims, and stops\n"
 
@@ -149,7 +149,7 @@ refusal_of NoLoop = refusals.NoLoop
 refusal_of (Split fault) = refusals.Split fault
 refusal_of (Schedule fault) = refusals.Schedule fault
 
--- what is told of a replay that is refused: the refusal, what it means of these bounds and events, and where there is
+-- why a replay is refused: the refusal, what it means of these bounds and events, and where there is
 -- more of it
 abbrev pub refused_replay : ReplayRefusal → (bounds : List ℕ) → List Event → List ℕ
 refused_replay refusal bounds events =

@@ -10,11 +10,11 @@ use bpf_insn_types::{AtomicOp, Insn, SimpleOp, Size, Width};
 pub(crate) enum Deed {
     Reads(Width),
     Writes(Width),
-    /// It changes it by an operator, and doesn't tell what was there.
+    /// It changes it by an operator, and doesn't return what was there.
     Reduces(Width, SimpleOp),
-    /// It does the same, and tells what was there.
+    /// It does the same, and returns what was there.
     Fetches(SimpleOp),
-    /// It stores another value, always or where the element equals one, and tells what was there.
+    /// It stores another value, always or where the element equals one, and returns what was there.
     Exchanges,
 }
 

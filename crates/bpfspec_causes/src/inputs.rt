@@ -18,7 +18,7 @@ use bpfspec_reasons::Page;
 use spec_run_explain::explain_loops;
 use std::alloc::{AllocError, Global};
 
-/// What is told of a program whose maps are refused.
+/// What is printed of a program whose maps are refused.
 fn refused_maps(alloc: Global, refusal: Refusal) -> Result<String, AllocError>
     ensures { IfOk result (λ out. string_bytes out ≡ refused_maps refusal) }
 {
@@ -27,7 +27,7 @@ fn refused_maps(alloc: Global, refusal: Refusal) -> Result<String, AllocError>
     Ok(out)
 }
 
-/// What is told of the loops of a program that starts with these maps, which are of its sizes.
+/// The explanation of the loops of a program that starts with these maps, which are of its sizes.
 fn causes_from(
     alloc: Global,
     wish: &Wish,
@@ -53,7 +53,7 @@ fn causes_from(
     Ok(out)
 }
 
-/// What is told of an accepted program with its text, the page of that, and the section of its maps.
+/// The explanation of an accepted program with its text, the page of that, and the section of its maps.
 fn causes_of_program(
     alloc: Global,
     wish: &Wish,
@@ -74,8 +74,8 @@ fn causes_of_program(
     }
 }
 
-/// What is told of the loops of a unit in assembler text that starts with the maps of a section, or that these maps are
-/// refused. It is empty of a unit that isn't accepted. Memory may run out.
+/// The explanation of the loops of a unit in assembler text that starts with the maps of a section, or that these maps
+/// are refused. It is empty of a unit that isn't accepted. Memory may run out.
 pub fn causes_of_text(
     alloc: Global,
     wish: &Wish,

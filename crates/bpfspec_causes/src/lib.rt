@@ -10,8 +10,8 @@
 //!   and 31 elements more
 //! ```
 //!
-//! Of an element that is reduced, the first access is told too that isn't a reduce by the same operator, and what mends
-//! it.
+//! Of an element that is reduced, the first access is shown too that isn't a reduce by the same operator, and what
+//! mends it.
 #![tactic(auto)]
 
 mod bounds;

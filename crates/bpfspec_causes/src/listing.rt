@@ -1,4 +1,4 @@
-//! A program as it is told.
+//! A program as it is listed.
 
 ghost use Rattle.std.specs.Prelude.{◌≡◌};
 ghost use Rattle.bpfspec_reasons.specs.Printed.{page_of};
@@ -7,7 +7,7 @@ use bpf_insn_types::Unit;
 use bpfspec_reasons::Page;
 use std::marker::Model;
 
-/// A program as it is told: its text, which is empty of a unit in hex form, the page of that text, and the unit. In
+/// A program as it is listed: its text, which is empty of a unit in hex form, the page of that text, and the unit. In
 /// contracts it is the text and the program.
 #[derive(Drop)]
 pub(crate) struct Listing<'a> {

@@ -228,7 +228,7 @@ fn write_more(out: &mut String, count: usize) -> Result<(), AllocError>
     write!(out, "  and {count} elements more\n")
 }
 
-/// Writes how many elements conflict that aren't told, where so many are.
+/// Writes how many elements conflict beside the `told` ones that are explained.
 fn write_rest(out: &mut String, verdict: Verdict, told: usize) -> Result<(), AllocError>
     ensures { OnOk result (string_bytes out.new ≡ string_bytes out.old ++ rest_text verdict told) }
 {
@@ -300,7 +300,7 @@ fn arguments_at(arguments: &[Option<LoopArguments>], number: usize) -> Option<Lo
     }
 }
 
-/// Writes what is told of a loop call, which has this number.
+/// Writes the explanation of a loop call, which has this number.
 fn write_loop(
     out: &mut String,
     alloc: Global,
@@ -316,7 +316,7 @@ fn write_loop(
     write_below(out, alloc, listing, told, arguments_at(arguments, number))
 }
 
-/// Writes what is told of a program's loop calls, with the arguments of those that are refused.
+/// Writes the explanation of a program's loop calls, with the arguments of those that are refused.
 pub(crate) fn write_loops(
     out: &mut String,
     alloc: Global,

@@ -160,7 +160,7 @@ fn name_in(line: &str, map: usize) -> Option<&str>
     }
 }
 
-/// The name of a map that is no section, if the comments tell it.
+/// The name of a map that is no section, if the comments give it.
 fn map_name(text: &str, map: usize) -> Option<&str>
     ensures { option_copied result ≡ map_name map (lines_of text.now) }
 {
@@ -186,7 +186,7 @@ fn shown_name(name: &str) -> &str
     front
 }
 
-/// Writes a name, after what parts it from what stands before.
+/// Writes a name, after a separator.
 fn write_name(out: &mut String, parted: &str, name: &str) -> Result<(), AllocError>
     ensures { OnOk result (string_bytes out.new ≡ string_bytes out.old ++ (parted.now ++ shown_name name.now)) }
 {
@@ -242,7 +242,7 @@ fn last_begun(at: u32, variables: &[Variable<'_>]) -> Option<usize>
     last
 }
 
-/// Writes the name of a variable that begins inside an element, after what parts it from what stands before.
+/// Writes the name of a variable that begins inside an element, after a separator.
 fn write_if_inside(
     out: &mut String,
     at: u32,
@@ -257,7 +257,7 @@ fn write_if_inside(
     write_name(out, parted, variable.name())
 }
 
-/// What parts the next name from what stands before.
+/// The separator before the next name.
 fn parted_after(at: u32, parted: &'static str, variable: &Variable<'_>) -> &'static str
     ensures { result.now ≡ parted_after at parted.now variable.now }
 {
@@ -268,7 +268,7 @@ fn parted_after(at: u32, parted: &'static str, variable: &Variable<'_>) -> &'sta
     }
 }
 
-/// Writes the names of the variables that begin inside an element, after what parts the first from what stands before.
+/// Writes the names of the variables that begin inside an element, the first after this separator.
 fn write_inside(
     out: &mut String,
     at: u32,

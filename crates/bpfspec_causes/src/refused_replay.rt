@@ -260,7 +260,7 @@ fn write_no_event(out: &mut String) -> Result<(), AllocError>
     out.push_str("  there is no event: at least one worker claims, and stops\n")
 }
 
-/// Writes that so many events are all.
+/// Writes that the list ends after this many events.
 #[tactic(auto, unfolding(crate::specs::ReplayText::list_end))]
 fn write_list_end(out: &mut String, count: usize) -> Result<(), AllocError>
     ensures { OnOk result (string_bytes out.new ≡ string_bytes out.old ++ list_end count) }
@@ -284,7 +284,7 @@ fn write_missing_stop(out: &mut String, worker: u8) -> Result<(), AllocError>
     writeln!(out, "`s{worker}` is missing")
 }
 
-/// Writes which worker hasn't stopped by the end of so many events.
+/// Writes which worker hasn't stopped by the end of this many events.
 fn write_unended(out: &mut String, count: usize, worker: Option<u8>) -> Result<(), AllocError>
     ensures { OnOk result (string_bytes out.new ≡ string_bytes out.old ++ unended_line count worker) }
 {
@@ -348,7 +348,7 @@ fn refusal_of(refusal: ReplayRefusal) -> Refusal
     }
 }
 
-/// What is told of a replay with these bounds and events that is refused.
+/// Why a replay with these bounds and events is refused, in words.
 pub(crate) fn refused_replay(
     alloc: Global,
     refusal: ReplayRefusal,

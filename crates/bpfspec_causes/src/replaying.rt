@@ -1,4 +1,4 @@
-//! From the sections of an input to what is told of its replay.
+//! From the sections of an input to the explanation of its replay.
 
 ghost use Rattle.std.specs.Prelude.{◌≡◌, IfOk, Some, option_map};
 ghost use Rattle.std.specs.String.{string_bytes};
@@ -16,7 +16,7 @@ use loop_core_model::Test;
 use spec_run_replay::{NoReplay, replay};
 use std::alloc::{AllocError, Global};
 
-/// What is told of the replay of a program on these maps, which are of its sizes, with these bounds and events.
+/// The explanation of the replay of a program on these maps, which are of its sizes, with these bounds and events.
 fn replay_listed(
     alloc: Global,
     argument: u64,
@@ -41,7 +41,7 @@ fn replay_listed(
     }
 }
 
-/// What is told of the replay of a program on these maps, which are of its sizes, with a section of events.
+/// The explanation of the replay of a program on these maps, which are of its sizes, with a section of events.
 fn replay_section(
     alloc: Global,
     argument: u64,
@@ -66,7 +66,7 @@ fn replay_section(
     }
 }
 
-/// What is told of the replay of a program with the sections of its maps and of events.
+/// The explanation of the replay of a program with the sections of its maps and of events.
 fn replay_of_program(
     alloc: Global,
     argument: u64,

@@ -9,6 +9,6 @@ pub struct Wish {
     pub argument: u64,
     /// The test by which loops conflict.
     pub test: Test,
-    /// Of each loop, how many elements are told at most.
+    /// Of each loop, how many elements are explained at most.
     pub most: u32,
 }

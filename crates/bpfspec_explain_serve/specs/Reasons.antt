@@ -1,4 +1,4 @@
--- What is told of an input after the answer of `verify`: its reasons, before they are shown.
+-- The explanation of an input, printed after the answer of `verify`: its reasons, before they are shown.
 use Rattle.std.specs.Prelude.{◌≡◌, ℕ, nat_eq, nat_lt, ◌==◌, ◌&&◌, ◌||◌, not, Bool, true, false, if◌then◌else◌}
 use Rattle.std.specs.Prelude.{List, [], ◌∷◌, ◌++◌, codes, length, Option, Some, None, Result, Ok, Err}
 use Rattle.std.specs.List.{starts_with}
@@ -24,7 +24,7 @@ is_object input = starts_with nat_eq input (127 ∷ 69 ∷ 76 ∷ 70 ∷ [])
 abbrev pub has_mark : List ℕ → Bool
 has_mark input = starts_with nat_eq input (255 ∷ 254 ∷ []) || starts_with nat_eq input (254 ∷ 255 ∷ [])
 
--- what is told of an input that is no text
+-- why an input is no text, in words
 abbrev pub object_words : List ℕ
 object_words = codes "  this is an object of clang: tools/bpfrun or tools/elf2unit reads it\n"
 
@@ -38,7 +38,7 @@ length_words = codes "  an input has at most 3145728 bytes\n"
 abbrev pub bytes_words : List ℕ
 bytes_words = codes "  the input isn't UTF-8\n"
 
--- an input as a text, or what is told of one that is none: it is an object or in UTF-16, or has more than 3,145,728
+-- an input as a text, or why it is none: it is an object or in UTF-16, or has more than 3,145,728
 -- bytes, or other bytes than UTF-8
 abbrev pub text_of : List ℕ → Result (List ℕ) (List ℕ)
 text_of input =
@@ -47,7 +47,7 @@ text_of input =
     else if nat_lt 3145728 (length input) then Err length_words
     else if is_utf8 input then Ok input else Err bytes_words
 
--- what is told of a unit: why it is refused, and its states, if they are asked for
+-- the explanation of a unit: why it is refused, and its states, if they are asked for
 abbrev pub TellsOfUnit : UnitForm → Extent → (unit told : List ℕ) → Type 0
 TellsOfUnit Assembler extent unit told = TellsUnitOfText extent unit told
 TellsOfUnit Hex extent unit told = TellsUnitOfHex extent unit told
@@ -56,7 +56,7 @@ TellsOfUnit Hex extent unit told = TellsUnitOfHex extent unit told
 abbrev pub wish_of : Ask → Wish
 wish_of ask = record { argument = ask.argument; test = ask.test; most = if ask.all then 64 else 1 }
 
--- what is told of the loops of an accepted unit on the maps of a section; of another unit nothing
+-- the explanation of the loops of an accepted unit on the maps of a section; empty of another unit
 abbrev pub TellsOfLoops : UnitForm → Wish → (unit maps told : List ℕ) → Type 0
 TellsOfLoops Assembler wish unit maps told = TellsOfText wish unit maps told
 TellsOfLoops Hex wish unit maps told = TellsOfHex wish unit maps told
@@ -66,17 +66,17 @@ abbrev pub has_more : Served → (maps events : List ℕ) → Bool
 has_more Done maps events = not ((length maps == 0) && (length events == 0))
 has_more _ maps events = false
 
--- what is told of the replay of an accepted unit with the values and events of its sections
+-- the explanation of the replay of an accepted unit with the values and events of its sections
 abbrev pub TellsOfReplay : UnitForm → Ask → (unit maps events : List ℕ) → (told : Option (List ℕ)) → Type 0
 TellsOfReplay Assembler ask unit maps events told = TellsReplayOfText ask.test ask.argument unit maps events told
 TellsOfReplay Hex ask unit maps events told = TellsReplayOfHex ask.test ask.argument unit maps events told
 
--- what is told of the values and events of an accepted unit by themselves
+-- the explanation of the values and events of an accepted unit by themselves
 abbrev pub TellsOfGiven : UnitForm → (unit maps events told : List ℕ) → Type 0
 TellsOfGiven Assembler unit maps events told = TellsGivenOfText unit maps events told
 TellsOfGiven Hex unit maps events told = TellsGivenOfHex unit maps events told
 
--- where there is no replay, since values or events are refused by themselves, that is told
+-- where there is no replay, since values or events are refused by themselves, that is explained
 abbrev pub TellsAfterReplay : Option (List ℕ) → UnitForm → (unit maps events told : List ℕ) → Type 0
 TellsAfterReplay (Some replay) form unit maps events told = told ≡ replay
 TellsAfterReplay None form unit maps events told = TellsOfGiven form unit maps events told
@@ -86,12 +86,12 @@ pub record TellsOfSections (ask : Ask) (unit maps events told : List ℕ) : Type
   pub of_replay : TellsOfReplay ask.form ask unit maps events replay
   pub whole : TellsAfterReplay replay ask.form unit maps events told
 
--- what is told of values and events, where there are some of an accepted unit; else nothing
+-- the explanation of values and events, where there are some of an accepted unit; else empty
 abbrev pub TellsOfMore : Bool → Ask → (unit maps events told : List ℕ) → Type 0
 TellsOfMore true ask unit maps events told = TellsOfSections ask unit maps events told
 TellsOfMore false ask unit maps events told = told ≡ []
 
--- what is told of a text: of its unit, of its loops, and of its values and events
+-- the explanation of a text: of its unit, of its loops, and of its values and events
 pub record TellsText (ask : Ask) (verified : Served) (text told : List ℕ) : Type 0 where
   pub unit : List ℕ
   pub loops : List ℕ
@@ -102,7 +102,7 @@ pub record TellsText (ask : Ask) (verified : Served) (text told : List ℕ) : Ty
       (maps_section text) (events_section text) more
   pub whole : told ≡ unit ++ (loops ++ more)
 
--- what is told of an input that is a text or is none
+-- the explanation of an input that is a text or is none
 abbrev pub Tells : Ask → (verified : Served) → Result (List ℕ) (List ℕ) → (told : List ℕ) → Type 0
 Tells ask verified (Ok text) told = TellsText ask verified text told
 Tells ask verified (Err words) told = told ≡ words

@@ -1,4 +1,4 @@
--- What is told holds parts of an untrusted text; how its bytes are shown, so that none controls a terminal.
+-- An explanation holds parts of an untrusted text; how its bytes are shown, so that none controls a terminal.
 use Rattle.std.specs.Prelude.{◌≡◌, ℕ, ◌+◌, ◌/◌, ◌%◌, ◌==◌, ◌&&◌, ◌||◌, not, nat_lt, Bool, true, if◌then◌else◌}
 use Rattle.std.specs.Prelude.{List, [], ◌∷◌}
 use Rattle.std.specs.List.{flat_map, list_all}

@@ -76,7 +76,7 @@ fn top_command<'a>(alloc: Global) -> Result<Command<'a>, AllocError>
     Ok(command)
 }
 
-/// The command, as clap is told of it.
+/// The command, as clap parses it.
 pub(crate) fn explain_command<'a>(alloc: Global) -> Result<Command<'a>, AllocError>
     ensures { IfOk result (IsCommand explain_app) }
 {

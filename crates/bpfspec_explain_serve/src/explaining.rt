@@ -19,7 +19,7 @@ use bpfspec_serve::{MAX_READ, Served};
 use std::alloc::{AllocError, Global};
 use std::str;
 
-/// An input as a text, or what is told of one that is none.
+/// An input as a text, or why it is none.
 pub(crate) fn text_of(input: &[u8]) -> Result<&str, &'static str>
     ensures { MatchResult result (λ text. text_of input.now ≡ Ok text.now)
         (λ words. text_of input.now ≡ Err words.now) }
@@ -159,7 +159,7 @@ fn more_reasons(
     }
 }
 
-/// What is told of an input that is this text.
+/// The explanation of an input that is this text.
 fn text_reasons(
     alloc: Global,
     ask: &Ask,
@@ -178,7 +178,7 @@ fn text_reasons(
     Ok(out)
 }
 
-/// What is told of an input after the answer of `verify`, which serves it so. Memory may run out.
+/// The explanation of an input, printed after the answer of `verify`, which serves it so. Memory may run out.
 pub(crate) fn reasons(
     alloc: Global,
     ask: &Ask,

@@ -1,4 +1,4 @@
-//! Why a command line asks for nothing, as it is told.
+//! Why a command line asks for nothing, in words.
 
 ghost use Rattle.std.specs.Prelude.{◌≡◌, false};
 ghost use Rattle.bpfspec_command_line.specs.Faults.{is_help};

@@ -10,8 +10,8 @@ use bpfspec_output::MEMORY_LINE;
 use bpfspec_serve::{LineFault, ProgramEnd, Served, Sink, Source, exit_status, write, write_all};
 use std::env::Env;
 
-/// Explains an input as the command line asks, or tells the help or the version that it asks for; or why it asks for
-/// nothing: its usage on `messages`, or on `output` that memory ran out.
+/// Explains an input as the command line asks, or writes the help or the version that it asks for; or why it asks for
+/// nothing: its usage to `messages`, or to `output` that memory ran out.
 fn carry_out<R: Env + AllocGlobal, S: Source, W: Sink, M: Sink>(
     rt: &R,
     input: &mut S,
@@ -38,7 +38,8 @@ fn carry_out<R: Env + AllocGlobal, S: Source, W: Sink, M: Sink>(
     }
 }
 
-/// Runs the program, and gives its exit status: that of `verify`. Usage is told on `messages`, all else on `output`.
+/// Runs the program, and gives its exit status: that of `verify`. Usage is written to `messages`, all else to
+/// `output`.
 ///
 /// The `failures` of all three have to be below 2^64 - 1.
 pub fn run<R: Env + AllocGlobal, S: Source, W: Sink, M: Sink>(

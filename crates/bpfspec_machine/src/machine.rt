@@ -117,7 +117,7 @@ impl Machine {
         Some(self.maps.get(map as usize, index))
     }
 
-    /// Sets the value of an element, and tells whether there is such an element.
+    /// Sets the value of an element, and returns whether there is such an element.
     pub fn set(&mut self, map: u32, index: u32, value: u64) -> bool
         ensures there { result ≡ has_element self.old.maps.sizes map index }
         ensures set { self.new ≡ with_element_if result self.old map index value }
@@ -147,7 +147,7 @@ impl Machine {
         sum_of(&self.maps.sizes()[..map as usize])
     }
 
-    /// Copies the values of a map's elements out, and tells whether there is a map of as many elements.
+    /// Copies the values of a map's elements out, and returns whether there is a map of as many elements.
     pub fn copy_words(&self, map: u32, words: &mut [u64]) -> bool
         ensures there { result ≡ has_words self.now.maps.sizes map (length words.old) }
         ensures copied { words.new ≡ (if result then words_of self.now.maps map else words.old) }
@@ -160,7 +160,7 @@ impl Machine {
         true
     }
 
-    /// Sets the values of a map's elements, and tells whether there is a map of as many elements.
+    /// Sets the values of a map's elements, and returns whether there is a map of as many elements.
     pub fn set_words(&mut self, map: u32, words: &[u64]) -> bool
         ensures there { result ≡ has_words self.old.maps.sizes map (length words.now) }
         ensures set { self.new ≡ with_words_if result self.old map words.now }
@@ -174,7 +174,7 @@ impl Machine {
         true
     }
 
-    /// What is told of a loop call of the last run, by its number; none where it made fewer.
+    /// The report on a loop call of the last run, by its number; none where it made fewer.
     pub fn line(&self, number: usize) -> Option<LoopReport>
         ensures { result ≡ slice_get self.now.loops number }
     {

@@ -91,7 +91,7 @@ entry_of layout kind = entry_text layout (shape_of kind) (place_of kind) (words_
 unfoldable pub legend_text : Layout → List ℕ
 legend_text layout = flat_map (entry_of layout) (Claim ∷ Look ∷ Turn ∷ Post ∷ Stop ∷ [])
 
--- the title of so many events
+-- the title of the picture of this many events
 unfoldable pub title_of : ℕ → List ℕ
 title_of count = if nat_lt 64 count
     then codes "replay: the first " ++ decimal 64 ++ codes " of " ++ decimal count ++ codes " events"

@@ -8,7 +8,7 @@ use Rattle.bpfspec_picture.specs.Pieces.{text_of}
 use Rattle.bpfspec_picture.specs.Layouts.{capped, half, left, top, right, bottom, column_middle, row_middle}
 use Rattle.bpfspec_picture.specs.Layouts.{width, height}
 
--- a letter as it stands between tags: &, <, > and " are escaped
+-- a letter as it is written between tags: &, <, > and " are escaped
 abbrev pub escaped_letter : ℕ → List ℕ
 escaped_letter letter = if letter == 38 then codes "&amp;" else if letter == 60 then codes "&lt;" else
     if letter == 62 then codes "&gt;" else if letter == 34 then codes "&quot;" else encode_utf8 letter

@@ -6,11 +6,11 @@ use Rattle.bpfspec_picture.specs.declared.layout.Layout.{Layout}
 abbrev pub capped : ℕ → ℕ
 capped n = min n 4294967295
 
--- the width and height of a cell, of which so many are beside or above each other: of 10 to 24 pixels, and even
+-- the width and height of a cell, of which this many are beside or above each other: of 10 to 24 pixels, and even
 abbrev pub cell_of : ℕ → ℕ
 cell_of most = min 24 (max 10 (680 / max 1 most)) / 2 * 2
 
--- the layout of so many columns and rows, at most 64 of each
+-- the layout of this many columns and rows, at most 64 of each
 abbrev pub layout_of : (columns rows : ℕ) → Layout
 layout_of columns rows = record {
   columns = min columns 64;

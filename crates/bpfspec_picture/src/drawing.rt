@@ -27,7 +27,7 @@ use std::alloc::{AllocError, Global};
 /// The most elements whose pairs are drawn.
 const MOST: u32 = 64;
 
-/// What is told of a loop call beside its grid.
+/// What is shown of a loop call beside its grid.
 #[derive(Drop)]
 struct Told {
     verdict: Verdict,

@@ -28,7 +28,7 @@ pub(crate) struct Layout {
 }
 
 impl Layout {
-    /// The layout of so many columns and rows. A cell is smaller where there are many.
+    /// The layout of this many columns and rows. A cell is smaller where there are many.
     pub(crate) fn of(columns: usize, rows: usize) -> Layout
         ensures { result ≡ layout_of columns rows }
     {

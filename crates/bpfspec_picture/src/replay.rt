@@ -108,7 +108,7 @@ fn workers_of(alloc: Global, events: &[Event]) -> Result<Vec<u8>, AllocError>
     Ok(workers)
 }
 
-/// The title of so many events.
+/// The title of the picture of this many events.
 #[tactic(auto, unfolding(crate::specs::EventPictures::title_of))]
 fn title_of(alloc: Global, events: usize) -> Result<String, AllocError>
     ensures { IfOk result (λ title. string_bytes title ≡ title_of events) }
@@ -224,7 +224,7 @@ fn write_legend(out: &mut String, layout: &Layout) -> Result<(), AllocError>
     write_entries(out, layout, &KINDS)
 }
 
-/// Writes the picture of events of these workers, of which there are so many.
+/// Writes the picture of these events of these workers, with a title.
 #[tactic(auto, unfolding(crate::specs::EventPictures::picture_of_shown))]
 fn write_shown(
     out: &mut String,

@@ -6,7 +6,7 @@ ghost use Rattle.bpfspec_picture.specs.Labels.{escaped_letter, escaped};
 
 use std::alloc::AllocError;
 
-/// Writes a letter at the end of a text, as it stands between tags.
+/// Writes a letter at the end of a text, as it is written between tags.
 fn write_letter(out: &mut String, letter: char) -> Result<(), AllocError>
     ensures { OnOk result (string_bytes out.new ≡ string_bytes out.old ++ escaped_letter letter) }
 {
@@ -19,7 +19,7 @@ fn write_letter(out: &mut String, letter: char) -> Result<(), AllocError>
     }
 }
 
-/// Writes a text at the end of another, as it stands between tags: `&`, `<`, `>` and `"` are escaped.
+/// Writes a text at the end of another, as it is written between tags: `&`, `<`, `>` and `"` are escaped.
 #[tactic(auto, unfolding(crate::specs::Labels::escaped))]
 pub(crate) fn write_escaped(out: &mut String, text: &str) -> Result<(), AllocError>
     ensures { OnOk result (string_bytes out.new ≡ string_bytes out.old ++ escaped text.now) }

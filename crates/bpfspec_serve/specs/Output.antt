@@ -118,7 +118,7 @@ abbrev pub accepted : Result Program AnswerError → Result Program AnswerError
 accepted (Err error) = Err error
 accepted (Ok program) = unless_rule_broken program (first_fault program)
 
--- an accepted program is told with its functions
+-- the answer on an accepted program lists its functions
 abbrev pub verified : Result Program AnswerError → TextOutcome
 verified (Err error) = Err error
 verified (Ok program) = Ok (accepted_text (functions_of program.insns))
@@ -152,7 +152,7 @@ OfOrder (Err error) argument maps outcome = outcome ≡ Err error
 OfOrder (Ok program) argument maps outcome = PrintsReportInOrder program argument (maps_start_words program.sizes maps)
     outcome
 
--- a program runs from its start words, its loops by a plan: what is told of it is the report of the program in order,
+-- a program runs from its start words, its loops by a plan: what is printed is the report of the program in order,
 -- with the verdicts of the plan's test, and nothing else of the plan occurs in it; one outside its limits is refused
 abbrev pub PrintsReportByPlan : Program → ℕ → Plan → TextOutcome → TextOutcome → Type 0
 PrintsReportByPlan program argument plan (Err error) outcome = outcome ≡ Err error
@@ -227,12 +227,12 @@ pub record Answer : Type 0 where
   pub served : Served
   pub text : List ℕ
 
--- a text's refusal is told from the others
+-- a text's refusal is served differently from the others
 abbrev pub refused_as : Refusal → Served
 refused_as (refusals.Text fault section line) = served.Text
 refused_as _ = served.Refused
 
--- the answer that tells an outcome
+-- the answer for an outcome
 abbrev pub text_answer : TextOutcome → Answer
 text_answer (Ok text) = record { served = served.Done; text = text }
 text_answer (Err (errors.Refused refusal)) = record { served = refused_as refusal; text = refusal_line refusal }
@@ -251,7 +251,7 @@ SatisfiesUnlessMemory view wanted (Ok x) = wanted (Ok (view x))
 SatisfiesUnlessMemory view wanted (Err (errors.Refused refusal)) = wanted (refused refusal)
 SatisfiesUnlessMemory view wanted (Err errors.Memory) = Unit {0}
 
--- an answer that says what a function returned, seen by view; none tells that memory ran out
+-- an answer that says what a function returned, seen by view; none says that memory ran out
 abbrev pub AnswerTells : {X : Type 0} → (X → List ℕ) → Result X AnswerError → Answer → Type 0
 AnswerTells view (Ok x) answer = answer ≡ text_answer (Ok (view x))
 AnswerTells view (Err (errors.Refused refusal)) answer = answer ≡ text_answer (refused refusal)

@@ -204,7 +204,7 @@ fn functions_of(alloc: Global, program: &Verified) -> Result<Vec<Function>, Allo
     Ok(functions)
 }
 
-/// What is told of an accepted program.
+/// The answer on an accepted program: its functions.
 fn judge(alloc: Global, form: UnitForm, input: &str) -> Result<String, AnswerError>
     ensures { SatisfiesUnlessMemory string_bytes (λ outcome. outcome
         ≡ verified (accepted (unit_program form (unit_section input.now)))) result }
@@ -227,7 +227,7 @@ pub(crate) fn outcome(alloc: Global, mode: &Mode, input: &[u8]) -> Result<String
     }
 }
 
-/// What comes of an input whose program runs by a plan, of which an observer is told.
+/// What comes of an input whose program runs by a plan. An observer is notified of the run.
 pub(crate) fn run_outcome<R: Threads + Sync, G: Gate, O: Observer>(
     rt: &R,
     alloc: Global,

@@ -18,7 +18,7 @@ use std::env::Env;
 use std::thread::Threads;
 use std::time::Clock;
 
-/// Serves an input as a job asks, and tells an observer of a run.
+/// Serves an input as a job asks, and notifies an observer of a run.
 fn serve_job<R: AllocGlobal + Threads + Sync, O: Observer, S: Source, W: Sink>(
     rt: &R,
     job: &Job,
@@ -43,7 +43,7 @@ fn serve_job<R: AllocGlobal + Threads + Sync, O: Observer, S: Source, W: Sink>(
     }
 }
 
-/// Tells on `messages` how the loops of a run went. Where there is no memory for it, nothing is told.
+/// Writes to `messages` how the loops of a run went. Where there is no memory for it, nothing is written.
 fn tell_stats<C: Clock, M: Sink>(alloc: Global, stats: &Stats<'_, C>, messages: &mut M)
     requires { M.failed messages.old < 2 ^ 64 - 1 }
 {
@@ -52,7 +52,7 @@ fn tell_stats<C: Clock, M: Sink>(alloc: Global, stats: &Stats<'_, C>, messages: 
     }
 }
 
-/// Serves an input as the words of the command line ask, and tells on `messages` how the loops of a run went, where
+/// Serves an input as the words of the command line ask, and writes to `messages` how the loops of a run went, where
 /// they ask for that and it is done.
 fn serve_request<R: AllocGlobal + Threads + Sync + Clock, S: Source, W: Sink, M: Sink>(
     rt: &R,
@@ -79,8 +79,8 @@ fn serve_request<R: AllocGlobal + Threads + Sync + Clock, S: Source, W: Sink, M:
     served
 }
 
-/// Serves an input as the command line asks, or tells the help or the version that it asks for; or why it asks for
-/// nothing: its usage on `messages`, or on `output` that memory ran out.
+/// Serves an input as the command line asks, or writes the help or the version that it asks for; or why it asks for
+/// nothing: its usage to `messages`, or to `output` that memory ran out.
 fn carry_out<R: Env + AllocGlobal + Threads + Sync + Clock, S: Source, W: Sink, M: Sink>(
     rt: &R,
     input: &mut S,
@@ -107,8 +107,8 @@ fn carry_out<R: Env + AllocGlobal + Threads + Sync + Clock, S: Source, W: Sink, 
     }
 }
 
-/// Runs the program, and gives its exit status. Usage, and how the loops of a run went, is told on `messages`, all else
-/// on `output`. It waits for the threads that a run takes, and for nothing else.
+/// Runs the program, and gives its exit status. Usage, and how the loops of a run went, is written to `messages`, all
+/// else to `output`. It waits for the threads that a run takes, and for nothing else.
 ///
 /// The `failures` of all three have to be below 2^64 - 1.
 pub fn run<R: Env + AllocGlobal + Threads + Sync + Clock, S: Source, W: Sink, M: Sink>(

@@ -8,9 +8,9 @@ use crate::serving::Served;
 /// How the program ends.
 #[derive(Clone, Copy)]
 pub enum ProgramEnd {
-    /// An input was served, or help or the version told.
+    /// An input was served, or help or the version written.
     Served(Served),
-    /// The command line asks for nothing; its usage was told.
+    /// The command line asks for nothing; its usage was written.
     Usage,
 }
 

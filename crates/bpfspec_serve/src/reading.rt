@@ -23,7 +23,7 @@ use std::str;
 /// The most bytes of an input.
 const MAX_INPUT: usize = 3_145_728;
 
-/// The most bytes that are read of one: a byte past the limit tells that it is too long.
+/// The most bytes that are read of one: a byte past the limit shows that it is too long.
 pub const MAX_READ: usize = MAX_INPUT + 1;
 
 /// A fault of the unit's text as a whole.

@@ -129,7 +129,8 @@ pub fn serve<R: Source, W: Sink>(alloc: Global, mode: &Mode, source: &mut R, sin
 /// Does the same for an input whose unit is of this form and runs with this argument, its loops by this
 /// plan: its workers pass the gate, and run in threads that it waits for. Whatever they do when, the answer
 /// is the report of the program in order, with the verdicts of the plan's test; or a refusal, P2 where the
-/// plan isn't within its limits. The observer is told of the program and its loop calls, and changes nothing.
+/// plan isn't within its limits. The observer is notified of the program and its loop calls, and changes
+/// nothing.
 ///
 /// The source's and the sink's `failures` have to be below 2^64 - 1.
 pub fn serve_run<T: Threads + Sync, G: Gate, O: Observer, R: Source, W: Sink>(

@@ -1,4 +1,4 @@
-//! What is told of a run beside its answer: which way each of its loops went, and how long it took.
+//! What is printed of a run beside its answer: which way each of its loops went, and how long it took.
 
 use bpfspec_ways::{reason_of, write_count, write_way};
 use spec_run::{LoopStats, Stats};

@@ -8,7 +8,7 @@ use Rattle.spec_run_loop.specs.declared.course.BlocksReason.TheVariants.{Asked, 
 use Rattle.spec_run_loop.specs.declared.course.Course.{Course}
 use Rattle.spec_run_loop.specs.declared.course.Course.TheVariants as courses
 
--- the ending of the name of so many things: an s, unless it is one
+-- the ending of the name of this many things: an s, unless it is one
 abbrev pub plural : ℕ → List ℕ
 plural count = if count == 1 then [] else codes "s"
 

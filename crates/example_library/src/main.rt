@@ -1,5 +1,5 @@
 //! What a Rattle program calls to run BPF programs of its own: it reads a unit and the values of its maps, verifies the
-//! unit, runs it with its loops in parallel, and prints what came of it. docs/LIBRARY.md tells of each call.
+//! unit, runs it with its loops in parallel, and prints what came of it. docs/LIBRARY.md describes each call.
 #![tactic(auto)]
 
 use array_maps::{Maps, MapsError};

@@ -58,18 +58,18 @@ flags_over elements (site ∷ sites) flags =
 abbrev pub has_elements : List Site → Elements → Bool
 has_elements sites elements = list_any (λ (site : Site). are_same site.elements elements) sites
 
--- the flags of a lane at its element of a site, which count at the first site of that element
+-- the flags of a lane at its element of a site, if the site leads: no site before it is of the same element
 abbrev pub lead_of : (before : List Site) → Site → (behind : List Site) → Option Flags
 lead_of before site behind =
     if has_elements before site.elements then None
     else Some (flags_over site.elements behind (flagged no_flags site.kind))
 
--- a site's elements, and the flags that count there
+-- a site's elements, and the flags of a lane there, if the site leads
 pub record Lead : Type 0 where
   pub flags : Option Flags
   pub element : ℕ → ℕ
 
--- those of entries that stand behind others
+-- those of entries that come after others
 abbrev pub leads_of : (before entries : List Entry) → List Lead
 leads_of before [] = []
 leads_of before (entry ∷ entries) =

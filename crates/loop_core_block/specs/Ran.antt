@@ -29,7 +29,7 @@ as_gathered program call words b = record {
 }
 
 -- its interval was run on the start words up to its first break or to its end; its planes, which are for one test, and
--- its copy stand for the iterations that it ran, by rising index
+-- its copy represent the iterations that it ran, by rising index
 pub record RecordsRun (test : Test) (program : Program) (call : LoopCall) (words : List ℕ) (b : BlockOf) : Type 0 where
   pub ran : List Iterated
   pub told : block_run program 4096 call words b.first b.past ≡ Ended ran

@@ -12,8 +12,8 @@ use bpf_step_batch::Batch;
 use bpf_step_ir_sound::law_of_plain_iterations;
 use bpf_verify::Verified;
 
-/// Runs the iterations of a loop call from an index on together, one a lane, each on the start maps. Tells whether
-/// they could be: then all of them returned 0, and the batch's entries are what they accessed.
+/// Runs the iterations of a loop call from an index on together, one a lane, each on the start maps. Returns
+/// whether they could be: then all of them returned 0, and the batch's entries are what they accessed.
 pub(crate) fn run_together(
     batch: &mut Batch,
     program: &Verified,

@@ -91,9 +91,9 @@ impl<'c, 'a> Runner<'c, 'a> {
         }
     }
 
-    /// Runs the iterations from a first index up to, and not with, another, or up to the first that breaks. Tells
-    /// the index at which it broke. The gate's `turn` is called before each iteration; where iterations go together,
-    /// for each of them before the first.
+    /// Runs the iterations from a first index up to, and not with, another, or up to the first that breaks.
+    /// Returns the index at which it broke. The gate's `turn` is called before each iteration; where iterations go
+    /// together, for each of them before the first.
     pub(crate) fn run<G: Gate>(
         &mut self,
         of: &SpeculativeLoop<'c, 'a>,
@@ -146,7 +146,8 @@ impl<'c, 'a> Runner<'c, 'a> {
         Ok(None)
     }
 
-    /// Runs the iterations from an index up to another together, where they can be; else it does nothing.
+    /// Runs the iterations from an index up to another as one batch, where they can be run together; else it does
+    /// nothing. Returns whether it ran them.
     fn run_as_batch(
         &mut self,
         of: &SpeculativeLoop<'c, 'a>,
@@ -227,8 +228,8 @@ impl<'c, 'a> Runner<'c, 'a> {
         Ok(())
     }
 
-    /// Runs one by one the iterations from an index up to another, for which the gate was called, and on from
-    /// there up to a third.
+    /// Runs one by one the iterations of a batch that was refused, from an index up to another, for which the gate was
+    /// called already, and those after them up to a third index. Returns the index at which one broke.
     fn run_without_batch<G: Gate>(
         &mut self,
         alloc: Global,

@@ -1,4 +1,4 @@
--- What is told of the conflicts of a loop.
+-- The conflicts found in a loop.
 use Rattle.std.specs.Prelude.{◌≡◌, ℕ, List, length, take}
 use Rattle.array_maps.specs.Accesses.{Access}
 use Rattle.bpf_insn_types.specs.Program.{Program}
@@ -11,7 +11,7 @@ use Rattle.loop_core_model.specs.Report.{judged}
 use Rattle.loop_core_conflicts.specs.declared.conflicts.Conflicts.{Conflicts}
 
 -- the counted iterations of a loop call on these words end; the verdict is that on the elements that conflict, of
--- these the least are told, at most so many, and the least break is told
+-- these the least are listed, at most `most`; and the least break is given
 pub record AreConflicts (test : Test) (program : Program) (call : LoopCall) (words : List ℕ) (most : ℕ)
     (told : Conflicts) : Type 0 where
   pub runs : List (List Access)

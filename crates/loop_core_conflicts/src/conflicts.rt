@@ -1,4 +1,4 @@
-//! What is told of the conflicts of a loop.
+//! The conflicts found in a loop.
 
 use loop_core_model::Verdict;
 

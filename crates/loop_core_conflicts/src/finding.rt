@@ -28,7 +28,7 @@ fn one_block(n: u32) -> Split
 }
 
 /// The verdict by a test on a loop call that main of this program made, where it breaks, and the least elements that
-/// conflict: at most so many, rising. Its iterations run on the start maps, which are of the program's sizes and don't
+/// conflict: at most `most`, rising. Its iterations run on the start maps, which are of the program's sizes and don't
 /// change, up to the first that breaks.
 pub fn find_conflicts(
     alloc: Global,

@@ -2,8 +2,8 @@
 //! those are found that fail the test there.
 //!
 //! ```text
-//! let told = find_conflicts(alloc, &program, &call, &start, Test::Flow, 64)?;
-//! // told.verdict is Verdict::Conflict { count: 2, least: 1 }, and told.least lists elements 1 and 2
+//! let conflicts = find_conflicts(alloc, &program, &call, &start, Test::Flow, 64)?;
+//! // conflicts.verdict is Verdict::Conflict { count: 2, least: 1 }, and conflicts.least lists elements 1 and 2
 //! ```
 #![tactic(auto)]
 

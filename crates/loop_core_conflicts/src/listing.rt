@@ -18,7 +18,7 @@ fn add_if_set(elements: &mut Vec<u32>, plane: &[u64], e: u32) -> Result<(), Allo
     Ok(())
 }
 
-/// The least elements of a plane of at most 1,024 words, at most so many of them.
+/// The least elements of a plane of at most 1,024 words, at most `most` of them.
 pub(crate) fn least_elements(
     alloc: Global,
     plane: &[u64],

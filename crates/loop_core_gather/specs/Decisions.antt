@@ -23,7 +23,7 @@ pub record Passes (test : Test) (program : Program) (call : LoopCall) (words : L
   })
   pub pages_are : AreLeft words left pages
 
--- it is committed where it passes; else its verdict is told
+-- it is committed where it passes; else its verdict is reported
 abbrev pub IsDecision : Test → Program → LoopCall → List ℕ → Decision → Type 0
 IsDecision test program call words (Commit answer pages) = Passes test program call words answer pages.items
 IsDecision test program call words (Discard told) = verdict test program 4096 call words ≡ Ended told

@@ -1,4 +1,4 @@
--- What gathered blocks tell of a loop.
+-- The outcome of a loop, by its gathered blocks.
 use Rattle.std.specs.Prelude.{◌≡◌, ℕ, List, map, length}
 use Rattle.array_maps.specs.MapList.{MapList}
 use Rattle.bpf_insn_types.specs.Program.{Program}
@@ -18,7 +18,7 @@ use Rattle.loop_core_gather.specs.Held.{GatheredOf}
 abbrev pub all_gathered : Program → LoopCall → List ℕ → List BlockOf → List Block
 all_gathered program call words blocks = map (as_gathered program call words) blocks
 
--- the outcome that gathered blocks tell
+-- the outcome that gathered blocks give
 abbrev pub outcome_of : GatheredOf → Outcome
 outcome_of g = record { verdict = g.verdict; answer = g.answer; words = g.words }
 

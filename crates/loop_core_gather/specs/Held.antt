@@ -25,7 +25,7 @@ told_of b = record { number = b.number; first = b.first; past = b.past; broke = 
 abbrev pub chosen : List ℕ → List BlockOf → List BlockOf
 chosen places blocks = filter_map (λ place. slice_get blocks place) places
 
--- the planes of a block stand for some iterations, for n elements and this test
+-- the planes of a block represent some iterations, for n elements and this test
 pub record HavePlanes (elements : ℕ) (test : Test) (b : BlockOf) : Type 0 where
   pub stand : StandForSome b.planes
   pub count : b.planes.elements ≡ elements
@@ -39,8 +39,8 @@ HaveCopiesOf old new = map (λ b. b.copy) new ≡ map (λ b. b.copy) old
 abbrev pub visits_at : (BlockOf → ℕ → List Visit) → List BlockOf → ℕ → List Visit
 visits_at each blocks e = joined (map (λ b. each b e) blocks)
 
--- the planes of the blocks at these places in one, for n elements and this test: they stand for the visits of each of
--- those blocks, one block after the other, whatever visits the blocks' own planes stand for
+-- the planes of the blocks at these places in one, for n elements and this test: they represent the visits of each
+-- of those blocks, one block after the other, whatever visits the blocks' own planes represent
 pub record AreInOne (elements : ℕ) (test : Test) (blocks : List BlockOf) (places : List ℕ) (planes : Planes) : Type 0
   where
     pub stand : StandForSome planes

@@ -1,4 +1,4 @@
--- What is told of blocks, and what follows from that alone.
+-- What follows from the summaries of blocks alone.
 use Rattle.std.specs.Prelude.{ℕ, ◌+◌, Bool, false, ◌&&◌, ◌||◌, ◌==◌, if◌then◌else◌}
 use Rattle.std.specs.Prelude.{List, [], ◌∷◌, slice_get, Option, Some, None}
 use Rattle.std.specs.List.{list_any, position_from}

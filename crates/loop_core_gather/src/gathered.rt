@@ -1,4 +1,4 @@
-//! What gathered blocks tell of a loop.
+//! The outcome of a loop, by its gathered blocks.
 
 ghost use Rattle.std.specs.Prelude.{◌≡◌, ◌<◌, length, slice_index, IfOk};
 ghost use Rattle.loop_core_gather.specs.Pages.{IsPageOf, ChangesWithin, AreLeft};

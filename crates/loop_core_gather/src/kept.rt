@@ -54,8 +54,8 @@ fn written_over(word: u64, block: &Block, touched: bool, e: u32) -> u64
     }
 }
 
-/// A word with the partials of the blocks at these places applied to it, in order. A bit of a word tells of
-/// each whether it touched the element's page.
+/// A word with the partials of the blocks at these places applied to it, in order. A bit of `touched`
+/// says of each whether it touched the element's page.
 pub(crate) fn combined(blocks: &[Block], places: &[usize], touched: u64, e: u32, word: u64) -> u64
     requires places { All (λ place. place < length blocks.now) places.now }
     requires few { length places.now ≤ 64 }
@@ -70,8 +70,8 @@ pub(crate) fn combined(blocks: &[Block], places: &[usize], touched: u64, e: u32,
     value
 }
 
-/// The last value of the last of the blocks at these places that has one, or else a word. A bit of a word tells of
-/// each whether it touched the element's page.
+/// The last value of the last of the blocks at these places that has one, or else a word. A bit of `touched`
+/// says of each whether it touched the element's page.
 pub(crate) fn last_written(
     blocks: &[Block],
     places: &[usize],

@@ -1,4 +1,4 @@
-//! The marks of several blocks together, and what they tell.
+//! The marks of several blocks, merged, and what follows from them.
 
 ghost use Rattle.std.specs.Prelude.{◌≡◌, ◌<◌, ◌/◌, map, length, slice_index, IfOk};
 ghost use Rattle.std.specs.List.{All, count_by};

@@ -110,7 +110,7 @@ fn has_foreign(split: &Split, blocks: &[Summary]) -> bool
     false
 }
 
-/// The blocks that count, of blocks of this split of which this is told. It takes no memory.
+/// The blocks that count, of blocks of this split with these summaries. It takes no memory.
 ///
 /// G1 (`Missing`) a block of the split isn't there that starts at or before the least break of those that are, G2
 /// (`Twice`) a number appears twice, G3 (`Foreign`) an interval isn't the split's: the least of them.

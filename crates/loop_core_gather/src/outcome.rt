@@ -13,7 +13,7 @@ use loop_core_model::{Test, Verdict};
 use std::alloc::{AllocError, Global};
 
 /// What a loop call comes to that main of this program made, and whose blocks were gathered for this test: after a
-/// pass, what the blocks tell; else the loop is run in order on a copy of the start maps, which are of the program's
+/// pass, what the blocks give; else the loop is run in order on a copy of the start maps, which are of the program's
 /// sizes. They don't change.
 #[tactic(auto, using(crate::proofs::PassLaws::passes_so))]
 pub fn commit_or_rerun(

@@ -95,7 +95,7 @@ fn overwrite(own: &mut [u64; PAGE_WORDS], page: u32, elements: u32, block: &Bloc
 }
 
 /// Sets each element of a page, of n elements in all, to the last value of the last of the blocks at these places that
-/// has one. A bit of a word tells of each whether it touched the page.
+/// has one. A bit of `touched` says of each whether it touched the page.
 pub(crate) fn overwrite_in_turn(
     own: &mut [u64; PAGE_WORDS],
     page: u32,

@@ -5,11 +5,11 @@ use Rattle.std.specs.List.{count_by, range_with_len}
 use Rattle.loop_core_grid.specs.declared.choosing.Span.{Span}
 use Rattle.loop_core_grid.specs.declared.focus.Focus.{Focus}
 
--- where so many of `count` begin that have an index in their middle, if that can be
+-- where `most` of `count` begin that have an index in their middle, if that can be
 abbrev pub start_around : (index count most : ℕ) → ℕ
 start_around index count most = min (index - most / 2) (count - most)
 
--- so many of `count` from there on, or as many as there are
+-- `most` of `count` from there on, or as many as there are
 abbrev pub span_around : (index count most : ℕ) → Span
 span_around index count most = record {
   from = start_around index count most;

@@ -22,7 +22,7 @@ is_some_action (action ∷ actions) = true
 abbrev pub is_accessed : List (List Access) → (element : ℕ) → Bool
 is_accessed runs element = list_any (λ (run : List Access). is_some_action (actions_at element run)) runs
 
--- the elements, of so many, that one of these iterations or of those accesses, rising
+-- the elements below `count` that one of these iterations or of those accesses, rising
 abbrev pub accessed_by : (lower upper : List (List Access)) → (count : ℕ) → List ℕ
 accessed_by lower upper count = filter (λ (element : ℕ). is_accessed lower element || is_accessed upper element)
     (range_with_len 0 count)
@@ -43,16 +43,16 @@ pub record AreTouched (program : Program) (call : LoopCall) (words : List ℕ) (
   pub upper_ran : SpanRuns program call words upper upper_runs
   pub all : elements ≡ accessed_by lower_runs upper_runs (length words)
 
--- planes tell that an iteration reduces an element
+-- planes mark an element as reduced
 abbrev pub is_reduced : OperatorPlanes → ℕ → Bool
 is_reduced planes e = (((bit_of planes.add.items e || bit_of planes.or.items e) || bit_of planes.and.items e)
     || bit_of planes.xor.items e) || bit_of planes.addh.items e
 
--- planes tell that an iteration accesses it, plainly or by a reduce
+-- planes mark it as accessed, plainly or by a reduce
 abbrev pub is_marked : Planes → ℕ → Bool
 is_marked planes e = bit_of planes.plain.items e || is_reduced planes.operators e
 
--- the elements of which one of two planes tells it, rising
+-- the elements that the planes of one of two blocks mark as accessed, rising
 abbrev pub marked_by : (lower upper : Planes) → List ℕ
 marked_by lower upper = filter (λ (element : ℕ). is_marked lower element || is_marked upper element)
     (range_with_len 0 lower.elements)

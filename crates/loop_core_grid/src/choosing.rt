@@ -17,7 +17,7 @@ pub(crate) struct Span {
     pub(crate) past: u32,
 }
 
-/// So many of `count` iterations, or all, an index in their middle where that can be.
+/// `most` of `count` iterations, or all, with an index in their middle where that can be.
 fn span_around(index: u32, count: u32, most: u32) -> Span
     ensures is { result ≡ span_around index count most }
     ensures rising { result.from ≤ result.past }

@@ -98,7 +98,7 @@ fn grid_of_spans(
 /// What the first `count` iterations of a loop call that main of this program made do, each run on the start maps:
 /// at most 64 of them, and at most 64 of the elements that these access, with both iterations and the element of a
 /// focus in their middle where that can be. Iterations of a focus that are further apart have 32 rows each around them.
-/// Of an iteration behind the first of those that breaks, the elements are shown that others access too. The start maps
+/// Of an iteration after the first of those that breaks, the elements are shown that others access too. The start maps
 /// are of the program's sizes.
 pub fn grid_of_loop(
     alloc: Global,

@@ -18,7 +18,7 @@ use loop_core_split::{NoGate, Split};
 use shadow_marks::{OperatorPlanes, Planes, is_set};
 use std::alloc::{AllocError, Global};
 
-/// Whether an iteration reduced an element, as planes tell.
+/// Whether planes mark an element as reduced.
 fn is_reduced(planes: &OperatorPlanes, element: u32) -> bool
     requires { EachPlane (λ words. element / 64 < length words) planes.now }
     ensures { result ≡ is_reduced planes.now element }
@@ -30,7 +30,7 @@ fn is_reduced(planes: &OperatorPlanes, element: u32) -> bool
         || is_set(&planes.addh, element)
 }
 
-/// Whether an iteration accessed an element, as planes tell. Each access is plain or by an operator.
+/// Whether planes mark an element as accessed. Each access is plain or by an operator.
 fn is_marked(planes: &Planes, element: u32) -> bool
     requires whole { ArePlanes planes.now }
     requires below { element < planes.now.elements }
@@ -94,7 +94,7 @@ fn add_if_marked(
     Ok(())
 }
 
-/// The elements that iterations of one of two blocks accessed, as their planes tell, rising.
+/// The elements that the planes of one of two blocks mark as accessed, rising.
 fn marked_elements(alloc: Global, lower: &Planes, upper: &Planes) -> Result<Vec<u32>, AllocError>
     requires lower { ArePlanes lower.now }
     requires upper { ArePlanes upper.now }

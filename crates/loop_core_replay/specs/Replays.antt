@@ -1,4 +1,4 @@
--- How a replay stands while a list of events goes by.
+-- The state of a replay, event by event.
 use Rattle.std.specs.Prelude.{◌≡◌, ℕ, ◌<◌, Bool, true, List, ◌∷◌, map, length, slice_index_or}
 use Rattle.std.specs.Prelude.{Option, Some, None, is_some, Ok}
 use Rattle.std.specs.List.{AllByRecursion}
@@ -38,7 +38,7 @@ block_numbers blocks = map (λ b. (shown b).number) blocks
 abbrev pub state_of : ReplayOf → ScheduleState
 state_of r = state r.workers (block_numbers r.blocks.ran)
 
--- the loop's block of this number, where it is there
+-- the loop's block of this number, where there is one
 abbrev pub IfBlockOf : LoopOf → ℕ → Option Block → Type 0
 IfBlockOf s number None = Unit {0}
 IfBlockOf s number (Some b) = IsBlockOf s number (shown b)
@@ -66,7 +66,7 @@ pub record BlockHasRun (s : LoopOf) (number : ℕ) (old new : BlocksOf) : Type 0
   pub blocks : AreBlocks s new
   pub numbers : block_numbers new.ran ≡ number ∷ block_numbers old.ran
 
--- the events before this place lead to how it stands
+-- the events before this place lead to its state
 pub record HasCome (s : LoopOf) (events : List Event) (place : ℕ) (r : ReplayOf) : Type 0 where
   pub led : LeadTo (loop_breaks s) s.bounds events place (state_of r)
   pub fits : WorkersFit s.bounds r.workers

@@ -32,7 +32,7 @@ abbrev pub IsSumFor : SumLoopOf → PartialSum → Type 0
 IsSumFor l s = s.maps.sizes ≡ l.program.sizes
 
 -- the iterations from one index up to another add up to this: on any maps of the program they break off with this
--- answer, or go on, and leave the words that were there combined with these
+-- answer, or continue, and leave the words that were there combined with these
 pub record IsSumOf (l : SumLoopOf) (from to : ℕ) (s : PartialSum) : Type 0 where
   pub fits : IsSumFor l s
   pub adds : (maps : MapList) → AreMapWords l.program maps.words → RanTo l.program l.call from to maps

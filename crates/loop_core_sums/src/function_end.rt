@@ -6,8 +6,8 @@ ghost use Rattle.loop_core_sums.specs.SumLoops.{function_end};
 
 use bpf_verify::Verified;
 
-/// The slot after the last one of the function in which a slot lies: where the next function starts, or so many slots
-/// as the program has.
+/// The slot after the last one of the function in which a slot lies: where the next function starts, or the number of
+/// the program's slots.
 pub(crate) fn function_end(program: &Verified, slot: u32, slots: u32) -> u32
     requires { slots ≡ slot_count program.now.insns }
     ensures { result ≡ function_end program.now slot }

@@ -1,4 +1,4 @@
-//! Iterations of a loop that add up.
+//! Sums of ranges of a loop's iterations.
 
 ghost use Rattle.std.specs.Prelude.{◌≡◌, ◌+◌, ◌<◌, ◌≤◌, length, All, IfOk};
 ghost use Rattle.loop_core_sums.specs.Rounds.{share_start};
@@ -15,7 +15,7 @@ use loop_core_sequential::range_in_order;
 use std::alloc::{AllocError, Global};
 
 impl<'l> SumLoop<'l> {
-    /// So many sums, for any ranges of iterations.
+    /// This many sums, for any ranges of iterations.
     pub fn try_new_sums(&self, alloc: Global, count: u32) -> Result<Vec<PartialSum>, AllocError>
         ensures count { IfOk result (λ sums. length sums.items ≡ count) }
         ensures fit { IfOk result (λ sums. All (IsSumFor self.now) sums.items) }

@@ -2,8 +2,8 @@
 
 ghost use Rattle.std.specs.Prelude.{◌≡◌, ◌<◌, ◌≤◌};
 
-/// The iterations of a loop from an index up to, and not with, another, in so many shares: of as many iterations each,
-/// but that the last ones may have fewer, or none.
+/// The iterations of a loop from an index up to, and not with, another, in this many shares: of as many iterations
+/// each, but that the last ones may have fewer, or none.
 #[derive(Clone, Copy)]
 pub struct Round {
     pub from: u32,

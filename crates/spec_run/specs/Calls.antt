@@ -1,4 +1,4 @@
--- What running a loop call gives, and what is told of it.
+-- What running a loop call gives, and what is reported of it.
 use Rattle.std.specs.Prelude.{◌≡◌, ℕ, pos, Some, Result, IfOk}
 use denote.Ref.{Bor, MutBor}
 use denote.Param.Members.{Shared}
@@ -46,7 +46,7 @@ module _ {F E : Type 0}
       pub ran : calls.post f (lent, (maps, (workspace, tt))) (answered, (after_call, (workspace_after, tt)))
       pub left_is : after_call.now ≡ left
 
-  -- f runs the loop calls that main of a program makes, on maps of its sizes, as their lines tell
+  -- f runs the loop calls that main of a program makes, on maps of its sizes, as their lines say
   pub record RunsCalls (line_of : LoopMade → BoundedResult LoopReport) (program : Program) : Type 0 where
     pub may : (call : LoopCall) (start : MapList) → OverApproximatesCall program call → start.sizes ≡ program.sizes
         → MayRun call start

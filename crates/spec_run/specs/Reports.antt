@@ -1,4 +1,4 @@
--- What a run gives, by the report that the definitions tell of the program.
+-- What a run gives, by the report on the program in the definitions.
 use Rattle.std.specs.Prelude.{◌≡◌, ℕ, ◌<◌, List, Option, Some, None}
 use Rattle.std.specs.List.{AllByRecursion}
 use Rattle.array_maps.specs.MapList.{MapList}

@@ -28,8 +28,8 @@ fn run_one<F: Fn(&LoopCall, &mut Maps, &mut Workspace) -> Result<LoopAnswer, All
     run_call(call, maps, workspace)
 }
 
-/// Runs each loop call by `run`, all in one workspace, tells an observer of it, and keeps the lines of the report, by a
-/// test.
+/// Runs each loop call by `run`, all in one workspace, notifies an observer of it, and keeps the lines of the report,
+/// by a test.
 #[derive(Drop)]
 struct ByPlan<'r, 'o, F, O> {
     run: &'r F,
@@ -81,8 +81,8 @@ impl<
 }
 
 /// Runs main of the program, its argument in R1, on these maps, which are of its sizes, and changes them as it goes.
-/// Each loop call is run by `run`, and told by the test. The observer is told of the program and of its loop calls.
-/// Where memory runs out the maps stay as they are then.
+/// Each loop call is run by `run`, and reported by the test. The observer is notified of the program and of its loop
+/// calls. Where memory runs out the maps stay as they are then.
 pub(crate) fn run_program<
     F: Fn(&LoopCall, &mut Maps, &mut Workspace) -> Result<LoopAnswer, AllocError>,
     O: Observer,

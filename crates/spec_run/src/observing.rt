@@ -1,9 +1,9 @@
-//! Who is told of a run while it goes on.
+//! Observers of a run.
 
 use bpf_step::LoopCall;
 use spec_run_loop::LoopAnswer;
 
-/// Is told of a program and its loop calls while they run. Nothing that a run gives depends on it.
+/// Is notified of a program and its loop calls while they run. Nothing that a run gives depends on it.
 pub trait Observer {
     /// The program begins.
     fn begin(&mut self);
@@ -18,7 +18,7 @@ pub trait Observer {
     fn end(&mut self);
 }
 
-/// Nobody is told.
+/// No observer.
 #[derive(Drop)]
 pub struct Unobserved;
 

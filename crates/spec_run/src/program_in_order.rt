@@ -13,7 +13,7 @@ use std::alloc::Global;
 
 /// Runs the program on the maps, its argument in R1, with each loop in order. It runs on a copy, which
 /// takes the maps' place at the end. No iteration is stuck, and each ends within the count that the
-/// verifier tells.
+/// verifier reports.
 ///
 /// It fails with `Sizes` where the maps' sizes differ from the program's, and with `Memory`. The maps
 /// are as before then.

@@ -53,7 +53,7 @@ pub fn run<R: Threads + Sync, G: Gate>(
     )
 }
 
-/// Does the same, and tells an observer of the program and of its loop calls, from the calling thread.
+/// Does the same, and notifies an observer of the program and of its loop calls, from the calling thread.
 pub fn run_observed<R: Threads + Sync, G: Gate, O: Observer>(
     rt: &R,
     alloc: Global,

@@ -26,7 +26,7 @@ pub struct LoopStats {
     pub time: Option<Duration>,
 }
 
-/// How the loop calls of a run went, told while it goes on, by a clock.
+/// How the loop calls of a run went, and how long they took by a clock. It observes the run.
 #[derive(Drop)]
 pub struct Stats<'c, C> {
     clock: &'c C,

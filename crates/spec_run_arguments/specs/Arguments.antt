@@ -18,13 +18,13 @@ pub record EndsWithArguments (program : Program) (m : Machine) (words : List ℕ
   pub iterations : asked.iterations ≡ count % 2 ^ 32
   pub flags : register states.last 4 ≡ Word asked.flags
 
--- a refused call's arguments are told
+-- a refused call's arguments are reported
 abbrev pub TellsArguments : Program → Machine → (words : List ℕ) → RunSegment → Option LoopArguments → Type 0
 TellsArguments program m words stretch told =
     (asked : LoopArguments) × EndsWithArguments program m words stretch asked × (told ≡ Some asked)
 
--- from a machine main's run came to this turn, and then goes on from another machine and other words: after a valid
--- call, of which nothing is told, with the answer of its loop in order; and after a refused one at once
+-- from a machine main's run came to this turn, and then continues from another machine and other words: after a
+-- valid call, of which nothing is reported, with the answer of its loop in order; and after a refused one at once
 abbrev pub GoesOnBehind : Program → Machine → (words : List ℕ) → RunSegment → StopReason → Option LoopArguments
     → (next : Machine) → (after : List ℕ) → Type 0
 GoesOnBehind program m words stretch (Exit ret) told next after = ⊥
@@ -34,7 +34,7 @@ GoesOnBehind program m words stretch (Loop call waiting) told next after =
 GoesOnBehind program m words stretch (Refused slot answer behind) told next after =
     TellsArguments program m words stretch told × (next ≡ behind) × (after ≡ stretch.words)
 
--- main comes to a loop call, and goes on
+-- main comes to a loop call, and continues
 pub record ComesPastCall (program : Program) (m : Machine) (words : List ℕ) (told : Option LoopArguments)
     (next : Machine) (after : List ℕ) : Type 0 where
   pub stretch : RunSegment
@@ -48,8 +48,8 @@ pub record ComesToEnd (program : Program) (m : Machine) (words : List ℕ) : Typ
   pub ret : ℕ
   pub ends : stretch.turn ≡ Exit ret
 
--- from a machine on main makes as many loop calls as these, and ends: of each that is refused its arguments are told,
--- and nothing of the others
+-- from a machine on main makes as many loop calls as these, and ends: of each that is refused its arguments are
+-- reported, and nothing of the others
 abbrev pub AreArguments : Program → Machine → List ℕ → List (Option LoopArguments) → Type 0
 AreArguments program m words [] = ComesToEnd program m words
 AreArguments program m words (told ∷ others) =

@@ -16,8 +16,8 @@ arguments_of (On next) registers = None
 arguments_of (End ret) registers = None
 arguments_of (Call callback n ctx) registers = None
 
--- main ended; or it called a loop, of which nothing is told, and waits; or its call was refused, whose arguments are
--- told, and it goes on
+-- main ended; or it called a loop, of which nothing is reported, and waits; or its call was refused, whose arguments
+-- are reported, and it continues
 abbrev pub ShadowStops : MainOf → Machine → (words : List ℕ) → RunSegment → StopReason → Option LoopArguments → Type 0
 ShadowStops main m words stretch (Exit ret) told = Unit {0}
 ShadowStops main m words stretch (Loop call next) told = (told ≡ None) × Waits main next

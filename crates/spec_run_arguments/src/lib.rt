@@ -1,8 +1,8 @@
 //! What main of an accepted program asks of `bpf_loop` where that refuses it: how many iterations, and by which flags.
 //!
 //! ```text
-//! let told = arguments_of_calls(alloc, &program, &mut maps, 0)?;
-//! // told[0] is what main's first loop call asks for, where it is refused
+//! let arguments = arguments_of_calls(alloc, &program, &mut maps, 0)?;
+//! // arguments[0] is what main's first loop call asks for, where it is refused
 //! ```
 #![tactic(auto)]
 

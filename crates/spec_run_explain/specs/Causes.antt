@@ -25,7 +25,7 @@ use Rattle.spec_run_plan.specs.declared.plan.Policy.TheVariants.{Pays}
 use Rattle.spec_run_explain.specs.declared.explained.Cause.{Cause}
 use Rattle.spec_run_explain.specs.declared.explained.LoopExplained.{LoopExplained}
 
--- the plan of a run that isn't told of workers and blocks: at most 2 and 4 of them, each loop going the way that pays
+-- the plan of a run that isn't given workers and blocks: at most 2 and 4 of them, each loop going the way that pays
 abbrev pub default_plan : Test → Plan
 default_plan test = record { workers = 2; blocks = 4; test = test; policy = Pays }
 
@@ -33,7 +33,7 @@ default_plan test = record { workers = 2; blocks = 4; test = test; policy = Pays
 abbrev pub job_by : Test → Program → LoopCall → JobOf
 job_by test program call = record { program = program; call = call; plan = default_plan test }
 
--- which way it goes from these words, as it is told
+-- which way it goes from these words is reported
 pub record TellsCourse (test : Test) (program : Program) (call : LoopCall) (words : List ℕ) (told : Option Course)
     : Type 0 where
   pub course : Course
@@ -60,7 +60,7 @@ pub record IsCause (test : Test) (program : Program) (call : LoopCall) (words : 
 abbrev pub AreCauses : Test → Program → LoopCall → List ℕ → List Cause → Type 0
 AreCauses test program call words causes = AllByRecursion (IsCause test program call words) causes
 
--- these are the elements that conflict, or the least of them, at most so many
+-- these are the elements that conflict, or the least of them, at most `most`
 pub record AreLeast (test : Test) (program : Program) (call : LoopCall) (words : List ℕ) (most : ℕ)
     (elements : List ℕ) : Type 0 where
   pub runs : List (List Access)
@@ -68,7 +68,7 @@ pub record AreLeast (test : Test) (program : Program) (call : LoopCall) (words :
   pub least : elements ≡ take most (conflicting test runs (length words))
 
 -- so a loop call on these words is explained that answers this in order: its causes are those of the least elements
--- that conflict; and which way it goes is told
+-- that conflict; and which way it goes is reported
 pub record IsExplained (test : Test) (program : Program) (call : LoopCall) (words : List ℕ) (most answer : ℕ)
     (told : LoopExplained) : Type 0 where
   pub slot : told.line.slot ≡ call.slot

@@ -1,4 +1,4 @@
--- What is told of a program's loops.
+-- Explanations of a program's loops.
 use Rattle.std.specs.Prelude.{◌≡◌, ℕ, Bool, true, false, List, [], Option}
 use Rattle.std.specs.List.{list_any}
 use Rattle.array_maps.specs.MapList.{MapList}
@@ -36,7 +36,7 @@ AreArgumentsIfRefused program argument words true told = AreArguments program (m
 
 -- the report is that of a run whose loops may run in parallel, from the old maps to the new ones; its lines are those
 -- of the loops that are explained, and these are, one by one, the loop calls that main makes where the program runs in
--- order; and where one is refused, it is told by which arguments
+-- order; and where one is refused, its arguments are reported
 pub record IsProgramExplained (test : Test) (program : Program) (most argument : ℕ) (old new : MapList)
     (told : Explained) : Type 0 where
   pub report : IsReportByTest test program argument old new told.report
@@ -45,7 +45,7 @@ pub record IsProgramExplained (test : Test) (program : Program) (most argument :
   pub arguments : AreArgumentsIfRefused program argument old.words (list_any is_refused told.report.loops.items)
       told.arguments.items
 
--- so these loop calls are told so far: they are explained, one by one, and have these lines
+-- so these loop calls are reported so far: they are explained, one by one, and have these lines
 pub record AreToldSoFar (test : Test) (program : Program) (most : ℕ) (calls : List LoopMade) (lines : List LoopReport)
     (loops : List LoopExplained) : Type 0 where
   pub reported : AreLines (loop_report test program 4096) calls lines

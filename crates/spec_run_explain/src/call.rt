@@ -81,7 +81,7 @@ fn causes_of(
     Ok(causes)
 }
 
-/// Which way the loop call goes by the plan of a run that isn't told of workers and blocks.
+/// Which way the loop call goes by the plan of a run that isn't given workers and blocks.
 fn default_course(
     alloc: Global,
     program: &Verified,

@@ -16,7 +16,7 @@ use spec_run::Report;
 use spec_run_main::{LoopRunner, run_main};
 use std::alloc::{AllocError, Global};
 
-/// What is told of a call that was refused.
+/// The explanation of a call that was refused.
 fn refused(alloc: Global, slot: u32, answer: i64) -> LoopExplained
     ensures line { result.line ≡ record { slot = slot; answer = answer; verdict = WasRefused } }
     ensures broke { result.broke ≡ None }
@@ -35,7 +35,7 @@ fn refused(alloc: Global, slot: u32, answer: i64) -> LoopExplained
     }
 }
 
-/// Runs each loop call in order, and explains it by a test: at most so many elements of each.
+/// Runs each loop call in order, and explains it by a test: at most `most` elements of each.
 #[derive(Drop)]
 struct Explainer {
     alloc: Global,
@@ -79,7 +79,7 @@ impl LoopRunner for Explainer {
     }
 }
 
-/// Runs the program in order on the maps, its argument in R1, and explains each loop call by a test: at most so many
+/// Runs the program in order on the maps, its argument in R1, and explains each loop call by a test: at most `most`
 /// elements of each, and of one that is refused its arguments. The maps are of the program's sizes, and are left as the
 /// program leaves them.
 pub fn explain_loops(

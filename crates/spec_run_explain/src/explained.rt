@@ -1,4 +1,4 @@
-//! What is told of a program's loops.
+//! Explanations of a program's loops.
 
 use loop_core_model::LoopReport;
 use loop_core_witness::{Place, Witness};
@@ -18,20 +18,20 @@ pub struct Cause {
     pub end: Option<Place>,
 }
 
-/// What is told of a loop call.
+/// The explanation of a loop call.
 #[derive(Drop)]
 pub struct LoopExplained {
     /// Its line in the report.
     pub line: LoopReport,
     /// The iteration that breaks it, each run on the words as they were at the call.
     pub broke: Option<Place>,
-    /// Which way `run` takes it, where it isn't told of workers and blocks; `None` of a call that is refused.
+    /// Which way `run` takes it, where it isn't given workers and blocks; `None` of a call that is refused.
     pub course: Option<Course>,
     /// The least elements that conflict, rising, each with its cause.
     pub causes: Vec<Cause>,
 }
 
-/// What is told of a program.
+/// The explanation of a program's loops.
 #[derive(Drop)]
 pub struct Explained {
     /// What it did.

@@ -1,10 +1,10 @@
-//! Runs accepted programs in order, and tells of each loop what became of it if it ran in parallel, which way `run`
-//! takes it, and why it conflicts or is refused.
+//! Runs accepted programs in order, and reports for each loop what becomes of it if it runs in parallel, which way
+//! `run` takes it, and why it conflicts or is refused.
 //!
 //! ```text
-//! let told = explain_loops(alloc, &program, &mut maps, 0, Test::Flow, 64)?;
-//! // told.report is the report of the program, and told.loops[0].causes[0].witness.writer.index an iteration that //
-//! writes the least element that conflicts
+//! let explained = explain_loops(alloc, &program, &mut maps, 0, Test::Flow, 64)?;
+//! // explained.report is the report of the program, and explained.loops[0].causes[0].witness.writer.index an iteration
+//! // that writes the least element that conflicts
 //! ```
 #![tactic(auto)]
 

@@ -87,8 +87,8 @@ impl LoopRunner for InPlace<'_> {
     }
 }
 
-/// Runs the program on the maps, its argument in R1, with each loop in order, and changes them as it goes. What is
-/// told of its loop calls is written to the first of these lines. Nothing is allocated, and so nothing is refused.
+/// Runs the program on the maps, its argument in R1, with each loop in order, and changes them as it goes. The
+/// report on its loop calls is written to the first of these lines. Nothing is allocated, and so nothing is refused.
 ///
 /// The maps are of the program's sizes, and there are at least as many lines as main takes instructions at most.
 pub fn run_in_place(

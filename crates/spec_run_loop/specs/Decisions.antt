@@ -1,4 +1,4 @@
--- What gathered blocks tell of a loop.
+-- The outcome of a loop, by its gathered blocks.
 use Rattle.loop_core_block.specs.Loops.{LoopOf}
 use Rattle.loop_core_gather.specs.Gathered.{HasOutcome}
 use Rattle.loop_core_gather.specs.Held.{GatheredOf}

@@ -25,7 +25,7 @@ pub struct LoopAnswer {
 impl LoopAnswer {
     ghost use Rattle.loop_core_model.specs.declared.verdict.Verdict.TheVariants as verdicts;
 
-    /// What is told of a loop that passes.
+    /// The answer on a loop that passes.
     pub(crate) fn passed(answer: u32, course: Course) -> LoopAnswer
         ensures { result ≡ record { verdict = verdicts.Parallel; answer = answer; course = course } }
     {
@@ -37,8 +37,8 @@ impl LoopAnswer {
     }
 }
 
-/// Does to the maps what was decided of a loop call that was watched, and given up after so much progress: where it
-/// doesn't pass, it goes on in order from there. The maps and the log are as it left them.
+/// Does to the maps what was decided of a loop call that was watched, and given up after this progress: where it
+/// doesn't pass, it continues in order from there. The maps and the log are as it left them.
 pub(crate) fn carry_out_from(
     decision: Decision,
     job: &LoopJob,

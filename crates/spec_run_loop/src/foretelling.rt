@@ -1,4 +1,4 @@
-//! Which way a loop call goes, told without running it so.
+//! Which way a loop call goes, found without running it that way.
 
 ghost use Rattle.std.specs.Prelude.{◌≡◌, IfOk};
 ghost use Rattle.spec_run_loop.specs.Courses.{IsCourseOf, IsWatchedCourse};

@@ -86,7 +86,7 @@ pub(crate) fn busy_workers(work: u64, elements: u32, plan: &Plan) -> u32
     plan.workers.min(shared).min(plan.blocks)
 }
 
-/// Whether an iteration in order is cheaper than its share on the private copies of so many workers, 1 to 16.
+/// Whether an iteration in order is cheaper than its share on the private copies of this many workers, 1 to 16.
 pub(crate) fn are_copies_dear(job: &LoopJob, workers: u32) -> bool
     requires few { workers ≤ 16 }
 {

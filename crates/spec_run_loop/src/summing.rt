@@ -115,9 +115,9 @@ fn run_alone(of: &SumLoop, to: u32, maps: &mut Maps) -> Option<u32>
     range_in_order(of.program, of.call, 0, to, maps)
 }
 
-/// The round after so many of n iterations, by this many workers, 1 to 16: they are at it as long as one was, or would
-/// have been, at all iterations before it, so no more than that is in vain where one of it breaks off. The last one may
-/// be longer by a quarter.
+/// The round after the first `done` of n iterations, by this many workers, 1 to 16: they are at it as long as one was,
+/// or would have been, at all iterations before it, so no more than that is in vain where one of it breaks off. The
+/// last one may be longer by a quarter.
 fn next_round(done: u32, n: u32, workers: u32) -> Round
     requires some { 0 < done }
     requires left { done < n }

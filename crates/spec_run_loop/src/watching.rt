@@ -21,8 +21,8 @@ use std::alloc::AllocError;
 use std::thread::Threads;
 
 /// Runs a loop call in order on these maps, which are of the program's sizes, and watches it: where no iteration reads
-/// what an earlier one wrote, it passes by the flow test, and is done. Else blocks tell its verdict, which are run on
-/// the maps as they were, and it goes on in order from the iteration that did.
+/// what an earlier one wrote, it passes by the flow test, and is done. Else its verdict is that of blocks, which are
+/// run on the maps as they were, and it continues in order from the iteration that did.
 pub(crate) fn run_watched<R: Threads + Sync, G: Gate>(
     rt: &R,
     job: &LoopJob,

@@ -70,7 +70,7 @@ pub(crate) enum Way<'l> {
     /// Its iterations do nothing but reduce elements by one operator: even shares of them are added up, by this many
     /// workers, 1 to 16. It needs no marks and no copies.
     Sums { of: SumLoop<'l>, workers: u32 },
-    /// In order on the maps, watched. Where an iteration reads what an earlier one wrote, blocks tell its verdict.
+    /// In order on the maps, watched. Where an iteration reads what an earlier one wrote, blocks give its verdict.
     Watched { otherwise: BlockPlan },
     /// By blocks on private copies, which are judged, and committed or discarded.
     ByBlocks { blocks: BlockPlan },
@@ -125,8 +125,8 @@ fn blocks_that_pay(job: &LoopJob, elements: u32, workers: u32, why: BlocksReason
     }
 }
 
-/// Whether a loop that keeps so many workers busy, 1 to 16, is run in order first, and watched: by the flow test alone,
-/// where several workers would save less than their private copies cost.
+/// Whether a loop that keeps this many workers busy, 1 to 16, is run in order first, and watched: by the flow test
+/// alone, where several workers would save less than their private copies cost.
 fn pays_in_order(job: &LoopJob, workers: u32) -> bool
     requires few { workers ≤ 16 }
     ensures { result ≡ true → job.now.plan.test ≡ tests.Flow }

@@ -1,4 +1,4 @@
--- What is told of the loop calls that main of a program makes.
+-- What is recorded of the loop calls that main of a program makes.
 use Rattle.std.specs.Prelude.{ℕ, ℤ, pos, List, [], ◌∷◌, ◌++◌, Some, None}
 use Rattle.bpf_insn_types.specs.Program.{Program}
 use Rattle.bpf_step_model.specs.State.{LoopCall}
@@ -21,13 +21,13 @@ pub record IsMadeAs (program : Program) (made call : LoopCall) (words : List ℕ
   pub fit : AreMapWords program words
   pub same : AreOneLoop program made call words
 
--- `tells first calls now`: since it was at first, these calls were told
+-- `tells first calls now`: since the first state these calls were recorded
 module _ {S : Type 0} (tells : S → List LoopMade → S → Type 0) where
-  -- some calls were told since some state
+  -- some calls were recorded since some state
   abbrev pub HasTold : S → Type 0
   HasTold now = (first : S) × (calls : List LoopMade) × tells first calls now
 
-  -- from the old state to the new one a valid call was told, whichever call main made of it, after any others
+  -- from the old state to the new one a valid call was recorded, whichever call main made of it, after any others
   abbrev pub TellsValid : Program → LoopCall → (words : List ℕ) → (answer : ℕ) → (old new : S) → Type 0
   TellsValid program call words answer old new = (first : S) (calls : List LoopMade) (made : LoopCall)
       → IsMadeAs program made call words → tells first calls old

@@ -7,7 +7,8 @@ use Rattle.bpf_step_model.specs.ProgramInOrder.{LoopMade, program_in_order}
 use Rattle.bpf_verify_sound.specs.Soundness.{ProgramEnds}
 use Rattle.bpf_step.specs.Iterations.{EachIterationEnds}
 
--- main ran from its argument and the old maps to its end, returned this and left the new maps; its loop calls are told
+-- main ran from its argument and the old maps to its end, returned this and left the new maps; its loop calls are
+-- recorded
 pub record RanProgram (told : List LoopMade → Type 0) (program : Program) (argument : ℕ) (old new : MapList) (ret : ℕ)
     : Type 0 where
   -- the return value, the loop calls and the new maps' words are those of the program in order, where main takes at
@@ -15,7 +16,7 @@ pub record RanProgram (told : List LoopMade → Type 0) (program : Program) (arg
   pub calls : List LoopMade
   pub gives : program_in_order program 4096 argument old.words
       ≡ Ended (record { ret = ret; loops = calls; words = new.words })
-  -- all of these loop calls are told
+  -- all of these loop calls are recorded
   pub tells : told calls
   -- the new maps are of the old ones' sizes
   pub kept : new.sizes ≡ old.sizes

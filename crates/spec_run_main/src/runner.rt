@@ -12,13 +12,13 @@ use array_maps::Maps;
 use bpf_step::LoopCall;
 use bpf_verify::Verified;
 
-/// Runs the loop calls that main of a program makes, and keeps what it tells of them. It has room for a number of
+/// Runs the loop calls that main of a program makes, and records them. It has room for a number of
 /// calls, and each uses up at most one.
 pub trait LoopRunner {
     /// Why it stops main before its end.
     type Stop;
 
-    /// That it told of these loop calls of a program since it was as at first.
+    /// That it recorded these loop calls of a program since its first state.
     ghost tells: { Program → Self → List LoopMade → Self → Type 0 };
 
     /// How many loop calls it still has room for.

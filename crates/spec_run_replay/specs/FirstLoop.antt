@@ -5,7 +5,7 @@ use Rattle.bpf_step_model.specs.State.{LoopCall}
 use Rattle.bpf_step_model.specs.Run.{BoundedResult, mapped}
 use Rattle.bpf_step_model.specs.ProgramInOrder.{LoopMade, Finished, program_in_order}
 
--- a valid loop call: its number among all that main made, the call, and the words as they stood at it
+-- a valid loop call: its number among all that main made, the call, and the words as they were at it
 pub record ValidLoop : Type 0 where
   pub number : ℕ
   pub call : LoopCall

@@ -16,7 +16,7 @@ pub struct NumberedCall {
 }
 
 /// Runs main on these maps, which are of its sizes, up to its first valid loop call, and leaves the maps as
-/// they stand there. It is None where main makes no valid loop call.
+/// they are there. It is None where main makes no valid loop call.
 pub(crate) fn first_loop(program: &Verified, maps: &mut Maps, argument: u64) -> Option<NumberedCall>
     requires { maps.old.sizes ≡ program.now.sizes }
     ensures { CameToLoop program.now argument maps.old maps.new result }

@@ -21,7 +21,7 @@ use thiserror::Error;
 pub struct Replayed {
     /// Its number among the loop calls that main made, refused ones included, from 0.
     pub number: usize,
-    /// What is told of it.
+    /// Its line in the report.
     pub told: LoopReport,
     /// The maps after it.
     pub maps: Maps,
@@ -52,7 +52,7 @@ pub enum NoReplay {
     Memory,
 }
 
-/// Tells that each iteration ends within its callback's count.
+/// For the proof: each iteration ends within its callback's count.
 fn iterations_end(program: &Verified)
     ensures { EachIterationEnds program.now }
 {
@@ -67,7 +67,7 @@ fn iterations_end(program: &Verified)
 /// program's sizes.
 ///
 /// It is refused with `NoLoop` where there is no such call, with `Split` where the bounds don't split its
-/// iterations, and with `Schedule` where the events are no schedule of it: the first of them that stands. It
+/// iterations, and with `Schedule` where the events are no schedule of it: the first of these that applies. It
 /// fails with `Memory` too. No iteration is stuck, and each ends within the count that the verifier reports.
 pub fn replay(
     alloc: Global,

@@ -11,9 +11,9 @@ pub use worker::{run_alone, run_workers};
 pub use working::work;
 pub use workspace::Workspace;
 
-/// The law of workers: where the histories of all seats are legal, as those that `Board::gather` tells of,
+/// The law of workers: where the histories of all seats are legal, as `Board::gather` ensures,
 /// the blocks of the workers are complete: none is missing that starts at or before their least break, none
-/// is there twice, and each interval is the split's. Nothing runs here: the contract is the law.
+/// appears twice, and each interval is the split's. Nothing runs here: the contract is the law.
 pub fn law_of_workers()
     ensures { WorkersComplete }
 {}

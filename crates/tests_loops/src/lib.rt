@@ -1,6 +1,6 @@
 //! Tests of loops: their blocks, runs by several workers and in order, replays, and pictures of loops that pass. What
 //! they share is rows of text, each a program with its maps, gates at which workers meet, and loops at their call.
-//! They stand in a crate of their own, since a crate with tests is proved twice.
+//! They are a crate of their own, since a crate with tests is proved twice.
 #![tactic(auto)]
 
 pub mod meeting;

@@ -32,7 +32,7 @@ const AT: &str = "mov64 r2, r1 | lsh64 r2, 3 | ldmapval r3, 0, 0 | add64 r3, r2"
 
 const END: &str = "mov64 r0, 0 | exit";
 
-/// A row as an input, with the lines for which its short words stand.
+/// A row as an input, with its abbreviations written out.
 pub fn spelled_out(alloc: Global, row: &str) -> Result<String, AllocError> {
     let text = row.replace(alloc, "LOOP", LOOP)?;
     let text = text.replace(alloc, "AT", AT)?;

@@ -80,7 +80,7 @@ pub fn all_blocks<'a>(
     Ok(blocks)
 }
 
-/// What blocks of the loop tell together.
+/// The blocks of the loop, gathered.
 pub fn gathered<'a>(
     alloc: Global,
     stage: &'a Stage,

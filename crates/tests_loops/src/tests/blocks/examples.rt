@@ -12,7 +12,7 @@ use std::test::Fail;
 const ADDS: &str =
     "maps 1 | mov64 r1, 8 | LOOP | ldmapval r2, 0, 0 | atomic64 add [r2+0], r1 | END | %% | map 0: 5";
 
-/// Asserts what the blocks of the loop tell.
+/// Asserts the outcome of the loop by its blocks: that it passes and leaves 33.
 fn tells_33(rt: &impl Abort, gathered: &Gathered) {
     assert_eq!(rt; gathered.verdict(), Verdict::Parallel);
     assert_eq!(rt; gathered.answer(), 8);

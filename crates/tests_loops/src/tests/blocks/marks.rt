@@ -1,4 +1,4 @@
-//! What a block remembers of its iterations: planes and the conflicts that they tell, partials, and pages.
+//! What a block remembers of its iterations: planes and the conflicts that they show, partials, and pages.
 
 ghost use Rattle.std.specs.Prelude.{IfOk};
 ghost use Rattle.loop_core_model.specs.declared.loop_test.Test.TheVariants.{Lrpd};
@@ -37,7 +37,7 @@ const PLANES: &str = "
         => nx 18446744073709551615 1 w 18446744073709551615 1 np 18446744073709551615 1
 ";
 
-/// What the planes of a block tell.
+/// The planes of a block and the conflicts that they show, as text.
 fn told_of(alloc: Global, stage: &Stage, block: &Block) -> Result<String, AllocError>
     requires { IsRunOn Lrpd stage.now block.now }
 {
@@ -50,7 +50,7 @@ fn told_of(alloc: Global, stage: &Stage, block: &Block) -> Result<String, AllocE
     Ok(text)
 }
 
-/// What the planes of a row's loop tell, run as one block.
+/// The same of a row's loop, run as one block.
 fn told(alloc: Global, row: &str) -> Result<String, Fail> {
     let stage = stage_of(alloc, row, 1).ok_or("a row has a loop")?;
     let block = block_of(alloc, &stage, 0, Test::Lrpd)?;

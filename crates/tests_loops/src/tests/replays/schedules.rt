@@ -11,8 +11,8 @@ use std::alloc::{AllocError, Global};
 use std::process::Abort;
 use std::test::Fail;
 
-/// Has workers 0 and 1 go on as the bits of a word say, the lowest first, and returns whether they have ended then.
-/// Where one of them should go on that has stopped they haven't.
+/// Has workers 0 and 1 proceed as the bits of a word say, the lowest first, and returns whether they have ended then.
+/// Where one of them should proceed that has stopped they haven't.
 pub(crate) fn goes_on(
     row: &Row,
     word: u32,

@@ -11,7 +11,7 @@ use std::process::Abort;
 use std::test::Fail;
 use std::thread::Threads;
 
-/// A row with a loop, how many workers and blocks it is run by, which of them are held, and what is told of it.
+/// A row with a loop, how many workers and blocks it is run by, which of them are held, and its report.
 #[derive(Clone, Copy)]
 struct Held {
     row: &'static str,
@@ -80,7 +80,7 @@ fn plan_of(held: &Held) -> Plan {
     }
 }
 
-/// Asserts what is told, and that all who are held met those for whom they waited.
+/// Asserts the report, and that all who are held met those for whom they waited.
 fn has_passed(
     rt: &impl Abort,
     alloc: Global,

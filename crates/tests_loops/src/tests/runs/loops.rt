@@ -1,5 +1,5 @@
-//! What `run_loop` tells of rows, with any number of workers and blocks. A row has a program with its maps, and after
-//! `=>` what `run` tells of it.
+//! What `run_loop` reports of rows, with any number of workers and blocks. A row has a program with its maps, and after
+//! `=>` its report by `run`.
 
 ghost use Rattle.std.specs.Prelude.{◌≡◌, IfOk};
 ghost use Rattle.bpf_verify_sound.specs.Soundness.{OverApproximatesCall};
@@ -27,7 +27,7 @@ const WAYS: [(u32, u32); 9] = [
     (16, 64),
 ];
 
-/// Asserts what is told of a loop in each way.
+/// Asserts the report on a loop in each way.
 fn loop_is_told<R: Threads + Sync + Abort>(
     rt: &R,
     alloc: Global,
@@ -51,7 +51,7 @@ fn loop_is_told<R: Threads + Sync + Abort>(
     Ok(())
 }
 
-/// The program of a row with its maps, and what is told of it.
+/// The program of a row with its maps, and its report.
 fn row_of(alloc: Global, line: &str) -> Result<(Row, &str), Fail>
     ensures { IfOk result (λ read. read.0.maps.sizes ≡ read.0.program.sizes) }
 {
@@ -60,7 +60,7 @@ fn row_of(alloc: Global, line: &str) -> Result<(Row, &str), Fail>
     Ok((row, wanted.trim()))
 }
 
-/// Asserts what is told of each first loop of a table: all but the return value.
+/// Asserts the report on each first loop of a table: all but the return value.
 fn loops_are_told<R: Threads + Sync + Abort>(
     rt: &R,
     alloc: Global,
@@ -77,7 +77,7 @@ fn loops_are_told<R: Threads + Sync + Abort>(
     Ok(())
 }
 
-/// Rows of one loop, of which the same is told by both tests.
+/// Rows of one loop, whose report is the same by both tests.
 const BY_BOTH: &str = "
     maps 1 | mov64 r1, 0 | LOOP | ldmapval r2, 0, 0 | atomic64 add [r2+0], r1 | END | %% | map 0: 5 \
         => return 0 | loop 0 at 5: answer 0, parallel | map 0: 5

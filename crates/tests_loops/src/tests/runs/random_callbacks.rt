@@ -36,7 +36,7 @@ fn one_by_one(program: &Verified, call: &LoopCall, maps: &mut Maps) -> u32
     n
 }
 
-/// So many random words.
+/// This many random words.
 fn random_words(alloc: Global, rng: &mut SmallRng, count: u32) -> Result<Vec<u64>, AllocError> {
     let mut words = Vec::new(alloc);
     for _ in 0..count {

@@ -1,4 +1,4 @@
-//! What is told of a row that is run by a plan: of its first loop alone, of its program, and of it as an input.
+//! The report on a row that is run by a plan: on its first loop alone, on its program, and on it as an input.
 
 ghost use Rattle.bpf_verify_sound.specs.Soundness.{OverApproximatesCall};
 
@@ -13,7 +13,7 @@ use std::alloc::Global;
 use std::test::Fail;
 use std::thread::Threads;
 
-/// What is told of the first loop of a row: its line, and the maps after it.
+/// The report on the first loop of a row: its line, and the maps after it.
 pub(crate) fn loop_report<R: Threads + Sync, G: Gate>(
     rt: &R,
     alloc: Global,
@@ -43,7 +43,7 @@ pub(crate) fn loop_report<R: Threads + Sync, G: Gate>(
     Ok(print_replay(alloc, 0, &told, &outcome.maps)?)
 }
 
-/// What is told of the program of a row: its return value, its loops, and the maps after it.
+/// The report on the program of a row: its return value, its loops, and the maps after it.
 pub(crate) fn report<R: Threads + Sync, G: Gate>(
     rt: &R,
     alloc: Global,
