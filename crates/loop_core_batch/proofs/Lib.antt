@@ -3,6 +3,5 @@ pub mod Meeting
 pub mod SiteLaws
 pub mod Swapping
 pub mod ApplyLaws
-pub mod Judging
 pub mod Sparing
 pub mod EffectLaws

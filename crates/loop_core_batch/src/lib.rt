@@ -5,7 +5,7 @@
 //! ```text
 //! let load = Site { kind: Access::Read, fetches: false, elements: Elements::Run(8), halves: None };
 //! let store = Site { kind: Access::Write, fetches: false, elements: Elements::Run(9), halves: None };
-//! none_sees(&[load, store], 64)       // false: lane 1 reads element 9, and lane 0 writes it
+//! store.is_unseen(&load, 64)          // false: lane 1 reads element 9, and lane 0 writes it
 //! ```
 #![tactic(auto)]
 
@@ -22,7 +22,7 @@ ghost use Rattle.loop_core_batch.specs.Sites.{SitesTell};
 pub use elements::Elements;
 pub use loop_core_model::Access;
 use loop_core_model::law_of_operators;
-pub use site::{Site, all_commute, leaves, none_loads, none_sees};
+pub use site::{Site, leaves};
 pub use stride::Stride;
 
 /// The law of batches: where iterations go on that ran on the words from before them, and none sees an

@@ -1,9 +1,9 @@
 //! Sites: what the lanes of a batch do at one place of a callback.
 
-ghost use Rattle.std.specs.Prelude.{◌≡◌, ◌↔◌, IsTrue, All};
-ghost use Rattle.loop_core_batch.specs.BySite.{Commute, AllCommute, by_one_operator};
-ghost use Rattle.loop_core_batch.specs.Effects.{Unloaded, AllUnloaded, leaves_another, site_loads};
-ghost use Rattle.loop_core_batch.specs.Sites.{HalvesMeet, SitesMeet, Unseen, AllUnseen, kind_sees, kind_leaves};
+ghost use Rattle.std.specs.Prelude.{◌≡◌, ◌↔◌, IsTrue};
+ghost use Rattle.loop_core_batch.specs.BySite.{Commute, by_one_operator};
+ghost use Rattle.loop_core_batch.specs.Effects.{Unloaded, leaves_another, site_loads};
+ghost use Rattle.loop_core_batch.specs.Sites.{HalvesMeet, SitesMeet, Unseen, kind_sees, kind_leaves};
 
 use crate::elements::Elements;
 use loop_core_model::Access;
@@ -48,24 +48,13 @@ impl Site {
         }
     }
 
-    /// Whether no lane may see at `reader` an element that an earlier one may write here.
-    fn is_unseen(self, reader: Site, lanes: u32) -> bool
-        ensures { IsTrue result ↔ Unseen lanes self reader }
+    /// Whether no lane of n may see at `reader` an element that an earlier one may write here.
+    #[inline(always)]
+    pub fn is_unseen(&self, reader: &Site, lanes: u32) -> bool
+        ensures { IsTrue result ↔ Unseen lanes self.now reader.now }
     {
         if leaves(self.kind) && sees(reader.kind) {
             return !self.elements.may_meet(reader.elements, lanes);
-        }
-        true
-    }
-
-    /// Whether no lane may see at one of the readers an element that an earlier one may write here.
-    fn is_unseen_by(self, readers: &[Site], lanes: u32) -> bool
-        ensures { IsTrue result ↔ All (λ reader. Unseen lanes self reader) readers.now }
-    {
-        for reader in readers {
-            if !self.is_unseen(*reader, lanes) {
-                return false;
-            }
         }
         true
     }
@@ -78,9 +67,10 @@ impl Site {
             && halves_may_meet(self.halves, later.halves, lanes)
     }
 
-    /// Whether no lane may load at `reader` what an earlier one may write here.
+    /// Whether no lane of n may load at `reader` what an earlier one may write here. What replaces a half of an element,
+    /// or applies an operator to it, doesn't load it.
     #[inline(always)]
-    fn is_unloaded(&self, reader: &Site, lanes: u32) -> bool
+    pub fn is_unloaded(&self, reader: &Site, lanes: u32) -> bool
         ensures { IsTrue result ↔ Unloaded lanes reader.now self.now }
     {
         if leaves(self.kind) && reader.loads() {
@@ -89,51 +79,13 @@ impl Site {
         true
     }
 
-    /// Whether no lane may load at one of the readers what an earlier one may write here.
+    /// Whether this site may be applied for all of n lanes before another, which lies after it, is for any.
     #[inline(always)]
-    fn is_unloaded_by(&self, readers: &[Site], lanes: u32) -> bool
-        ensures { IsTrue result ↔ All (λ reader. Unloaded lanes reader self.now) readers.now }
-    {
-        if !leaves(self.kind) {
-            return true;
-        }
-        for reader in readers {
-            if !self.is_unloaded(reader, lanes) {
-                return false;
-            }
-        }
-        true
-    }
-
-    /// Tells whether no lane may load here what an earlier one may write here.
-    #[inline(always)]
-    pub fn spares_itself(&self, lanes: u32) -> bool
-        ensures { IsTrue result ↔ Unloaded lanes self.now self.now }
-    {
-        self.is_unloaded(self, lanes)
-    }
-
-    /// Whether this site may be applied for all lanes before another, which lies after it, is for any.
-    fn commutes(&self, behind: &Site, lanes: u32) -> bool
+    pub fn commutes(&self, behind: &Site, lanes: u32) -> bool
         ensures { IsTrue result ↔ Commute lanes self.now behind.now }
     {
         if leaves(self.kind) && leaves(behind.kind) && !reduce_alike(self.kind, behind.kind) {
             return !behind.may_meet(self, lanes);
-        }
-        true
-    }
-
-    /// Whether each of the sites before this one may be applied for all lanes before this one is for any.
-    fn commutes_behind(&self, before: &[Site], lanes: u32) -> bool
-        ensures { IsTrue result ↔ All (λ site. Commute lanes site self.now) before.now }
-    {
-        if !leaves(self.kind) {
-            return true;
-        }
-        for site in before {
-            if !site.commutes(self, lanes) {
-                return false;
-            }
         }
         true
     }
@@ -147,45 +99,6 @@ fn halves_may_meet(first: Option<Elements>, later: Option<Elements>, lanes: u32)
         (Some(first), Some(later)) => first.may_meet(later, lanes),
         _ => true,
     }
-}
-
-/// Tells whether, by these sites of all their accesses, no lane of n may see an element that an
-/// earlier one may write.
-pub fn none_sees(sites: &[Site], lanes: u32) -> bool
-    ensures { IsTrue result ↔ AllUnseen lanes sites.now }
-{
-    for writer in sites {
-        if !writer.is_unseen_by(sites, lanes) {
-            return false;
-        }
-    }
-    true
-}
-
-/// Tells whether, by these sites of all their accesses, no lane of n may load what an earlier one may write. What
-/// replaces a half of an element, or applies an operator to it, doesn't load it.
-#[inline(always)]
-pub fn none_loads(sites: &[Site], lanes: u32) -> bool
-    ensures { IsTrue result ↔ AllUnloaded lanes sites.now }
-{
-    for writer in sites {
-        if !writer.is_unloaded_by(sites, lanes) {
-            return false;
-        }
-    }
-    true
-}
-
-/// Tells whether each site may be applied for all of n lanes before those after it are for any.
-pub fn all_commute(sites: &[Site], lanes: u32) -> bool
-    ensures { IsTrue result ↔ AllCommute lanes sites.now }
-{
-    for (k, site) in sites.iter().enumerate() {
-        if !site.commutes_behind(&sites[..k], lanes) {
-            return false;
-        }
-    }
-    true
 }
 
 /// Whether an access of this kind sees the word of its element.

@@ -1,10 +1,10 @@
 -- What a batch leaves in the maps.
-use Rattle.std.proofs.Common.{◌≡◌, ℕ, zero, suc, ◌+◌, ◌-◌, ◌<◌, ◌≤◌, List, [], ◌∷◌, ◌++◌, length, map, take}
-use Rattle.std.proofs.Common.{drop, set, slice_index, slice_index_or, refl, sym, ap, subst, ◌∙◌, arith}
+use Rattle.std.proofs.Common.{◌≡◌, ℕ, zero, suc, ◌+◌, ◌-◌, ◌<◌, ◌≤◌, List, length, take}
+use Rattle.std.proofs.Common.{drop, slice_index, slice_index_or, refl, sym, ap, subst, ◌∙◌, arith}
 use Rattle.std.specs.Prelude.{Bool, true, false, Option, Some, None, if◌then◌else◌}
 use Rattle.std.specs.List.{AllByRecursion}
-use Rattle.std.proofs.lemmas.List.{set-get_or, length-set, drop_more, take_more, take_more_set}
-use Rattle.std.proofs.lemmas.List.{take_all, map-append, get_or-take, length-take-le}
+use Rattle.std.proofs.lemmas.List.{set-get_or, length-set, drop_more}
+use Rattle.std.proofs.lemmas.List.{get_or-take, length-take-le}
 use Rattle.std.proofs.lemmas.List.Elements.{All-from_recursion}
 use Rattle.array_maps.specs.declared.access.Op.{Op}
 use Rattle.array_maps.specs.Accesses.{Action, Write, Reduce, Access, combined, words_after, words_after_run}
@@ -14,13 +14,12 @@ use Rattle.loop_core_model.specs.declared.access.Access.TheVariants.{Read as Rea
 use Rattle.loop_core_model.specs.declared.access.Access.TheVariants.{Both, Reduce as Reduces}
 use Rattle.loop_core_batch.specs.declared.elements.Elements.{Elements}
 use Rattle.loop_core_batch.specs.declared.elements.Elements.TheVariants.{One, Run}
-use Rattle.loop_core_batch.specs.declared.site.Site.{Site}
 use Rattle.loop_core_batch.specs.BySite.{SumsAtOnce, combined_to, words_after_any, words_after_site, words_after_some}
 use Rattle.loop_core_batch.specs.BySite.{words_after_sites}
 use Rattle.bpf_step_batch.specs.declared.mask.Mask.{Mask}
 use Rattle.bpf_step_batch.specs.declared.mask.Mask.TheVariants.{All}
 use Rattle.bpf_step_batch.specs.declared.entry.Entry.{Entry}
-use Rattle.bpf_step_batch.specs.Logs.{element_by, action_by, has_lane, access_by, made_by, log_by, site_of}
+use Rattle.bpf_step_batch.specs.Logs.{element_by, action_by, has_lane, access_by, made_by, log_by}
 use Rattle.bpf_step_batch.specs.Logs.{stored_by, reduced_by, IsLogged}
 use Rattle.loop_core_sequential.specs.Tries.{stored_if_made, reduced_if_made}
 
@@ -352,25 +351,6 @@ entry_keeps words now new lanes index count entries other is many =
     ap length is
     ∙ length-after_some (made_by words (slice_index_or entries index other)) lanes now
     ∙ many
-
--- one site more
-pub site_taken : (sites : List Site) (entries : List Entry) (index : ℕ) (other : Entry) → index < length sites
-    → index < length entries → take index sites ≡ map site_of (take index entries)
-    → take (index + 1) (set sites index (slice_index_or entries index other).site)
-    ≡ map site_of (take (index + 1) entries)
-site_taken sites entries index other room below so_far =
-    take_more_set sites index (slice_index_or entries index other).site room
-    ∙ ap (λ (before : List Site). before ++ (slice_index_or entries index other).site ∷ []) so_far
-    ∙ sym (ap (map site_of) (take_more entries index other below)
-    ∙ map-append site_of (take index entries) (slice_index_or entries index other ∷ []))
-
--- all of them
-pub sites_taken : (sites : List Site) (entries : List Entry) (index : ℕ) → length entries ≤ index
-    → index ≤ length entries → take index sites ≡ map site_of (take index entries)
-    → take (length entries) sites ≡ map site_of entries
-sites_taken sites entries index past within so_far =
-    let all : length entries ≡ index = omega (arith, past, within) in
-    ap (λ (n : ℕ). take n sites) all ∙ so_far ∙ ap (map site_of) (take_all index entries past)
 
 -- operands combined up to one lane more
 pub combined_more : (op : Op) (operands : ℕ → ℕ) (lane all more : ℕ) → 1 ≤ lane

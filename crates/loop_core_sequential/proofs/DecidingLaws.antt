@@ -1,23 +1,33 @@
--- Batches of one access, which its site decides.
-use Rattle.std.proofs.Common.{◌≡◌, ℕ, List, [], ◌∷◌, length, map, slice_index_or, arith}
-use Rattle.std.specs.List.{All}
-use Rattle.std.proofs.lemmas.List.Elements.{All-nil, All-cons}
+-- What was found entry by entry, of their sites.
+use Rattle.std.proofs.Common.{◌≡◌, ℕ, ◌+◌, ◌<◌, ◌≤◌, List, [], ◌∷◌, ◌++◌, length, map, take, slice_index_or, sym, ap}
+use Rattle.std.proofs.Common.{◌∙◌, subst}
+use Rattle.std.specs.List.{All, AllPairs}
+use Rattle.std.proofs.lemmas.List.{map-append, take_all, take_more}
+use Rattle.std.proofs.lemmas.List.Elements.{All-push}
+use Rattle.std.proofs.lemmas.List.Quantifiers.{all_pairs_push}
 use Rattle.loop_core_batch.specs.declared.site.Site.{Site}
-use Rattle.loop_core_batch.specs.BySite.{AllCommute}
-use Rattle.loop_core_batch.specs.Effects.{Unloaded, AllUnloaded}
 use Rattle.bpf_step_batch.specs.declared.entry.Entry.{Entry}
 use Rattle.bpf_step_batch.specs.Logs.{site_of}
 
-pub one_unloaded : (lanes : ℕ) (entries : List Entry) (other : Entry) → length entries ≡ 1
-    → Unloaded lanes (slice_index_or entries 0 other).site (slice_index_or entries 0 other).site
-    → AllUnloaded lanes (map site_of entries) × AllCommute lanes (map site_of entries)
-one_unloaded lanes [] other one spares = absurd (cc)
-one_unloaded lanes (entry ∷ []) other one spares =
-    let unloaded : Site → Type 0 = λ reader. All (λ (writer : Site). Unloaded lanes reader writer) (entry.site ∷ []) in
-    let by_itself : unloaded entry.site =
-    All-cons (λ (writer : Site). Unloaded lanes entry.site writer) entry.site [] spares
-    (All-nil (λ (writer : Site). Unloaded lanes entry.site writer)) in (
-      All-cons unloaded entry.site [] by_itself (All-nil unloaded),
-      λ i j d before within. absurd (omega (arith, before, within)),
-    )
-one_unloaded lanes (entry ∷ next ∷ rest) other one spares = absurd (omega (arith, one))
+-- all entries were looked at
+pub all_sites : (P : List Site → Type 0) (entries : List Entry) (index : ℕ) → length entries ≤ index
+    → P (map site_of (take index entries)) → P (map site_of entries)
+all_sites P entries index past holds = subst (λ (es : List Entry). P (map site_of es)) (take_all index entries past) holds
+
+module _ (entries : List Entry) (index : ℕ) (other : Entry) (within : index < length entries) where
+  -- one entry more
+  pub sites_more : map site_of (take (index + 1) entries)
+      ≡ map site_of (take index entries) ++ site_of (slice_index_or entries index other) ∷ []
+  sites_more = ap (map site_of) (take_more entries index other within)
+      ∙ map-append site_of (take index entries) (slice_index_or entries index other ∷ [])
+
+  pub all_more : (P : Site → Type 0) → All P (map site_of (take index entries))
+      → P (site_of (slice_index_or entries index other)) → All P (map site_of (take (index + 1) entries))
+  all_more P all here = subst (All P) (sym sites_more)
+      (All-push P (map site_of (take index entries)) (site_of (slice_index_or entries index other)) all here)
+
+  pub pairs_more : (R : Site → Site → Type 0) → AllPairs R (map site_of (take index entries))
+      → All (λ site. R site (site_of (slice_index_or entries index other))) (map site_of (take index entries))
+      → AllPairs R (map site_of (take (index + 1) entries))
+  pairs_more R pairs all = subst (AllPairs R) (sym sites_more)
+      (all_pairs_push R (map site_of (take index entries)) (site_of (slice_index_or entries index other)) pairs all)

@@ -20,8 +20,11 @@ const PATIENCE: u32 = 16;
 
 const MOST_PATIENCE: u32 = 65536;
 
-/// What a batch costs beside its lanes, in iterations that go alone.
-const COST: u32 = 20;
+/// What a batch costs beside its lanes and their accesses, in iterations that go alone.
+const COST: u32 = 14;
+
+/// What each place costs at which its lanes make an access, in iterations that go alone.
+const ACCESS_COST: u32 = 2;
 
 /// How many of a batch's lanes cost as much as an iteration that goes alone.
 const LANES_A_COST: u32 = 4;
@@ -102,7 +105,8 @@ impl Batches {
     /// iterations do alone, it is given up.
     fn follow(&mut self, count: u32, lanes: u32) {
         let quarters = self.quarters - self.quarters / 4 + count.min(MOST);
-        let cost = COST + lanes.min(MOST) / LANES_A_COST;
+        let accesses = self.batch.entries().len() as u32;
+        let cost = COST + ACCESS_COST * accesses + lanes.min(MOST) / LANES_A_COST;
         if count.max(quarters / 4) < cost {
             self.quarters = 0;
             self.narrow();

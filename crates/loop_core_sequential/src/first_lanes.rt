@@ -3,6 +3,7 @@
 ghost use Rattle.std.specs.Prelude.{◌≡◌, ℕ, ◌<◌, ◌≤◌, true, false, length, slice_index, slice_index_or, All};
 ghost use Rattle.std.specs.List.{AllByRecursion};
 ghost use Rattle.loop_core_batch.specs.Sites.{kind_leaves};
+ghost use Rattle.loop_core_batch.specs.declared.elements.Elements.TheVariants as elements;
 ghost use Rattle.loop_core_batch.specs.Effects.{words_after_any_effect, words_after_each_lane, words_after_effects};
 ghost use Rattle.loop_core_model.specs.declared.access.Access.TheVariants as access;
 ghost use Rattle.bpf_step_batch.specs.declared.entry.Entry.{Entry};
@@ -57,13 +58,29 @@ impl Marks {
         ensures lowers { Lowers self.old self.new }
     {
         match entry.site.elements {
-            Elements::One(only) => self.mark_each(Elements::One(only), entry, lanes),
+            Elements::One(only) => self.mark_first(only, entry, lanes),
             Elements::Run(first) => self.mark_each(Elements::Run(first), entry, lanes),
             Elements::Every { first, step } => {
                 self.mark_each(Elements::Every { first, step }, entry, lanes);
             }
             Elements::Between { low, high } => {
                 self.mark_each(Elements::Between { low, high }, entry, lanes);
+            }
+        }
+    }
+
+    /// The same of an element of all lanes: it has the mark of the first that makes the access.
+    fn mark_first(&mut self, only: u32, entry: &Entry, lanes: u32)
+        requires elements { entry.now.site.elements ≡ elements.One only }
+        requires room { lanes ≤ 128 }
+        requires within { IsWithin 65536 lanes entry.now }
+        ensures marked { IsMarked self.new lanes entry.now }
+        ensures lowers { Lowers self.old self.new }
+    {
+        for lane in 0..lanes {
+            if entry.mask.has(lane) {
+                self.mark_at(only, lane as u8);
+                return;
             }
         }
     }
@@ -79,22 +96,24 @@ impl Marks {
     {
         let all = entry.mask.is_whole();
         for lane in 0..lanes {
-            if all || entry.mask.has(lane) {
-                self.mark_at(element(elements, entry, lane), lane);
-            }
+            let mark = if all || entry.mask.has(lane) {
+                lane as u8
+            } else {
+                NONE
+            };
+            self.mark_at(element(elements, entry, lane), mark);
         }
     }
 
-    /// The same of one element and lane.
+    /// The same of one element and lane; nothing is done for none.
     #[inline(always)]
-    fn mark_at(&mut self, element: u32, lane: u32)
-        requires lane { lane < 128 }
-        requires within { element < 65536 }
-        ensures marked { slice_index self.new.first element ≤ lane }
+    fn mark_at(&mut self, element: u32, mark: u8)
+        requires { element < 65536 }
+        ensures marked { slice_index self.new.first element ≤ mark }
         ensures lowers { Lowers self.old self.new }
     {
         let at = element as usize;
-        self.first[at] = self.first[at].min(lane as u8);
+        self.first[at] = self.first[at].min(mark);
     }
 
     /// Takes the marks away.
@@ -115,7 +134,11 @@ impl Marks {
         requires within { IsWithin 65536 lanes entry.now }
     {
         match entry.site.elements {
-            Elements::One(only) => self.clear_each(Elements::One(only), entry, lanes),
+            Elements::One(only) => {
+                if lanes > 0 {
+                    self.first[only as usize] = NONE;
+                }
+            }
             Elements::Run(first) => self.clear_each(Elements::Run(first), entry, lanes),
             Elements::Every { first, step } => {
                 self.clear_each(Elements::Every { first, step }, entry, lanes);

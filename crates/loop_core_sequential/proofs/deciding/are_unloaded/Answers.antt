@@ -1,6 +1,25 @@
-use Rattle.loop_core_sequential.proofs.DecidingLaws.{one_unloaded}
+use Rattle.std.proofs.Common.{map}
+use Rattle.std.specs.List.{All, AllPairs}
+use Rattle.loop_core_batch.specs.declared.site.Site.{Site}
+use Rattle.loop_core_batch.specs.Effects.{Unloaded}
+use Rattle.loop_core_batch.specs.BySite.{Commute}
+use Rattle.bpf_step_batch.specs.Logs.{site_of}
+use Rattle.loop_core_sequential.proofs.DecidingLaws.{all_more, all_sites, pairs_more}
 use Rattle.loop_core_sequential.proofs.deciding.are_unloaded.Goals as goal
 
-pub returns-then-entries-eq1 : goal.returns-then-entries-eq1
-returns-then-entries-eq1 c = λ yes.
-    one_unloaded c.args.lanes c.args.entries.now _ c.if-entries-eq1.true (c.spares_itself.ensures.0 yes)
+pub loop-k-preserved : goal.loop-k-preserved
+loop-k-preserved c = record {
+  unloaded = all_more c.args.entries.now c.loop-k.k _ c.loop-k-test.true
+      (λ (writer : Site). All (λ (reader : Site). Unloaded c.args.lanes reader writer) (map site_of c.args.entries.now))
+      c.loop-k.invariant.unloaded (c.none_loads.ensures c.if-not-none_loads.false);
+  commute = pairs_more c.args.entries.now c.loop-k.k _ c.loop-k-test.true (Commute c.args.lanes)
+      c.loop-k.invariant.commute (c.all_commute.ensures c.if-not-all_commute.false);
+}
+
+pub returns : goal.returns
+returns c = λ always. (
+  λ reader d inside writer e under. all_sites (All (λ (writer : Site). All (λ (reader : Site). Unloaded c.args.lanes reader writer) (map site_of c.args.entries.now)))
+      c.args.entries.now c.loop-k.k c.loop-k-test.false c.loop-k.invariant.unloaded writer e under reader d inside,
+  all_sites (AllPairs (Commute c.args.lanes)) c.args.entries.now c.loop-k.k c.loop-k-test.false
+      c.loop-k.invariant.commute,
+)
