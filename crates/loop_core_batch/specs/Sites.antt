@@ -1,6 +1,6 @@
 -- The accesses of a batch, site by site. Each lane made one access at each site, or none where it went another way.
 use Rattle.std.specs.Prelude.{◌≡◌, ℕ, ◌+◌, ◌-◌, ◌<◌, ◌≤◌, max, min, Bool, true, false, List, [], ◌∷◌, Option, Some, None, IfSome}
-use Rattle.std.specs.List.{All, AllZip, Contains}
+use Rattle.std.specs.List.{All, AllZip}
 use Rattle.array_maps.specs.Accesses.{Access}
 use Rattle.loop_core_model.specs.declared.access.Access.{Access as Kind}
 use Rattle.loop_core_model.specs.declared.access.Access.TheVariants.{Read, Write, Both, Reduce}
@@ -33,14 +33,6 @@ MayAccess (One only) lane element = element ≡ only
 MayAccess (Run base) lane element = element ≡ base + lane
 MayAccess (Every first step) lane element = StepsTo step first lane element
 MayAccess (Between low high) lane element = (low ≤ element) × (element ≤ high)
-
--- a row, which has an element for each lane, lies between the least of them and the greatest
-pub record IsAround (row : List ℕ) (elements : Elements) : Type 0 where
-  pub low : ℕ
-  pub high : ℕ
-  pub told : elements ≡ Between low high
-  pub least : All (λ element. low ≤ element) row × Contains row low
-  pub greatest : All (λ element. element ≤ high) row × Contains row high
 
 -- of n lanes an earlier one may access an element by the first, and a later one the same by the second
 pub record MayMeet (first second : Elements) (lanes : ℕ) : Type 0 where

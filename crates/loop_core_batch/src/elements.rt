@@ -3,7 +3,7 @@
 ghost use Rattle.std.specs.Prelude.{◌≡◌, ◌↔◌, ℕ, ◌<◌, ◌≤◌, [], length, slice_index, IsTrue, IsNone, IfSome};
 ghost use Rattle.loop_core_batch.specs.declared.elements.Elements.TheVariants as elements;
 ghost use Rattle.loop_core_batch.specs.declared.stride.Stride.TheVariants as stride;
-ghost use Rattle.loop_core_batch.specs.Sites.{IsAround, IsReached, IsReachedBySteps, MayAccess, MayMeet, NotRuns, Overlap};
+ghost use Rattle.loop_core_batch.specs.Sites.{IsReached, IsReachedBySteps, MayAccess, MayMeet, NotRuns, Overlap};
 ghost use Rattle.loop_core_batch.specs.Sites.{least_of, greatest_of};
 ghost use Rattle.loop_core_batch.specs.Strides.{size_of};
 
@@ -62,19 +62,6 @@ fn steps_up_meet(first: u32, other: u32, step: u32, lanes: u32) -> bool
 }
 
 impl Elements {
-    /// The elements of a row, which has one for each lane: from the least to the greatest. `None` where
-    /// there are no lanes.
-    pub fn around(row: &[u32]) -> Option<Elements>
-        ensures empty { IsNone result ↔ (row.now ≡ []) }
-        ensures around { IfSome result (IsAround row.now) }
-        ensures lanes { IfSome result (λ elements. (lane : ℕ) → lane < length row.now
-            → MayAccess elements lane (slice_index row.now lane)) }
-    {
-        let low = row.iter().copied().min()?;
-        let high = row.iter().copied().max()?;
-        Some(Elements::Between { low, high })
-    }
-
     /// Tells whether, of n lanes, a later one may access an element by `later` that an earlier one
     /// may access by these.
     pub fn may_meet(self, later: Elements, lanes: u32) -> bool

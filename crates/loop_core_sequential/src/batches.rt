@@ -21,13 +21,13 @@ const PATIENCE: u32 = 16;
 const MOST_PATIENCE: u32 = 65536;
 
 /// What a batch costs beside its lanes and their accesses, in iterations that go alone.
-const COST: u32 = 14;
+const COST: u32 = 2;
 
 /// What each place costs at which its lanes make an access, in iterations that go alone.
 const ACCESS_COST: u32 = 2;
 
 /// How many of a batch's lanes cost as much as an iteration that goes alone.
-const LANES_A_COST: u32 = 4;
+const LANES_A_COST: u32 = 5;
 
 /// The engine, and when it is tried: with fewer iterations after a batch that was given up, or did few of them, and with
 /// more again after many that went.
