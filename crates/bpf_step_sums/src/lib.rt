@@ -7,8 +7,8 @@
 //! ```
 #![tactic(auto)]
 
-mod keeping;
 mod operators;
+mod summable;
 mod summing;
 
 ghost use Rattle.bpf_step_sums.specs.SumLaw.{SumsReduceAlone};

@@ -6,7 +6,7 @@ ghost use Rattle.bpf_step_model.specs.Step.{map_operator};
 ghost use Rattle.bpf_step_ir.specs.PlainRun.{op_of};
 ghost use Rattle.bpf_step_sums.specs.SumOps.{AddUp, IsSumOp};
 
-use crate::keeping::{keeps_to, stays_within};
+use crate::summable::{keeps_to, stays_within};
 use array_maps::Op;
 use bpf_step_ir::PlainOp;
 

@@ -5,7 +5,7 @@ use Rattle.bpf_insn_types.specs.Program.{Program}
 use Rattle.bpf_step_model.specs.State.{LoopCall}
 use Rattle.bpf_step.specs.Iterations.{CallbackOf}
 use Rattle.loop_core_undo.specs.declared.undo_log.UndoLog.{UndoLog}
-use Rattle.loop_core_sequential.specs.declared.running.LoopRun.{LoopRun}
+use Rattle.loop_core_sequential.specs.declared.loop_run.LoopRun.{LoopRun}
 use Rattle.loop_core_sequential.specs.declared.watching.Watch.{Watch}
 use Rattle.loop_core_sequential.specs.declared.watched_loop.WatchedLoop.{WatchedLoop}
 use Rattle.loop_core_sequential.specs.LoopRuns.{IsLoopRun}

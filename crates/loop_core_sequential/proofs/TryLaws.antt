@@ -3,8 +3,8 @@ use Rattle.std.proofs.Common.{ℕ, ◌≤◌, sym, subst, arith}
 use Rattle.array_maps.specs.MapList.{MapList}
 use Rattle.bpf_insn_types.specs.Program.{Program}
 use Rattle.bpf_step_model.specs.State.{LoopCall}
-use Rattle.loop_core_sequential.specs.declared.trying.Tried.{Tried}
-use Rattle.loop_core_sequential.specs.declared.trying.Tried.TheVariants.{Applied, Partly, Unmarked, Dependent, Diverged}
+use Rattle.loop_core_sequential.specs.declared.tried.Tried.{Tried}
+use Rattle.loop_core_sequential.specs.declared.tried.Tried.TheVariants.{Applied, Partly, Unmarked, Dependent, Diverged}
 use Rattle.loop_core_sequential.specs.Rests.{RanOn}
 use Rattle.loop_core_sequential.specs.Tries.{TriedIn, index_after}
 use Rattle.loop_core_sequential.proofs.InOrder.{stayed}

@@ -13,8 +13,8 @@ use Rattle.bpf_step_batch.specs.Logs.{IsLogged, NoneAfterOwn}
 use Rattle.loop_core_batch.specs.Effects.{Replace, Effect, LoadsSame}
 use Rattle.loop_core_batch.specs.LoopByBatch.{EndsInZero}
 use Rattle.loop_core_batch.specs.LoopByEffects.{GoesOn}
-use Rattle.loop_core_sequential.specs.declared.trying.Tried.{Tried}
-use Rattle.loop_core_sequential.specs.declared.trying.Tried.TheVariants.{Applied, Partly, Unmarked, Dependent, Diverged}
+use Rattle.loop_core_sequential.specs.declared.tried.Tried.{Tried}
+use Rattle.loop_core_sequential.specs.declared.tried.Tried.TheVariants.{Applied, Partly, Unmarked, Dependent, Diverged}
 use Rattle.loop_core_sequential.specs.Rests.{RanOn}
 
 -- the lanes of a batch are the iterations from an index on, each on these words: each goes on, with the accesses that

@@ -3,7 +3,7 @@
 ghost use Rattle.std.specs.Prelude.{◌≡◌, ◌+◌, ◌<◌, ◌≤◌, true, false};
 ghost use Rattle.loop_core_sequential.specs.Tries.{index_after};
 
-use crate::trying::Tried;
+use crate::tried::Tried;
 use bpf_step_batch::Batch;
 
 /// The most iterations that are done together.

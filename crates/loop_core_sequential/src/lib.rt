@@ -4,17 +4,17 @@
 #![tactic(auto)]
 
 mod applying;
+mod batch_run;
 mod batches;
 mod deciding;
 mod first_lanes;
-mod going;
+mod loop_run;
 mod noting;
 mod one_by_one;
 mod ordering;
 mod progress;
 mod replacing;
-mod running;
-mod trying;
+mod tried;
 mod watched_loop;
 mod watching;
 

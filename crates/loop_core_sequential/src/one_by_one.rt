@@ -4,12 +4,12 @@ ghost use Rattle.std.specs.Prelude.{◌≡◌, ◌≤◌};
 ghost use Rattle.loop_core_sequential.specs.LoopRuns.{IsLoopRun};
 ghost use Rattle.loop_core_sequential.specs.Rests.{RanTo};
 
-use crate::running::LoopRun;
+use crate::loop_run::LoopRun;
 use array_maps::Maps;
 
 /// Runs the iterations of a loop call from an index up to another, one after another on the maps. Gives the
 /// loop's answer where one returned 1: then none runs after it.
-pub(crate) fn alone(run: &mut LoopRun<'_>, from: u32, to: u32, maps: &mut Maps) -> Option<u32>
+pub(crate) fn one_by_one(run: &mut LoopRun<'_>, from: u32, to: u32, maps: &mut Maps) -> Option<u32>
     requires ready { IsLoopRun run.old }
     requires in_order { from ≤ to }
     requires within { to ≤ run.old.call.now.n }

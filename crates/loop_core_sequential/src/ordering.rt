@@ -8,8 +8,8 @@ ghost use Rattle.loop_core_sequential.specs.Rests.{RanTo, answer_of};
 
 use crate::batches::Batches;
 use crate::first_lanes::Marks;
-use crate::one_by_one::alone;
-use crate::running::LoopRun;
+use crate::loop_run::LoopRun;
+use crate::one_by_one::one_by_one;
 use array_maps::Maps;
 use bpf_step::LoopCall;
 use bpf_verify::Verified;
@@ -47,10 +47,10 @@ pub fn range_in_order(
 {
     let mut run = LoopRun::new(program, call);
     if to - from < FEWEST {
-        return alone(&mut run, from, to, maps);
+        return one_by_one(&mut run, from, to, maps);
     }
     // A loop that breaks at its first iteration needs no room for batches, which takes longer to clear.
-    if let Some(answer) = alone(&mut run, from, from + 1, maps) {
+    if let Some(answer) = one_by_one(&mut run, from, from + 1, maps) {
         return Some(answer);
     }
     in_batches(&mut run, from + 1, to, maps)
@@ -109,7 +109,7 @@ fn in_marked_batches(
     if let Some(answer) = broke_off {
         return Some(answer);
     }
-    alone(run, index, to, maps)
+    one_by_one(run, index, to, maps)
 }
 
 /// The same with these marks. Where there are none, it ends before a batch that needs them. Gives the index up to which
@@ -133,7 +133,7 @@ fn go_on(
 {
     let mut index = from;
     while index < to {
-        let next = batches.go(run, index, to, marks, maps);
+        let next = batches.run_batch(run, index, to, marks, maps);
         if batches.goes_on(index, next, to) {
             index = next;
             continue;
@@ -143,7 +143,7 @@ fn go_on(
             return (next, None);
         }
         let resume = batches.resume(next, to);
-        if let Some(answer) = alone(run, next, resume, maps) {
+        if let Some(answer) = one_by_one(run, next, resume, maps) {
             return (resume, Some(answer));
         }
         index = resume;

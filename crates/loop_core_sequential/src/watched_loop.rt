@@ -10,10 +10,10 @@ ghost use Rattle.loop_core_sequential.specs.Noting.{GoesWatched};
 ghost use Rattle.loop_core_sequential.specs.WatchedRuns.{WatchedToEnd, loop_by};
 
 use crate::batches::Batches;
+use crate::loop_run::LoopRun;
 use crate::ordering::FEWEST;
 use crate::progress::Progress;
-use crate::running::LoopRun;
-use crate::watching::{Watch, alone_watched};
+use crate::watching::{Watch, one_by_one_watched};
 use array_maps::Maps;
 use bpf_step::LoopCall;
 use bpf_verify::Verified;
@@ -64,11 +64,11 @@ fn watch(program: &Verified, call: &LoopCall, log: &mut UndoLog, maps: &mut Maps
     let mut run = LoopRun::new(program, call);
     let n = call.n();
     if n < FEWEST {
-        let watch = alone_watched(&mut run, 0, n, log, maps);
+        let watch = one_by_one_watched(&mut run, 0, n, log, maps);
         return ended(watch, n);
     }
     // A loop that ends at its first iteration needs no room for batches, which takes longer to clear.
-    match alone_watched(&mut run, 0, 1, log, maps) {
+    match one_by_one_watched(&mut run, 0, 1, log, maps) {
         Watch::Completed => (),
         Watch::Broke(answer) => return WatchedLoop::Passed(answer),
         Watch::Dependent(progress) => return WatchedLoop::Dependent(progress),
@@ -106,13 +106,13 @@ fn watch_in_batches(
     let n = run.call.n();
     let mut index = from;
     while index < n {
-        let next = batches.go_watched(run, index, n, log, maps);
+        let next = batches.run_batch_watched(run, index, n, log, maps);
         if index < next {
             index = next;
             continue;
         }
         let resume = batches.resume(index, n);
-        match alone_watched(run, index, resume, log, maps) {
+        match one_by_one_watched(run, index, resume, log, maps) {
             Watch::Completed => index = resume,
             Watch::Broke(answer) => return WatchedLoop::Passed(answer),
             Watch::Dependent(progress) => return WatchedLoop::Dependent(progress),

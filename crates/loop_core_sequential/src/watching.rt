@@ -11,10 +11,10 @@ ghost use Rattle.loop_core_sequential.specs.WatchedRuns.{WatchedTo};
 use crate::applying::apply;
 use crate::batches::Batches;
 use crate::deciding::are_in_order;
+use crate::loop_run::LoopRun;
 use crate::noting::{are_unread, note_writes};
 use crate::progress::Progress;
-use crate::running::LoopRun;
-use crate::trying::Tried;
+use crate::tried::Tried;
 use array_maps::Maps;
 use loop_core_batch::{law_of_application, law_of_batches, law_of_sites};
 use loop_core_undo::{UndoLog, Watched, law_of_watching, law_of_words_before};
@@ -33,7 +33,7 @@ pub(crate) enum Watch {
 impl Batches {
     /// Does iterations from an index on together, no more than up to another, where they are the loop in order so and
     /// none reads what an earlier one wrote. Gives the index after them.
-    pub(crate) fn go_watched(
+    pub(crate) fn run_batch_watched(
         &mut self,
         run: &LoopRun<'_>,
         index: u32,
@@ -102,7 +102,7 @@ impl Batches {
 }
 
 /// Runs the iterations of a loop call from an index up to another, one after another on the maps, watched.
-pub(crate) fn alone_watched(
+pub(crate) fn one_by_one_watched(
     run: &mut LoopRun<'_>,
     from: u32,
     to: u32,

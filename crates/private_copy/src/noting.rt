@@ -125,7 +125,7 @@ impl<'a> Private<'a> {
         requires placed { has_page (copy_of self.old).pages (page_of e) ≡ true }
         ensures { NotesOne (copy_of self.old) (record { element = e; action = Read 0 }) (copy_of self.new) }
     {
-        self.pages.mix(e);
+        self.pages.mark_mixed(e);
     }
 
     /// Notes a plain write of an element.

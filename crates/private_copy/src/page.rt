@@ -239,7 +239,7 @@ impl Page {
 
     /// Notes a plain access that leaves the word, at a cell.
     #[inline(always)]
-    pub(crate) fn mix(&mut self, at: u32)
+    pub(crate) fn mark_mixed(&mut self, at: u32)
         requires { at < 64 }
         ensures here { cell_in self.new at ≡ mixed_cell (cell_in self.old at) }
         ensures others { (k : ℕ) → k ≢ at → cell_in self.new k ≡ cell_in self.old k }

@@ -221,7 +221,7 @@ impl Pages {
 
     /// Notes a plain access that leaves the word of an element, whose page is placed.
     #[inline(always)]
-    pub(crate) fn mix(&mut self, e: u32)
+    pub(crate) fn mark_mixed(&mut self, e: u32)
         requires within { e / 64 < total_of self.old }
         requires placed { has_page self.old.order (e / 64) ≡ true }
         ensures total { total_of self.new ≡ total_of self.old }
@@ -233,7 +233,7 @@ impl Pages {
         let Some(page) = &mut self.table[e as usize / 64] else {
             return;
         };
-        page.mix(e % PAGE);
+        page.mark_mixed(e % PAGE);
     }
 
     /// Notes a reduce of an element, whose page is placed, by the iteration of a number, from 1 on, which saw this

@@ -24,7 +24,7 @@ impl<'a> Store for Private<'a> {
 
     fn load(&mut self, e: u32) -> u64 {
         let (cell, word) = self.admit(e, Access::Read);
-        self.mix(e, cell);
+        self.mark_mixed(e, cell);
         word
     }
 
@@ -92,7 +92,7 @@ impl<'a> Private<'a> {
     /// Notes a plain access that leaves the word of an element, whose cell is told. Where a plain access is
     /// noted already, nothing is written.
     #[inline]
-    pub(crate) fn mix(&mut self, e: u32, cell: Cell)
+    pub(crate) fn mark_mixed(&mut self, e: u32, cell: Cell)
         requires within { e < length self.old.start.now }
         requires placed { has_page self.old.pages.order (page_of e) ≡ true }
         requires cell { cell ≡ cell_at self.old.pages e }
@@ -102,7 +102,7 @@ impl<'a> Private<'a> {
         if mixed {
             return;
         }
-        self.pages.mix(e);
+        self.pages.mark_mixed(e);
     }
 
     /// Keeps a word that the iteration leaves at an element by a plain access.

@@ -106,17 +106,17 @@ impl FlowPlanes {
         ensures { FlowFolds self.old self.new e (flags_in kept) index }
     {
         if kept.has(Flag::Wrote) {
-            lower(&mut self.first, e, index);
+            keep_least(&mut self.first, e, index);
         }
         if kept.has(Flag::Looked) {
-            raise(&mut self.last, e, index + 1);
+            keep_greatest(&mut self.last, e, index + 1);
         }
     }
 }
 
 /// Keeps the lesser of an element's number and another.
 #[inline]
-pub(crate) fn lower(numbers: &mut [u32], e: u32, number: u32)
+pub(crate) fn keep_least(numbers: &mut [u32], e: u32, number: u32)
     requires { e < length numbers.old }
     ensures { ChangesNumber numbers.old numbers.new e (min (slice_index numbers.old e) number) }
 {
@@ -127,7 +127,7 @@ pub(crate) fn lower(numbers: &mut [u32], e: u32, number: u32)
 
 /// Keeps the greater of an element's number and another.
 #[inline]
-pub(crate) fn raise(numbers: &mut [u32], e: u32, number: u32)
+pub(crate) fn keep_greatest(numbers: &mut [u32], e: u32, number: u32)
     requires { e < length numbers.old }
     ensures { ChangesNumber numbers.old numbers.new e (max (slice_index numbers.old e) number) }
 {

@@ -11,7 +11,7 @@ ghost use Rattle.shadow_marks.specs.LaneFolds.{TestedHaveEach, TestedFoldLanes};
 
 use crate::bits::{is_set, or_bit};
 use crate::element_flags::{ElementFlags, Flag};
-use crate::ending::{lower, raise};
+use crate::ending::{keep_greatest, keep_least};
 use crate::planes::{FlowPlanes, LrpdPlanes, NO_WRITER, OperatorPlanes, Planes, Tested};
 use array_maps::Op;
 
@@ -127,7 +127,7 @@ fn lower_all(numbers: &mut [u32], elements: &[u32], number: u32)
         (λ kept lane. min kept (number + lane)) }
 {
     for lane in 0..elements.len() {
-        lower(numbers, elements[lane], number + lane as u32);
+        keep_least(numbers, elements[lane], number + lane as u32);
     }
 }
 
@@ -139,7 +139,7 @@ fn raise_all(numbers: &mut [u32], elements: &[u32], number: u32)
         (λ kept lane. max kept (number + lane + 1)) }
 {
     for lane in 0..elements.len() {
-        raise(numbers, elements[lane], number + lane as u32 + 1);
+        keep_greatest(numbers, elements[lane], number + lane as u32 + 1);
     }
 }
 

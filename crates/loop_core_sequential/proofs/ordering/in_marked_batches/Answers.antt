@@ -14,8 +14,8 @@ returns-in-Some-clause-ran c =
 pub returns-clause-ran : goal.returns-clause-ran
 returns-clause-ran c =
     ran_both c.args.run.now.program.now c.args.run.now.call.now c.args.from c.go_on-index.result.0 c.args.to
-    c.args.maps.now c.go_on-index.new.maps c.alone.new.maps c.alone.result
+    c.args.maps.now c.go_on-index.new.maps c.one_by_one.new.maps c.one_by_one.result
     (subst (RanTo c.args.run.now.program.now c.args.run.now.call.now c.args.from c.go_on-index.result.0
     c.args.maps.now c.go_on-index.new.maps) c.in_default.is c.go_on-index.ensures.ran)
     (ran_by c.go_on-index.new.run c.args.run.now c.go_on-index.ensures.same c.go_on-index.result.0 c.args.to c.go_on-index.new.maps
-    c.alone.new.maps c.alone.result c.alone.ensures.ran)
+    c.one_by_one.new.maps c.one_by_one.result c.one_by_one.ensures.ran)

@@ -6,21 +6,21 @@ use Rattle.loop_core_sequential.proofs.ordering.range_in_order.Goals as goal
 pub returns-then-to-from-lt-FEWEST : goal.returns-then-to-from-lt-FEWEST
 returns-then-to-from-lt-FEWEST c =
     ran_of c.new-run.result c.args.program.now c.args.call.now c.new-run.ensures.program c.new-run.ensures.call
-    c.args.from c.args.to c.args.maps.now c.alone.new.maps c.alone.result c.alone.ensures.ran
+    c.args.from c.args.to c.args.maps.now c.one_by_one.new.maps c.one_by_one.result c.one_by_one.ensures.ran
 
 pub returns-in-Some : goal.returns-in-Some
 returns-in-Some c =
     let many = c.if-to-from-lt-FEWEST.false in
     ran_of c.new-run.result c.args.program.now c.args.call.now c.new-run.ensures.program c.new-run.ensures.call
-    c.args.from c.args.to c.args.maps.now c.alone-2.new.maps (Some c.in-Some.answer)
+    c.args.from c.args.to c.args.maps.now c.one_by_one-2.new.maps (Some c.in-Some.answer)
     (broke_before c.new-run.result.program.now c.new-run.result.call.now c.args.from _ c.args.to c.args.maps.now
-    c.alone-2.new.maps c.in-Some.answer (omega (arith, many)) c.in-Some.ensures.ran)
+    c.one_by_one-2.new.maps c.in-Some.answer (omega (arith, many)) c.in-Some.ensures.ran)
 
 pub returns : goal.returns
 returns c =
     ran_of c.new-run.result c.args.program.now c.args.call.now c.new-run.ensures.program c.new-run.ensures.call
     c.args.from c.args.to c.args.maps.now c.in_batches.new.maps c.in_batches.result
     (ran_both c.new-run.result.program.now c.new-run.result.call.now c.args.from _ c.args.to c.args.maps.now
-    c.alone-2.new.maps c.in_batches.new.maps c.in_batches.result c.in_default.ensures.ran
-    (ran_by c.alone-2.new.run c.new-run.result c.alone-2.ensures.same _ c.args.to c.alone-2.new.maps
+    c.one_by_one-2.new.maps c.in_batches.new.maps c.in_batches.result c.in_default.ensures.ran
+    (ran_by c.one_by_one-2.new.run c.new-run.result c.one_by_one-2.ensures.same _ c.args.to c.one_by_one-2.new.maps
     c.in_batches.new.maps c.in_batches.result c.in_batches.ensures.ran))

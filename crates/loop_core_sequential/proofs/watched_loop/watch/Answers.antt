@@ -8,28 +8,28 @@ use Rattle.loop_core_sequential.proofs.watched_loop.watch.Goals as goal
 
 pub returns-then-n-lt-FEWEST : goal.returns-then-n-lt-FEWEST
 returns-then-n-lt-FEWEST c =
-    subst (WatchedToEnd c.args.program.now c.args.call.now c.args.maps.now c.alone_watched-watch.new.maps
-    c.alone_watched-watch.new.log) (sym c.ended.ensures)
+    subst (WatchedToEnd c.args.program.now c.args.call.now c.args.maps.now c.one_by_one_watched-watch.new.maps
+    c.one_by_one_watched-watch.new.log) (sym c.ended.ensures)
     (ended_of c.new-run.result c.args.program.now c.args.call.now c.new-run.ensures.program c.new-run.ensures.call
-    c.args.maps.now c.alone_watched-watch.new.maps c.alone_watched-watch.new.log
-    (loop_by c.alone_watched-watch.result c.n-n.result)
+    c.args.maps.now c.one_by_one_watched-watch.new.maps c.one_by_one_watched-watch.new.log
+    (loop_by c.one_by_one_watched-watch.result c.n-n.result)
     (to_end c.new-run.result.program.now c.new-run.result.call.now c.n-n.result c.args.maps.now
-    c.alone_watched-watch.new.maps c.alone_watched-watch.new.log c.alone_watched-watch.result
+    c.one_by_one_watched-watch.new.maps c.one_by_one_watched-watch.new.log c.one_by_one_watched-watch.result
     (c.n-n.ensures ∙ ap (λ (call : LoopCall). call.n) (sym c.new-run.ensures.call))
-    (c.alone_watched-watch.ensures.ran c.args.maps.now
+    (c.one_by_one_watched-watch.ensures.ran c.args.maps.now
     (begins c.new-run.result.program.now c.new-run.result.call.now c.args.maps.now c.args.log.now c.requires.empty))))
 
 pub returns-in-Broke : goal.returns-in-Broke
 returns-in-Broke c =
     ended_of c.new-run.result c.args.program.now c.args.call.now c.new-run.ensures.program c.new-run.ensures.call
-    c.args.maps.now c.alone_watched.new.maps c.alone_watched.new.log (Passed c.in-Broke.answer)
+    c.args.maps.now c.one_by_one_watched.new.maps c.one_by_one_watched.new.log (Passed c.in-Broke.answer)
     (c.in-Broke.ensures.ran c.args.maps.now
     (begins c.new-run.result.program.now c.new-run.result.call.now c.args.maps.now c.args.log.now c.requires.empty))
 
 pub returns-in-Dependent : goal.returns-in-Dependent
 returns-in-Dependent c =
     ended_of c.new-run.result c.args.program.now c.args.call.now c.new-run.ensures.program c.new-run.ensures.call
-    c.args.maps.now c.alone_watched.new.maps c.alone_watched.new.log (Dependent c.in-Dependent.progress)
+    c.args.maps.now c.one_by_one_watched.new.maps c.one_by_one_watched.new.log (Dependent c.in-Dependent.progress)
     (c.in-Dependent.ensures.ran c.args.maps.now
     (begins c.new-run.result.program.now c.new-run.result.call.now c.args.maps.now c.args.log.now c.requires.empty))
 
@@ -37,8 +37,8 @@ pub returns : goal.returns
 returns c =
     ended_of c.new-run.result c.args.program.now c.args.call.now c.new-run.ensures.program c.new-run.ensures.call
     c.args.maps.now c.watch_in_batches.new.maps c.watch_in_batches.new.log c.watch_in_batches.result
-    (ended_by c.alone_watched.new.run c.new-run.result c.alone_watched.ensures.same 1 c.args.maps.now
-    c.alone_watched.new.maps c.watch_in_batches.new.maps c.alone_watched.new.log c.watch_in_batches.new.log
+    (ended_by c.one_by_one_watched.new.run c.new-run.result c.one_by_one_watched.ensures.same 1 c.args.maps.now
+    c.one_by_one_watched.new.maps c.watch_in_batches.new.maps c.one_by_one_watched.new.log c.watch_in_batches.new.log
     c.watch_in_batches.result c.watch_in_batches.ensures
     (c.in-Completed.ensures.ran c.args.maps.now
     (begins c.new-run.result.program.now c.new-run.result.call.now c.args.maps.now c.args.log.now c.requires.empty)))

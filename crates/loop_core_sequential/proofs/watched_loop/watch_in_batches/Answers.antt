@@ -7,44 +7,48 @@ use Rattle.loop_core_sequential.proofs.watched_loop.watch_in_batches.Goals as go
 pub loop-index-preserved-then-index-next : goal.loop-index-preserved-then-index-next
 loop-index-preserved-then-index-next c = record {
   same = c.loop-index.invariant.same;
-  within = c.go_watched-next.ensures.within;
-  sizes = c.go_watched-next.ensures.sizes ∙ c.loop-index.invariant.sizes;
-  count = c.go_watched-next.ensures.count;
-  goes = λ start before. goes_by c.loop-index.run c.args.run.now c.loop-index.invariant.same c.loop-index.index c.go_watched-next.result
-      c.loop-index.maps c.go_watched-next.new.maps c.loop-index.log c.go_watched-next.new.log
-      c.go_watched-next.ensures.goes start (c.loop-index.invariant.goes start before);
+  within = c.run_batch_watched-next.ensures.within;
+  sizes = c.run_batch_watched-next.ensures.sizes ∙ c.loop-index.invariant.sizes;
+  count = c.run_batch_watched-next.ensures.count;
+  goes = λ start before. goes_by c.loop-index.run c.args.run.now c.loop-index.invariant.same c.loop-index.index
+      c.run_batch_watched-next.result
+      c.loop-index.maps c.run_batch_watched-next.new.maps c.loop-index.log c.run_batch_watched-next.new.log
+      c.run_batch_watched-next.ensures.goes start (c.loop-index.invariant.goes start before);
 }
 
 pub loop-index-preserved : goal.loop-index-preserved
 loop-index-preserved c = record {
-  same = c.alone_watched.ensures.same ∙ c.loop-index.invariant.same;
+  same = c.one_by_one_watched.ensures.same ∙ c.loop-index.invariant.same;
   within = c.resume-resume.ensures.within;
-  sizes = c.alone_watched.ensures.sizes ∙ c.go_watched-next.ensures.sizes ∙ c.loop-index.invariant.sizes;
-  count = c.alone_watched.ensures.count;
+  sizes = c.one_by_one_watched.ensures.sizes ∙ c.run_batch_watched-next.ensures.sizes ∙ c.loop-index.invariant.sizes;
+  count = c.one_by_one_watched.ensures.count;
   goes = λ start before. rest_watched_by c.loop-index.run c.args.run.now c.loop-index.invariant.same c.loop-index.index
-      c.go_watched-next.result c.resume-resume.result
-      (omega (arith, c.if-index-next.false, c.go_watched-next.ensures.on))
-      c.loop-index.maps c.go_watched-next.new.maps c.alone_watched.new.maps c.loop-index.log c.go_watched-next.new.log
-      c.alone_watched.new.log Completed c.go_watched-next.ensures.goes c.in-Completed.ensures.ran start
+      c.run_batch_watched-next.result c.resume-resume.result
+      (omega (arith, c.if-index-next.false, c.run_batch_watched-next.ensures.on))
+      c.loop-index.maps c.run_batch_watched-next.new.maps c.one_by_one_watched.new.maps c.loop-index.log
+      c.run_batch_watched-next.new.log
+      c.one_by_one_watched.new.log Completed c.run_batch_watched-next.ensures.goes c.in-Completed.ensures.ran start
       (c.loop-index.invariant.goes start before);
 }
 
 pub returns-in-Broke : goal.returns-in-Broke
 returns-in-Broke c = λ start before.
     rest_watched_by c.loop-index.run c.args.run.now c.loop-index.invariant.same c.loop-index.index
-    c.go_watched-next.result c.resume-resume.result
-    (omega (arith, c.if-index-next.false, c.go_watched-next.ensures.on))
-    c.loop-index.maps c.go_watched-next.new.maps c.alone_watched.new.maps c.loop-index.log c.go_watched-next.new.log
-    c.alone_watched.new.log (Broke c.in-Broke.answer) c.go_watched-next.ensures.goes c.in-Broke.ensures.ran
+    c.run_batch_watched-next.result c.resume-resume.result
+    (omega (arith, c.if-index-next.false, c.run_batch_watched-next.ensures.on))
+    c.loop-index.maps c.run_batch_watched-next.new.maps c.one_by_one_watched.new.maps c.loop-index.log
+    c.run_batch_watched-next.new.log
+    c.one_by_one_watched.new.log (Broke c.in-Broke.answer) c.run_batch_watched-next.ensures.goes c.in-Broke.ensures.ran
     start (c.loop-index.invariant.goes start before)
 
 pub returns-in-Dependent : goal.returns-in-Dependent
 returns-in-Dependent c = λ start before.
     rest_watched_by c.loop-index.run c.args.run.now c.loop-index.invariant.same c.loop-index.index
-    c.go_watched-next.result c.resume-resume.result
-    (omega (arith, c.if-index-next.false, c.go_watched-next.ensures.on))
-    c.loop-index.maps c.go_watched-next.new.maps c.alone_watched.new.maps c.loop-index.log c.go_watched-next.new.log
-    c.alone_watched.new.log (Dependent c.in-Dependent.progress) c.go_watched-next.ensures.goes
+    c.run_batch_watched-next.result c.resume-resume.result
+    (omega (arith, c.if-index-next.false, c.run_batch_watched-next.ensures.on))
+    c.loop-index.maps c.run_batch_watched-next.new.maps c.one_by_one_watched.new.maps c.loop-index.log
+    c.run_batch_watched-next.new.log
+    c.one_by_one_watched.new.log (Dependent c.in-Dependent.progress) c.run_batch_watched-next.ensures.goes
     c.in-Dependent.ensures.ran start (c.loop-index.invariant.goes start before)
 
 pub returns : goal.returns

@@ -1,8 +1,8 @@
 use Rattle.std.proofs.Common.{◌∙◌, ap}
 use Rattle.private_copy.specs.Cells.{mixed_cell}
 use Rattle.private_copy.proofs.CellLaws.{ShowsPage, shows_page}
-use Rattle.private_copy.proofs.pages.Pages.mix.Goals.{After-deref_mut}
-use Rattle.private_copy.proofs.pages.Pages.mix.Goals as goal
+use Rattle.private_copy.proofs.pages.Pages.mark_mixed.Goals.{After-deref_mut}
+use Rattle.private_copy.proofs.pages.Pages.mark_mixed.Goals as goal
 
 -- the element's page is placed
 placed : (c : After-deref_mut) → ShowsPage c.self.inside.table.items c.args.self.now c.args.e c.deref_mut.result.now
@@ -13,9 +13,9 @@ placed c =
 pub returns-clause-here : goal.returns-clause-here
 returns-clause-here c =
     let at = placed (goal.at.returns-clause-here c).After-deref_mut in
-    at.here _ ∙ c.mix.ensures.here ∙ ap mixed_cell at.was
+    at.here _ ∙ c.mark_mixed.ensures.here ∙ ap mixed_cell at.was
 
 pub returns-clause-others : goal.returns-clause-others
 returns-clause-others c other differs =
     let at = placed (goal.at.returns-clause-others c).After-deref_mut in
-    at.others _ c.mix.ensures.others other differs
+    at.others _ c.mark_mixed.ensures.others other differs

@@ -6,7 +6,7 @@ use Rattle.bpf_step.proofs.Limits.{few_steps}
 use Rattle.loop_core_sequential.specs.Rests.{RanOn}
 use Rattle.loop_core_sequential.proofs.InOrder.{stayed, next, breaks, counted, of_callback}
 use Rattle.loop_core_sequential.proofs.RunLaws.{callback_is, with_same}
-use Rattle.loop_core_sequential.proofs.one_by_one.alone.Goals as goal
+use Rattle.loop_core_sequential.proofs.one_by_one.one_by_one.Goals as goal
 
 pub loop-index-init : goal.loop-index-init
 loop-index-init c = record {

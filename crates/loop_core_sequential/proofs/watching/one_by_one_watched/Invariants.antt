@@ -2,7 +2,7 @@ use Rattle.std.proofs.Common.{◌≡◌, length}
 use Rattle.array_maps.specs.MapList.{MapList}
 use Rattle.loop_core_undo.specs.Undo.{log_elements}
 use Rattle.loop_core_sequential.specs.Noting.{GoesWatched}
-use Rattle.loop_core_sequential.proofs.watching.alone_watched.Given as goal
+use Rattle.loop_core_sequential.proofs.watching.one_by_one_watched.Given as goal
 
 abbrev pub invariant-loop-index : goal.invariant-loop-index
 invariant-loop-index l = record {

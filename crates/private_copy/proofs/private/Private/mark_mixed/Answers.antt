@@ -1,7 +1,7 @@
 use Rattle.std.proofs.Common.{refl, sym, ◌∙◌, ap}
 use Rattle.private_copy.specs.Cells.{mixed_cell}
 use Rattle.private_copy.proofs.AccessLaws.{stays_mixed}
-use Rattle.private_copy.proofs.private.Private.mix.Goals as goal
+use Rattle.private_copy.proofs.private.Private.mark_mixed.Goals as goal
 
 pub returns-then-mixed : goal.returns-then-mixed
 returns-then-mixed c = stays_mixed c.args.self.now c.args.e c.args.cell c.requires.cell
@@ -10,9 +10,9 @@ returns-then-mixed c = stays_mixed c.args.self.now c.args.e c.args.cell c.requir
 pub returns : goal.returns
 returns c = record {
   start = refl;
-  cell = c.mix.ensures.here ∙ ap mixed_cell (sym c.requires.cell);
-  others = c.mix.ensures.others;
-  pages = c.mix.ensures.order;
+  cell = c.mark_mixed.ensures.here ∙ ap mixed_cell (sym c.requires.cell);
+  others = c.mark_mixed.ensures.others;
+  pages = c.mark_mixed.ensures.order;
   flags = refl;
   serves = refl;
   begun = refl;

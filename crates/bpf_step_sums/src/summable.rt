@@ -1,4 +1,4 @@
-//! What operations keep to.
+//! Which operations the iterations of a sum may do.
 
 ghost use Rattle.std.specs.Prelude.{◌≡◌, ◌<◌, ◌≤◌};
 ghost use Rattle.bpf_step_sums.specs.SumOps.{is_between, keeps_to, stays_within};

@@ -10,8 +10,8 @@ use crate::applying::apply_effects;
 use crate::batches::Batches;
 use crate::deciding::are_unloaded;
 use crate::first_lanes::{Marks, apply_first};
-use crate::running::LoopRun;
-use crate::trying::Tried;
+use crate::loop_run::LoopRun;
+use crate::tried::Tried;
 use array_maps::Maps;
 use bpf_step_ir_sound::law_of_plain_iterations;
 use bpf_verify_sound::{law_of_accepted_programs, law_of_accepted_runs};
@@ -20,7 +20,7 @@ use loop_core_batch::law_of_batches;
 impl Batches {
     /// Does iterations from an index on together, no more than up to another, where they are the loop in order so.
     /// Gives the index after them.
-    pub(crate) fn go(
+    pub(crate) fn run_batch(
         &mut self,
         run: &LoopRun<'_>,
         index: u32,

@@ -1,7 +1,7 @@
 use Rattle.std.proofs.Common.{◌≡◌, length}
 use Rattle.std.specs.List.{sum}
 use Rattle.loop_core_sequential.specs.Rests.{RanOn}
-use Rattle.loop_core_sequential.proofs.one_by_one.alone.Given as goal
+use Rattle.loop_core_sequential.proofs.one_by_one.one_by_one.Given as goal
 
 abbrev pub invariant-loop-index : goal.invariant-loop-index
 invariant-loop-index l = record {

@@ -1,7 +1,7 @@
 use Rattle.std.proofs.Common.{◌+◌, ◌∙◌}
 use Rattle.loop_core_sequential.specs.declared.watching.Watch.TheVariants.{Completed, Broke, Dependent}
 use Rattle.loop_core_sequential.proofs.RunLaws.{watched_by}
-use Rattle.loop_core_sequential.proofs.watching.alone_watched.Goals as goal
+use Rattle.loop_core_sequential.proofs.watching.one_by_one_watched.Goals as goal
 
 pub loop-index-preserved : goal.loop-index-preserved
 loop-index-preserved c = record {

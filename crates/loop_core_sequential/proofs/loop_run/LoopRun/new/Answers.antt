@@ -1,5 +1,5 @@
 use Rattle.loop_core_sequential.proofs.InOrder.{is_of}
-use Rattle.loop_core_sequential.proofs.running.LoopRun.new.Goals as goal
+use Rattle.loop_core_sequential.proofs.loop_run.LoopRun.new.Goals as goal
 
 pub returns-clause-ready : goal.returns-clause-ready
 returns-clause-ready c = record {
