@@ -108,11 +108,17 @@ impl<'c, 'a> Runner<'c, 'a> {
         if past - first < FEWEST {
             return self.one_by_one(of.alloc, first, past, gate);
         }
-        self.in_batches(of, first, past, gate)
+        // A block that breaks at its first iteration is done before what batches need is cleared, so that other workers
+        // begin fewer blocks after it.
+        if let Some(broke) = self.one_by_one(of.alloc, first, first + 1, gate)? {
+            return Ok(Some(broke));
+        }
+        self.in_batches(of, first + 1, past, gate)
     }
 
     /// The same, in batches of iterations that go together where they can, and else one by one: then up to four
-    /// times as many as the last time before a batch is tried again.
+    /// times as many as the last time before a batch is tried again. The block's first iteration went alone: the first
+    /// batch has room for one less, so that those after it begin at multiples of their size from where the block began.
     #[inline(never)]
     fn in_batches<G: Gate>(
         &mut self,
@@ -126,10 +132,12 @@ impl<'c, 'a> Runner<'c, 'a> {
         ensures ran { IfOk result (RanMore first past self.old self.new) }
     {
         let mut batch = Batch::new();
+        let mut lanes = MOST - 1;
         let mut pause = MOST;
         let mut index = first;
         while index < past {
-            let to = index + MOST.min(past - index);
+            let to = index + lanes.min(past - index);
+            lanes = MOST;
             take_turns(gate, index, to);
             if self.run_as_batch(of, &mut batch, index, to)? {
                 pause = MOST;

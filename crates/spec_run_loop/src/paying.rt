@@ -31,7 +31,7 @@ const LEAST_SHARES: u64 = 4;
 const COPYING: u64 = 60;
 
 /// How many workers are taken to be at work at once: a system has as many processors, or more.
-pub(crate) const PROCESSORS: u32 = 4;
+const PROCESSORS: u32 = 4;
 
 /// For how many elements all blocks of a loop together keep marks and copies at most, though each worker has a block:
 /// some 31 bytes for each element that a block touches.

@@ -11,7 +11,7 @@ ghost use Rattle.spec_run_loop.specs.declared.course.Course.TheVariants.{Sums};
 
 use crate::course::Course;
 use crate::decision::LoopAnswer;
-use crate::paying::{PROCESSORS, elements_of};
+use crate::paying::elements_of;
 use array_maps::Maps;
 use loop_core_block::most_instructions;
 use loop_core_sequential::{in_order, range_in_order};
@@ -20,12 +20,18 @@ use std::alloc::{AllocError, Global};
 use std::thread;
 use std::thread::Threads;
 
-/// How many instructions the calling thread does alone at first, by its iterations' most. They take some four times as
-/// long as to start threads and wait for them: so does the least share.
-const ALONE: u32 = 1_000_000;
+/// How many instructions the calling thread does alone at first, by its iterations' most. They take about as long as to
+/// start threads and wait for them.
+const ALONE: u32 = 250_000;
+
+/// How many more it does for each element.
+const ALONE_ELEMENT: u32 = 32;
+
+/// How many instructions a worker does in the first round.
+const SHARE: u32 = 2_000_000;
 
 /// How many more it does for each element: each share makes a word for it, and combines it with the maps.
-const ALONE_ELEMENT: u32 = 32;
+const SHARE_ELEMENT: u32 = 128;
 
 /// How many iterations it does alone at least, and how many a share has, where there are several: fewer go one by one,
 /// not in batches.
@@ -59,27 +65,29 @@ pub(crate) fn run_sums<R: Threads + Sync>(
         return Ok(LoopAnswer::passed(answer, course));
     }
     let mut sums = of.try_new_sums(alloc, workers)?;
-    let alone = iterations_alone(of, elements_of(maps));
-    let answer = in_rounds(rt, of, alone, sums.as_mut_slice(), maps);
+    let elements = elements_of(maps);
+    let alone = iterations_of(of, ALONE + ALONE_ELEMENT * elements);
+    let share = iterations_of(of, SHARE + SHARE_ELEMENT * elements);
+    let answer = in_rounds(rt, of, alone, share, sums.as_mut_slice(), maps);
     Ok(LoopAnswer::passed(answer, course))
 }
 
-/// How many iterations of a loop over this many elements, at most 65,536, the calling thread does before others help.
-fn iterations_alone(of: &SumLoop, elements: u32) -> u32
-    requires { elements ≤ 65536 }
+/// How many iterations of a loop take this many instructions, by their most: the next multiple of 2,048 above, so that
+/// batches of all shares begin at multiples of their size where the loop's length is one.
+fn iterations_of(of: &SumLoop, instructions: u32) -> u32
     ensures { 0 < result }
 {
     let most = most_instructions(of.program, of.call.callback()).max(1);
-    let instructions = ALONE + ALONE_ELEMENT * elements;
-    (instructions / most).max(SHARE_ITERATIONS)
+    (instructions / most / SHARE_ITERATIONS + 1).saturating_mul(SHARE_ITERATIONS)
 }
 
 /// Runs the first iterations in order, and then the loop round by round, each round over even shares of its iterations,
-/// up to the one in which an iteration breaks off. The maps are of the program's sizes.
+/// which are of this size at first, up to the one in which an iteration breaks off. The maps are of the program's sizes.
 fn in_rounds<R: Threads + Sync>(
     rt: &R,
     of: &SumLoop,
     alone: u32,
+    share: u32,
     sums: &mut [PartialSum],
     maps: &mut Maps,
 ) -> u32
@@ -96,7 +104,7 @@ fn in_rounds<R: Threads + Sync>(
         return broke;
     }
     while from < n {
-        let round = next_round(from, n, sums.len() as u32);
+        let round = next_round(from, n, share, sums.len() as u32);
         if let Some(answer) = run_round(rt, of, &round, sums, maps) {
             return answer;
         }
@@ -115,10 +123,10 @@ fn run_alone(of: &SumLoop, to: u32, maps: &mut Maps) -> Option<u32>
     range_in_order(of.program, of.call, 0, to, maps)
 }
 
-/// The round after the first `done` of n iterations, by this many workers, 1 to 16: they are at it as long as one was,
-/// or would have been, at all iterations before it, so no more than that is in vain where one of it breaks off. The
-/// last one may be longer by a quarter.
-fn next_round(done: u32, n: u32, workers: u32) -> Round
+/// The round after the first `done` of n iterations, by this many workers, 1 to 16: it has as many iterations as there
+/// are before it, and a first share of this size for each worker, so no more than that is in vain where one of it breaks
+/// off. The last one may have twice as many.
+fn next_round(done: u32, n: u32, share: u32, workers: u32) -> Round
     requires some { 0 < done }
     requires left { done < n }
     requires workers { 0 < workers }
@@ -128,11 +136,11 @@ fn next_round(done: u32, n: u32, workers: u32) -> Round
     ensures shares { result.shares ≤ workers }
 {
     let left = n - done;
-    let even = done.saturating_mul(workers.min(PROCESSORS));
-    let iterations = if left <= even.saturating_add(even / 4) {
+    let more = done.saturating_add(share.saturating_mul(workers));
+    let iterations = if left <= more.saturating_mul(2) {
         left
     } else {
-        even
+        more
     };
     Round {
         from: done,

@@ -9,6 +9,8 @@ pub loop-index-init : goal.loop-index-init
 loop-index-init g c = record {
   from = omega arith;
   within = c.requires.ready.rising;
+  some = omega arith;
+  room = omega arith;
   ran = ran_none c.args.self.now c.args.first;
 }
 
@@ -22,6 +24,8 @@ loop-index-preserved-then-branch g c =
     record {
       from = omega (arith, from);
       within = omega (arith, c.min.ensures);
+      some = omega arith;
+      room = omega arith;
       ran = ran_both c.args.first c.loop-index.index (c.loop-index.index + c.min.result) c.args.self.now
           c.loop-index.self c.run_as_batch.new.self None from (omega arith) c.loop-index.invariant.ran
           (subst (λ (went : Bool). RanTogether c.loop-index.index (c.loop-index.index + c.min.result) c.loop-index.self
@@ -66,6 +70,8 @@ loop-index-preserved g c =
     record {
       from = omega (arith, from, up);
       within = omega (arith, c.min-next.ensures);
+      some = omega arith;
+      room = omega arith;
       ran = ran_on c.args.first c.loop-index.index c.min-next.result c.args.self.now c.loop-index.self
           c.run_as_batch.new.self c.run_without_batch.new.self None from up c.loop-index.invariant.ran same
           (subst (λ (o : Option ℕ). RanMore c.loop-index.index c.min-next.result c.run_as_batch.new.self

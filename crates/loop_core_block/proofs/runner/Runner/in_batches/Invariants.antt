@@ -1,4 +1,4 @@
-use Rattle.std.proofs.Common.{◌≤◌, ◌-◌, None}
+use Rattle.std.proofs.Common.{◌<◌, ◌≤◌, ◌-◌, None}
 use Rattle.loop_core_block.specs.Runs.{RanMore}
 use Rattle.loop_core_block.proofs.runner.Runner.in_batches.Given as goal
 
@@ -6,6 +6,8 @@ abbrev pub invariant-loop-index : goal.invariant-loop-index
 invariant-loop-index g l = record {
   from : l.first ≤ l.index;
   within : l.index ≤ l.past;
+  some : 0 < l.lanes;
+  room : l.lanes ≤ 128;
   ran : RanMore l.first l.index l.fn.self l.self None;
 }
 
