@@ -108,31 +108,37 @@ impl<'c, 'a> Runner<'c, 'a> {
         if past - first < FEWEST {
             return self.one_by_one(of.alloc, first, past, gate);
         }
-        // A block that breaks at its first iteration is done before what batches need is cleared, so that other workers
-        // begin fewer blocks after it.
+        if first > 0 {
+            return self.in_batches(of, first, past, MOST, gate);
+        }
+        // A loop that breaks at its first iteration is told of before what batches need is cleared, so that other
+        // workers begin fewer blocks in vain.
         if let Some(broke) = self.one_by_one(of.alloc, first, first + 1, gate)? {
             return Ok(Some(broke));
         }
-        self.in_batches(of, first + 1, past, gate)
+        self.in_batches(of, first + 1, past, MOST - 1, gate)
     }
 
     /// The same, in batches of iterations that go together where they can, and else one by one: then up to four
-    /// times as many as the last time before a batch is tried again. The block's first iteration went alone: the first
-    /// batch has room for one less, so that those after it begin at multiples of their size from where the block began.
+    /// times as many as the last time before a batch is tried again. The first batch is of at most so many lanes, each
+    /// after it of at most 128.
     #[inline(never)]
     fn in_batches<G: Gate>(
         &mut self,
         of: &SpeculativeLoop<'c, 'a>,
         first: u32,
         past: u32,
+        lanes: u32,
         gate: &G,
     ) -> Result<Option<u32>, AllocError>
         requires ready { IsReadyFor of.now first past self.old }
+        requires some { 0 < lanes }
+        requires room { lanes ≤ 128 }
         requires so_far { (start : ℕ) × (ran : List Iterated) × RunnerHasRun start first ran self.old }
         ensures ran { IfOk result (RanMore first past self.old self.new) }
     {
         let mut batch = Batch::new();
-        let mut lanes = MOST - 1;
+        let mut lanes = lanes;
         let mut pause = MOST;
         let mut index = first;
         while index < past {

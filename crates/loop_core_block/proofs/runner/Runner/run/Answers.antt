@@ -12,6 +12,14 @@ returns-then-past-first-lt-FEWEST g c = record {
       c.one_by_one.ensures.ran;
 }
 
+pub returns-then-first-gt0 : goal.returns-then-first-gt0
+returns-then-first-gt0 g c = record {
+  ran = IfOk-weaker c.in_batches.result (RanMore c.args.first c.args.past c.args.self.now c.in_batches.new.self)
+      (RanUpTo c.args.first c.args.past c.args.self.now c.in_batches.new.self)
+      (λ o ran. up_to c.args.first c.args.past c.args.self.now c.in_batches.new.self o c.requires.none ran)
+      c.in_batches.ensures.ran;
+}
+
 pub returns-in-Some : goal.returns-in-Some
 returns-in-Some g c = record {
   ran = up_to c.args.first c.args.past c.args.self.now c.one_by_one-2.new.self _ c.requires.none
@@ -21,8 +29,8 @@ returns-in-Some g c = record {
       c.in-Some.is c.in_ok-broke.ensures.ran));
 }
 
-pub in_batches-requires-clause-so_far : goal.in_batches-requires-clause-so_far
-in_batches-requires-clause-so_far g c κs within = so_far c.args.first (c.args.first + 1) c.args.self.now
+pub in_batches-requires-2-clause-so_far : goal.in_batches-requires-2-clause-so_far
+in_batches-requires-2-clause-so_far g c κs within = so_far c.args.first (c.args.first + 1) c.args.self.now
     c.one_by_one-2.new.self
     (subst (λ (o : Option ℕ). RanMore c.args.first (c.args.first + 1) c.args.self.now c.one_by_one-2.new.self o)
     c.in_default.is c.in_ok-broke.ensures.ran)
@@ -30,13 +38,13 @@ in_batches-requires-clause-so_far g c κs within = so_far c.args.first (c.args.f
 
 pub returns : goal.returns
 returns g c = record {
-  ran = IfOk-weaker c.in_batches.result
-      (RanMore (c.args.first + 1) c.args.past c.one_by_one-2.new.self c.in_batches.new.self)
-      (RanUpTo c.args.first c.args.past c.args.self.now c.in_batches.new.self)
-      (λ o ran. up_to c.args.first c.args.past c.args.self.now c.in_batches.new.self o c.requires.none
+  ran = IfOk-weaker c.in_batches-2.result
+      (RanMore (c.args.first + 1) c.args.past c.one_by_one-2.new.self c.in_batches-2.new.self)
+      (RanUpTo c.args.first c.args.past c.args.self.now c.in_batches-2.new.self)
+      (λ o ran. up_to c.args.first c.args.past c.args.self.now c.in_batches-2.new.self o c.requires.none
       (ran_both c.args.first (c.args.first + 1) c.args.past c.args.self.now c.one_by_one-2.new.self
-      c.in_batches.new.self o (omega arith) (omega arith)
+      c.in_batches-2.new.self o (omega arith) (omega arith)
       (subst (λ (o : Option ℕ). RanMore c.args.first (c.args.first + 1) c.args.self.now c.one_by_one-2.new.self o)
       c.in_default.is c.in_ok-broke.ensures.ran) ran))
-      c.in_batches.ensures.ran;
+      c.in_batches-2.ensures.ran;
 }
