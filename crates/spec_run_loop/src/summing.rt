@@ -72,13 +72,20 @@ pub(crate) fn run_sums<R: Threads + Sync>(
     Ok(LoopAnswer::passed(answer, course))
 }
 
-/// How many iterations of a loop take this many instructions, by their most: the next multiple of 2,048 above, so that
-/// batches of all shares begin at multiples of their size where the loop's length is one.
+/// How many iterations of a loop take this many instructions, by their most, to the next multiple of 2,048.
 fn iterations_of(of: &SumLoop, instructions: u32) -> u32
     ensures { 0 < result }
 {
     let most = most_instructions(of.program, of.call.callback()).max(1);
-    (instructions / most / SHARE_ITERATIONS + 1).saturating_mul(SHARE_ITERATIONS)
+    next_multiple(instructions / most)
+}
+
+/// The next multiple of 2,048 above: batches of all shares begin at multiples of their size where the loop's length is
+/// one.
+fn next_multiple(iterations: u32) -> u32
+    ensures { 0 < result }
+{
+    (iterations / SHARE_ITERATIONS + 1).saturating_mul(SHARE_ITERATIONS)
 }
 
 /// Runs the first iterations in order, and then the loop round by round, each round over even shares of its iterations,
@@ -123,9 +130,9 @@ fn run_alone(of: &SumLoop, to: u32, maps: &mut Maps) -> Option<u32>
     range_in_order(of.program, of.call, 0, to, maps)
 }
 
-/// The round after the first `done` of n iterations, by this many workers, 1 to 16: it has as many iterations as there
-/// are before it, and a first share of this size for each worker, so no more than that is in vain where one of it breaks
-/// off. The last one may have twice as many.
+/// The round after the first `done` of n iterations, by this many workers, 1 to 16: it has half as many iterations as
+/// there are before it, and a first share of this size for each worker, so no more than that is in vain where one of it
+/// breaks off. The last one may have twice as many.
 fn next_round(done: u32, n: u32, share: u32, workers: u32) -> Round
     requires some { 0 < done }
     requires left { done < n }
@@ -136,7 +143,7 @@ fn next_round(done: u32, n: u32, share: u32, workers: u32) -> Round
     ensures shares { result.shares ≤ workers }
 {
     let left = n - done;
-    let more = done.saturating_add(share.saturating_mul(workers));
+    let more = next_multiple(done / 2).saturating_add(share.saturating_mul(workers));
     let iterations = if left <= more.saturating_mul(2) {
         left
     } else {
