@@ -5,7 +5,7 @@ use Rattle.std.specs.Ordering.{int_eq}
 use Rattle.bpf_insn_types.specs.declared.insn.Insn.{Insn}
 use Rattle.bpf_insn_types.specs.declared.insn.Insn.TheVariants.{Load, LoadSx, StoreImm, Store, Atomic}
 use Rattle.bpf_insn_types.specs.Sizes.{bytes_of, atomic_bytes}
-use Rattle.value_range_model.specs.Spans.{Span}
+use Rattle.value_range.specs.Spans.{Span}
 use Rattle.bpf_verify_model.specs.declared.abstract_value.AbstractValue.{AbstractValue}
 use Rattle.bpf_verify_model.specs.declared.abstract_value.AbstractValue.TheVariants.{Frame, Ctx, Area}
 use Rattle.bpf_verify_model.specs.declared.state.State.{State}

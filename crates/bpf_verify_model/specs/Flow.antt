@@ -22,13 +22,13 @@ use Rattle.bpf_insn_types.specs.Slots.{slots_of}
 use Rattle.bpf_insn_types.specs.Words.{word_of}
 use Rattle.bpf_insn_types.specs.Program.{moved, code_target}
 use Rattle.bpf_insn_types.specs.Sizes.{bytes_of}
-use Rattle.value_range_model.specs.Spans.{Span, exact, top, norm}
-use Rattle.value_range_model.specs.declared.operation.Operation.TheVariants.{Alu as AluOperation, Neg as NegOperation}
-use Rattle.value_range_model.specs.declared.operation.Operation.TheVariants.{Movsx as MovsxOperation}
-use Rattle.value_range_model.specs.declared.operation.Operation.TheVariants.{Endian as EndianOperation}
-use Rattle.value_range_model.specs.declared.condition.Condition.TheVariants.{Holds}
-use Rattle.value_range_model.specs.AluRows.{span_of}
-use Rattle.value_range_model.specs.RefineRows.{refined, opposite}
+use Rattle.value_range.specs.Spans.{Span, exact, top, norm}
+use Rattle.value_range.specs.declared.operation.Operation.TheVariants.{Alu as AluOperation, Neg as NegOperation}
+use Rattle.value_range.specs.declared.operation.Operation.TheVariants.{Movsx as MovsxOperation}
+use Rattle.value_range.specs.declared.operation.Operation.TheVariants.{Endian as EndianOperation}
+use Rattle.value_range.specs.declared.condition.Condition.TheVariants.{Holds}
+use Rattle.value_range.specs.AluRows.{span_of}
+use Rattle.value_range.specs.RefineRows.{refined, opposite}
 use Rattle.bpf_verify_model.specs.declared.abstract_value.AbstractValue.{AbstractValue}
 use Rattle.bpf_verify_model.specs.declared.abstract_value.AbstractValue.TheVariants.{Unwritten, Number, Frame, Ctx}
 use Rattle.bpf_verify_model.specs.declared.abstract_value.AbstractValue.TheVariants.{Map, Area, AreaOrNull, Code}

@@ -6,7 +6,7 @@ use Rattle.bpf_insn_types.specs.declared.insn.Size.TheVariants.{W, Dw}
 use Rattle.bpf_insn_types.specs.declared.insn.Compare.TheVariants.{Eq, Gt, Ne}
 use Rattle.bpf_insn_types.specs.declared.insn.Operand.TheVariants.{Imm}
 use Rattle.bpf_insn_types.specs.declared.insn.Insn.TheVariants.{Jump, Exit, StoreImm}
-use Rattle.value_range_model.specs.Spans.{exact, norm}
+use Rattle.value_range.specs.Spans.{exact, norm}
 use Rattle.bpf_verify_model.specs.declared.abstract_value.AbstractValue.{AbstractValue}
 use Rattle.bpf_verify_model.specs.declared.abstract_value.AbstractValue.TheVariants.{Unwritten, Number, Frame}
 use Rattle.bpf_verify_model.specs.declared.abstract_value.AbstractValue.TheVariants.{Area, AreaOrNull}

@@ -11,10 +11,10 @@ use Rattle.bpf_insn_types.specs.declared.insn.Compare.TheVariants.{Eq, Ne}
 use Rattle.bpf_insn_types.specs.declared.insn.Operand.{Operand}
 use Rattle.bpf_insn_types.specs.declared.insn.Operand.TheVariants.{Imm, Reg}
 use Rattle.bpf_insn_types.specs.Words.{word_of, alu}
-use Rattle.value_range_model.specs.Spans.{Span, exact}
-use Rattle.value_range_model.specs.declared.operation.Operation.{Operation}
-use Rattle.value_range_model.specs.declared.operation.Operation.TheVariants.{Alu as AluOperation}
-use Rattle.value_range_model.specs.AluRows.{span_of}
+use Rattle.value_range.specs.Spans.{Span, exact}
+use Rattle.value_range.specs.declared.operation.Operation.{Operation}
+use Rattle.value_range.specs.declared.operation.Operation.TheVariants.{Alu as AluOperation}
+use Rattle.value_range.specs.AluRows.{span_of}
 use Rattle.bpf_verify_model.specs.declared.abstract_value.AbstractValue.{AbstractValue}
 use Rattle.bpf_verify_model.specs.declared.abstract_value.AbstractValue.TheVariants.{Unwritten, Number, Frame}
 use Rattle.bpf_verify_model.specs.declared.abstract_value.AbstractValue.TheVariants.{Ctx, Area, AreaOrNull}

@@ -1,6 +1,6 @@
 //! The abstract value of a register.
 
-use value_range_model::Range;
+use value_range::Range;
 
 /// The abstract value of a register: the values that it may have. Frame and ctx addresses count bytes from
 /// the lowest of a frame's 512, so that the frame pointer is 512.

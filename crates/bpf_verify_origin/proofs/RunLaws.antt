@@ -10,7 +10,7 @@ use Rattle.bpf_insn_types.specs.declared.insn.Insn.{Insn}
 use Rattle.bpf_insn_types.specs.declared.insn.Width.TheVariants.{W64}
 use Rattle.bpf_insn_types.specs.Program.{Program, insn_at, slot_count, function_of}
 use Rattle.bpf_insn_types.specs.WordBounds.{ResultsFit}
-use Rattle.value_range_model.proofs.SpanLaws.{top-contains}
+use Rattle.value_range.proofs.SpanLaws.{top-contains}
 use Rattle.bpf_verify_model.specs.declared.rule.Rule.{Rule}
 use Rattle.bpf_verify_model.specs.declared.state.State.{State}
 use Rattle.bpf_verify_model.specs.declared.outflow.Outflow.{Outflow}

@@ -8,7 +8,7 @@ ghost use Rattle.bpf_verify_model.specs.Accesses.{lacks_bytes, caller_lacks, has
 use bpf_insn_types::FRAME_BYTES;
 use bpf_verify_model::{AbstractValue, State};
 use bpf_verify_written::WrittenBytes;
-use value_range_model::Range;
+use value_range::Range;
 
 /// Whether it is the address of memory, as V16 asks of the base of an access.
 pub(crate) fn is_memory(base: AbstractValue) -> bool

@@ -11,10 +11,10 @@ use Rattle.bpf_insn_types.specs.declared.insn.Insn.TheVariants.{Alu, Neg, Movsx,
 use Rattle.bpf_insn_types.specs.Program.{Program}
 use Rattle.bpf_insn_types.specs.Words.{negated, moved_signed, in_order}
 use Rattle.bpf_insn_types.specs.WordBounds.{ResultsFit}
-use Rattle.value_range_model.specs.declared.operation.Operation.{Operation}
-use Rattle.value_range_model.specs.declared.operation.Operation.TheVariants.{Neg as NegOperation}
-use Rattle.value_range_model.specs.declared.operation.Operation.TheVariants.{Movsx as MovsxOperation}
-use Rattle.value_range_model.specs.declared.operation.Operation.TheVariants.{Endian as EndianOperation}
+use Rattle.value_range.specs.declared.operation.Operation.{Operation}
+use Rattle.value_range.specs.declared.operation.Operation.TheVariants.{Neg as NegOperation}
+use Rattle.value_range.specs.declared.operation.Operation.TheVariants.{Movsx as MovsxOperation}
+use Rattle.value_range.specs.declared.operation.Operation.TheVariants.{Endian as EndianOperation}
 use Rattle.bpf_verify_model.specs.declared.abstract_value.AbstractValue.{AbstractValue}
 use Rattle.bpf_verify_model.specs.declared.abstract_value.AbstractValue.TheVariants as known
 use Rattle.bpf_verify_model.specs.declared.state.State.{State}

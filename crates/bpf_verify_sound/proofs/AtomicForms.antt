@@ -13,8 +13,8 @@ use Rattle.bpf_insn_types.specs.Words.{modulus}
 use Rattle.array_maps.specs.declared.access.Part.{Part}
 use Rattle.array_maps.specs.declared.access.Part.TheVariants.{Whole, Half as Of}
 use Rattle.array_maps.specs.Halves.{part_of}
-use Rattle.value_range_model.specs.Spans.{top}
-use Rattle.value_range_model.proofs.SpanLaws.{top-contains}
+use Rattle.value_range.specs.Spans.{top}
+use Rattle.value_range.proofs.SpanLaws.{top-contains}
 use Rattle.bpf_verify_model.specs.declared.abstract_value.AbstractValue.{AbstractValue}
 use Rattle.bpf_verify_model.specs.declared.abstract_value.AbstractValue.TheVariants as known
 use Rattle.bpf_verify_model.specs.declared.memory_access.MemoryAccess.{MemoryAccess}

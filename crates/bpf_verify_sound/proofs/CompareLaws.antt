@@ -12,13 +12,13 @@ use Rattle.bpf_insn_types.specs.declared.insn.Operand.{Operand}
 use Rattle.bpf_insn_types.specs.declared.insn.Operand.TheVariants.{Imm, Reg}
 use Rattle.bpf_insn_types.specs.Values.{OperandFits}
 use Rattle.bpf_insn_types.specs.Words.{word_of, holds, modulus, compared}
-use Rattle.value_range_model.specs.Spans.{Span, IsSpan, Contains, exact}
-use Rattle.value_range_model.specs.declared.condition.Condition.TheVariants.{Holds}
-use Rattle.value_range_model.specs.RefineRows.{Refined, refined, opposite}
-use Rattle.value_range_model.specs.RefineLaw.{RefinedContains}
-use Rattle.value_range_model.proofs.SpanLaws.{exact-span, exact-contains}
-use Rattle.value_range_model.proofs.ConditionLaws.{opposite_says}
-use Rattle.value_range_model.proofs.RefineContains.{refined-has}
+use Rattle.value_range.specs.Spans.{Span, IsSpan, Contains, exact}
+use Rattle.value_range.specs.declared.condition.Condition.TheVariants.{Holds}
+use Rattle.value_range.specs.RefineRows.{Refined, refined, opposite}
+use Rattle.value_range.specs.RefineLaw.{RefinedContains}
+use Rattle.value_range.proofs.SpanLaws.{exact-span, exact-contains}
+use Rattle.value_range.proofs.ConditionLaws.{opposite_says}
+use Rattle.value_range.proofs.RefineContains.{refined-has}
 use Rattle.bpf_verify_model.specs.declared.abstract_value.AbstractValue.{AbstractValue}
 use Rattle.bpf_verify_model.specs.declared.abstract_value.AbstractValue.TheVariants as known
 use Rattle.bpf_verify_model.specs.declared.state.State.{State}

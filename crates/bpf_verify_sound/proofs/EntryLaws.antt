@@ -5,7 +5,7 @@ use Rattle.std.specs.Prelude.{◌==◌, if◌then◌else◌}
 use Rattle.bpf_insn_types.specs.declared.insn.Width.TheVariants.{W64}
 use Rattle.bpf_insn_types.specs.declared.insn.Insn.{Insn}
 use Rattle.bpf_insn_types.specs.Program.{Program, insn_at, slot_count}
-use Rattle.value_range_model.proofs.SpanLaws.{top-contains}
+use Rattle.value_range.proofs.SpanLaws.{top-contains}
 use Rattle.bpf_verify_model.specs.States.{known_main_entry}
 use Rattle.bpf_verify_model.specs.Inflow.{incoming, state_before}
 use Rattle.bpf_verify_model.specs.Accepted.{Accepted, first_fault}

@@ -3,8 +3,8 @@ use Rattle.std.proofs.Common.{◌≡◌, ℕ, Bool, true, false, ◌&&◌, List,
 use Rattle.std.specs.Prelude.{◌==◌, if◌then◌else◌}
 use Rattle.std.proofs.lemmas.Bool.Decides.{nat_tests}
 use Rattle.std.proofs.Common.{arith}
-use Rattle.value_range_model.specs.Spans.{Span, Contains, join}
-use Rattle.value_range_model.proofs.SpanLaws.{join-first, join-second}
+use Rattle.value_range.specs.Spans.{Span, Contains, join}
+use Rattle.value_range.proofs.SpanLaws.{join-first, join-second}
 use Rattle.bpf_verify_written.specs.Written.{joined_written}
 use Rattle.bpf_verify_model.specs.declared.abstract_value.AbstractValue.{AbstractValue}
 use Rattle.bpf_verify_model.specs.declared.abstract_value.AbstractValue.TheVariants as known

@@ -16,9 +16,9 @@ use Rattle.array_maps.specs.declared.access.Half.TheVariants.{Low, High}
 use Rattle.array_maps.specs.declared.access.Part.{Part}
 use Rattle.array_maps.specs.declared.access.Part.TheVariants.{Whole, Half as Of}
 use Rattle.array_maps.specs.Halves.{half_of, part_of}
-use Rattle.value_range_model.specs.Spans.{top}
-use Rattle.value_range_model.proofs.SpanLaws.{norm-contains, top-contains}
-use Rattle.value_range_model.proofs.Multiples.{multiple-zero}
+use Rattle.value_range.specs.Spans.{top}
+use Rattle.value_range.proofs.SpanLaws.{norm-contains, top-contains}
+use Rattle.value_range.proofs.Multiples.{multiple-zero}
 use Rattle.bpf_verify_written.specs.Written.{all_written}
 use Rattle.bpf_verify_model.specs.declared.abstract_value.AbstractValue.{AbstractValue}
 use Rattle.bpf_verify_model.specs.declared.abstract_value.AbstractValue.TheVariants as known

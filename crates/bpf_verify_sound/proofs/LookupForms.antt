@@ -6,8 +6,8 @@ use Rattle.std.proofs.lemmas.Bool.Decides.{nat_tests}
 use Rattle.std.proofs.lemmas.Option.{slice_get-get_or}
 use Rattle.bpf_insn_types.specs.Limits.{sizes_fit}
 use Rattle.bpf_insn_types.specs.Program.{Program, leads_to}
-use Rattle.value_range_model.specs.Spans.{norm}
-use Rattle.value_range_model.proofs.SpanLaws.{norm-contains}
+use Rattle.value_range.specs.Spans.{norm}
+use Rattle.value_range.proofs.SpanLaws.{norm-contains}
 use Rattle.bpf_verify_model.specs.declared.abstract_value.AbstractValue.{AbstractValue}
 use Rattle.bpf_verify_model.specs.declared.abstract_value.AbstractValue.TheVariants as known
 use Rattle.bpf_verify_model.specs.declared.helper.Helper.TheVariants.{Lookup}

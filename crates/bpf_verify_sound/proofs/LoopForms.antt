@@ -8,11 +8,11 @@ use Rattle.bpf_insn_types.specs.declared.insn.AluOp.TheVariants.{Mov}
 use Rattle.bpf_insn_types.specs.Program.{Program, insn_at, leads_to, function_of}
 use Rattle.bpf_insn_types.specs.Words.{word_of, alu}
 use Rattle.bpf_insn_types.specs.WordBounds.{ResultsFit}
-use Rattle.value_range_model.specs.Spans.{Contains, top}
-use Rattle.value_range_model.specs.declared.operation.Operation.TheVariants.{Alu as AluOperation}
-use Rattle.value_range_model.specs.AluRows.{meant, span_of}
-use Rattle.value_range_model.proofs.SpanLaws.{norm-contains, top-contains, exact-contains}
-use Rattle.value_range_model.proofs.Multiples.{multiple-zero}
+use Rattle.value_range.specs.Spans.{Contains, top}
+use Rattle.value_range.specs.declared.operation.Operation.TheVariants.{Alu as AluOperation}
+use Rattle.value_range.specs.AluRows.{meant, span_of}
+use Rattle.value_range.proofs.SpanLaws.{norm-contains, top-contains, exact-contains}
+use Rattle.value_range.proofs.Multiples.{multiple-zero}
 use Rattle.bpf_verify_written.specs.Written.{none_written}
 use Rattle.bpf_verify_model.specs.declared.abstract_value.AbstractValue.{AbstractValue}
 use Rattle.bpf_verify_model.specs.declared.abstract_value.AbstractValue.TheVariants as known

@@ -9,13 +9,13 @@ use Rattle.bpf_insn_types.specs.declared.insn.AluOp.{AluOp}
 use Rattle.bpf_insn_types.specs.declared.insn.AluOp.TheVariants.{Add, Sub, Mov}
 use Rattle.bpf_insn_types.specs.Words.{alu}
 use Rattle.bpf_insn_types.specs.WordBounds.{ResultsFit}
-use Rattle.value_range_model.specs.Spans.{Span, IsSpan, Contains}
-use Rattle.value_range_model.specs.declared.operation.Operation.{Operation}
-use Rattle.value_range_model.specs.declared.operation.Operation.TheVariants.{Alu as AluOperation}
-use Rattle.value_range_model.specs.AluRows.{meant, span_of}
-use Rattle.value_range_model.proofs.SpanLaws.{exact-number}
-use Rattle.value_range_model.proofs.AluContains.{span_of-contains}
-use Rattle.value_range_model.proofs.RowSpans.{operand-span}
+use Rattle.value_range.specs.Spans.{Span, IsSpan, Contains}
+use Rattle.value_range.specs.declared.operation.Operation.{Operation}
+use Rattle.value_range.specs.declared.operation.Operation.TheVariants.{Alu as AluOperation}
+use Rattle.value_range.specs.AluRows.{meant, span_of}
+use Rattle.value_range.proofs.SpanLaws.{exact-number}
+use Rattle.value_range.proofs.AluContains.{span_of-contains}
+use Rattle.value_range.proofs.RowSpans.{operand-span}
 use Rattle.bpf_verify_model.specs.declared.abstract_value.AbstractValue.{AbstractValue}
 use Rattle.bpf_verify_model.specs.declared.abstract_value.AbstractValue.TheVariants as known
 use Rattle.bpf_verify_model.specs.Values.{known_of_number, known_of_numbers, known_copy, known_position}

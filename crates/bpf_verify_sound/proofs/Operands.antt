@@ -7,7 +7,7 @@ use Rattle.bpf_insn_types.specs.declared.insn.Operand.{Operand}
 use Rattle.bpf_insn_types.specs.declared.insn.Operand.TheVariants.{Imm, Reg}
 use Rattle.bpf_insn_types.specs.Values.{OperandFits}
 use Rattle.bpf_insn_types.specs.Words.{word_of}
-use Rattle.value_range_model.proofs.SpanLaws.{exact-span, exact-contains}
+use Rattle.value_range.proofs.SpanLaws.{exact-span, exact-contains}
 use Rattle.bpf_verify_model.specs.declared.abstract_value.AbstractValue.{AbstractValue}
 use Rattle.bpf_verify_model.specs.declared.abstract_value.AbstractValue.TheVariants as known
 use Rattle.bpf_verify_model.specs.declared.state.State.{State}

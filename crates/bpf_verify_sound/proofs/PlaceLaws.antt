@@ -12,8 +12,8 @@ use Rattle.array_maps.specs.declared.access.Half.TheVariants.{Low, High}
 use Rattle.array_maps.specs.declared.access.Part.{Part}
 use Rattle.array_maps.specs.declared.access.Part.TheVariants.{Whole, Half as Of}
 use Rattle.array_maps.specs.MapList.{base_of}
-use Rattle.value_range_model.specs.Spans.{Span, IsSpan, Contains}
-use Rattle.value_range_model.proofs.Multiples.{coarser}
+use Rattle.value_range.specs.Spans.{Span, IsSpan, Contains}
+use Rattle.value_range.proofs.Multiples.{coarser}
 use Rattle.bpf_verify_model.specs.declared.abstract_value.AbstractValue.{AbstractValue}
 use Rattle.bpf_verify_model.specs.declared.abstract_value.AbstractValue.TheVariants as known
 use Rattle.bpf_verify_model.specs.declared.memory_access.MemoryAccess.{MemoryAccess}

@@ -12,8 +12,8 @@ use Rattle.bpf_insn_types.specs.declared.insn.ImmKind.TheVariants.{Number, MapFd
 use Rattle.bpf_insn_types.specs.declared.insn.ImmKind.TheVariants.{Code as CodeKind, Map as MapKind, MapValue}
 use Rattle.bpf_insn_types.specs.declared.insn.Insn.TheVariants.{LoadImm}
 use Rattle.bpf_insn_types.specs.Program.{Program, insn_at, code_target, callback_starts}
-use Rattle.value_range_model.specs.Spans.{Contains, exact}
-use Rattle.value_range_model.proofs.SpanLaws.{exact-contains}
+use Rattle.value_range.specs.Spans.{Contains, exact}
+use Rattle.value_range.proofs.SpanLaws.{exact-contains}
 use Rattle.bpf_verify_model.specs.declared.abstract_value.AbstractValue.TheVariants as known
 use Rattle.bpf_verify_model.specs.declared.state.State.{State}
 use Rattle.bpf_verify_model.specs.Rules.{starts, count_of_map, has_byte}

@@ -1,6 +1,6 @@
 -- Abstract states contain machines.
 use Rattle.std.specs.Prelude.{◌≡◌, ℕ, ◌<◌, Bool, true, false, List, [], ◌∷◌, Option, Some, None, is_some}
-use Rattle.value_range_model.specs.Spans.{Contains}
+use Rattle.value_range.specs.Spans.{Contains}
 use Rattle.bpf_verify_model.specs.declared.abstract_value.AbstractValue.{AbstractValue}
 use Rattle.bpf_verify_model.specs.declared.abstract_value.AbstractValue.TheVariants as known
 use Rattle.bpf_verify_model.specs.declared.state.State.{State}

@@ -14,7 +14,7 @@ ghost use Rattle.bpf_verify_model.specs.Flow.{known_lookup, known_answer, known_
 use bpf_insn_types::{AluOp, AtomicOp, FRAME_BYTES, ImmKind, Insn, Operand, Reg, Size, Width};
 use bpf_verify_model::{AbstractValue, Helper, State, reg};
 use bpf_verify_values::{bytes_of, code_target, helper_of, on_number, operand_value, result_of};
-use value_range_model::{Operation, exact, norm, top};
+use value_range::{Operation, exact, norm, top};
 
 /// A register gets what is given, if anything is.
 fn with_known_result(state: &mut State, reg: Reg, value: Option<AbstractValue>)

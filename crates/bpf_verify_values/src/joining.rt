@@ -8,7 +8,7 @@ ghost use Rattle.bpf_verify_model.specs.States.{joined_values, joined_registers,
 
 use bpf_verify_model::{AbstractValue, Registers, State, reg};
 use bpf_verify_written::WrittenBytes;
-use value_range_model::{Range, join};
+use value_range::{Range, join};
 
 /// The join of a register's abstract values.
 pub(crate) fn join_values(a: AbstractValue, b: AbstractValue) -> AbstractValue

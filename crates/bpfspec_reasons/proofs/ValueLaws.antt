@@ -1,6 +1,6 @@
 -- The text of ranges.
 use Rattle.std.proofs.Common.{◌≡◌, ℕ, refl, sym, ◌∙◌, ne_eqb}
-use Rattle.value_range_model.specs.Spans.{Span}
+use Rattle.value_range.specs.Spans.{Span}
 use Rattle.bpfspec_reasons.specs.Printed.{numbers_text, range_text, step_of}
 
 -- of more than one number

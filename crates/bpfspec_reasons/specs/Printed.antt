@@ -6,7 +6,7 @@ use Rattle.std.specs.Int.{w64, cast_signed}
 use Rattle.std.specs.List.{flat_map, before_first, starts_with}
 use Rattle.std.specs.Str.{trim}
 use Rattle.bpf_insn_types.specs.declared.insn.Insn.{Insn}
-use Rattle.value_range_model.specs.Spans.{Span}
+use Rattle.value_range.specs.Spans.{Span}
 use Rattle.bpf_verify_model.specs.declared.abstract_value.AbstractValue.{AbstractValue}
 use Rattle.bpf_verify_model.specs.declared.abstract_value.AbstractValue.TheVariants as known
 use Rattle.bpf_text_lex.specs.Lines.{lines_of, contents_of}

@@ -12,7 +12,7 @@ use crate::arguments::Parameter;
 use bpf_insn_types::Reg;
 use bpf_verify_model::AbstractValue;
 use std::alloc::AllocError;
-use value_range_model::Range;
+use value_range::Range;
 
 /// Adds one number; above 2^63 its signed value too.
 fn write_number(out: &mut String, number: u64) -> Result<(), AllocError>

@@ -11,9 +11,7 @@ use bpf_insn_types::{Insn, Width};
 use std::alloc::Global;
 use std::process::Abort;
 use std::test::Fail;
-use value_range_model::{Condition, Operation, Range, exact, join, norm, top};
-use value_range_refine::refine;
-use value_range_rows::alu;
+use value_range::{Condition, Operation, Range, alu, exact, join, norm, refine, refine, top};
 
 const WORKED: &str = "
     and64 r1, r2 | any 7                   => 0..7/0
@@ -305,7 +303,7 @@ fn parts(range: Range) -> (u64, u64, u32) {
 }
 
 #[test]
-#[tactic(auto, unfolding(value_range_model::specs::Spans::rounded_up))]
+#[tactic(auto, unfolding(value_range::specs::Spans::rounded_up))]
 fn ranges_are_made(rt: HostRuntime) -> Result<(), Fail> {
     for (range, wanted) in [
         (exact(24), (24, 24, 3)),

@@ -1,8 +1,8 @@
 -- Each row is computed.
 use Rattle.std.proofs.Common.{refl}
 use Rattle.std.specs.Int.Count.{count_trailing_zeros}
-use Rattle.value_range_model.specs.Spans.{rounded_up, rounded_down, norm}
-use Rattle.value_range_model.specs.RefineRows.{equal, without, different, greater, not_less, refined}
+use Rattle.value_range.specs.Spans.{rounded_up, rounded_down, norm}
+use Rattle.value_range.specs.RefineRows.{equal, without, different, greater, not_less, refined}
 use Rattle.bpf_verify_written.specs.Written.{none_written}
 use Rattle.bpf_verify_model.specs.States.{joined_states, known_main_entry}
 use Rattle.bpf_verify_model.specs.Rules.{state_fault}

@@ -1,5 +1,5 @@
 use Rattle.std.proofs.Common.{arith}
-use Rattle.value_range_model.specs.Spans.{rounded_up}
+use Rattle.value_range.specs.Spans.{rounded_up}
 use Rattle.bpf_verify_transfer.proofs.entries.index_value.Goals as goal
 
 pub norm-requires-clause-some : goal.norm-requires-clause-some

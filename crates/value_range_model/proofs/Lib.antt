@@ -1,9 +1,0 @@
-pub mod Multiples
-pub mod SpanLaws
-pub mod ConditionLaws
-pub mod RefineSpans
-pub mod RefineContains
-pub mod RowBounds
-pub mod RowContains
-pub mod AluContains
-pub mod RowSpans

@@ -1,7 +1,0 @@
--- Each row leaves spans, and keeps each pair that meets the condition.
-use Rattle.value_range_model.proofs.RefineContains.{refined-has}
-use Rattle.value_range_model.proofs.RefineSpans.{refined-spans}
-use Rattle.value_range_model.proofs.laws.refine_law.Goals as goal
-
-pub returns : goal.returns
-returns c = record { are_spans = refined-spans; keeps = refined-has }
