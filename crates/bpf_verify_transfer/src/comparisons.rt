@@ -8,7 +8,7 @@ ghost use Rattle.bpf_verify_model.specs.Flow.{branch_states};
 
 use bpf_insn_types::{Compare, Operand, Reg, Width};
 use bpf_verify_model::{AbstractValue, BranchStates, State};
-use value_range::{Condition, Range, exact, refine, refine};
+use value_range::{Condition, Range, exact, refine};
 
 /// The number that an immediate is in a comparison.
 fn compared_imm(width: Width, imm: i32) -> u64

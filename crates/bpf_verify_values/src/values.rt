@@ -9,7 +9,7 @@ ghost use Rattle.bpf_verify_model.specs.Values.{is_number_value, is_unwritten, i
 
 use bpf_insn_types::{AluOp, Compare, FRAME_BYTES, MAX_OFFSET, Operand, Width, alu_word};
 use bpf_verify_model::{AbstractValue, State};
-use value_range::{Operation, Range, alu, alu, exact};
+use value_range::{Operation, Range, alu, exact};
 
 /// Whether it is a number.
 pub fn is_number(value: AbstractValue) -> bool

@@ -7,7 +7,7 @@ use bpf_text::{TextError, TextFault, parse_maps, parse_unit, print_unit, write_h
 use bpf_verify::{Rule, VerifyError, verify};
 use std::alloc::Global;
 use std::test::Fail;
-use value_range::{Condition, Operation, alu, exact, refine, refine, top};
+use value_range::{Condition, Operation, alu, exact, refine, top};
 
 const UNIT: &str = "maps 1\nmov64 r0, 7\nexit\n";
 

@@ -11,7 +11,7 @@ use bpf_insn_types::{Insn, Width};
 use std::alloc::Global;
 use std::process::Abort;
 use std::test::Fail;
-use value_range::{Condition, Operation, Range, alu, exact, join, norm, refine, refine, top};
+use value_range::{Condition, Operation, Range, alu, exact, join, norm, refine, top};
 
 const WORKED: &str = "
     and64 r1, r2 | any 7                   => 0..7/0
