@@ -1,17 +1,16 @@
-"""Edits that the prover must refuse, and what each says of itself."""
+"""Edits that the prover must refuse, and the promise that each breaks."""
 
 from __future__ import annotations
 
 from dataclasses import dataclass
 from pathlib import Path
 
-# rt reads the lines `file: `, `old: ` and `new: ` alone.
-DOES = "does: "
-REFUSED = "refused by: "
+# rt reads the lines `file: `, `old: ` and `new: ` alone; `does: ` is for readers of the file.
+PROMISE = "promise: "
 
 
 class Untold(Exception):
-    """An edit that doesn't say what it does, or what refuses it."""
+    """An edit without a promise, or a promise without an edit."""
 
 
 @dataclass(frozen=True)
@@ -20,8 +19,12 @@ class Edit:
 
     crate: str
     name: str
-    does: str
-    refused: str
+    promise: str  # words of a clause of docs/PROMISES.md
+
+    @property
+    def path(self) -> str:
+        """Its file, from the top."""
+        return f"crates/{self.crate}/must-fail/{self.name}.edit"
 
 
 def read_edits(crates: Path, crate: str) -> list[Edit]:
@@ -31,12 +34,8 @@ def read_edits(crates: Path, crate: str) -> list[Edit]:
 
 def _read(crate: str, path: Path) -> Edit:
     lines = path.read_text(encoding="utf-8").splitlines()
-    return Edit(crate, path.stem, _told(path, lines, DOES), _told(path, lines, REFUSED))
-
-
-def _told(path: Path, lines: list[str], key: str) -> str:
-    """What stands behind a key, in its one line."""
-    told = [line.removeprefix(key) for line in lines if line.startswith(key)]
-    if len(told) != 1:
-        raise Untold(f"crates/{path.parent.parent.name}/must-fail/{path.name} has not one line `{key}..`")
-    return told[0]
+    promises = [line.removeprefix(PROMISE) for line in lines if line.startswith(PROMISE)]
+    edit = Edit(crate, path.stem, "".join(promises[:1]))
+    if len(promises) != 1:
+        raise Untold(f"{edit.path} has not one line `{PROMISE}..`")
+    return edit

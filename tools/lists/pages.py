@@ -13,7 +13,8 @@ from .cited import Name
 from .crates import Group, read_groups
 from .definitions import Definitions, read_definitions
 from .edits import read_edits
-from .shown import EDIT_HEAD, by_crate, by_group, shown_calls, shown_definitions, shown_edit
+from .promises import assign, read_promises, read_untried
+from .shown import by_crate, shown_calls, shown_definitions, shown_promises
 
 MARK = "<!-- tools/make_pages writes what is below this line. -->"
 HEADLINE = ("spec_run", "run")
@@ -28,6 +29,7 @@ class Lists:
 
     def __init__(self, top: Path) -> None:
         self.crates = Crates(top)
+        self.docs = top / "docs"
         self.groups: list[Group] = read_groups(top / "crates.txt")
 
     @property
@@ -72,8 +74,12 @@ class Lists:
         return by_crate(self.groups, lambda crate: shown_calls(self.calls[crate]))
 
     def wrong_bodies_page(self) -> list[str]:
-        """The edits by crate."""
-        return by_group(self.groups, lambda crate: [*map(shown_edit, read_edits(self.crates.folder, crate))], EDIT_HEAD)
+        """The edits by promise."""
+        promises = read_promises((self.docs / "PROMISES.md").read_text(encoding="utf-8"))
+        crates = [crate for group in self.groups for crate in group.crates]
+        edits = [edit for crate in crates for edit in read_edits(self.crates.folder, crate)]
+        assign(promises, edits, read_untried((self.docs / "WRONG_BODIES.md").read_text(encoding="utf-8")))
+        return shown_promises(promises)
 
 
 def _bare(file: str) -> str:

@@ -11,30 +11,25 @@ from .cited import Name
 from .crates import Group
 from .definitions import Definitions
 from .edits import Edit
+from .promises import Promise
 
 
 def by_crate(groups: Iterable[Group], lines_of: Callable[[str], list[str]]) -> list[str]:
     """A heading for each group, and one for each crate that has lines; and above them links to the groups."""
-    made = by_group(groups, lambda crate: [f"### `{crate}`", "", *lines] if (lines := lines_of(crate)) else [])
-    titles = [line.removeprefix("## ") for line in made if line.startswith("## ")]
+    titles: list[str] = []
+    made: list[str] = []
+    for group in groups:
+        under = [(crate, lines_of(crate)) for crate in group.crates]
+        below = [line for crate, lines in under if lines for line in (f"### `{crate}`", "", *lines)]
+        if below:
+            titles.append(group.title)
+            made += [f"## {group.title}", "", *below]
     return [" · ".join(f"[{title}](#{_anchor(title)})" for title in titles), "", *made]
 
 
 def _anchor(title: str) -> str:
     """What a link to a heading names."""
     return re.sub(r"[^\w -]", "", title.lower()).replace(" ", "-")
-
-
-def by_group(groups: Iterable[Group], lines_of: Callable[[str], list[str]], head: Iterable[str] = ()) -> list[str]:
-    """A heading for each group that has lines, and a head above them."""
-    made: list[str] = []
-    for group in groups:
-        lines = [line for crate in group.crates for line in lines_of(crate)]
-        if lines:
-            made += [f"## {group.title}", "", *head, *lines]
-            if lines[-1]:
-                made.append("")
-    return made
 
 
 def shown_definitions(file: Definitions, comments: dict[str, str]) -> list[str]:
@@ -82,10 +77,16 @@ def _clause(clause: Clause, named: set[Name]) -> str:
     return f"*{clause.name}* ({', '.join(cites)})" if cites else f"*{clause.name}*"
 
 
-EDIT_HEAD = ("| Crate | Wrong body | What it does wrong | What refuses it |", "|---|---|---|---|")
+def shown_promises(promises: Iterable[Promise]) -> list[str]:
+    """A table under each heading that has edits: a row for each edit, in the order of the promises."""
+    lines: list[str] = []
+    for heading, below in groupby(promises, lambda promise: promise.heading):
+        rows = [_edit(edit) for promise in below for edit in promise.edits]
+        if rows:
+            lines += [f"## {heading}", "", "| Promise | Edit | Crate |", "|---|---|---|", *rows, ""]
+    return lines
 
 
-def shown_edit(edit: Edit) -> str:
+def _edit(edit: Edit) -> str:
     """An edit as a row of a table."""
-    cells = (f"`{edit.crate}`", f"`{edit.name}`", edit.does, edit.refused)
-    return "| " + " | ".join(cell.replace("|", "\\|") for cell in cells) + " |"
+    return f"| {edit.promise} | `{edit.name}` | `{edit.crate}` |"

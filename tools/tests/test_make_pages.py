@@ -112,13 +112,58 @@ pub trait Show {
 """,
     "crates/halves/must-fail/rounds_up.edit": """\
 does: rounds up
-refused by: `halve`: the half | rounded down
+promise: a half is rounded down
 file: src/number.rt
 old: None
 new: Some(1)
 """,
+    "crates/wholes/must-fail/forgets.edit": """\
+promise: Numbers stay
+file: src/number.rt
+old: 0
+new: 1
+""",
     "crates/tests_wholes/src/lib.rt": "/// Not promised.\npub fn test()\n{}\n",
+    "docs/PROMISES.md": """\
+# Promises
+
+| What | Why |
+|---|---|
+| it is no promise | its head says so |
+
+## Halves
+
+| Clause | Call |
+|---|---|
+| Numbers stay; a half is rounded down | `halve` |
+| it is known whether a number has a half | `whole_half` |
+
+None is a promise without a table.
+
+## Laws
+
+| Clause | Call |
+|---|---|
+| twice a half is a whole | |
+""",
 }
+HEADS = {"WRONG_BODIES.md": """\
+# By hand
+
+## Promises without an edit
+
+| Promise | Why |
+|---|---|
+| whether a number has a half | it is a law |
+| twice a half | it is a law |
+
+## More
+
+| Slip | Test |
+|---|---|
+| a slip | a test |
+
+"""}
 DEFINITIONS = """
 [Halves, and wholes](#halves-and-wholes)
 
@@ -150,11 +195,12 @@ CONTRACTS = """
   No clause.
 """
 WRONG_BODIES = """
-## Halves, and wholes
+## Halves
 
-| Crate | Wrong body | What it does wrong | What refuses it |
-|---|---|---|---|
-| `halves` | `rounds_up` | rounds up | `halve`: the half \\| rounded down |
+| Promise | Edit | Crate |
+|---|---|---|
+| Numbers stay | `forgets` | `wholes` |
+| a half is rounded down | `rounds_up` | `halves` |
 """
 
 
@@ -165,7 +211,7 @@ class MakePages(unittest.TestCase):
         for name, text in FILES.items():
             self.write(name, text)
         for name in PAGES:
-            self.write(f"docs/{name}", HEAD + MARK + "\nold\n")
+            self.write(f"docs/{name}", HEADS.get(name, HEAD) + MARK + "\nold\n")
         tools = self.top / "tools"
         for package in ("base", "lists"):
             shutil.copytree(TOP / "tools" / package, tools / package)
@@ -186,7 +232,7 @@ class MakePages(unittest.TestCase):
     def test_pages_are_made_below_what_is_by_hand(self) -> None:
         self.assertEqual(self.make().returncode, 0)
         for name, made in zip(PAGES, (DEFINITIONS, CONTRACTS, WRONG_BODIES)):
-            self.assertEqual(self.page(name), HEAD + MARK + made)
+            self.assertEqual(self.page(name), HEADS.get(name, HEAD) + MARK + made)
 
     def test_made_pages_are_as_they_should_be(self) -> None:
         self.make()
@@ -207,12 +253,32 @@ class MakePages(unittest.TestCase):
         self.write("docs/DEFINITIONS.md", self.page("DEFINITIONS.md") + "more\n")
         self.assertIn("DEFINITIONS.md:17: would not be there", self.make("--check").stderr)
 
-    def test_an_edit_tells_what_it_does(self) -> None:
-        edit = "crates/halves/must-fail/rounds_up.edit"
-        self.write(edit, FILES[edit].replace("does: ", ""))
+    def assert_untold(self, fault: str) -> None:
         made = self.make("--check")
-        self.assertEqual(made.returncode, 1)
-        self.assertEqual(made.stderr.splitlines()[-1], f"{edit} has not one line `does: ..`")
+        self.assertEqual((made.returncode, made.stderr.splitlines()[-1]), (1, fault))
+
+    def test_an_edit_names_its_promise(self) -> None:
+        edit = "crates/halves/must-fail/rounds_up.edit"
+        self.write(edit, FILES[edit].replace("promise: ", ""))
+        self.assert_untold(f"{edit} has not one line `promise: ..`")
+
+    def test_an_edit_names_one_promise(self) -> None:
+        edit = "crates/halves/must-fail/rounds_up.edit"
+        for words, count in ("it is no promise", 0), ("a half", 3):
+            self.write(edit, FILES[edit].replace("a half is rounded down", words))
+            self.assert_untold(f"{edit}: {count} clauses of docs/PROMISES.md have the words `{words}`, and not one")
+
+    def test_a_promise_without_an_edit_is_listed(self) -> None:
+        page = "docs/WRONG_BODIES.md"
+        self.write(page, self.page("WRONG_BODIES.md").replace("| twice a half | it is a law |\n", ""))
+        fault = f"{page} doesn't list a promise without an edit under `Promises without an edit`"
+        self.assert_untold(f"{fault}: twice a half is a whole")
+
+    def test_a_promise_with_an_edit_is_not_listed(self) -> None:
+        page = "docs/WRONG_BODIES.md"
+        self.write(page, self.page("WRONG_BODIES.md").replace("twice a half", "rounded down"))
+        fault = f"{page} lists a promise with an edit under `Promises without an edit`"
+        self.assert_untold(f"{fault}: Numbers stay; a half is rounded down")
 
     def test_a_page_tells_where_the_made_part_begins(self) -> None:
         self.write("docs/DEFINITIONS.md", HEAD)
