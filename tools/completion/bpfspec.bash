@@ -30,7 +30,7 @@ _bpfspec() {
     COMPREPLY=()
     _bpfspec_value "${COMP_WORDS[COMP_CWORD - 1]}" && return
     if ((COMP_CWORD == 1)); then
-        _bpfspec_words "verify order run replay asm disasm explain install library help"
+        _bpfspec_words "verify order run replay asm disasm explain prove install library help"
         return
     fi
     case $command in
@@ -39,6 +39,7 @@ _bpfspec() {
     run) _bpfspec_words "--hex --arg --workers --blocks --test --way --stats" ;;
     replay) _bpfspec_words "--hex --arg --test" ;;
     explain) _bpfspec_words "--hex --arg --test --states --all --picture" ;;
+    prove) _bpfspec_words "library" ;;
     install | library) _bpfspec_files "!*/" ;;
     esac
 }

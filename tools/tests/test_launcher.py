@@ -1,5 +1,5 @@
 #!/usr/bin/env python3
-"""Runs ./bpfspec in a small repository, with a stand-in for rt that builds at once.
+"""Runs ./bpfspec in a small repository, with a stand-in for tools/build that builds at once.
 
     python3 tools/tests/test_launcher.py
 """
@@ -10,35 +10,35 @@ import os
 import shutil
 import subprocess
 import tempfile
+import time
 import unittest
 from pathlib import Path
 
 TOP = Path(__file__).resolve().parents[2]
-PROGRAMS = ("bpfspec", "bpfspec_explain")
-# Tells each build and what it is given, and makes programs that print their words, and whether they hold the launcher's
-# lock.
-RT = """#!/bin/bash
-echo built >>"$BUILDS"
-find crates crates.txt -type f >"$GIVEN"
-for crate in crates/*; do
-    mkdir -p "$crate/out"
-    name=${crate##*/}
-    printf '#!/bin/bash\\necho %s "$@" $([[ -e /proc/$$/fd/9 ]] && echo holds a lock)\\n' "$name" >"$crate/out/$name"
-    chmod +x "$crate/out/$name"
+LEVELS = "x86-64-v2", "x86-64-v3"
+# Notes each build, and makes programs that print their words, as tools/build leaves them; `committed` says yes.
+BUILD = """#!/bin/bash
+[[ $1 == committed ]] && exit 0
+echo "$*" >>"$BUILDS"
+kind=$1 folder=${!#}
+for name in "${@:2:$#-2}"; do
+    room=$folder
+    if [[ $kind == proved ]]; then room=$folder/$name; fi
+    for level in $LEVELS; do
+        mkdir -p "$room/$level"
+        printf '#!/bin/bash\\necho %s for %s: "$@"\\n' "$name" "$level" >"$room/$level/$name"
+        chmod +x "$room/$level/$name"
+    done
+    find crates.txt crates -name '*.rt' >"$room/files"
+    cat "$KIT" >"$room/kit"
+    echo "built $kind" >"$room/how"
 done
 """
-# Compiles for another processor: a program that tells that it is for it.
-BUILD_FOR = """#!/bin/bash
-mkdir -p "${3%/*}"
-printf '#!/bin/bash\\necho for %s: "$@"\\n' "$1" >"$3"
-chmod +x "$3"
-"""
-# Tells which archive it is given, and the folder.
 MAKE_LIBRARY = """#!/bin/bash
 "$1" archive
 echo "in $2"
 """
-USAGE = 3
+USAGE, BUILD_FAILED = 3, 70
 
 
 class Launcher(unittest.TestCase):
@@ -48,97 +48,85 @@ class Launcher(unittest.TestCase):
         self.top = self.folder / "top"
         self.builds = self.folder / "builds"
         self.builds.touch()
-        self.given = self.folder / "given"
-        for crate in (*PROGRAMS, "bpfspec_c", "other"):
-            (self.top / "crates" / crate / "src").mkdir(parents=True)
-            (self.top / "crates" / crate / "src" / "main.rt").write_text("fn main() {}\n")
-        (self.top / "crates.txt").write_text("bpfspec:\nbpfspec_explain: bpfspec\nbpfspec_c staticlib:\nother:\n")
-        (self.top / "HANDLES").touch()
+        self.source = self.top / "crates" / "bpfspec" / "src" / "main.rt"
+        self.source.parent.mkdir(parents=True)
+        self.source.write_text("fn main() {}\n")
+        (self.top / "crates.txt").write_text("bpfspec:\n")
+        before = time.time() - 10
+        for path in self.source, self.top / "crates.txt":
+            os.utime(path, (before, before))
         shutil.copy(TOP / "bpfspec", self.top)
-        words = self.folder / "words"
-        self.write_command(words / "rt", RT)
+        self.write_command(self.folder / "words" / "rt", "")
         self.kit = self.folder / "KIT-ID"
         self.kit.write_text("kit 1\n")
-        self.write_command(self.top / "tools" / "build_for", BUILD_FOR)
+        self.write_command(self.top / "tools" / "build", f"cd {self.top}\n{BUILD}")
         self.write_command(self.top / "tools" / "make_library", MAKE_LIBRARY)
         self.environment = {
             **os.environ,
-            "PATH": f"{words}:{os.environ['PATH']}",
+            "PATH": f"{self.folder / 'words'}:{os.environ['PATH']}",
             "XDG_CACHE_HOME": str(self.folder / "cache"),
             "BUILDS": str(self.builds),
-            "GIVEN": str(self.given),
-            "BPFSPEC_CPU": "x86-64-v2",
+            "KIT": str(self.kit),
+            "LEVELS": " ".join(LEVELS),
+            "BPFSPEC_CPU": LEVELS[0],
         }
 
     def write_command(self, file: Path, script: str) -> None:
         """Writes a script that can be run."""
         file.parent.mkdir(exist_ok=True)
-        file.write_text(script)
+        file.write_text(script if script.startswith("#!") else f"#!/bin/bash\n{script}")
         file.chmod(0o755)
+
+    def run_it(self, *words: str, by: str | None = None, folder: Path | None = None) -> subprocess.CompletedProcess[str]:
+        command = [by or str(self.top / "bpfspec"), *words]
+        return subprocess.run(
+            command, env=self.environment, cwd=folder or self.folder, capture_output=True, text=True, check=False
+        )
 
     def printed(self, *words: str, by: str | None = None, folder: Path | None = None) -> str:
         """What ./bpfspec prints for these words."""
-        command = [by or str(self.top / "bpfspec"), *words]
-        done = subprocess.run(command, env=self.environment, cwd=folder or self.folder, capture_output=True, text=True)
+        done = self.run_it(*words, by=by, folder=folder)
         self.assertEqual(done.returncode, 0, done)
         return done.stdout
 
-    def number_of_builds(self) -> int:
-        """How often the programs were built."""
-        return len(self.builds.read_text().splitlines())
+    def built(self) -> list[str]:
+        """What was built so far: its kind and its name, each."""
+        return [line.rpartition(" ")[0] for line in self.builds.read_text().splitlines()]
 
-    def test_it_builds_once_and_after_an_edit(self) -> None:
-        self.assertEqual(self.printed("run", "--arg", "1"), "bpfspec run --arg 1\n")
-        self.assertEqual(self.printed("explain", "--all"), "bpfspec_explain --all\n")
-        self.assertEqual(self.number_of_builds(), 1)
-        (self.top / "crates" / "other" / "src" / "main.rt").write_text("fn main() { 1 }\n")
-        self.assertEqual(self.printed("verify"), "bpfspec verify\n")
-        self.assertEqual(self.number_of_builds(), 1)  # neither program needs that crate
-        with open(self.top / "crates" / "bpfspec" / "src" / "main.rt", "a") as file:
-            file.write("// in place\n")
-        self.assertEqual(self.printed("verify"), "bpfspec verify\n")
-        self.assertEqual(self.number_of_builds(), 2)
-        (self.top / "crates" / "bpfspec_explain" / "src" / "more.rt").write_text("")
-        (self.top / "crates.txt").write_text("bpfspec:\nbpfspec_explain: bpfspec\nother: bpfspec\n")
-        self.printed("explain")
-        self.assertEqual(self.number_of_builds(), 3)
-        (self.top / "crates" / "bpfspec_explain" / "src" / "more.rt").unlink()
-        self.printed("explain")
-        self.assertEqual(self.number_of_builds(), 4)
-        self.printed("explain")
-        self.assertEqual(self.number_of_builds(), 4)
+    def test_it_builds_each_program_once_and_after_an_edit(self) -> None:
+        self.assertEqual(self.printed("run", "--arg", "1"), "bpfspec for x86-64-v2: run --arg 1\n")
+        self.assertEqual(self.printed("run"), "bpfspec for x86-64-v2: run\n")
+        self.assertEqual(self.printed("explain", "--all"), "bpfspec_explain for x86-64-v2: --all\n")
+        self.assertEqual(self.built(), ["unproved bpfspec", "unproved bpfspec_explain"])
+        self.source.write_text("fn main() { 1 }\n")
+        self.printed("verify")
+        self.assertEqual(self.built()[2:], ["unproved bpfspec"])
 
     def test_it_builds_anew_with_another_kit(self) -> None:
         self.printed("verify")
         self.kit.write_text("kit 2\n")
         self.printed("verify")
-        self.assertEqual(self.number_of_builds(), 2)
-        self.printed("explain")
-        self.assertEqual(self.number_of_builds(), 2)
+        self.assertEqual(len(self.built()), 2)
         self.kit.unlink()
-        self.assertEqual(self.printed("verify"), "bpfspec verify\n")  # what is built needs no kit
-        self.assertEqual(self.number_of_builds(), 2)
+        self.printed("verify")  # what is built needs no kit
+        self.assertEqual(len(self.built()), 2)
 
-    def test_it_follows_links_to_the_kit(self) -> None:
-        word = self.folder / "words" / "rt"
-        command = self.folder / "kit" / "bin" / "rt"
-        command.parent.mkdir(parents=True)
-        word.rename(command)
-        word.symlink_to(command)
-        kit = self.kit.rename(self.folder / "kit" / "KIT-ID")
+    def test_what_is_proved_runs_until_a_source_changes(self) -> None:
         self.printed("verify")
-        kit.write_text("kit 2\n")
-        self.printed("verify")
-        self.assertEqual(self.number_of_builds(), 2)
+        self.printed("prove")
+        self.assertEqual(self.built(), ["unproved bpfspec", "proved bpfspec bpfspec_explain"])
+        self.assertEqual(self.printed("--version").splitlines()[-1], "built proved")
+        self.assertIn("proved here already", self.run_it("prove").stderr)
+        self.source.write_text("fn main() { 1 }\n")
+        self.assertEqual(self.printed("--version").splitlines()[-1], "built unproved")
+        self.assertEqual(self.built()[2:], ["unproved bpfspec"])
 
-    def test_it_builds_from_sources_alone(self) -> None:
-        crate = self.top / "crates" / "bpfspec"
-        for file in crate / "out" / "left", crate / "must-fail" / "wrong.edit", crate / "data" / "out" / "read":
-            file.parent.mkdir(parents=True)
-            file.touch()
+    def test_what_has_checks_is_built_anew_once_the_sources_are_committed(self) -> None:
         self.printed("verify")
-        given = {"crates.txt", "crates/bpfspec/data/out/read"} | {f"crates/{name}/src/main.rt" for name in PROGRAMS}
-        self.assertEqual(set(self.given.read_text().split()), given)
+        (changed,) = self.folder.glob("cache/bpfspec/*/unproved/bpfspec/files")
+        (changed.parent / "changed").touch()
+        self.printed("verify")
+        self.assertEqual(len(self.built()), 2)
 
     def test_it_is_found_through_links(self) -> None:
         self.printed("verify")
@@ -146,56 +134,56 @@ class Launcher(unittest.TestCase):
         link.symlink_to(self.top / "bpfspec")
         (self.folder / "again").symlink_to("link")
         for path in str(link), str(self.folder / "again"), "./bpfspec":
-            self.assertEqual(self.printed("verify", by=path, folder=self.top), "bpfspec verify\n")
-        self.assertEqual(self.number_of_builds(), 1)
+            self.assertEqual(self.printed("verify", by=path, folder=self.top), "bpfspec for x86-64-v2: verify\n")
+        self.assertEqual(len(self.built()), 1)
 
     def test_help_names_what_the_launcher_has(self) -> None:
         for word in "help", "--help":
             lines = self.printed(word).splitlines()
-            self.assertEqual(lines[0], f"bpfspec {word}")
+            self.assertEqual(lines[0], f"bpfspec for x86-64-v2: {word}")
             self.assertTrue(any(line.startswith("  explain ") for line in lines))
-        self.assertEqual(self.printed("explain", "--help"), "bpfspec_explain --help\n")
+        self.assertEqual(self.printed("explain", "--help"), "bpfspec_explain for x86-64-v2: --help\n")
 
     def test_it_runs_the_program_for_the_processor_that_is_named(self) -> None:
-        self.assertEqual(self.printed("run"), "bpfspec run\n")
-        self.environment["BPFSPEC_CPU"] = "x86-64-v3"
-        self.assertEqual(self.printed("run"), "for x86-64-v3: run\n")
-        self.assertEqual(self.printed("explain"), "bpfspec_explain\n")
-        self.assertEqual(self.printed("--version"), "for x86-64-v3: --version\nbuilt for x86-64-v3\n")
-        self.assertEqual(self.printed("explain", "--version"), "bpfspec_explain --version\nbuilt for x86-64-v2\n")
-        self.assertEqual(self.number_of_builds(), 1)
+        self.environment["BPFSPEC_CPU"] = LEVELS[1]
+        version = "bpfspec for x86-64-v3: --version\nbuilt for x86-64-v3\nbuilt unproved\n"
+        self.assertEqual(self.printed("--version"), version)
+        (program,) = self.folder.glob("cache/bpfspec/*/unproved/bpfspec/x86-64-v3/bpfspec")
+        program.unlink()
+        self.assertEqual(self.printed("run"), "bpfspec for x86-64-v2: run\n")
+        self.assertEqual(len(self.built()), 1)
 
     def test_the_library_is_built_apart_and_once(self) -> None:
-        self.assertEqual(self.printed("library", "made"), "for x86-64-v2: archive\nin made\n")
-        self.environment["BPFSPEC_CPU"] = "x86-64-v3"
-        self.assertEqual(self.printed("library", "made"), "for x86-64-v3: archive\nin made\n")
-        self.assertEqual(self.number_of_builds(), 1)
-        self.assertEqual(self.printed("run"), "for x86-64-v3: run\n")
-        self.assertEqual(self.number_of_builds(), 2)
+        for level in LEVELS:
+            self.environment["BPFSPEC_CPU"] = level
+            self.assertEqual(self.printed("library", "made"), f"bpfspec_c for {level}: archive\nin made\n")
+        self.assertEqual(self.built(), ["unproved bpfspec_c"])
+        self.printed("prove", "library")
+        self.assertEqual(self.built()[1:], ["proved bpfspec_c"])
         for words in ("library",), ("library", "--help"), ("library", "a", "b"):
-            done = subprocess.run([self.top / "bpfspec", *words], env=self.environment, capture_output=True, text=True)
+            done = self.run_it(*words)
             self.assertEqual((done.returncode, done.stderr), (USAGE, "usage: ./bpfspec library FOLDER\n"))
+        done = self.run_it("prove", "other")
+        self.assertEqual((done.returncode, done.stderr), (USAGE, "usage: ./bpfspec prove [library]\n"))
+
+    def test_a_build_that_fails_ends_it(self) -> None:
+        self.write_command(self.top / "tools" / "build", "exit 1")
+        self.assertEqual(self.run_it("run").returncode, BUILD_FAILED)
 
     def test_it_names_the_processor_by_itself(self) -> None:
         del self.environment["BPFSPEC_CPU"]
         lines = Path("/proc/cpuinfo").read_text().splitlines()
         flags = next(line for line in lines if line.startswith("flags")).split()
-        cpu = "x86-64-v3" if {"avx2", "bmi2", "fma", "movbe"} <= set(flags) else "x86-64-v2"
-        self.assertEqual(self.printed("--version").splitlines()[-1], f"built for {cpu}")
+        cpu = LEVELS[{"avx2", "bmi2", "fma", "movbe"} <= set(flags)]
+        self.assertEqual(self.printed("--version").splitlines()[1], f"built for {cpu}")
 
     def test_another_processor_is_refused(self) -> None:
         for name in "x86-64-v4", "native", "x86-64-v33":
             self.environment["BPFSPEC_CPU"] = name
-            done = subprocess.run([self.top / "bpfspec", "run"], env=self.environment, capture_output=True, text=True)
+            done = self.run_it("run")
             self.assertEqual((done.returncode, done.stdout), (USAGE, ""))
             self.assertEqual(done.stderr, f"bpfspec: BPFSPEC_CPU is {name}, and may be x86-64-v2 or x86-64-v3\n")
-        self.assertEqual(self.number_of_builds(), 0)
-
-    def test_what_is_proved_serves_where_no_other_is_compiled(self) -> None:
-        self.write_command(self.top / "tools" / "build_for", "#!/bin/bash\nexit 1\n")
-        self.environment["BPFSPEC_CPU"] = "x86-64-v3"
-        self.assertEqual(self.printed("--version"), "bpfspec --version\nbuilt for x86-64-v2\n")
-        self.assertEqual(self.number_of_builds(), 1)
+        self.assertEqual(self.built(), [])
 
 
 if __name__ == "__main__":

@@ -1,0 +1,1 @@
+"""Builds the programs of this repository: without proof in two minutes, or proved."""

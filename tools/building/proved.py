@@ -1,0 +1,72 @@
+"""Proves programs, or the library for C, and builds them, as `rt ci` does it, in a copy of the crates that they need."""
+
+from __future__ import annotations
+
+import shutil
+import tempfile
+import threading
+import time
+from pathlib import Path
+
+from .crates import LEFT_OUT, Repository
+from .kit import Failed, Kit, run, start
+from .rooms import Room, tell
+from .unproved import LEVELS_OF
+
+PROVED = "proved here"
+DONE = b"== "  # begins what `rt ci` prints of a crate once that is proved
+DISK = "2.5 GB"
+
+
+def prove(top: Path, names: list[str], place: Path) -> None:
+    """Proves and builds into PLACE/NAME, for each of the names."""
+    kit, repository = Kit.find(), Repository.read(top)
+    needed = repository.needed(names)
+    rooms = {name: Room(place / name, repository, name) for name in names}
+    with tempfile.TemporaryDirectory(prefix="work-", dir=place) as made:
+        work = Path(made)
+        _copy(repository, needed, work)
+        tell(f"proves {len(needed)} crates and builds {' and '.join(names)}, in {work} ({DISK}): half an hour or more")
+        _run_gate(work, len(needed))
+        for name, room in rooms.items():
+            for level in LEVELS_OF[name]:
+                tell(f"compiles {name} for {level}")
+                file = room.made / level / name
+                run([top / "tools" / "build_for", level, work / "crates" / name, file])
+    for room in rooms.values():
+        room.keep(kit.name, PROVED, is_changed=False)
+
+
+def _copy(repository: Repository, needed: list[str], work: Path) -> None:
+    """A repository of the needed crates alone, without what was made of them and the must-fail edits."""
+    (work / ".git").mkdir()
+    shutil.copy(repository.top / "HANDLES", work)
+    (work / "crates.txt").write_text("".join(f"{repository.lines[name]}\n" for name in needed))
+    for name in needed:
+        folder = repository.top / "crates" / name
+        shutil.copytree(folder, work / "crates" / name, ignore=lambda at, _: LEFT_OUT if Path(at) == folder else ())
+
+
+def _run_gate(work: Path, count: int) -> None:
+    """Runs `rt ci`, and tells of each crate that is done, and each minute how long it has taken."""
+    begun, done, said = time.monotonic(), 0, []
+    ended = threading.Event()
+
+    def minutes() -> str:
+        return f"{int(time.monotonic() - begun) // 60} min, {done} of {count} done"
+
+    def tell_each_minute() -> None:
+        while not ended.wait(60):
+            tell(minutes())
+
+    teller = threading.Thread(target=tell_each_minute, daemon=True)
+    teller.start()
+    child = start(["rt", "ci"], work)
+    for line in child.stdout or ():
+        said.append(line)
+        if line.startswith(DONE):
+            done += 1
+            tell(f"{minutes()}: {line[len(DONE) :].decode(errors='replace').strip()}")
+    ended.set()
+    if child.wait():
+        raise Failed(b"".join(said).decode(errors="replace").rstrip())
