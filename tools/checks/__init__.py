@@ -1,0 +1,1 @@
+"""The checks of the repository, and how they run beside each other."""
