@@ -20,6 +20,33 @@ MANY = 65_536  # elements, the most that maps have
 FEW = 128  # elements, so few that a long loop over them is worth threads
 DIAMONDS = 2_042  # that fill a unit up to its 4,096 slots
 
+# The command lines that each row is an input of where not each row is swept by each line. Every line is here, and
+# together they grow memory at nearly all places of the program at which any row does by any line.
+FEW_LINES = {
+    "many elements": ("run --way blocks --workers 2 --blocks 4", "run --test lrpd", "run --stats"),
+    "many slots": ("verify", "asm", "disasm", "run --way blocks --workers 16 --blocks 64"),
+    "long conflict": (
+        *("run --workers 1 --blocks 64", "run --workers 2 --blocks 4", "run --workers 4 --blocks 64"),
+        "run --test lrpd",
+    ),
+    "long break": (
+        *("run --workers 2 --blocks 64", "run --workers 4 --blocks 4", "run --workers 16 --blocks 4"),
+        *("run --workers 16 --blocks 64", "verify"),
+    ),
+    "one break": ("run --way blocks --workers 1 --blocks 1", "run --stats", "replay", "disasm"),
+    "two breaks": (
+        *("run --workers 4 --blocks 1", "run --way blocks --workers 16 --blocks 64"),
+        *("run --test lrpd --way blocks", "replay"),
+    ),
+    "two loops from zeros": ("run --workers 2 --blocks 1", "run --way blocks --workers 2 --blocks 4", "order", "disasm"),
+    "two loops from fives": ("run --workers 1 --blocks 1", "run --test lrpd --way blocks", "run --stats"),
+    "copy forward": (
+        *("run --workers 1 --blocks 4", "run --way blocks --workers 2 --blocks 4", "run --stats"),
+        "replay --test lrpd",
+    ),
+    "halves": ("run --workers 16 --blocks 1", "run --way blocks --workers 1 --blocks 1", "order", "asm"),
+}
+
 
 @dataclass(frozen=True)
 class Row:
@@ -54,6 +81,11 @@ def commands() -> Iterator[tuple[str, ...]]:
     yield from (("run", "--test", "lrpd"), ("run", "--test", "lrpd", "--way", "blocks"), ("run", "--stats"))
     yield from (("replay",), ("replay", "--test", "lrpd"))
     yield from (("verify",), ("order",), ("asm",), ("disasm",))
+
+
+def few_commands(row: Row) -> list[tuple[str, ...]]:
+    """Those of `commands` that the row is an input of where not each row is swept by each."""
+    return [tuple(line.split()) for line in FEW_LINES[row.name]]
 
 
 def explanations() -> Iterator[tuple[str, ...]]:

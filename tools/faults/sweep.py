@@ -14,12 +14,13 @@ from .program import Program
 PAST_LAST = 3  # runs in a row in which nothing failed end a sweep: threads come to their calls in another order each time
 MOST_WRONG = 5  # wrong runs end it too
 SHOWN = 80  # bytes of an output
+FIRST, STRIDE = 256, 16  # calls that each fail in a sweep that isn't whole; of those after them each sixteenth does
 
 
 @dataclass(frozen=True)
 class Sweep:
     """A row, a command that it is an input of, what that gives, with reasons and without, and a fault to be at each of
-    its calls in turn."""
+    its calls in turn, or at some of many."""
 
     program: Program
     row: str
@@ -28,12 +29,13 @@ class Sweep:
     own: Ran
     answer_alone: Ran
     fault: Fault
+    is_whole: bool
 
     def runs(self) -> Iterator[tuple[int, Ran]]:
         """The runs, each with the number of the call that fails."""
         at = past = 0
         while past < PAST_LAST:
-            at += 1
+            at += 1 if self.is_whole or at < FIRST else STRIDE
             ran = self.program.run(self.words, self.stdin, self.fault.environment(at))
             past = 0 if ran.errors.startswith(TOLD) else past + 1
             yield at, ran
