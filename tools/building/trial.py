@@ -22,7 +22,8 @@ def try_program(program: Path, top: Path, name: str) -> None:
         if done.returncode == LACKING:
             return
         if done.stdout != wanted:
-            raise Failed(f"{program.name} doesn't print what it should for {' '.join(words) or 'no words'}")
+            what = f"ends by signal {-done.returncode}" if done.returncode < 0 else "doesn't print what it should"
+            raise Failed(f"{name} {what} for the words '{' '.join(words)}'")
 
 
 def _examples(top: Path, name: str) -> Iterator[tuple[list[str], bytes, bytes]]:

@@ -17,7 +17,11 @@ from .trial import try_program
 LEVELS = "x86-64-v2", "x86-64-v3"
 LEVELS_OF = {"bpfspec": LEVELS, "bpfspec_explain": LEVELS[:1], "bpfspec_c": LEVELS}
 LIBRARY = "bpfspec_c"
-HOW = "-O3 -ffunction-sections -fdata-sections -mllvm -no-trap-after-noreturn --no-default-config -w".split()
+# A function of large locals isn't put into its callers: the programs and hosts of the library have small stacks too.
+HOW = (
+    *("-O3", "-ffunction-sections", "-fdata-sections", "--no-default-config", "-w"),
+    *("-mllvm", "-no-trap-after-noreturn", "-mllvm", "-inline-max-stacksize=32768"),
+)
 WITHOUT_PROOF, WITH_CHECKS = "built without proof", "built without proof, with checks"
 
 
