@@ -1,6 +1,5 @@
 //! The tests themselves.
 
 mod blocks;
-mod pictures;
 mod replays;
 mod runs;

@@ -75,16 +75,6 @@ fn lent_maps_stay_after_a_pass(rt: HostRuntime) -> Result<(), Fail> {
 }
 
 #[test]
-fn lent_maps_stay_after_a_pass_by_pairs(rt: HostRuntime) -> Result<(), Fail> {
-    comes_to(&rt, rt.alloc(), &BREAKS_AT_5, Test::Lrpd)
-}
-
-#[test]
 fn lent_maps_stay_after_a_conflict(rt: HostRuntime) -> Result<(), Fail> {
-    comes_to(&rt, rt.alloc(), &COPIES_ON, Test::Flow)
-}
-
-#[test]
-fn lent_maps_stay_after_a_conflict_by_pairs(rt: HostRuntime) -> Result<(), Fail> {
     comes_to(&rt, rt.alloc(), &COPIES_ON, Test::Lrpd)
 }

@@ -68,20 +68,6 @@ const COPIES_ON: Case = Case {
     left: &[9, 9, 9, 9, 9],
 };
 
-/// Each iteration adds 1 to the low half of an element and its index to the high half.
-const ADDS_TO_HALVES: Case = Case {
-    row: "maps 1 | mov64 r1, 4 | LOOP | ldmapval r3, 0, 0 | mov64 r4, 1 | atomic32 add [r3+0], r4 | \
-        atomic32 add [r3+4], r1 | END | %% | map 0: 4294967295",
-    words: &[4_294_967_295],
-    ret: 4,
-    loops: &[LoopReport {
-        slot: 5,
-        answer: 4,
-        verdict: Verdict::Parallel,
-    }],
-    left: &[25_769_803_779],
-};
-
 const PLAN: Plan = Plan {
     workers: 2,
     blocks: 4,
@@ -133,11 +119,6 @@ fn runs_at_last<R: Threads + Sync + Abort, G: Gate>(
 }
 
 #[test]
-fn maps_stay_where_a_loop_is_refused(rt: HostRuntime) -> Result<(), Fail> {
-    runs_at_last(&rt, rt.alloc(), &BREAKS_AT_5, &NoGate)
-}
-
-#[test]
 fn maps_stay_where_a_second_loop_is_refused(rt: HostRuntime) -> Result<(), Fail> {
     runs_at_last(&rt, rt.alloc(), &TWO_LOOPS, &NoGate)
 }
@@ -145,11 +126,6 @@ fn maps_stay_where_a_second_loop_is_refused(rt: HostRuntime) -> Result<(), Fail>
 #[test]
 fn maps_stay_where_a_discarded_loop_is_refused(rt: HostRuntime) -> Result<(), Fail> {
     runs_at_last(&rt, rt.alloc(), &COPIES_ON, &NoGate)
-}
-
-#[test]
-fn maps_stay_where_halves_are_refused(rt: HostRuntime) -> Result<(), Fail> {
-    runs_at_last(&rt, rt.alloc(), &ADDS_TO_HALVES, &NoGate)
 }
 
 /// The block that breaks waits until the last one has begun.

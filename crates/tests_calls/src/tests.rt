@@ -1,0 +1,10 @@
+//! The tests themselves.
+
+mod asserts;
+mod board;
+mod examples;
+mod growths;
+mod maps;
+mod streams;
+mod texts;
+mod units;

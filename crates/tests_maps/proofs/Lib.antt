@@ -1,2 +1,0 @@
-pub mod RestLaws
-pub mod MarkingLaws

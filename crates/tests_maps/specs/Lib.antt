@@ -1,3 +1,0 @@
-pub mod Added
-pub mod Marking
-pub mod Resting
