@@ -6,5 +6,4 @@ mod examples;
 mod growths;
 mod maps;
 mod streams;
-mod texts;
 mod units;
