@@ -3,9 +3,7 @@
 
 use crate::tests::asserts::assert_same;
 use bpf_insn::{CodecError, Insn, Unit, decode, encode};
-use bpf_text::{
-    TextError, parse_events, parse_maps, parse_unit, print_unit, read_hex, write_hex,
-};
+use bpf_text::{TextError, parse_events, parse_maps, parse_unit, print_unit, read_hex, write_hex};
 use bpf_verify::{Verified, VerifyError, verify};
 use std::alloc::Global;
 use std::process::Abort;
