@@ -1,4 +1,4 @@
-//! Boards in one thread and in several, and refused growths.
+//! Boards in one thread and in several, their limits, and refused growths.
 
 ghost use Rattle.std.specs.Prelude.{◌≡◌, ◌≤◌, replicate, IfOk};
 ghost use Rattle.loop_board.specs.Seats.{new_seat};
@@ -25,6 +25,21 @@ fn a_look_sees_what_another_seat_posted(rt: HostRuntime) -> Result<(), Fail> {
     let after = board.look(&mut seats[0]);
     assert_same(&rt, [before, after], [NO_POST, 3]);
     assert_same(&rt, board.gather(seats)?, tally(0, 3));
+    Ok(())
+}
+
+#[test]
+fn limits_are_refused(rt: HostRuntime) -> Result<(), Fail> {
+    for (blocks, workers) in [(0, 1), (65, 1), (1, 0), (1, 17), (u32::MAX, u32::MAX)] {
+        let made = Board::new(rt.alloc(), blocks, workers);
+        assert!(rt;
+            matches!(made, Err(BoardError::Limits)),
+            "{blocks} blocks, {workers} workers"
+        );
+    }
+    let (board, seats) = Board::new(rt.alloc(), 64, 16)?;
+    assert!(rt; seats.len() == 16);
+    assert_same(&rt, board.gather(seats)?, tally(0, NO_POST));
     Ok(())
 }
 
