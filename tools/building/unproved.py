@@ -25,8 +25,8 @@ HOW = (
 WITHOUT_PROOF, WITH_CHECKS = "built without proof", "built without proof, with checks"
 
 
-def build(top: Path, name: str, folder: Path, keeps_checks: bool) -> str:
-    """Builds a program, or the library, into FOLDER/LEVEL/NAME for each level of processor, and says how it was built.
+def build(top: Path, name: str, folder: Path, levels: tuple[str, ...], keeps_checks: bool) -> str:
+    """Builds a program, or the library, into FOLDER/LEVEL/NAME for each of these levels, and says how it was built.
     The checks stay too where they aren't found under the names that are known."""
     kit, repository = Kit.find(), Repository.read(top)
     with tempfile.TemporaryDirectory(prefix="bpfspec-build-") as made:
@@ -37,7 +37,7 @@ def build(top: Path, name: str, folder: Path, keeps_checks: bool) -> str:
         module = room / "module.ll"
         module.write_text(text, encoding="utf-8")
         with ThreadPoolExecutor() as pool:
-            for built in [pool.submit(_compile, kit, module, top, name, level, folder) for level in LEVELS_OF[name]]:
+            for built in [pool.submit(_compile, kit, module, top, name, level, folder) for level in levels]:
                 built.result()
     return WITHOUT_PROOF if without else WITH_CHECKS
 

@@ -21,6 +21,7 @@ class Check:
     words: str  # as a shell reads them
     seconds: int = 0  # that it takes, roughly: the longest start first
     needs: tuple[Check, ...] = ()  # checks that have to pass before it starts
+    spreads: bool = False  # it uses all processors by itself, so it gives way to checks that use one
     is_alone: bool = False  # it starts after all others, and nothing runs beside it
 
 
@@ -72,7 +73,8 @@ class SideBySide:
 
     def _seconds_to_end(self, check: Check) -> int:
         """How long a check takes with those that need it."""
-        return check.seconds + max((self._seconds_to_end(other) for other in self._checks if check in other.needs), default=0)
+        after = (self._seconds_to_end(other) for other in self._checks if check in other.needs)
+        return check.seconds + max(after, default=0)
 
     def _start_or_give_up(self, check: Check, folder: Path) -> None:
         """Starts a check if it may start now. It never starts if one that it needs has failed."""
@@ -85,8 +87,9 @@ class SideBySide:
             self._start(check, folder)
 
     def _start(self, check: Check, folder: Path) -> None:
+        """Starts a check. What it writes goes to a file of its own."""
         output = tempfile.TemporaryFile()
-        words = shlex.split(check.words)
+        words = [*(["nice"] if check.spreads else []), *shlex.split(check.words)]
         try:
             process = subprocess.Popen(words, stdin=subprocess.DEVNULL, stdout=output, stderr=output, cwd=folder)
         except OSError as error:
@@ -112,8 +115,9 @@ class SideBySide:
         started.process.returncode = os.waitstatus_to_exitcode(status)
         took, processors = time.monotonic() - started.at, used.ru_utime + used.ru_stime
         started.output.seek(0)
+        title = f"{took:.0f} s, {processors:.0f} s of processors"
         with started.output as output:
-            self._ended[started.check] = Ended(f"{took:.0f} s, {processors:.0f} s of processors", output.read(), status == 0)
+            self._ended[started.check] = Ended(title, output.read(), status == 0)
 
     def _print(self) -> None:
         """Prints the checks that ended, up to the first in the list that hasn't."""
