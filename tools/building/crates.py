@@ -60,12 +60,11 @@ class Repository:
 
 def is_committed(top: Path) -> bool:
     """Whether the crates are as the commit has them that is checked out. Without git they are not."""
-    changed = ["git", "diff", "--quiet", "HEAD", "--", *OWN]
-    others = ["git", "ls-files", "--others", "--exclude-standard", "--", *(f"crates/*{it}" for it in SOURCES)]
+    tracked = ["ls-files", "--error-unmatch", "crates.txt", "HANDLES"]
+    changed = ["diff", "--quiet", "HEAD", "--", *OWN]
+    others = ["ls-files", "--others", "--exclude-standard", "--", *(f"crates/*{suffix}" for suffix in SOURCES)]
     try:
-        if subprocess.run(changed, cwd=top, capture_output=True, check=False).returncode:
-            return False
-        found = subprocess.run(others, cwd=top, capture_output=True, check=False)
+        ran = [subprocess.run(["git", *words], cwd=top, capture_output=True, check=False) for words in (tracked, changed, others)]
     except OSError:
         return False
-    return found.returncode == 0 and not found.stdout
+    return not any(it.returncode for it in ran) and not ran[-1].stdout
