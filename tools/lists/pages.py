@@ -10,6 +10,7 @@ from base.reach import Crates
 
 from .calls import Call, cited_by_types, read_calls
 from .cited import Name
+from .crate_table import crate_table
 from .crates import Group, read_groups
 from .definitions import Definitions, read_definitions
 from .edits import read_edits
@@ -39,6 +40,7 @@ class Lists:
             "DEFINITIONS.md": self.definitions_page,
             "CONTRACTS.md": self.contracts_page,
             "WRONG_BODIES.md": self.wrong_bodies_page,
+            "ARCHITECTURE.md": lambda: crate_table(self.crates.folder, self.groups),
         }
 
     @cached_property
