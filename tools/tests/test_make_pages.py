@@ -16,7 +16,7 @@ from pathlib import Path
 TOP = Path(__file__).resolve().parents[2]
 HEAD = "# By hand\n\n"
 MARK = "<!-- tools/make_pages writes what is below this line. -->\n"
-PAGES = ("DEFINITIONS.md", "CONTRACTS.md", "WRONG_BODIES.md")
+PAGES = ("DEFINITIONS.md", "CONTRACTS.md", "WRONG_BODIES.md", "ARCHITECTURE.md")
 FILES = {
     "crates.txt": "# NAME: what it stands on.\n\n# halves, and wholes\nhalves:\nwholes: halves\ntests_wholes:\n",
     "crates/halves/specs/Half.antt": """\
@@ -123,7 +123,13 @@ file: src/number.rt
 old: 0
 new: 1
 """,
-    "crates/tests_wholes/src/lib.rt": "/// Not promised.\npub fn test()\n{}\n",
+    "crates/wholes/src/main.rt": """\
+//! Wholes: two halves each, so that this sentence,
+//! which is longer than a row has room for, ends where it may. Another sentence.
+
+fn main() {}
+""",
+    "crates/tests_wholes/src/lib.rt": "//! Tests.\n\n/// Not promised.\npub fn test()\n{}\n",
     "docs/PROMISES.md": """\
 # Promises
 
@@ -202,6 +208,13 @@ WRONG_BODIES = """
 | Numbers stay | `forgets` | `wholes` |
 | a half is rounded down | `rounds_up` | `halves` |
 """
+ARCHITECTURE = """
+|Floor|Crate|What it is|
+|---|---|---|
+|Halves, and wholes|`halves`|Halves|
+||`wholes`|Wholes: two halves each, so that this sentence, which is longer than a row has room for|
+|Tests, benchmarks and an example|`tests_wholes`|Tests|
+"""
 
 
 class MakePages(unittest.TestCase):
@@ -231,7 +244,7 @@ class MakePages(unittest.TestCase):
 
     def test_pages_are_made_below_what_is_by_hand(self) -> None:
         self.assertEqual(self.make().returncode, 0)
-        for name, made in zip(PAGES, (DEFINITIONS, CONTRACTS, WRONG_BODIES)):
+        for name, made in zip(PAGES, (DEFINITIONS, CONTRACTS, WRONG_BODIES, ARCHITECTURE)):
             self.assertEqual(self.page(name), HEADS.get(name, HEAD) + MARK + made)
 
     def test_made_pages_are_as_they_should_be(self) -> None:
