@@ -1,4 +1,4 @@
-"""Edits that the prover must refuse, and the promise that each breaks."""
+"""Edits that the prover must refuse, and the guarantee that each breaks."""
 
 from __future__ import annotations
 
@@ -10,7 +10,7 @@ PROMISE = "promise: "
 
 
 class Untold(Exception):
-    """An edit without a promise, or a promise without an edit."""
+    """An edit without a guarantee, or a guarantee without an edit."""
 
 
 @dataclass(frozen=True)
@@ -19,7 +19,7 @@ class Edit:
 
     crate: str
     name: str
-    promise: str  # words of a clause of docs/PROMISES.md
+    promise: str  # words of a guarantee of docs/PROOF.md
 
     @property
     def path(self) -> str:

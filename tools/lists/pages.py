@@ -76,8 +76,8 @@ class Lists:
         return by_crate(self.groups, lambda crate: shown_calls(self.calls[crate]))
 
     def wrong_bodies_page(self) -> list[str]:
-        """The edits by promise."""
-        promises = read_promises((self.docs / "PROMISES.md").read_text(encoding="utf-8"))
+        """The edits by guarantee."""
+        promises = read_promises((self.docs / "PROOF.md").read_text(encoding="utf-8"))
         crates = [crate for group in self.groups for crate in group.crates]
         edits = [edit for crate in crates for edit in read_edits(self.crates.folder, crate)]
         assign(promises, edits, read_untried((self.docs / "WRONG_BODIES.md").read_text(encoding="utf-8")))

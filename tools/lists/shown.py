@@ -78,15 +78,15 @@ def _clause(clause: Clause, named: set[Name]) -> str:
 
 
 def shown_promises(promises: Iterable[Promise]) -> list[str]:
-    """A table under each heading that has edits: a row for each edit, in the order of the promises."""
+    """A table under each heading that has edits: a row for each edit, in the order of the guarantees."""
     lines: list[str] = []
     for heading, below in groupby(promises, lambda promise: promise.heading):
         rows = [_edit(edit) for promise in below for edit in promise.edits]
         if rows:
-            lines += [f"## {heading}", "", "| Promise | Edit | Crate |", "|---|---|---|", *rows, ""]
+            lines += [f"## {heading}", "", "|Guarantee|Mutant|Crate|", "|---|---|---|", *rows, ""]
     return lines
 
 
 def _edit(edit: Edit) -> str:
     """An edit as a row of a table."""
-    return f"| {edit.promise} | `{edit.name}` | `{edit.crate}` |"
+    return f"|{edit.promise}|`{edit.name}`|`{edit.crate}`|"

@@ -130,38 +130,50 @@ new: 1
 fn main() {}
 """,
     "crates/tests_wholes/src/lib.rt": "//! Tests.\n\n/// Not promised.\npub fn test()\n{}\n",
-    "docs/PROMISES.md": """\
-# Promises
+    "docs/PROOF.md": """\
+# Proof
 
-| What | Why |
+|Guarantee|Call|
 |---|---|
-| it is no promise | its head says so |
+|it is no guarantee|it comes before they begin|
 
-## Halves
+## Guarantees
 
-| Clause | Call |
+|What|Why|
 |---|---|
-| Numbers stay; a half is rounded down | `halve` |
-| it is known whether a number has a half | `whole_half` |
+|it is no guarantee|its head says so|
 
-None is a promise without a table.
+### Halves
 
-## Laws
+|Guarantee|Call|
+|---|--:|
+|Numbers stay; a half is rounded down|`halve`|
+|it is known whether a number has a half|`whole_half`|
 
-| Clause | Call |
+None is a guarantee without a table.
+
+### Laws
+
+| Guarantee | Call |
 |---|---|
 | twice a half is a whole | |
+
+## Tested
+
+|Guarantee|Test|
+|---|---|
+|it is no guarantee|they have ended|
 """,
 }
 HEADS = {"WRONG_BODIES.md": """\
 # By hand
 
-## Promises without an edit
+## Guarantees without a mutant
 
-| Promise | Why |
+|Guarantee|Why|
 |---|---|
-| whether a number has a half | it is a law |
-| twice a half | it is a law |
+|whether a number has a half|it is a law|
+|twice a half|it is a law|
 
 ## More
 
@@ -203,10 +215,10 @@ CONTRACTS = """
 WRONG_BODIES = """
 ## Halves
 
-| Promise | Edit | Crate |
+|Guarantee|Mutant|Crate|
 |---|---|---|
-| Numbers stay | `forgets` | `wholes` |
-| a half is rounded down | `rounds_up` | `halves` |
+|Numbers stay|`forgets`|`wholes`|
+|a half is rounded down|`rounds_up`|`halves`|
 """
 ARCHITECTURE = """
 |Floor|Crate|What it is|
@@ -270,27 +282,27 @@ class MakePages(unittest.TestCase):
         made = self.make("--check")
         self.assertEqual((made.returncode, made.stderr.splitlines()[-1]), (1, fault))
 
-    def test_an_edit_names_its_promise(self) -> None:
+    def test_an_edit_names_its_guarantee(self) -> None:
         edit = "crates/halves/must-fail/rounds_up.edit"
         self.write(edit, FILES[edit].replace("promise: ", ""))
         self.assert_untold(f"{edit} has not one line `promise: ..`")
 
-    def test_an_edit_names_one_promise(self) -> None:
+    def test_an_edit_names_one_guarantee(self) -> None:
         edit = "crates/halves/must-fail/rounds_up.edit"
-        for words, count in ("it is no promise", 0), ("a half", 3):
+        for words, count in ("it is no guarantee", 0), ("a half", 3):
             self.write(edit, FILES[edit].replace("a half is rounded down", words))
-            self.assert_untold(f"{edit}: {count} clauses of docs/PROMISES.md have the words `{words}`, and not one")
+            self.assert_untold(f"{edit}: {count} guarantees of docs/PROOF.md have the words `{words}`, and not one")
 
-    def test_a_promise_without_an_edit_is_listed(self) -> None:
+    def test_a_guarantee_without_an_edit_is_listed(self) -> None:
         page = "docs/WRONG_BODIES.md"
-        self.write(page, self.page("WRONG_BODIES.md").replace("| twice a half | it is a law |\n", ""))
-        fault = f"{page} doesn't list a promise without an edit under `Promises without an edit`"
+        self.write(page, self.page("WRONG_BODIES.md").replace("|twice a half|it is a law|\n", ""))
+        fault = f"{page} doesn't list a guarantee without an edit under `Guarantees without a mutant`"
         self.assert_untold(f"{fault}: twice a half is a whole")
 
-    def test_a_promise_with_an_edit_is_not_listed(self) -> None:
+    def test_a_guarantee_with_an_edit_is_not_listed(self) -> None:
         page = "docs/WRONG_BODIES.md"
         self.write(page, self.page("WRONG_BODIES.md").replace("twice a half", "rounded down"))
-        fault = f"{page} lists a promise with an edit under `Promises without an edit`"
+        fault = f"{page} lists a guarantee with an edit under `Guarantees without a mutant`"
         self.assert_untold(f"{fault}: Numbers stay; a half is rounded down")
 
     def test_a_page_tells_where_the_made_part_begins(self) -> None:
