@@ -1,7 +1,8 @@
-"""The pages of which a part is made."""
+"""The pages that are made, in part or as a whole."""
 
 from __future__ import annotations
 
+import os
 from collections.abc import Callable
 from functools import cached_property
 from pathlib import Path
@@ -14,6 +15,8 @@ from .crate_table import crate_table
 from .crates import Group, read_groups
 from .definitions import Definitions, read_definitions
 from .edits import read_edits
+from .heads import HEADS
+from .named import is_named, read_named
 from .promises import assign, read_promises, read_untried
 from .shown import by_crate, shown_calls, shown_definitions, shown_promises
 
@@ -35,13 +38,20 @@ class Lists:
 
     @property
     def pages(self) -> dict[str, Callable[[], list[str]]]:
-        """How the lines of each page below docs/ are made."""
+        """How the lines of each page of docs/ are made, below its mark."""
         return {
-            "DEFINITIONS.md": self.definitions_page,
-            "CONTRACTS.md": self.contracts_page,
             "WRONG_BODIES.md": self.wrong_bodies_page,
             "ARCHITECTURE.md": lambda: crate_table(self.crates.folder, self.groups),
         }
+
+    def write(self, folder: Path) -> list[Path]:
+        """Writes the pages that aren't kept in docs/ to a folder, and returns their paths."""
+        root = os.path.relpath(self.docs.parent, folder)
+        lists = {"DEFINITIONS.md": self.definitions_page(root), "CONTRACTS.md": self.contracts_page()}
+        for name, lines in lists.items():
+            page = "\n".join([HEADS[name].replace("{root}", root), *lines]).rstrip("\n")
+            (folder / name).write_text(f"{page}\n", encoding="utf-8")
+        return [folder / name for name in lists]
 
     @cached_property
     def calls(self) -> dict[str, list[Call]]:
@@ -54,7 +64,7 @@ class Lists:
         return {crate: read_definitions(self.crates, crate) for group in self.groups for crate in group.crates}
 
     def cited(self) -> set[Name]:
-        """The definitions that are cited from outside of their file, and those that stand under the headline."""
+        """The definitions that are cited from outside of their file, and those that the main theorem uses."""
         names = {name for calls in self.calls.values() for call in calls for name in call.cites()}
         for crate, files in self.definitions.items():
             names.update(cited_by_types(self.crates, crate))
@@ -62,18 +72,20 @@ class Lists:
         under = self.crates.reached(*HEADLINE)
         return names | {Name(item.crate, _bare(item.file), item.name) for item in under if not item.is_type}
 
-    def definitions_page(self) -> list[str]:
-        """The definitions by crate and file."""
+    def definitions_page(self, root: str) -> list[str]:
+        """The definitions by crate and file. Links go by the path from the page to the repository."""
         cited = self.cited()
 
         def of(crate: str) -> list[str]:
-            return [line for file in self.definitions[crate] for line in shown_definitions(file, file.only(cited))]
+            files = self.definitions[crate]
+            return [line for file in files for line in shown_definitions(file, file.only(cited), root)]
 
         return by_crate(self.groups, of)
 
     def contracts_page(self) -> list[str]:
-        """The public calls by crate."""
-        return by_crate(self.groups, lambda crate: shown_calls(self.calls[crate]))
+        """The public calls by crate: those that a page for users, or that of the guarantees, names."""
+        named = read_named(self.docs)
+        return by_crate(self.groups, lambda crate: shown_calls([c for c in self.calls[crate] if is_named(c, named)]))
 
     def wrong_bodies_page(self) -> list[str]:
         """The edits by guarantee."""

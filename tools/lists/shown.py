@@ -32,11 +32,11 @@ def _anchor(title: str) -> str:
     return re.sub(r"[^\w -]", "", title.lower()).replace(" ", "-")
 
 
-def shown_definitions(file: Definitions, comments: dict[str, str]) -> list[str]:
-    """A file with the definitions that have a line: their names, and what each is."""
+def shown_definitions(file: Definitions, comments: dict[str, str], root: str) -> list[str]:
+    """A file with the definitions that have a line: their names, and what each is. `root` is the path to the top."""
     if not comments:
         return []
-    place = f"../crates/{file.crate}/specs/{file.file}.antt"
+    place = f"{root}/crates/{file.crate}/specs/{file.file}.antt"
     return [f"**[{file.file}]({place})**: {file.about}", "", *_under_each(comments), ""]
 
 

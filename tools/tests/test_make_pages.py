@@ -14,9 +14,9 @@ import unittest
 from pathlib import Path
 
 TOP = Path(__file__).resolve().parents[2]
-HEAD = "# By hand\n\n"
 MARK = "<!-- tools/make_pages writes what is below this line. -->\n"
-PAGES = ("DEFINITIONS.md", "CONTRACTS.md", "WRONG_BODIES.md", "ARCHITECTURE.md")
+PAGE, TABLE = "docs/WRONG_BODIES.md", "docs/ARCHITECTURE.md"
+LISTS = ("DEFINITIONS.md", "CONTRACTS.md")
 FILES = {
     "crates.txt": "# NAME: what it stands on.\n\n# halves, and wholes\nhalves:\nwholes: halves\ntests_wholes:\n",
     "crates/halves/specs/Half.antt": """\
@@ -95,6 +95,13 @@ impl Number {
         self.number
     }
 
+    /// Named by no page.
+    pub fn double(&self) -> u32
+        ensures { result ≡ IsSmall }
+    {
+        0
+    }
+
     fn inner(&self) -> u32 {
         0
     }
@@ -130,6 +137,7 @@ new: 1
 fn main() {}
 """,
     "crates/tests_wholes/src/lib.rt": "//! Tests.\n\n/// Not promised.\npub fn test()\n{}\n",
+    "docs/LIBRARY.md": "`Number::halve(limit)` and `number`, and of a `Show` its `show`, `hide` and Number::double.\n",
     "docs/PROOF.md": """\
 # Proof
 
@@ -165,7 +173,7 @@ None is a guarantee without a table.
 |it is no guarantee|they have ended|
 """,
 }
-HEADS = {"WRONG_BODIES.md": """\
+HEAD = """\
 # By hand
 
 ## Guarantees without a mutant
@@ -181,7 +189,7 @@ HEADS = {"WRONG_BODIES.md": """\
 |---|---|
 | a slip | a test |
 
-"""}
+"""
 DEFINITIONS = """
 [Halves, and wholes](#halves-and-wholes)
 
@@ -189,7 +197,7 @@ DEFINITIONS = """
 
 ### `halves`
 
-**[Half](../crates/halves/specs/Half.antt)**: What a half is.
+**[Half](../../crates/halves/specs/Half.antt)**: What a half is.
 
 - `half`: the half of a number, rounded down
 - `whole_half`, `shared`: the same, where a number has one
@@ -231,12 +239,12 @@ ARCHITECTURE = """
 
 class MakePages(unittest.TestCase):
     def setUp(self) -> None:
-        self.top = Path(tempfile.mkdtemp())
+        self.top = Path(tempfile.mkdtemp()).resolve()
         self.addCleanup(shutil.rmtree, self.top)
         for name, text in FILES.items():
             self.write(name, text)
-        for name in PAGES:
-            self.write(f"docs/{name}", HEADS.get(name, HEAD) + MARK + "\nold\n")
+        for page in PAGE, TABLE:
+            self.write(page, f"{HEAD}{MARK}\nold\n")
         tools = self.top / "tools"
         for package in ("base", "lists"):
             shutil.copytree(TOP / "tools" / package, tools / package)
@@ -251,32 +259,48 @@ class MakePages(unittest.TestCase):
         command = [sys.executable, str(self.top / "tools" / "make_pages"), *words]
         return subprocess.run(command, capture_output=True, text=True, check=False)
 
-    def page(self, name: str) -> str:
-        return (self.top / "docs" / name).read_text(encoding="utf-8")
+    def page(self, name: str = PAGE) -> str:
+        return (self.top / name).read_text(encoding="utf-8")
 
     def test_pages_are_made_below_what_is_by_hand(self) -> None:
         self.assertEqual(self.make().returncode, 0)
-        for name, made in zip(PAGES, (DEFINITIONS, CONTRACTS, WRONG_BODIES, ARCHITECTURE)):
-            self.assertEqual(self.page(name), HEADS.get(name, HEAD) + MARK + made)
+        self.assertEqual(self.page(), HEAD + MARK + WRONG_BODIES)
+        self.assertEqual(self.page(TABLE), HEAD + MARK + ARCHITECTURE)
+
+    def test_lists_are_made_in_a_folder_and_nowhere_else(self) -> None:
+        before = self.page()
+        self.assertEqual(self.make(str(self.top / "made/lists")).returncode, 0)
+        for name, made in zip(LISTS, (DEFINITIONS, CONTRACTS)):
+            page = self.page(f"made/lists/{name}")
+            self.assertTrue(page.startswith(f"# {name.removesuffix('.md').title()}\n"))
+            self.assertTrue(page.endswith(f"\n{made}"))
+            self.assertIn("](../../docs/PROOF.md)", page)
+            self.assertFalse((self.top / "docs" / name).exists())
+        self.assertEqual(self.page(), before)
 
     def test_made_pages_are_as_they_should_be(self) -> None:
         self.make()
         checked = self.make("--check")
         self.assertEqual((checked.returncode, checked.stderr), (0, ""))
+        for name in LISTS:
+            self.assertIn(f"{name} is made: ", checked.stdout)
 
-    def test_the_first_difference_is_told_and_nothing_written(self) -> None:
+    def test_a_folder_is_not_checked(self) -> None:
+        self.assertEqual(self.make("--check", str(self.top / "made")).returncode, 2)
+
+    def test_the_first_difference_is_printed_and_nothing_written(self) -> None:
         self.make()
-        stands = self.page("CONTRACTS.md").replace("Its number", "Their number").replace("Is shown", "Is seen")
-        self.write("docs/CONTRACTS.md", stands)
+        page = self.page().replace("|Numbers stay|", "|Numbers go|").replace("`rounds_up`", "`rounds`")
+        self.write(PAGE, page)
         checked = self.make("--check")
-        told = "docs/CONTRACTS.md:13: would be `- `Number::number`: Its number.`; tools/make_pages writes it\n"
-        self.assertEqual((checked.returncode, checked.stderr), (1, told))
-        self.assertEqual(self.page("CONTRACTS.md"), stands)
+        printed = f"{PAGE}:22: would be `|Numbers stay|`forgets`|`wholes`|`; tools/make_pages writes it\n"
+        self.assertEqual((checked.returncode, checked.stderr), (1, printed))
+        self.assertEqual(self.page(), page)
 
-    def test_a_line_too_many_is_told(self) -> None:
+    def test_a_line_too_many_is_printed(self) -> None:
         self.make()
-        self.write("docs/DEFINITIONS.md", self.page("DEFINITIONS.md") + "more\n")
-        self.assertIn("DEFINITIONS.md:17: would not be there", self.make("--check").stderr)
+        self.write(PAGE, self.page() + "more\n")
+        self.assertIn("WRONG_BODIES.md:24: would not be there", self.make("--check").stderr)
 
     def assert_untold(self, fault: str) -> None:
         made = self.make("--check")
@@ -294,22 +318,20 @@ class MakePages(unittest.TestCase):
             self.assert_untold(f"{edit}: {count} guarantees of docs/PROOF.md have the words `{words}`, and not one")
 
     def test_a_guarantee_without_an_edit_is_listed(self) -> None:
-        page = "docs/WRONG_BODIES.md"
-        self.write(page, self.page("WRONG_BODIES.md").replace("|twice a half|it is a law|\n", ""))
-        fault = f"{page} doesn't list a guarantee without an edit under `Guarantees without a mutant`"
+        self.write(PAGE, self.page().replace("|twice a half|it is a law|\n", ""))
+        fault = f"{PAGE} doesn't list a guarantee without an edit under `Guarantees without a mutant`"
         self.assert_untold(f"{fault}: twice a half is a whole")
 
     def test_a_guarantee_with_an_edit_is_not_listed(self) -> None:
-        page = "docs/WRONG_BODIES.md"
-        self.write(page, self.page("WRONG_BODIES.md").replace("twice a half", "rounded down"))
-        fault = f"{page} lists a guarantee with an edit under `Guarantees without a mutant`"
+        self.write(PAGE, self.page().replace("twice a half", "rounded down"))
+        fault = f"{PAGE} lists a guarantee with an edit under `Guarantees without a mutant`"
         self.assert_untold(f"{fault}: Numbers stay; a half is rounded down")
 
-    def test_a_page_tells_where_the_made_part_begins(self) -> None:
-        self.write("docs/DEFINITIONS.md", HEAD)
+    def test_a_page_has_a_line_where_the_made_part_begins(self) -> None:
+        self.write(PAGE, HEAD)
         made = self.make()
-        self.assertEqual((made.returncode, made.stderr), (1, f"docs/DEFINITIONS.md has no line `{MARK.strip()}`\n"))
-        self.assertEqual(self.page("DEFINITIONS.md"), HEAD)
+        self.assertEqual((made.returncode, made.stderr), (1, f"{PAGE} has no line `{MARK.strip()}`\n"))
+        self.assertEqual(self.page(), HEAD)
 
 
 if __name__ == "__main__":
