@@ -7,12 +7,12 @@ from collections.abc import Callable, Iterator
 from dataclasses import dataclass
 from typing import NoReturn, Optional
 
-ABOUT = """Runs a program in C by the names of C: compiles it, loads it, has it verified, and runs it by the proved
-program bpfspec. docs/FROM_C.md says what is taken."""
+ABOUT = """Compiles and loads a program in C, has bpfspec verify and run it, and prints the results by their C names.
+See docs/FROM_C.md."""
 COMMANDS = {
-    "run": "runs it, and prints its answer, its loops and its variables",
-    "verify": "tells whether it is accepted, and the most instructions that a run takes",
-    "explain": "tells why it is refused, or by which accesses its loops conflict, and what the loader rewrote",
+    "run": "runs the program, and prints its return value, loops and variables",
+    "verify": "prints whether the program is accepted, and a run's worst-case instruction count",
+    "explain": "prints why the program is refused, or which accesses of its loops conflict, and what the loader rewrote",
     "unit": "prints the unit with its values, for bpfspec",
 }
 ARGUMENT_LEAST, ARGUMENT_END = -(1 << 63), 1 << 64
@@ -88,37 +88,37 @@ def _parser() -> argparse.ArgumentParser:
     commands = parser.add_subparsers(dest="command", metavar="COMMAND", required=True, parser_class=_Parser)
     for name, about in COMMANDS.items():
         command = commands.add_parser(name, help=about, description=about.capitalize() + ".", allow_abbrev=False)
-        command.add_argument("file", metavar="FILE", help="a source in C, or an object of clang")
-        command.add_argument("--main", metavar="NAME", help="the main function, where the object has several")
-        command.add_argument("--as-is", action="store_true", help="nothing is rewritten by the loader")
+        command.add_argument("file", metavar="FILE", help="a C source, or an object made by clang")
+        command.add_argument("--main", metavar="NAME", help="the main function, if the object has several")
+        command.add_argument("--as-is", action="store_true", help="the loader rewrites nothing")
         _add_options(command, name)
     return parser
 
 
 def _add_options(command: argparse.ArgumentParser, name: str) -> None:
     if name in ("run", "explain", "unit"):
-        command.add_argument("--load", metavar="FILE", help="the variables' values, as --save wrote them")
+        command.add_argument("--load", metavar="FILE", help="initial values of variables, as --save writes them")
     if name in ("run", "explain"):
-        repeated = {"run": " (several times: the state goes on from one run to the next)"}.get(name, "")
+        repeated = {"run": " (repeatable; variables carry over)"}.get(name, "")
         action = "append" if name == "run" else _Last
         command.add_argument(
-            "--arg", metavar="N", type=_argument, action=action, help=f"main's argument, also -1 or 0x10{repeated}"
+            "--arg", metavar="N", type=_argument, action=action, help=f"main's argument, as 7, -1 or 0x10{repeated}"
         )
-        command.add_argument("--test", choices=("flow", "lrpd"), help="by which test a loop conflicts")
+        command.add_argument("--test", choices=("flow", "lrpd"), help="the test that decides whether a loop conflicts")
     if name == "run":
-        command.add_argument("--save", metavar="FILE", help="writes the variables' values, as JSON")
-        command.add_argument("--only", metavar="NAME", action="append", help="prints this variable (several times)")
-        command.add_argument("--workers", metavar="N", type=_range(1, WORKERS), help="1 to 16 workers")
-        command.add_argument("--blocks", metavar="N", type=_range(1, BLOCKS), help="1 to 64 blocks of a loop")
+        command.add_argument("--save", metavar="FILE", help="writes the values of variables as JSON")
+        command.add_argument("--only", metavar="NAME", action="append", help="prints only this variable (repeatable)")
+        command.add_argument("--workers", metavar="N", type=_range(1, WORKERS), help="at most N workers, 1 to 16")
+        command.add_argument("--blocks", metavar="N", type=_range(1, BLOCKS), help="at most N blocks of a loop, 1 to 64")
     if name in ("run", "verify"):
-        command.add_argument("--limit", metavar="N", type=_limit, help="refuses more than N instructions of a run")
+        command.add_argument("--limit", metavar="N", type=_limit, help="refuses a run of more than N instructions")
     if name in ("run", "verify", "explain"):
-        command.add_argument("--json", action="store_true", help="prints JSON")
-        command.add_argument("--page", metavar="FILE", help="writes a page, in HTML, that shows it all")
-        command.add_argument("--dry-run", action="store_true", help="prints the shell lines that do it")
+        command.add_argument("--json", action="store_true", help="prints one JSON object")
+        command.add_argument("--page", metavar="FILE", help="writes a self-contained HTML page")
+        command.add_argument("--dry-run", action="store_true", help="prints the equivalent shell commands")
     if name == "explain":
-        command.add_argument("--states", action="store_true", help="each instruction, and what is known there")
-        command.add_argument("--all", action="store_true", help="up to 64 elements of each loop that conflicts")
+        command.add_argument("--states", action="store_true", help="prints each instruction and the abstract state there")
+        command.add_argument("--all", action="store_true", help="prints up to 64 elements of each loop that conflicts")
 
 
 class _Last(argparse.Action):
@@ -137,7 +137,7 @@ def _number(word: str) -> int:
     try:
         return int(word, 0)
     except ValueError:
-        raise argparse.ArgumentTypeError(f"{word!r} is no number") from None
+        raise argparse.ArgumentTypeError(f"{word!r} isn't a number") from None
 
 
 def _limit(word: str) -> int:
