@@ -12,7 +12,7 @@ See docs/FROM_C.md."""
 COMMANDS = {
     "run": "runs the program, and prints its return value, loops and variables",
     "verify": "prints whether the program is accepted, and a run's worst-case instruction count",
-    "explain": "prints why the program is refused, or which accesses of its loops conflict, and what the loader rewrote",
+    "explain": "prints why the program is refused, or which accesses conflict in its loops, and the loader's rewrites",
     "unit": "prints the unit with its values, for bpfspec",
 }
 ARGUMENT_LEAST, ARGUMENT_END = -(1 << 63), 1 << 64
@@ -60,7 +60,7 @@ def _argument_words(argument: int) -> list[str]:
 
 
 def read_options(words: list[str]) -> Options:
-    """The options that words are; argparse tells what is wrong with them."""
+    """The options that words are; argparse reports what is wrong with them."""
     found = vars(_parser().parse_args([*_joined(words)]))
     found["arguments"] = tuple(found.pop("arg", None) or [0])
     found["only"] = tuple(found.get("only") or ())
@@ -109,15 +109,15 @@ def _add_options(command: argparse.ArgumentParser, name: str) -> None:
         command.add_argument("--save", metavar="FILE", help="writes the values of variables as JSON")
         command.add_argument("--only", metavar="NAME", action="append", help="prints only this variable (repeatable)")
         command.add_argument("--workers", metavar="N", type=_range(1, WORKERS), help="at most N workers, 1 to 16")
-        command.add_argument("--blocks", metavar="N", type=_range(1, BLOCKS), help="at most N blocks of a loop, 1 to 64")
+        command.add_argument("--blocks", metavar="N", type=_range(1, BLOCKS), help="at most N blocks a loop, 1 to 64")
     if name in ("run", "verify"):
-        command.add_argument("--limit", metavar="N", type=_limit, help="refuses a run of more than N instructions")
+        command.add_argument("--limit", metavar="N", type=_limit, help="refuses a run that may exceed N instructions")
     if name in ("run", "verify", "explain"):
         command.add_argument("--json", action="store_true", help="prints one JSON object")
         command.add_argument("--page", metavar="FILE", help="writes a self-contained HTML page")
         command.add_argument("--dry-run", action="store_true", help="prints the equivalent shell commands")
     if name == "explain":
-        command.add_argument("--states", action="store_true", help="prints each instruction and the abstract state there")
+        command.add_argument("--states", action="store_true", help="prints each instruction and its abstract state")
         command.add_argument("--all", action="store_true", help="prints up to 64 elements of each loop that conflicts")
 
 
