@@ -1,4 +1,4 @@
-"""How the pages begin that tools/make_pages writes on demand. `{root}` is the path from the page to the repository."""
+"""How the pages begin that tools/make_pages writes. `{root}` is the path from the page to the repository."""
 
 from __future__ import annotations
 
@@ -46,4 +46,19 @@ what it did on the initial values, if each access reads the same. An element tha
 iteration, one that it writes first hides the earlier value, and a reduction reads nothing.
 """
 
-HEADS = {"CONTRACTS.md": CONTRACTS, "DEFINITIONS.md": DEFINITIONS}
+MUTANTS = """\
+# Mutants by guarantee
+
+Each guarantee of [PROOF.md]({root}/docs/PROOF.md#guarantees) that has mutants, with them. The guarantee is quoted as in the
+line `promise:` of `crates/CRATE/must-fail/MUTANT.edit`. [WRONG_BODIES.md]({root}/docs/WRONG_BODIES.md) lists the guarantees
+that have none.
+"""
+
+CRATES = """\
+# Crates
+
+`tools/make_pages` makes this table from the floors in [crates.txt]({root}/crates.txt), the lowest first, and the comment at
+the head of each crate.
+"""
+
+HEADS = {"CONTRACTS.md": CONTRACTS, "DEFINITIONS.md": DEFINITIONS, "MUTANTS.md": MUTANTS, "crates/README.md": CRATES}

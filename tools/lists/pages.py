@@ -1,9 +1,8 @@
-"""The pages that are made, in part or as a whole."""
+"""The pages that are made."""
 
 from __future__ import annotations
 
 import os
-from collections.abc import Callable
 from functools import cached_property
 from pathlib import Path
 
@@ -20,12 +19,8 @@ from .named import is_named, read_named
 from .promises import assign, read_promises, read_untried
 from .shown import by_crate, shown_calls, shown_definitions, shown_promises
 
-MARK = "<!-- tools/make_pages writes what is below this line. -->"
+KEPT = "crates/README.md"  # the page that is kept in the repository
 HEADLINE = ("spec_run", "run")
-
-
-class Unmarked(Exception):
-    """A page that doesn't tell where what is made begins."""
 
 
 class Lists:
@@ -36,21 +31,20 @@ class Lists:
         self.docs = top / "docs"
         self.groups: list[Group] = read_groups(top / "crates.txt")
 
-    @property
-    def pages(self) -> dict[str, Callable[[], list[str]]]:
-        """How the lines of each page of docs/ are made, below its mark."""
-        return {
-            "WRONG_BODIES.md": self.wrong_bodies_page,
-            "ARCHITECTURE.md": lambda: crate_table(self.crates.folder, self.groups),
-        }
+    def kept_page(self) -> str:
+        """The text of crates/README.md."""
+        return _page(KEPT, "..", crate_table(self.crates.folder, self.groups))
 
     def write(self, folder: Path) -> list[Path]:
-        """Writes the pages that aren't kept in docs/ to a folder, and returns their paths."""
+        """Writes the pages that aren't kept to a folder, and returns their paths."""
         root = os.path.relpath(self.docs.parent, folder)
-        lists = {"DEFINITIONS.md": self.definitions_page(root), "CONTRACTS.md": self.contracts_page()}
+        lists = {
+            "DEFINITIONS.md": self.definitions_page(root),
+            "CONTRACTS.md": self.contracts_page(),
+            "MUTANTS.md": self.mutants_page(),
+        }
         for name, lines in lists.items():
-            page = "\n".join([HEADS[name].replace("{root}", root), *lines]).rstrip("\n")
-            (folder / name).write_text(f"{page}\n", encoding="utf-8")
+            (folder / name).write_text(_page(name, root, lines), encoding="utf-8")
         return [folder / name for name in lists]
 
     @cached_property
@@ -87,8 +81,8 @@ class Lists:
         named = read_named(self.docs)
         return by_crate(self.groups, lambda crate: shown_calls([c for c in self.calls[crate] if is_named(c, named)]))
 
-    def wrong_bodies_page(self) -> list[str]:
-        """The edits by guarantee."""
+    def mutants_page(self) -> list[str]:
+        """The edits by guarantee, once each edit has its guarantee and each guarantee an edit or its row."""
         promises = read_promises((self.docs / "PROOF.md").read_text(encoding="utf-8"))
         crates = [crate for group in self.groups for crate in group.crates]
         edits = [edit for crate in crates for edit in read_edits(self.crates.folder, crate)]
@@ -101,9 +95,6 @@ def _bare(file: str) -> str:
     return file.removeprefix("specs/").removesuffix(".antt")
 
 
-def with_lines(page: str, lines: list[str]) -> str:
-    """The page with what is above its mark as it stands, and the lines below it."""
-    head, mark, _ = page.partition(f"{MARK}\n")
-    if not mark:
-        raise Unmarked(f"has no line `{MARK}`")
-    return "\n".join([f"{head}{MARK}", "", *lines]).rstrip("\n") + "\n"
+def _page(name: str, root: str, lines: list[str]) -> str:
+    """The text of a page: its head, and then the lines. Links go by the path from the page to the repository."""
+    return "\n".join([HEADS[name].replace("{root}", root), *lines]).rstrip("\n") + "\n"

@@ -14,9 +14,8 @@ import unittest
 from pathlib import Path
 
 TOP = Path(__file__).resolve().parents[2]
-MARK = "<!-- tools/make_pages writes what is below this line. -->\n"
-PAGE, TABLE = "docs/WRONG_BODIES.md", "docs/ARCHITECTURE.md"
-LISTS = ("DEFINITIONS.md", "CONTRACTS.md")
+PAGE, TABLE = "docs/WRONG_BODIES.md", "crates/README.md"
+LISTS = {"DEFINITIONS.md": "Definitions", "CONTRACTS.md": "Contracts", "MUTANTS.md": "Mutants by guarantee"}
 FILES = {
     "crates.txt": "# NAME: what it stands on.\n\n# halves, and wholes\nhalves:\nwholes: halves\ntests_wholes:\n",
     "crates/halves/specs/Half.antt": """\
@@ -173,7 +172,7 @@ None is a guarantee without a table.
 |it is no guarantee|they have ended|
 """,
 }
-HEAD = """\
+UNTRIED = """\
 # By hand
 
 ## Guarantees without a mutant
@@ -188,7 +187,6 @@ HEAD = """\
 | Slip | Test |
 |---|---|
 | a slip | a test |
-
 """
 DEFINITIONS = """
 [Halves, and wholes](#halves-and-wholes)
@@ -220,7 +218,7 @@ CONTRACTS = """
 - `Show::hide`: Is hidden.
   No clause.
 """
-WRONG_BODIES = """
+MUTANTS = """
 ## Halves
 
 |Guarantee|Mutant|Crate|
@@ -228,7 +226,12 @@ WRONG_BODIES = """
 |Numbers stay|`forgets`|`wholes`|
 |a half is rounded down|`rounds_up`|`halves`|
 """
-ARCHITECTURE = """
+CRATES = """\
+# Crates
+
+`tools/make_pages` makes this table from the floors in [crates.txt](../crates.txt), the lowest first, and the comment at
+the head of each crate.
+
 |Floor|Crate|What it is|
 |---|---|---|
 |Halves, and wholes|`halves`|Halves|
@@ -243,8 +246,7 @@ class MakePages(unittest.TestCase):
         self.addCleanup(shutil.rmtree, self.top)
         for name, text in FILES.items():
             self.write(name, text)
-        for page in PAGE, TABLE:
-            self.write(page, f"{HEAD}{MARK}\nold\n")
+        self.write(PAGE, UNTRIED)
         tools = self.top / "tools"
         for package in ("base", "lists"):
             shutil.copytree(TOP / "tools" / package, tools / package)
@@ -259,24 +261,28 @@ class MakePages(unittest.TestCase):
         command = [sys.executable, str(self.top / "tools" / "make_pages"), *words]
         return subprocess.run(command, capture_output=True, text=True, check=False)
 
-    def page(self, name: str = PAGE) -> str:
+    def page(self, name: str) -> str:
         return (self.top / name).read_text(encoding="utf-8")
 
-    def test_pages_are_made_below_what_is_by_hand(self) -> None:
+    def files(self) -> dict[Path, str]:
+        return {path: path.read_text(encoding="utf-8") for path in self.top.rglob("*") if path.suffix == ".md"}
+
+    def test_the_table_of_crates_is_made_and_nothing_else(self) -> None:
+        self.write(TABLE, "old\n")
+        before = self.files()
         self.assertEqual(self.make().returncode, 0)
-        self.assertEqual(self.page(), HEAD + MARK + WRONG_BODIES)
-        self.assertEqual(self.page(TABLE), HEAD + MARK + ARCHITECTURE)
+        self.assertEqual(self.files(), {**before, self.top / TABLE: CRATES})
 
     def test_lists_are_made_in_a_folder_and_nowhere_else(self) -> None:
-        before = self.page()
-        self.assertEqual(self.make(str(self.top / "made/lists")).returncode, 0)
-        for name, made in zip(LISTS, (DEFINITIONS, CONTRACTS)):
+        before = self.files()
+        folder = self.top / "made/lists"
+        self.assertEqual(self.make(str(folder)).returncode, 0)
+        for (name, title), made in zip(LISTS.items(), (DEFINITIONS, CONTRACTS, MUTANTS)):
             page = self.page(f"made/lists/{name}")
-            self.assertTrue(page.startswith(f"# {name.removesuffix('.md').title()}\n"))
+            self.assertTrue(page.startswith(f"# {title}\n"))
             self.assertTrue(page.endswith(f"\n{made}"))
-            self.assertIn("](../../docs/PROOF.md)", page)
-            self.assertFalse((self.top / "docs" / name).exists())
-        self.assertEqual(self.page(), before)
+            self.assertIn("](../../docs/PROOF.md", page)
+        self.assertEqual({path: text for path, text in self.files().items() if path.parent != folder}, before)
 
     def test_made_pages_are_as_they_should_be(self) -> None:
         self.make()
@@ -290,21 +296,28 @@ class MakePages(unittest.TestCase):
 
     def test_the_first_difference_is_printed_and_nothing_written(self) -> None:
         self.make()
-        page = self.page().replace("|Numbers stay|", "|Numbers go|").replace("`rounds_up`", "`rounds`")
-        self.write(PAGE, page)
+        page = self.page(TABLE).replace("|Halves|", "|Half|").replace("|Tests|", "|Test|")
+        self.write(TABLE, page)
         checked = self.make("--check")
-        printed = f"{PAGE}:22: would be `|Numbers stay|`forgets`|`wholes`|`; tools/make_pages writes it\n"
+        printed = f"{TABLE}:8: would be `|Halves, and wholes|`halves`|Halves|`; tools/make_pages writes it\n"
         self.assertEqual((checked.returncode, checked.stderr), (1, printed))
-        self.assertEqual(self.page(), page)
+        self.assertEqual(self.page(TABLE), page)
 
     def test_a_line_too_many_is_printed(self) -> None:
         self.make()
-        self.write(PAGE, self.page() + "more\n")
-        self.assertIn("WRONG_BODIES.md:24: would not be there", self.make("--check").stderr)
+        self.write(TABLE, self.page(TABLE) + "more\n")
+        self.assertIn(f"{TABLE}:11: would not be there", self.make("--check").stderr)
+
+    def test_a_lacking_table_is_made_and_its_lack_is_printed(self) -> None:
+        self.assertIn(f"{TABLE}:1: would be `# Crates`", self.make("--check").stderr)
+        self.assertFalse((self.top / TABLE).exists())
+        self.assertEqual(self.make().returncode, 0)
+        self.assertEqual(self.page(TABLE), CRATES)
 
     def assert_untold(self, fault: str) -> None:
-        made = self.make("--check")
-        self.assertEqual((made.returncode, made.stderr.splitlines()[-1]), (1, fault))
+        self.write(TABLE, CRATES)
+        checked = self.make("--check")
+        self.assertEqual((checked.returncode, checked.stderr), (1, f"{fault}\n"))
 
     def test_an_edit_names_its_guarantee(self) -> None:
         edit = "crates/halves/must-fail/rounds_up.edit"
@@ -318,20 +331,14 @@ class MakePages(unittest.TestCase):
             self.assert_untold(f"{edit}: {count} guarantees of docs/PROOF.md have the words `{words}`, and not one")
 
     def test_a_guarantee_without_an_edit_is_listed(self) -> None:
-        self.write(PAGE, self.page().replace("|twice a half|it is a law|\n", ""))
+        self.write(PAGE, UNTRIED.replace("|twice a half|it is a law|\n", ""))
         fault = f"{PAGE} doesn't list a guarantee without an edit under `Guarantees without a mutant`"
         self.assert_untold(f"{fault}: twice a half is a whole")
 
     def test_a_guarantee_with_an_edit_is_not_listed(self) -> None:
-        self.write(PAGE, self.page().replace("twice a half", "rounded down"))
+        self.write(PAGE, UNTRIED.replace("twice a half", "rounded down"))
         fault = f"{PAGE} lists a guarantee with an edit under `Guarantees without a mutant`"
         self.assert_untold(f"{fault}: Numbers stay; a half is rounded down")
-
-    def test_a_page_has_a_line_where_the_made_part_begins(self) -> None:
-        self.write(PAGE, HEAD)
-        made = self.make()
-        self.assertEqual((made.returncode, made.stderr), (1, f"{PAGE} has no line `{MARK.strip()}`\n"))
-        self.assertEqual(self.page(), HEAD)
 
 
 if __name__ == "__main__":
