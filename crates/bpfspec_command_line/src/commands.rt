@@ -1,4 +1,4 @@
-//! The commands of the program, as clap is told of them.
+//! The commands of the program, in terms of clap.
 
 ghost use Rattle.std.specs.Prelude.{IfOk};
 ghost use Rattle.clap.specs.Words.{new_app};
@@ -24,7 +24,7 @@ fn flag<'a>(alloc: Global, name: &'a str, help: &'a str) -> Arg<'a>
 pub fn hex_flag<'a>(alloc: Global) -> Arg<'a>
     ensures { IsArg hex_rule result }
 {
-    flag(alloc, "hex", "The unit is in hex form")
+    flag(alloc, "hex", "Read the unit in hex form")
 }
 
 /// The flag --stats.
@@ -34,7 +34,7 @@ fn stats_flag<'a>(alloc: Global) -> Arg<'a>
     flag(
         alloc,
         "stats",
-        "Tells on standard error which way each loop went, and how long it took",
+        "Report each loop's strategy and time on standard error",
     )
 }
 
@@ -60,7 +60,7 @@ fn valued_option<'a>(
 pub fn arg_option<'a>(alloc: Global) -> Arg<'a>
     ensures { IsArg arg_rule result }
 {
-    valued_option(alloc, "arg", "N", "0", "The program's argument")
+    valued_option(alloc, "arg", "N", "0", "The program's argument, in R1")
 }
 
 /// The option --test TEST, which is flow where it isn't given.
@@ -72,7 +72,7 @@ pub fn test_option<'a>(alloc: Global) -> Arg<'a>
         "test",
         "TEST",
         "flow",
-        "How a loop is judged: flow or lrpd",
+        "Which dependences conflict: flow or lrpd",
     )
 }
 
@@ -85,7 +85,7 @@ fn workers_option<'a>(alloc: Global) -> Arg<'a>
         "workers",
         "N",
         "2",
-        "How many workers a loop has, 1 to 16",
+        "The most workers of a loop, 1 to 16",
     )
 }
 
@@ -98,7 +98,7 @@ fn blocks_option<'a>(alloc: Global) -> Arg<'a>
         "blocks",
         "N",
         "4",
-        "How many blocks a loop is split into, 1 to 64",
+        "The most blocks of a loop, 1 to 64",
     )
 }
 
@@ -111,7 +111,7 @@ fn way_option<'a>(alloc: Global) -> Arg<'a>
         "way",
         "WAY",
         "pays",
-        "Which way a loop goes: pays, or blocks whatever they cost",
+        "Execution strategy: pays (the cheapest) or blocks (always)",
     )
 }
 
@@ -125,13 +125,13 @@ fn new_command<'a>(alloc: Global, name: &'a str, about: &'a str) -> Command<'a>
 fn verify_command<'a>(alloc: Global) -> Result<Command<'a>, AllocError>
     ensures { IfOk result (IsCommand verify_app) }
 {
-    new_command(alloc, "verify", "Tells whether a program is accepted").arg(hex_flag(alloc))
+    new_command(alloc, "verify", "Verify a program").arg(hex_flag(alloc))
 }
 
 pub(crate) fn order_command<'a>(alloc: Global) -> Result<Command<'a>, AllocError>
     ensures { IfOk result (IsCommand order_app) }
 {
-    new_command(alloc, "order", "Runs a program in order")
+    new_command(alloc, "order", "Run a program in order")
         .arg(hex_flag(alloc))?
         .arg(arg_option(alloc))
 }
@@ -139,7 +139,7 @@ pub(crate) fn order_command<'a>(alloc: Global) -> Result<Command<'a>, AllocError
 pub(crate) fn run_command<'a>(alloc: Global) -> Result<Command<'a>, AllocError>
     ensures { IfOk result (IsCommand run_app) }
 {
-    new_command(alloc, "run", "Runs a program, its loops in parallel")
+    new_command(alloc, "run", "Run a program, its loops in parallel")
         .arg(hex_flag(alloc))?
         .arg(arg_option(alloc))?
         .arg(workers_option(alloc))?
@@ -152,24 +152,24 @@ pub(crate) fn run_command<'a>(alloc: Global) -> Result<Command<'a>, AllocError>
 pub(crate) fn replay_command<'a>(alloc: Global) -> Result<Command<'a>, AllocError>
     ensures { IfOk result (IsCommand replay_app) }
 {
-    new_command(alloc, "replay", "Replays events of a program's first loop")
+    new_command(alloc, "replay", "Replay events of a program's first loop")
         .arg(hex_flag(alloc))?
         .arg(arg_option(alloc))?
         .arg(test_option(alloc))
 }
 
-/// What help says of the program's streams and its exit status.
+/// The end of the help: streams and exit statuses.
 const STREAMS: &str = "\
-It reads a program, the values of its maps and a list of events from standard input, and writes to standard output.
-Why a program is refused, or a loop conflicts, is told by bpfspec_explain, in a clone by ./bpfspec explain.
+Standard input has a program, the values of its maps, and events of a replay; results go to standard output.
+bpfspec_explain, in a clone ./bpfspec explain, says why a program is refused or a loop conflicts.
 
 Exit status:
   0  done
-  1  the program, its values or its events are refused
-  2  a text is refused
-  3  the words are no command
-  4  memory ran out
-  5  a read or a write failed";
+  1  program, values or events refused
+  2  malformed text
+  3  usage error
+  4  out of memory
+  5  a read or write failed";
 
 /// The program without its subcommands, of which one is wanted.
 fn top_command<'a>(alloc: Global) -> Command<'a>
@@ -177,7 +177,7 @@ fn top_command<'a>(alloc: Global) -> Command<'a>
 {
     Command::new(alloc, "bpfspec")
         .version("0.1.0")
-        .about("Runs untrusted BPF programs over array maps, each loop speculatively in parallel")
+        .about("Verifies and runs untrusted BPF programs over array maps")
         .after_help(STREAMS)
         .subcommand_required(true)
 }
@@ -190,6 +190,6 @@ pub(crate) fn bpfspec_command<'a>(alloc: Global) -> Result<Command<'a>, AllocErr
         .subcommand(order_command(alloc)?)?
         .subcommand(run_command(alloc)?)?
         .subcommand(replay_command(alloc)?)?
-        .subcommand(new_command(alloc, "asm", "Writes assembler text in hex form"))?
-        .subcommand(new_command(alloc, "disasm", "Writes the hex form as assembler text"))
+        .subcommand(new_command(alloc, "asm", "Print assembler text in hex form"))?
+        .subcommand(new_command(alloc, "disasm", "Print the hex form as assembler text"))
 }

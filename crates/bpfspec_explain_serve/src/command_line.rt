@@ -39,7 +39,7 @@ fn states_flag<'a>(alloc: Global) -> Arg<'a>
     flag(
         alloc,
         "states",
-        "Shows each instruction and the registers that it reads",
+        "Print each instruction with the abstract values that it reads",
     )
 }
 
@@ -50,7 +50,7 @@ fn all_flag<'a>(alloc: Global) -> Arg<'a>
     flag(
         alloc,
         "all",
-        "Tells up to 64 elements of each loop that conflicts",
+        "Print up to 64 conflicting elements of each loop",
     )
 }
 
@@ -61,7 +61,7 @@ fn picture_flag<'a>(alloc: Global) -> Arg<'a>
     flag(
         alloc,
         "picture",
-        "Prints an SVG of the first loop that conflicts in place of all, if one does",
+        "Print only an SVG of the first loop that conflicts, or of the replay",
     )
 }
 
@@ -71,7 +71,7 @@ fn top_command<'a>(alloc: Global) -> Result<Command<'a>, AllocError>
 {
     let command = Command::new(alloc, NAME)
         .version("0.1.0")
-        .about("Tells why a program is refused, or why its loops conflict")
+        .about("Explains why a program is refused, or why its loops conflict")
         .bin_name(NAME)?;
     Ok(command)
 }

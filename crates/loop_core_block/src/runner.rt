@@ -33,7 +33,7 @@ use std::alloc::{AllocError, Global};
 /// The most iterations that are run together.
 const MOST: u32 = 128;
 
-/// Blocks of fewer iterations aren't worth a batch.
+/// The fewest iterations of a block that is tried in batches; a shorter block doesn't earn back their set-up.
 const FEWEST: u32 = 256;
 
 /// The most iterations that go one by one before a batch is tried again.

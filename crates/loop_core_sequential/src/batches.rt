@@ -20,13 +20,15 @@ const PATIENCE: u32 = 16;
 
 const MOST_PATIENCE: u32 = 65536;
 
-/// What a batch costs beside its lanes and their accesses, in iterations that go alone.
+/// What a batch costs without its lanes and their accesses, in iterations run one by one. These three were fitted to loops
+/// of 4 to 40 operations: token buckets, whose batches end after 35 lanes in the mean, take 0.95 times the machine
+/// instructions of one by one for x86-64-v2, and 0.78 for x86-64-v3.
 const COST: u32 = 2;
 
-/// What each place costs at which its lanes make an access, in iterations that go alone.
+/// What each access site costs, in iterations run one by one.
 const ACCESS_COST: u32 = 2;
 
-/// How many of a batch's lanes cost as much as an iteration that goes alone.
+/// How many of a batch's lanes cost as much as one iteration run alone.
 const LANES_A_COST: u32 = 5;
 
 /// The engine, and when it is tried: with fewer iterations after a batch that was given up, or did few of them, and with

@@ -14,7 +14,8 @@ use array_maps::Maps;
 use bpf_step::LoopCall;
 use bpf_verify::Verified;
 
-/// Fewer iterations than these aren't worth a batch.
+/// The fewest iterations of a loop that is tried in batches. Set-up clears 95 KB, and 64 KB more if lanes are applied in
+/// order: 6 µs, or 18 µs if a loop is tried three times. A shorter loop doesn't earn that back.
 pub(crate) const FEWEST: u32 = 2048;
 
 /// Runs the iterations of a loop call that main of this program made, one after another on the maps, up

@@ -130,9 +130,10 @@ fn run_alone(of: &SumLoop, to: u32, maps: &mut Maps) -> Option<u32>
     range_in_order(of.program, of.call, 0, to, maps)
 }
 
-/// The round after the first `done` of n iterations, by this many workers, 1 to 16: it has half as many iterations as
-/// there are before it, and a first share of this size for each worker, so no more than that is in vain where one of it
-/// breaks off. The last one may have twice as many.
+/// The round after the first `done` of n iterations, by this many workers, 1 to 16: half as many iterations as precede it,
+/// and a first share of this size for each worker. No more than that is wasted if an iteration breaks: with rounds twice
+/// as long, a sum of 200 operations that breaks in its middle takes 1.08 times as long. The last round may have twice as
+/// many.
 fn next_round(done: u32, n: u32, share: u32, workers: u32) -> Round
     requires some { 0 < done }
     requires left { done < n }
