@@ -5,7 +5,9 @@ from __future__ import annotations
 import os
 import platform
 import re
+import resource
 import shutil
+import signal
 from collections.abc import Iterator
 from dataclasses import dataclass
 from pathlib import Path
@@ -21,6 +23,11 @@ FRONT_END = (*FLAGS, "-fno-discard-value-names", "-Xclang", "-disable-llvm-passe
 OPTIMIZER = (*IR_TARGET, "-S", "-emit-llvm", "-x", "ir")
 BACK_END = (*IR_TARGET, "-Xclang", "-disable-llvm-passes", "-c", "-x", "ir")
 QUIET = "-fno-crash-diagnostics"
+MEMORY = 3 << 30  # bytes of address space
+SECONDS = 60  # of processor time: a busy machine may need far more to give them
+GRACE = 5  # seconds more, in which clang writes what it was busy with
+PATIENCE = 10.0 * SECONDS  # if it uses no processor either
+TOO_LONG = f"clang takes more than {SECONDS} s"
 LOWER = str(TOOLS / "lower_ir")
 NUMBERED = re.compile(r"clang-(\d+)")
 HEADERS = TOOLS.parent / "examples" / "from_c"  # bpf.h
@@ -87,6 +94,12 @@ def direct_step(files: Files, more: tuple[str, ...]) -> Step:
     return Step((find_clang(), *FLAGS, *more, *_header_words(), "-c", files.source, "-o", files.target))
 
 
+def look_step(files: Files, more: tuple[str, ...]) -> Step:
+    """What writes the IR that the back end would get, if a source is compiled at once."""
+    words = (*FLAGS, *more, *_header_words(), "-S", "-emit-llvm", files.source, "-o", files.named("looked.ll"))
+    return Step((find_clang(), *words))
+
+
 def ir_steps(files: Files, more: tuple[str, ...], lowering: str) -> Iterator[Step]:
     """What compiles a source by its IR: front end, optimizer and back end, and before the last two what rewrites it."""
     clang = find_clang()
@@ -119,9 +132,19 @@ def _header_words() -> tuple[str, ...]:
 
 
 def say(step: Step, folder: str, clock: Clock) -> Said:
-    """Runs a step of clang's own."""
+    """Runs a step of clang's own, in limited memory and time."""
     with open(os.path.join(folder, "errors"), "w+b") as errors:
-        answer = run((*step.words, QUIET), "", clock, errors=errors)
+        answer = run((*step.words, QUIET), "", clock, PATIENCE, errors, _limit)
         errors.seek(0)
         said = errors.read().decode(errors="replace")
+    if answer is None or answer.status == -signal.SIGXCPU:
+        said += f"{TOO_LONG}\n"
     return Said(answer is not None and answer.status == 0 and os.path.exists(step.words[-1]), said)
+
+
+def _limit() -> None:
+    """Limits this process, which becomes clang; at the first limit of time clang says what it is busy with."""
+    for kind, most, last in (resource.RLIMIT_AS, MEMORY, MEMORY), (resource.RLIMIT_CPU, SECONDS, SECONDS + GRACE):
+        if all(own == resource.RLIM_INFINITY or own >= last for own in resource.getrlimit(kind)):
+            resource.setrlimit(kind, (most, last))
+    os.environ["LLVM_DISABLE_SYMBOLIZATION"] = "1"  # a stack's names take seconds to find, and aren't shown

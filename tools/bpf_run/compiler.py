@@ -13,7 +13,7 @@ from bpf_ir.text import NotRead
 from bpf_object.elf import OBJECT_LIMIT
 from bpf_object.refusal import Refused
 
-from .clang import LOWER, Files, Said, Step, Way, say
+from .clang import LOWER, MEMORY, TOO_LONG, Files, Said, Step, Way, look_step, say
 from .programs import Clock
 
 ATOMICS = ("-mcpu=v3",)  # it has atomics of 4 bytes, and such as give the old value
@@ -25,8 +25,13 @@ NEEDS = {
 OPERATIONS, SMALL_FRAMES = "operations", "small-frames"
 NOT_UNROLLED = ("-fno-unroll-loops",)
 CALLED = re.compile(rb"\0(?:mem(?:cpy|move|set|cmp)|bcmp|strlen)\0")  # a symbol of C's library
+ZEROS = re.compile(rb"call [^\n]*@llvm\.ct[lt]z\.")  # clang 14 and 16 crash on it, fill the memory, or get it wrong
 DUMP = "PLEASE submit a bug report"
-CRASHED = re.compile("on function '@([^']+)'")
+BUSY = re.compile("(?:on function '@|function body '|declaration ')([^']+)'")
+LIMITS = (
+    ("LLVM ERROR: out of memory|bad_alloc", f"clang takes more than {MEMORY >> 30} GB of memory"),
+    (TOO_LONG, TOO_LONG),
+)
 PLACE = r"(?:(?P<line>[^\s:]+\.[ch]:\d+)\S* )?"
 REASONS = (  # what the back end says of what isn't taken, and what to write
     (r"built-in function '__\w+[sd]f\w*'|floating|soft.?float", "floating point isn't taken: use fixed point"),
@@ -99,7 +104,7 @@ def shorter(source: str, way: Way, clock: Clock) -> Iterator[Compiled]:
 def make(files: Files, words: tuple[str, ...], clock: Clock) -> Compiled:
     """The object that clang makes of a source by some words more, by the first way on which it makes one."""
     way = Way(words)
-    said = _said(files, way, clock)
+    said = _first(files, way, clock)
     for more, need in NEEDS.items():
         if not said.is_made and need.search(said.text):
             newer = Way((*words, *more))
@@ -114,6 +119,16 @@ def make(files: Files, words: tuple[str, ...], clock: Clock) -> Compiled:
     if not said.is_made:
         raise NotCompiled(_reason(said.text))
     return Compiled(read_file(files.target), way, said.text)
+
+
+def _first(files: Files, way: Way, clock: Clock) -> Said:
+    """What comes of a source at once: no object if zeros are counted, which the back end doesn't see as they are."""
+    step = look_step(files, way.more)
+    look = say(step, files.folder, clock)
+    if not look.is_made:
+        return look
+    with open(step.words[-1], "rb") as file:
+        return Said(False, "") if ZEROS.search(file.read()) else _said(files, way, clock)
 
 
 def _said(files: Files, way: Way, clock: Clock) -> Said:
@@ -148,8 +163,11 @@ def _reason(said: str) -> str:
             place = f"{found['line']}: " if found["line"] else ""
             return f"{place}{words.format(**found.groupdict())}\n"
     reason, dump, stack = said.partition(DUMP)
+    place = BUSY.search(stack)
+    where = f" at function {place[1]}" if place else ""
+    for pattern, words in LIMITS:
+        if re.search(pattern, said):
+            return f"{words}{where}: less code may help\n"
     if not dump or "error" in reason.lower():
         return reason
-    place = CRASHED.search(stack)
-    where = f" at function {place[1]}" if place else ""
     return f"{reason}clang crashes{where}: no line tells why, and less code may help to find it\n"

@@ -10,6 +10,7 @@ import subprocess
 import sys
 import tempfile
 import time
+from collections.abc import Callable
 from dataclasses import dataclass
 from pathlib import Path
 from types import FrameType
@@ -109,14 +110,24 @@ class Clock:
 
 
 def run(
-    words: tuple[str, ...], text: str, clock: Clock, seconds: float | None = None, errors: IO[bytes] | None = None
+    words: tuple[str, ...],
+    text: str,
+    clock: Clock,
+    seconds: float | None = None,
+    errors: IO[bytes] | None = None,
+    begin: Callable[[], None] | None = None,
 ) -> Answer | None:
-    """Runs a program on a text; None where it takes longer than that. Its errors go to ours, or to a file."""
+    """Runs a program on a text; None if it takes longer than that. Its errors go to ours, or to a file.
+
+    `begin` is called in the new process before the program.
+    """
     with tempfile.TemporaryFile() as file:  # and no pipe, of which `communicate` writes nothing more once it timed out
         file.write(text.encode())
         file.seek(0)
         try:
-            child = subprocess.Popen(words, stdin=file, stdout=subprocess.PIPE, stderr=errors, start_new_session=True)
+            child = subprocess.Popen(
+                words, stdin=file, stdout=subprocess.PIPE, stderr=errors, start_new_session=True, preexec_fn=begin
+            )
         except OSError as reason:
             raise Refused(f"{words[0]}: {reason.strerror}") from None
     try:

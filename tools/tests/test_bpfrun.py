@@ -224,6 +224,29 @@ class Refusals(InFolder):
             self.assertRaises(compiler.NotCompiled, compiler.compiled, "x.c", Clock())
         self.assertEqual(errors.getvalue().partition(":")[0], "clang crashes at function work")
 
+    def test_limits_of_clang(self) -> None:
+        stack = f"{compiler.DUMP} ..\n1. {{}} 'work'\n"
+        for said, words in (
+            (f"LLVM ERROR: out of memory\n{stack.format('Generating code for declaration')}", "3 GB of memory"),
+            (f"{stack.format('parsing function body')}{clang.TOO_LONG}\n", "60 s"),
+        ):
+            with self.clang_says(said), contextlib.redirect_stderr(io.StringIO()) as errors:
+                self.assertRaises(compiler.NotCompiled, compiler.compiled, "x.c", Clock())
+            self.assertEqual(errors.getvalue().partition(":")[0], f"clang takes more than {words} at function work")
+
+    def test_clang_is_limited(self) -> None:
+        source = self.file("x.c")
+        for script, words in (
+            ("ulimit -v; ulimit -t; exit 1", f"{3 << 20}\n60\n"),  # KB and seconds
+            ("kill -XCPU $$", "clang takes more than 60 s: "),
+        ):
+            program = self.file("clang", f"#!/bin/sh\nexec >&2; {script}\n")
+            program.chmod(0o755)
+            with unittest.mock.patch.dict(ENVIRONMENT, CLANG=str(program)):
+                done = bpfrun("run", source)
+            self.assertEqual((done.returncode, done.stdout), (2, ""))
+            self.assertIn(words, done.stderr)
+
     def test_newer_instructions(self) -> None:
         for said, word in (
             ("x.c:1:9: error: unsupported signed division, please convert to unsigned div/mod.", "-mcpu=v4"),  # 19
@@ -252,6 +275,27 @@ class Refusals(InFolder):
     def test_unknown_names(self) -> None:
         self.assertIn("bins", self.refused("run", "--only", "bin", EXAMPLES / "histogram.o"))
         self.assertIn("third", self.refused("run", "--main", "third", TWO))
+
+
+class CountsOfZeros(InFolder):
+    """clang 14's back end crashes on the second of them, and makes 64 of the first, whatever x is."""
+
+    SOURCE = """
+        #include "bpf.h"
+        __u64 x = 40;
+        SEC("xdp") long first(__u64 argument) { return x ? __builtin_ctzll(x) : 64; }
+        SEC("xdp") long second(__u64 argument) { return __builtin_ctzll(x) + 100 * __builtin_clz(x + argument); }
+    """
+
+    def test_answers(self) -> None:
+        source = self.file("zeros.c", self.SOURCE)
+        for name, answer in ("first", 3), ("second", 2603):  # 40 is 101000 in binary
+            self.assertEqual(bpfrun("run", "--main", name, source).stdout, f"return {answer}\nx = 40\n")
+
+    def test_back_end_sees_none(self) -> None:
+        for text, lowering in (self.SOURCE, compiler.OPERATIONS), ('__u64 x; SEC("xdp") int f() { return x; }', None):
+            source = self.file("x.c", text if lowering else f'#include "bpf.h"\n{text}')
+            self.assertEqual(compiler.compiled(str(source), Clock()).way.lowering, lowering)
 
 
 class State(InFolder):
