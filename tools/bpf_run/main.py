@@ -131,12 +131,10 @@ def _verify(options: Options, clock: Clock) -> int:
 
 def _explain(options: Options, clock: Clock) -> int:
     session = Session(options, clock)
-    status = DONE
+    status = REFUSED
     if session.verify():
         session.find_most()
-        session.explain()
-    else:
-        status = REFUSED
+        status = DONE if session.explain() else REFUSED
     _print(explain_lines(session.report), options)
     return _end(session, clock, status)
 

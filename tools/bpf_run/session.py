@@ -5,6 +5,7 @@ from __future__ import annotations
 import struct
 import sys
 from collections.abc import Iterator
+from itertools import takewhile
 
 from bpf_object.loaded import Loaded, refuse_long_values
 from bpf_object.program import Fault
@@ -17,7 +18,7 @@ from .most import NO_VALUES, most_of
 from .options import Options
 from .programs import Answer, Clock
 from .report import AccessReport, ConflictReport, FunctionReport, LoopReport, Report, RunReport, make_program
-from .reports import Conflict, Explanation, Function, Loop, Refusal, Run
+from .reports import LOOP, Conflict, Explanation, Function, Loop, Refusal, Run
 from .reports import read_explanation, read_run, read_verify
 from .unit_text import SHORT, VALUES, split, with_values
 
@@ -90,12 +91,27 @@ class Session:
             if trap is not None:
                 return
 
-    def explain(self) -> None:
-        """Has all loops explained, as they are for the first argument."""
-        words = [*self.options.explain_words(self.options.arguments[0]), *(["--all"] if self.options.all else [])]
-        explained = self._explain([*words, *(["--states"] if self.options.states else [])], self._values())
+    def explain(self) -> bool:
+        """Has all loops explained, as they are for the first argument; False if that run is a trap, with no loops."""
+        argument, values = self.options.arguments[0], self._values()
+        words = [*self.options.explain_words(argument), *(["--all"] if self.options.all else [])]
+        explained = self._explain([*words, *(["--states"] if self.options.states else [])], values)
+        if self._is_trap(argument, values):
+            self.report.explained = [*takewhile(lambda line: not LOOP.fullmatch(line), explained.lines)]
+            return False
         self.report.explained = explained.lines
         self.report.loops = [self._loop(loop, explained) for loop in explained.loops]
+        return True
+
+    def _is_trap(self, argument: int, values: str) -> bool:
+        """Whether the run is a trap, which `bpfspec explain` doesn't know; the report then has that run."""
+        if self.program.loaded.trap_element is None:
+            return False
+        found = self._run(argument, values)
+        trap = self.program.loaded.trap_in(found.words)
+        if trap is not None:
+            self.report.runs.append(RunReport(argument, found.value, [], self.words, found.words, trap))
+        return trap is not None
 
     def picture(self, argument: int, words: list[int]) -> str | None:
         """The picture of the first loop that conflicts."""

@@ -101,6 +101,8 @@ def explain_lines(report: Report) -> Iterator[str]:
     for rewrite in report.program.loaded.rewrites:
         yield f"rewritten: {rewrite}"
     yield from explained_lines(report, [line for line in report.explained if not VERDICT.match(line)])
+    for run in report.runs:
+        yield f"trap at {run.trap}"
 
 
 def explained_lines(report: Report, lines: list[str]) -> Iterator[str]:

@@ -180,6 +180,16 @@ class Refusals(InFolder):
         self.assertEqual(done.stdout.splitlines()[-2:], ["argument 20", "trap at outside.c:7: index 16 of squares[16]"])
         self.assertEqual(done.returncode, 1)
 
+    def test_trap_explained(self) -> None:
+        done = bpfrun("explain", "--arg", 17, OUTSIDE)
+        trap = "trap at outside.c:7: index 16 of squares[16]"
+        self.assertEqual((done.returncode, done.stdout.splitlines()[-1]), (1, trap))
+        self.assertNotIn("parallel", done.stdout)  # nothing that the run did is kept
+        self.assertNotIn("breaks it", done.stdout)
+        found = json.loads(bpfrun("explain", "--arg", 17, "--json", OUTSIDE).stdout)
+        self.assertEqual((found["status"], found["loops"]), (1, []))
+        self.assertEqual(found["runs"][0]["trap"], {"at": "outside.c:7", "text": "index 16 of squares[16]"})
+
     def test_trap_keeps_no_state(self) -> None:
         state = self.folder / "state"
         self.assertEqual(bpfrun("run", "--arg", 17, "--save", state, OUTSIDE).returncode, 1)
