@@ -102,18 +102,24 @@ def _type_of(btf: Btf, plain: Type, depth: int = 0) -> CType:
     return _number(btf, plain)
 
 
-def type_of(btf: Btf | None, plain: Type | None) -> CType | None:
-    """The tree of a type; None where none is known, or where it has more values than its bytes can be."""
+def type_of(btf: Btf | None, plain: Type | None, size: int = 0) -> CType | None:
+    """The tree of a type, in a variable of so many bytes if it may have more than the type.
+
+    None where none is known, or where it has more values than its bytes can be.
+    """
     if btf is None or plain is None:
         return None
-    made = _Trees(btf).made(plain)
+    trees = _Trees(btf)
+    made = trees.made(plain)
+    if made.type.size < size:
+        made = trees.filled(plain, size)
     return made.type if made.values <= VALUES_OF_BYTE * made.type.size + VALUES_AT_LEAST else None
 
 
 def type_of_variable(variable: Variable) -> CType:
     """The type of a variable's bytes; of a map they are an array of its values."""
     size = variable.stride if variable.entries else variable.size
-    kind = type_of(variable.btf, variable.type)
+    kind = type_of(variable.btf, variable.type, 0 if variable.entries else size)
     if kind is None or kind.size > size or not kind.size:
         kind = words_of(size)
     return Array(kind, variable.entries, variable.stride) if variable.entries else kind
@@ -141,6 +147,21 @@ class _Trees:
         if id(plain) not in self._known:
             self._known[id(plain)] = self._made(plain, depth)
         return self._known[id(plain)]
+
+    def filled(self, plain: Type, size: int) -> _Made:
+        """The tree of a type in more bytes, which are the elements of an array without a length at its end."""
+        made, fields = self.made(plain), [*self._btf.fields(plain)] if plain.kind == Kind.STRUCT else []
+        if not fields or fields[-1].type.kind != Kind.ARRAY:
+            return made
+        element, count = self._btf.element(fields[-1].type)
+        inner = self.made(element)
+        if count or not inner.type.size:
+            return made
+        count = max(size - fields[-1].bit // BYTE_BITS, 0) // inner.type.size
+        array = Array(inner.type, count)
+        last = Member(fields[-1].name, fields[-1].bit, array.size * BYTE_BITS, array)
+        whole = Structure(size, (*made.type.members[:-1], last))
+        return _Made(whole, made.values + count * max(inner.values, 1))
 
     def _made(self, plain: Type, depth: int) -> _Made:
         if plain.kind == Kind.ARRAY:

@@ -25,6 +25,7 @@ REASON_LIMIT = 400  # characters
 
 def main(words: list[str]) -> int:
     """Does what the words ask for, and gives the status."""
+    programs.fill_streams()
     options = read_options(words)
     programs.catch_signals()
     clock = Clock()
@@ -60,6 +61,8 @@ def _printable(line: str) -> str:
 
 def _write(text: str) -> None:
     """Writes to standard output at once."""
+    if sys.stdout is None:
+        raise NotWritten  # it was closed
     try:
         sys.stdout.buffer.write(text.encode(errors="replace"))
         sys.stdout.buffer.flush()

@@ -21,6 +21,7 @@ from bpf_object.refusal import Refused
 TOOLS = Path(__file__).resolve().parent.parent
 TICK = 0.2  # seconds from one look at the clock to the next
 GRACE = 2.0  # seconds that a program has to end
+STREAMS = 3  # standard input, output and errors
 ENDING = (signal.SIGTERM, signal.SIGHUP, signal.SIGINT)
 
 # The program's exit status, as docs/FORMATS.md has it.
@@ -69,6 +70,17 @@ def _launcher() -> tuple[str, ...]:
             return (str(place),)
     found = shutil.which("bpfspec")
     return (found,) if found else ()
+
+
+def fill_streams() -> None:
+    """Opens the null device for the standard streams that are closed, whose numbers our own files would get."""
+    for number in range(STREAMS):
+        try:
+            os.fstat(number)
+        except OSError:
+            os.open(os.devnull, os.O_RDWR)  # as the lowest number that is free
+    if sys.stderr is None:
+        sys.stderr = open(os.devnull, "w")  # `print` takes None for standard output
 
 
 def catch_signals() -> None:

@@ -24,12 +24,13 @@ def loaded_words(program: Program, path: str | None) -> list[int]:
     for name, value in _read(path).items():
         if name not in program.variables:
             raise Refused(f"{path}: the program has no variable {name[:40]}")
-        variable = program.variables[name]
+        variable, kind = program.variables[name], program.types[name]
+        data = variable.bytes_in(words)
         try:
-            data = encoded(value, program.types[name], variable.bytes_in(words), name)
+            put = encoded(value, kind, data[: kind.size], name)
         except Refused as reason:
             raise Refused(f"{path}: {reason}") from None
-        variable.put(words, data)
+        variable.put(words, put + data[kind.size :])
     return words
 
 

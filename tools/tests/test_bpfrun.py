@@ -317,6 +317,20 @@ class State(InFolder):
         old, new = (json.loads(path.read_text()) for path in (first, second))
         self.assertEqual({name for name in old if old[name] != new[name]}, {"total", "hist"})
 
+    def test_array_without_a_length(self) -> None:
+        text = """
+            #include "bpf.h"
+            struct { __u32 n; __u32 data[]; } message = {3, {1, 2, 3}};
+            SEC("xdp") long add(__u64 argument) { return message.data[1] += argument; }
+        """
+        source, state = self.file("x.c", text), self.folder / "state"
+        self.assertEqual(bpfrun("run", "--arg", 5, "--save", state, source).returncode, 0)
+        self.assertEqual(json.loads(state.read_text()), {"message": {"n": 3, "data": [1, 7, 3]}})
+        done = bpfrun("run", "--arg", 5, "--load", state, source)
+        self.assertEqual(done.stdout, "return 12\nmessage = {.n = 3, .data = {1, 12, 3}}\n")
+        done = bpfrun("run", "--load", self.file("values", '{"message": {"n": 4}}'), source)
+        self.assertEqual(done.stdout, "return 2\nmessage = {.n = 4, .data = {1, 2, 3}}\n")
+
     def test_values_of_ones_own(self) -> None:
         values = {"shape": {"x": 9, "color": "BLUE", "u": {"half": [3, 4]}, "name": "you", "h": -1}, "balance": "-0x7"}
         done = bpfrun("run", "--load", self.file("values", json.dumps(values)), "--json", SHAPES)
@@ -399,6 +413,16 @@ class OtherCommands(InFolder):
         self.assertIn("refused V13 at outside.c:7", page.read_text())
         self.assertEqual(bpfrun("run", "--page", page, EXAMPLES / "collatz.o").returncode, 0)
         self.assertIn("data:image/svg+xml;base64,", page.read_text())
+
+
+class Streams(unittest.TestCase):
+    def test_closed(self) -> None:
+        for command in "run", "unit", "explain --json":
+            for closing, status in (">&-", 5), ("<&- >&-", 5), ("2>&- | tail -n 1", 0):
+                with self.subTest(command=command, closing=closing):
+                    line = f"{BPFRUN} {command} {EXAMPLES}/collatz.o {closing}; exit ${{PIPESTATUS[0]}}"
+                    done = subprocess.run(["bash", "-c", line], capture_output=True, text=True, env=ENVIRONMENT)
+                    self.assertEqual((done.returncode, lines_without_time(done.stderr)), (status, []))
 
 
 class SlowPrograms(InFolder):
