@@ -487,8 +487,10 @@ class Installed(InFolder):
             program = of_cpu / name
             program.write_text(f'#!/bin/sh\nexec {os.environ.get(name.upper(), f"{TOP}/bpfspec")} "$@"\n')
             program.chmod(0o755)
+        (room / "how").write_text("built for a test\n")
         prefix = self.folder / "prefix"
-        subprocess.run([TOP / "tools" / "install", room, of_cpu.name, prefix], check=True, stdout=subprocess.DEVNULL)
+        words = [TOP / "tools" / "install", room, room, self.folder / "no_library", of_cpu.name, prefix]
+        subprocess.run(words, check=True, stdout=subprocess.DEVNULL)
         (self.folder / "link").symlink_to(prefix / "bin" / "bpfrun")
         environment = {k: v for k, v in ENVIRONMENT.items() if not k.startswith("BPFSPEC")}
         words = [str(self.folder / "link"), "run", str(EXAMPLES / "collatz.o"), "--workers", "1"]
