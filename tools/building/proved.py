@@ -11,7 +11,7 @@ from pathlib import Path
 from .crates import LEFT_OUT, Repository
 from .kit import Failed, Kit, run, start
 from .rooms import Room, tell
-from .unproved import LEVELS_OF
+from .unproved import LEVELS, LEVELS_OF
 
 PROVED = "proved here"
 DONE = b"== "  # begins what `rt ci` prints of a crate once that is proved
@@ -30,11 +30,20 @@ def prove(top: Path, names: list[str], place: Path) -> None:
         _run_gate(work, len(needed))
         for name, room in rooms.items():
             for level in LEVELS_OF[name]:
-                tell(f"compiles {name} for {level}")
-                file = room.made / level / name
-                run([top / "tools" / "build_for", level, work / "crates" / name, file])
+                _keep(top, work / "crates" / name, level, room.made / level / name)
     for room in rooms.values():
         room.keep(kit.name, PROVED, is_changed=False)
+
+
+def _keep(top: Path, crate: Path, level: str, file: Path) -> None:
+    """Keeps what `rt ci` built, a program for the first level; the others, and a library, are compiled from its proofs."""
+    built = crate / "out" / crate.name
+    if level == LEVELS[0] and built.is_file():
+        file.parent.mkdir(parents=True, exist_ok=True)
+        shutil.copy(built, file)
+    else:
+        tell(f"compiles {crate.name} for {level}")
+        run([top / "tools" / "build_for", level, crate, file])
 
 
 def _copy(repository: Repository, needed: list[str], work: Path) -> None:
