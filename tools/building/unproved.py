@@ -8,6 +8,7 @@ from concurrent.futures import ThreadPoolExecutor
 from pathlib import Path
 
 from . import library
+from .cold import cold_for_size
 from .crates import Repository
 from .inlining import hinted
 from .kit import TARGET, Kit, run
@@ -33,7 +34,7 @@ def build(top: Path, name: str, folder: Path, levels: tuple[str, ...], keeps_che
         room = Path(made)
         text, libraries = _text(repository, name, kit, room)
         without = None if keeps_checks else without_checks(text)
-        text = for_any_processor(hinted(without, repository, libraries) if without else text)
+        text = for_any_processor(cold_for_size(hinted(without, repository, libraries)) if without else text)
         module = room / "module.ll"
         module.write_text(text, encoding="utf-8")
         with ThreadPoolExecutor() as pool:
