@@ -8,11 +8,11 @@ from concurrent.futures import ThreadPoolExecutor
 from pathlib import Path
 
 from . import library
-from .cold import cold_for_size
 from .crates import Repository
 from .inlining import hinted
 from .kit import TARGET, Kit, run
 from .module import Source, for_any_processor, module_of, source_of, without_checks
+from .parts import parted
 from .trial import try_program
 
 LEVELS = "x86-64-v2", "x86-64-v3"
@@ -20,7 +20,7 @@ LEVELS_OF = {"bpfspec": LEVELS, "bpfspec_explain": LEVELS[:1], "bpfspec_c": LEVE
 LIBRARY = "bpfspec_c"
 # A function of large locals isn't put into its callers: the programs and hosts of the library have small stacks too.
 HOW = (
-    *("-O3", "-ffunction-sections", "-fdata-sections", "--no-default-config", "-w"),
+    *("-ffunction-sections", "-fdata-sections", "--no-default-config", "-w"),
     *("-mllvm", "-no-trap-after-noreturn", "-mllvm", "-inline-max-stacksize=32768"),
 )
 WITHOUT_PROOF, WITH_CHECKS = "built without proof", "built without proof, with checks"
@@ -34,12 +34,15 @@ def build(top: Path, name: str, folder: Path, levels: tuple[str, ...], keeps_che
         room = Path(made)
         text, libraries = _text(repository, name, kit, room)
         without = None if keeps_checks else without_checks(text)
-        text = for_any_processor(cold_for_size(hinted(without, repository, libraries)) if without else text)
-        module = room / "module.ll"
-        module.write_text(text, encoding="utf-8")
-        with ThreadPoolExecutor() as pool:
-            for built in [pool.submit(_compile, kit, module, top, name, level, folder) for level in levels]:
-                built.result()
+        text = for_any_processor(hinted(without, repository, libraries) if without else text)
+        for level, objects in _compile(kit, text, room, levels, "-fPIC" if name == LIBRARY else "-fPIE").items():
+            built = room / f"{level}.built"
+            if name == LIBRARY:
+                run([kit.clang.with_name("llvm-ar"), "rcs", built, *objects])
+            else:
+                kit.link(objects, built)
+                try_program(built, top, name)
+            _put(built, folder / level / name)
     return WITHOUT_PROOF if without else WITH_CHECKS
 
 
@@ -55,24 +58,29 @@ def _text(repository: Repository, name: str, kit: Kit, room: Path) -> tuple[str,
     return library.exported(module_of(repository, source, kit)), source.libraries
 
 
-def _compile(kit: Kit, module: Path, top: Path, name: str, level: str, folder: Path) -> None:
-    """Compiles and links a module for a level, and keeps what is right."""
-    place = folder / level / name
+def _compile(kit: Kit, text: str, room: Path, levels: tuple[str, ...], place_free: str) -> dict[str, list[Path]]:
+    """Compiles the parts of a module side by side, and gives the objects of each of these levels."""
+    how = [kit.clang, f"--target={TARGET}", place_free, *HOW, "-c", "-x", "ir"]
+    objects: dict[str, list[Path]] = {level: [] for level in levels}
+    with ThreadPoolExecutor(len(os.sched_getaffinity(0))) as pool:
+        compiled = []
+        for part, part_text in parted(text):
+            module = room / f"{part.name}.ll"
+            module.write_text(part_text, encoding="utf-8")
+            for level in levels if part.for_each_level else LEVELS[:1]:
+                made = room / f"{part.name}-{level}.o"
+                compiled.append(pool.submit(run, [*how, f"-march={level}", part.how, module, "-o", made]))
+                for user in (level,) if part.for_each_level else levels:
+                    objects[user].append(made)
+        for step in compiled:
+            step.result()
+    return objects
+
+
+def _put(made: Path, place: Path) -> None:
+    """Puts a copy of a file in its place at once."""
     place.parent.mkdir(parents=True, exist_ok=True)
-    made, compiled = module.with_name(f"{level}.built"), module.with_name(f"{level}.o")
-    place_free = "-fPIC" if name == LIBRARY else "-fPIE"
-    run([kit.clang, f"--target={TARGET}", f"-march={level}", place_free, *HOW, "-x", "ir", module, "-c", "-o", compiled])
-    if name == LIBRARY:
-        run([kit.clang.with_name("llvm-ar"), "rcs", made, compiled])
-    else:
-        kit.link([compiled], made)
-        try_program(made, top, name)
-    os.replace(_beside(made, place), place)
-
-
-def _beside(made: Path, place: Path) -> Path:
-    """A copy of a file in the folder of the place where it will be."""
     copy = place.with_name(f".{place.name}.{os.getpid()}")
     copy.write_bytes(made.read_bytes())
     copy.chmod(0o755)
-    return copy
+    os.replace(copy, place)
