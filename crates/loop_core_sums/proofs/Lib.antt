@@ -7,3 +7,4 @@ pub mod Callbacks
 pub mod RangeByRange
 pub mod RoundLaws
 pub mod FunctionEnds
+pub mod WholeOperators

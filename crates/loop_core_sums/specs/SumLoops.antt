@@ -43,7 +43,14 @@ abbrev pub function_end : Program → ℕ → ℕ
 function_end program slot =
     slice_index_or (callback_starts program.insns) (function_of program.insns slot) (slot_count program.insns)
 
--- the operations of a call's callback, from its first slot up to its function's end, add up by no operator
+-- the operations of a call's callback, from its first slot up to its function's end, add up by an operator
+pub record AddsUp (program : Program) (call : LoopCall) : Type 0 where
+  pub op : SimpleOp
+  pub ops : List PlainOp
+  pub are : AreOps program ops
+  pub sums : AddUp (map_operator op) ops call.callback (function_end program call.callback)
+
+-- they add up by no operator
 pub record AddsUpByNone (program : Program) (call : LoopCall) : Type 0 where
   pub ops : List PlainOp
   pub are : AreOps program ops

@@ -2,7 +2,7 @@
 
 ghost use Rattle.std.specs.Prelude.{◌≡◌, IfSome, IfNone};
 ghost use Rattle.bpf_verify_sound.specs.Soundness.{OverApproximatesCall};
-ghost use Rattle.loop_core_sums.specs.SumLoops.{AlwaysPasses, AddsUpByNone};
+ghost use Rattle.loop_core_sums.specs.SumLoops.{AddsUp, AddsUpByNone, AlwaysPasses};
 
 use crate::function_end::function_end;
 use array_maps::Op;
@@ -41,6 +41,7 @@ impl<'l> SumLoop<'l> {
         requires known { OverApproximatesCall program.now call.now }
         ensures program { IfSome result (λ l. l.program ≡ program.now) }
         ensures call { IfSome result (λ l. l.call ≡ call.now) }
+        ensures adds { IfSome result (λ _. AddsUp program.now call.now) }
         ensures none { IfNone result (AddsUpByNone program.now call.now) }
     {
         law_of_sum_operations();

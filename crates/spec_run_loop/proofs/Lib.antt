@@ -1,4 +1,5 @@
 pub mod CourseLaws
 pub mod EvenLaws
 pub mod PassLaws
+pub mod PayingLaws
 pub mod SumLaws

@@ -1,12 +1,8 @@
 -- Which way a loop call went.
-use Rattle.std.specs.Prelude.{◌≡◌, ℕ, List}
+use Rattle.std.specs.Prelude.{◌≡◌, ℕ, List, length}
 use Rattle.array_maps.specs.MapList.{MapList}
-use Rattle.loop_core_model.specs.declared.loop_test.Test.{Test}
-use Rattle.loop_core_model.specs.declared.loop_test.Test.TheVariants as tests
 use Rattle.loop_core_model.specs.Intervals.{blocks_of}
 use Rattle.loop_core_sequential.specs.Watched.{RanAndPasses, ReachesWritten}
-use Rattle.spec_run_loop.specs.declared.course.BlocksReason.{BlocksReason}
-use Rattle.spec_run_loop.specs.declared.course.BlocksReason.TheVariants as reasons
 use Rattle.spec_run_loop.specs.declared.course.Course.{Course}
 use Rattle.spec_run_loop.specs.declared.course.Course.TheVariants.{Blocks}
 use Rattle.spec_run_loop.specs.declared.course.Course.TheVariants as courses
@@ -17,11 +13,6 @@ use Rattle.spec_run_loop.specs.declared.way.Way.{Way}
 use Rattle.spec_run_loop.specs.declared.way.Way.TheVariants.{Sums, Watched, ByBlocks}
 use Rattle.spec_run_loop.specs.Jobs.{JobOf}
 use Rattle.spec_run_loop.specs.Ways.{IsWayOf}
-
--- why a loop that isn't watched goes by blocks, which the plan doesn't ask for: by its test, or by its work
-abbrev pub reason_by : Test → BlocksReason
-reason_by tests.Lrpd = reasons.Lrpd
-reason_by tests.Flow = reasons.Work
 
 -- how many workers a crew has: the calling thread is one
 abbrev pub workers_of : Crew → ℕ
@@ -47,8 +38,8 @@ IsCourseBy job words (Sums of workers) course = course ≡ courses.Sums workers
 IsCourseBy job words (Watched otherwise) course = IsWatchedCourse job words otherwise course
 IsCourseBy job words (ByBlocks blocks) course = course ≡ course_by blocks
 
--- which way a loop goes from these words, by one of the ways that it may go
+-- which way a loop goes from these words: by the way that is its
 pub record IsCourseOf (job : JobOf) (words : List ℕ) (course : Course) : Type 0 where
   pub way : Way
-  pub may : IsWayOf job way
+  pub goes : IsWayOf job (length words) way
   pub is : IsCourseBy job words way course

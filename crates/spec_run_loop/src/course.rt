@@ -1,7 +1,7 @@
 //! Which way a loop call went.
 
 ghost use Rattle.std.specs.Prelude.{◌≡◌};
-ghost use Rattle.spec_run_loop.specs.Courses.{reason_by};
+ghost use Rattle.spec_run_loop.specs.Ways.{reason_by};
 
 use loop_core_model::Test;
 

@@ -1,7 +1,9 @@
 //! What pays: by how many workers a loop is run, and over how many blocks.
 
-ghost use Rattle.std.specs.Prelude.{◌≡◌, ◌*◌, ◌<◌, ◌≤◌, length};
+ghost use Rattle.std.specs.Prelude.{◌≡◌, ◌*◌, ◌/◌, ◌<◌, ◌≤◌, length, max, min};
 ghost use Rattle.spec_run_plan.specs.Plans.{IsPlan};
+ghost use Rattle.spec_run_loop.specs.Paying.{instructions, work_in_order, work_by_blocks, cost_of_elements};
+ghost use Rattle.spec_run_loop.specs.Paying.{busy_workers, are_copies_dear, worthwhile_blocks, visits};
 
 use crate::job::LoopJob;
 use array_maps::Maps;
@@ -39,25 +41,32 @@ const MOST_KEPT: u32 = 1_048_576;
 
 /// The most instructions that an iteration of a loop takes.
 fn instructions(job: &LoopJob) -> u64
-    ensures { result < 4294967296 }
+    ensures is { result ≡ instructions job.now }
+    ensures few { result ≤ 4096 }
 {
     u64::from(most_instructions(job.program, job.call.callback()))
 }
 
 /// How many instructions a loop that runs in order is to do at most, by its iterations and the most instructions of
 /// one.
-pub(crate) fn work_in_order(job: &LoopJob) -> u64 {
+#[tactic(auto, using(crate::proofs::PayingLaws::most_work))]
+pub(crate) fn work_in_order(job: &LoopJob) -> u64
+    ensures is { result ≡ work_in_order job.now }
+    ensures few { result ≤ 17592186040320 }
+{
     u64::from(job.call.n()) * instructions(job)
 }
 
 /// The same of one that runs by blocks, with its bookkeeping.
-pub(crate) fn work_by_blocks(job: &LoopJob) -> u64 {
-    work_in_order(job).saturating_add(u64::from(job.call.n()) * BOOKKEEPING)
+pub(crate) fn work_by_blocks(job: &LoopJob) -> u64
+    ensures { result ≡ work_by_blocks job.now }
+{
+    work_in_order(job) + u64::from(job.call.n()) * BOOKKEEPING
 }
 
 /// What its elements cost each worker and each block of a loop, in instructions.
 fn cost_of_elements(elements: u32) -> u64
-    ensures { result ≡ 1000 * elements }
+    ensures { result ≡ cost_of_elements elements }
 {
     ELEMENT * u64::from(elements)
 }
@@ -74,6 +83,7 @@ pub(crate) fn elements_of(maps: &Maps) -> u32
 /// elements: no more than there are shares or blocks, and one where the shares are few.
 pub(crate) fn busy_workers(work: u64, elements: u32, plan: &Plan) -> u32
     requires { IsPlan plan.now }
+    ensures is { result ≡ busy_workers work elements plan.now }
     ensures some { 0 < result }
     ensures few { result ≤ 16 }
 {
@@ -89,6 +99,7 @@ pub(crate) fn busy_workers(work: u64, elements: u32, plan: &Plan) -> u32
 /// Whether an iteration in order is cheaper than its share on the private copies of this many workers, 1 to 16.
 pub(crate) fn are_copies_dear(job: &LoopJob, workers: u32) -> bool
     requires few { workers ≤ 16 }
+    ensures { result ≡ are_copies_dear job.now workers }
 {
     let instructions = instructions(job);
     instructions * u64::from(workers.min(PROCESSORS)) < instructions + COPYING
@@ -99,6 +110,7 @@ pub(crate) fn are_copies_dear(job: &LoopJob, workers: u32) -> bool
 pub(crate) fn worthwhile_shares(call: &LoopCall, elements: u32, busy: u32) -> u32
     requires some { 0 < busy }
     requires few { busy ≤ 16 }
+    ensures is { result ≡ max (min (call.now.n / visits / max elements 1) busy) 1 }
     ensures some { 0 < result }
     ensures few { result ≤ 16 }
 {
@@ -111,6 +123,7 @@ pub(crate) fn worthwhile_shares(call: &LoopCall, elements: u32, busy: u32) -> u3
 pub(crate) fn worthwhile_blocks(work: u64, elements: u32, most: u32, workers: u32) -> u32
     requires workers { 0 < workers }
     requires some { 0 < most }
+    ensures is { result ≡ worthwhile_blocks work elements most workers }
     ensures some { 0 < result }
     ensures within { result ≤ most }
 {

@@ -1,11 +1,13 @@
 //! Which way a loop goes.
 
 ghost use Rattle.std.specs.Prelude.{◌≡◌, ◌<◌, ◌≤◌, None, true};
+ghost use Rattle.spec_run_loop.specs.Paying.{pays_in_order};
 ghost use Rattle.loop_core_model.specs.Split.{even_bounds, split_fault};
 ghost use Rattle.loop_core_model.specs.declared.loop_test.Test.TheVariants as tests;
 ghost use Rattle.spec_run_plan.specs.declared.plan.Policy.TheVariants as policies;
 ghost use Rattle.spec_run_loop.specs.Courses.{course_by, workers_of};
-ghost use Rattle.spec_run_loop.specs.Ways.{IsBlockPlan, IsWayOf, IsByPlan, all_blocks_of};
+ghost use Rattle.spec_run_loop.specs.Ways.{IsBlockPlan, IsByPlan, IsWayOf, IsWayThatPays, MayGo};
+ghost use Rattle.spec_run_loop.specs.Ways.{all_blocks_of, blocks_that_pay};
 
 use crate::course::{BlocksReason, Course, reason_by};
 use crate::job::LoopJob;
@@ -104,9 +106,11 @@ fn all_blocks(job: &LoopJob) -> BlockPlan
 
 /// As many blocks as are worth it, over this many elements, for the workers that they keep busy: one in the calling
 /// thread where that is one worker.
+#[tactic(auto, using(crate::proofs::PayingLaws::pays_alone, crate::proofs::PayingLaws::pays_together))]
 fn blocks_that_pay(job: &LoopJob, elements: u32, workers: u32, why: BlocksReason) -> BlockPlan
     requires some { 0 < workers }
     requires few { workers ≤ 16 }
+    ensures is { result ≡ blocks_that_pay job.now elements workers why }
     ensures plan { IsBlockPlan job.now.call.n result }
     ensures why { result.why ≡ why }
 {
@@ -129,7 +133,8 @@ fn blocks_that_pay(job: &LoopJob, elements: u32, workers: u32, why: BlocksReason
 /// alone, where several workers would save less than their private copies cost.
 fn pays_in_order(job: &LoopJob, workers: u32) -> bool
     requires few { workers ≤ 16 }
-    ensures { result ≡ true → job.now.plan.test ≡ tests.Flow }
+    ensures is { result ≡ pays_in_order job.now workers }
+    ensures flow { result ≡ true → job.now.plan.test ≡ tests.Flow }
 {
     match job.plan.test {
         Test::Lrpd => false,
@@ -139,7 +144,8 @@ fn pays_in_order(job: &LoopJob, workers: u32) -> bool
 
 /// The way of a loop that pays, over this many elements.
 fn way_that_pays<'l>(job: &LoopJob<'l>, elements: u32) -> Way<'l>
-    ensures { IsWayOf job.now result }
+    ensures may { MayGo job.now result }
+    ensures way { IsWayThatPays job.now elements result }
 {
     if let Some(of) = SumLoop::of(job.program, job.call) {
         let busy = busy_workers(work_in_order(job), 0, job.plan);
@@ -160,7 +166,8 @@ fn way_that_pays<'l>(job: &LoopJob<'l>, elements: u32) -> Way<'l>
 
 /// The way that a loop goes by its plan, over this many elements.
 pub(crate) fn way_of<'l>(job: &LoopJob<'l>, elements: u32) -> Way<'l>
-    ensures way { IsWayOf job.now result }
+    ensures may { MayGo job.now result }
+    ensures way { IsWayOf job.now elements result }
     ensures asked { job.now.plan.policy ≡ policies.Blocks → IsByPlan job.now result }
 {
     match job.plan.policy {

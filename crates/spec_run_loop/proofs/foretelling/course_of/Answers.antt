@@ -1,24 +1,22 @@
 use Rattle.std.proofs.Common.{refl}
 use Rattle.spec_run_loop.specs.declared.course.Course.{Course}
+use Rattle.spec_run_loop.specs.declared.course.Course.TheVariants as courses
 use Rattle.spec_run_loop.specs.declared.way.Way.TheVariants.{Sums, Watched, ByBlocks}
-use Rattle.spec_run_loop.proofs.CourseLaws.{course_so}
+use Rattle.spec_run_loop.proofs.CourseLaws.{goes_so, course_so}
 use Rattle.spec_run_loop.proofs.foretelling.course_of.Goals as goal
 
 pub returns-in-Sums : goal.returns-in-Sums
-returns-in-Sums c = record {
-  way = Sums c.in-Sums._of c.in-Sums.workers;
-  may = c.in-Sums.ensures.way;
-  is = refl;
-}
+returns-in-Sums c =
+    goes_so c.args.job.now c.elements_of.result c.args.start.now.words (Sums c.in-Sums._of c.in-Sums.workers)
+    (courses.Sums c.in-Sums.workers) c.elements_of.ensures.count c.in-Sums.ensures.way refl
 
 pub returns-in-Watched : goal.returns-in-Watched
 returns-in-Watched c =
-    course_so (λ (course : Course). course) c.args.job.now c.args.start.now.words (Watched c.in-Watched.otherwise)
-    c.watched_course.result c.in-Watched.ensures.way c.watched_course.ensures
+    course_so (λ (course : Course). course) c.args.job.now c.elements_of.result c.args.start.now.words
+    (Watched c.in-Watched.otherwise) c.watched_course.result c.elements_of.ensures.count c.in-Watched.ensures.way
+    c.watched_course.ensures
 
 pub returns-in-ByBlocks : goal.returns-in-ByBlocks
-returns-in-ByBlocks c = record {
-  way = ByBlocks c.in-ByBlocks.blocks;
-  may = c.in-ByBlocks.ensures.way;
-  is = c.course.ensures;
-}
+returns-in-ByBlocks c =
+    goes_so c.args.job.now c.elements_of.result c.args.start.now.words (ByBlocks c.in-ByBlocks.blocks) c.course.result
+    c.elements_of.ensures.count c.in-ByBlocks.ensures.way c.course.ensures

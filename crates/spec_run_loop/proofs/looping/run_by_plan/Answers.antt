@@ -7,20 +7,23 @@ use Rattle.spec_run_loop.proofs.looping.run_by_plan.Goals as goal
 pub returns-in-Sums-clause-outcome : goal.returns-in-Sums-clause-outcome
 returns-in-Sums-clause-outcome g c =
     if_told c.in-Sums.of c.args.job.now.program c.args.job.now.call c.args.maps.now c.run_sums.new.maps
-    c.run_sums.result c.in-Sums.ensures.way.0 c.in-Sums.ensures.way.1 c.run_sums.ensures.outcome
+    c.run_sums.result c.in-Sums.ensures.may.0 c.in-Sums.ensures.may.1 c.run_sums.ensures.outcome
     c.args.job.now.plan.test
 
 pub returns-in-Sums-clause-course : goal.returns-in-Sums-clause-course
 returns-in-Sums-clause-course g c =
-    course_so (λ (a : LoopAnswer). a.course) c.args.job.now c.args.maps.now.words
-    (Sums c.in-Sums.of c.in-Sums.workers) c.run_sums.result c.in-Sums.ensures.way c.run_sums.ensures.course
+    course_so (λ (a : LoopAnswer). a.course) c.args.job.now c.elements_of.result c.args.maps.now.words
+    (Sums c.in-Sums.of c.in-Sums.workers) c.run_sums.result c.elements_of.ensures.count c.in-Sums.ensures.way
+    c.run_sums.ensures.course
 
 pub returns-in-Watched-clause-course : goal.returns-in-Watched-clause-course
 returns-in-Watched-clause-course g c =
-    course_so (λ (a : LoopAnswer). a.course) c.args.job.now c.args.maps.now.words (Watched c.in-Watched.otherwise)
-    c.run_watched.result c.in-Watched.ensures.way c.run_watched.ensures.course
+    course_so (λ (a : LoopAnswer). a.course) c.args.job.now c.elements_of.result c.args.maps.now.words
+    (Watched c.in-Watched.otherwise) c.run_watched.result c.elements_of.ensures.count c.in-Watched.ensures.way
+    c.run_watched.ensures.course
 
 pub returns-in-ByBlocks-clause-course : goal.returns-in-ByBlocks-clause-course
 returns-in-ByBlocks-clause-course g c =
-    course_so (λ (a : LoopAnswer). a.course) c.args.job.now c.args.maps.now.words (ByBlocks c.in-ByBlocks.blocks)
-    c.run_by_blocks.result c.in-ByBlocks.ensures.way c.run_by_blocks.ensures.course
+    course_so (λ (a : LoopAnswer). a.course) c.args.job.now c.elements_of.result c.args.maps.now.words
+    (ByBlocks c.in-ByBlocks.blocks) c.run_by_blocks.result c.elements_of.ensures.count c.in-ByBlocks.ensures.way
+    c.run_by_blocks.ensures.course

@@ -1,7 +1,8 @@
-use Rattle.std.proofs.Common.{ℕ, ◌<◌, sym, subst, arith}
+use Rattle.std.proofs.Common.{ℕ, ◌<◌, sym, ap, ◌∙◌, subst, arith}
 use Rattle.bpf_step.proofs.Limits.{few_slots}
 use Rattle.loop_core_sums.specs.SumLoops.{function_end}
 use Rattle.loop_core_sums.proofs.Callbacks.{is_sum_loop}
+use Rattle.loop_core_sums.proofs.WholeOperators.{adds_up}
 use Rattle.loop_core_sums.proofs.FunctionEnds.{end_within, end_after}
 use Rattle.loop_core_sums.proofs.sum_loop.SumLoop.of.Goals as goal
 
@@ -37,3 +38,10 @@ invariant_of-result c =
     c.operations.result.0.now c.operations.ensures.ops call c.requires.known c.frame-frame.result.now
     c.frame-frame.ensures c.in_ok-op.op c.function_end-past.result c.callback-start.result c.callback-start.ensures
     after c.in_ok-op.ensures.sums
+
+pub returns-clause-adds : goal.returns-clause-adds
+returns-clause-adds c =
+    let program = c.args.program.now in
+    adds_up program c.args.call.now c.operations.result.0.now c.operations.ensures.ops c.in_ok-op.op
+    c.callback-start.result c.function_end-past.result c.callback-start.ensures
+    (c.function_end-past.ensures ∙ ap (function_end program) c.callback-start.ensures) c.in_ok-op.ensures.sums
